@@ -14,13 +14,13 @@ use Rattle.digit_tuple.proofs.PaddingLemmas.{IsWord-in_order}
 use Rattle.digit_tuple.proofs.TruthLemmas.{same_tests}
 use Rattle.minimise.specs.Tracked.{NamedAutomaton}
 use Rattle.numeration.specs.Systems.{System, IsSystem, AreSystems}
-use Rattle.numeration.specs.Spelling.{sizes_of, letters_in}
+use Rattle.numeration.specs.Representation.{sizes_of, letters_in}
 use Rattle.numeration.specs.Relations.{HoldsOf}
-use Rattle.numeration.proofs.SpellLemmas.{spellings}
+use Rattle.numeration.proofs.RepresentLemmas.{representations}
 use Rattle.num_system.specs.Joined.{AreLanguagesOf}
-use Rattle.num_system.specs.Spellings.{HasSpelling, IgnoresZeros}
+use Rattle.num_system.specs.Representations.{HasRepresentation, IgnoresZeros}
 use Rattle.num_system.proofs.SuccessorLemmas.{holds_same}
-use Rattle.num_system.proofs.ValidityLinks.{valid_part_spells}
+use Rattle.num_system.proofs.ValidityLinks.{valid_part_represents}
 use Rattle.project_close.specs.Padding.{IsPadded}
 use Rattle.automaton_steps.specs.PadSteps.{IsClosure}
 use Rattle.automaton_steps.specs.ValidSteps.{IsValidPart, DoesValid}
@@ -28,17 +28,17 @@ use Rattle.adder_check.specs.LanguageSteps.{IsOfFile}
 use Rattle.adder_check.specs.AdderRelation.{HoldsInFile, three_of, adder_names}
 
 -- words are the same but for zeros where they are without these
-same_without_zeros : (way : Direction) (w v : List ℕ) → strip way v ≡ strip way w → without_zeros (in_order way v) ≡ without_zeros (in_order way w)
+same_without_zeros : (direction : Direction) (w v : List ℕ) → strip direction v ≡ strip direction w → without_zeros (in_order direction v) ≡ without_zeros (in_order direction w)
 same_without_zeros Msd w v same = same
 same_without_zeros Lsd w v same = sym (reverse-reverse (without_zeros (reverse v))) ∙ ap reverse same ∙ reverse-reverse (without_zeros (reverse w))
 
-same_strip : (way : Direction) (w v : List ℕ) → without_zeros (in_order way v) ≡ without_zeros (in_order way w) → strip way v ≡ strip way w
+same_strip : (direction : Direction) (w v : List ℕ) → without_zeros (in_order direction v) ≡ without_zeros (in_order direction w) → strip direction v ≡ strip direction w
 same_strip Msd w v same = same
 same_strip Lsd w v same = ap reverse same
 
-module _ (way : Direction) (s : System) (system : IsSystem s) (listed : Branching) (reversed : Bool) (read closed : Automaton) (part : NamedAutomaton) (languages : List Automaton)
-    (sizes : listed.sizes ≡ sizes_of (three_of s)) (is : IsOfFile listed reversed read) (closure : IsClosure way read closed)
-    (valid : IsValidPart languages (record { names = adder_names; automaton = closed }) part) (are : AreLanguagesOf way (three_of s) languages) where
+module _ (direction : Direction) (s : System) (system : IsSystem s) (listed : Branching) (reversed : Bool) (read closed : Automaton) (part : NamedAutomaton) (languages : List Automaton)
+    (sizes : listed.sizes ≡ sizes_of (three_of s)) (is : IsOfFile listed reversed read) (closure : IsClosure direction read closed)
+    (valid : IsValidPart languages (record { names = adder_names; automaton = closed }) part) (are : AreLanguagesOf direction (three_of s) languages) where
   systems : AreSystems (three_of s)
   systems = (system, (system, (system, tt)))
 
@@ -55,10 +55,10 @@ module _ (way : Direction) (s : System) (system : IsSystem s) (listed : Branchin
   over same w word = subst (λ k. IsWord k w) same word
 
   -- the closure does not look at leading zeros
-  padded_same : (v w : List ℕ) → without_zeros (in_order way v) ≡ without_zeros (in_order way w) → IsPadded way read v → IsPadded way read w
-  padded_same v w same found = (found.0, found.1, found.2 ∙ same_strip way w v same, found.3)
+  padded_same : (v w : List ℕ) → without_zeros (in_order direction v) ≡ without_zeros (in_order direction w) → IsPadded direction read v → IsPadded direction read w
+  padded_same v w same found = (found.0, found.1, found.2 ∙ same_strip direction w v same, found.3)
 
-  ignores : IgnoresZeros way closed
+  ignores : IgnoresZeros direction closed
   ignores v w first second same = same_tests (accepts_of closed v) (accepts_of closed w) (
     (λ t. (closure.language w (word w second)).1 (padded_same v w same ((closure.language v (word v first)).0 t))),
     (λ t. (closure.language v (word v first)).1 (padded_same w v (sym same) ((closure.language w (word w second)).0 t))),
@@ -67,28 +67,28 @@ module _ (way : Direction) (s : System) (system : IsSystem s) (listed : Branchin
       word : (u : List ℕ) → IsWord (letters_of closed) u → IsWord (letters_of read) u
       word u inside = over (closed_letters ∙ sym read_letters) u inside
 
-  -- a spelling that is accepted with other zeros is one that the file lists with these
-  from_closed : (ns : List ℕ) → HasSpelling way (three_of s) closed ns → HoldsInFile way s listed reversed ns
+  -- a representation that is accepted with other zeros is one that the file lists with these
+  from_closed : (ns : List ℕ) → HasRepresentation direction (three_of s) closed ns → HoldsInFile direction s listed reversed ns
   from_closed ns found =
       let padded = (closure.language found.0 (over (sym read_letters) found.0 found.1)).0 found.3 in
       let word = over read_letters padded.0 padded.1 in (
         padded.0,
         over (sym listed_letters) padded.0 word,
-        (spellings (three_of s) (in_order way found.0) (in_order way padded.0) ns systems (IsWord-in_order way (letters_in (three_of s)) found.0 found.1) (IsWord-in_order way (letters_in (three_of s)) padded.0 word) found.2).1
-            (same_without_zeros way found.0 padded.0 padded.2),
+        (representations (three_of s) (in_order direction found.0) (in_order direction padded.0) ns systems (IsWord-in_order direction (letters_in (three_of s)) found.0 found.1) (IsWord-in_order direction (letters_in (three_of s)) padded.0 word) found.2).1
+            (same_without_zeros direction found.0 padded.0 padded.2),
         (is.language padded.0 (over (sym listed_letters) padded.0 word)).0 padded.3,
       )
 
-  to_closed : (ns : List ℕ) → HoldsInFile way s listed reversed ns → HasSpelling way (three_of s) closed ns
+  to_closed : (ns : List ℕ) → HoldsInFile direction s listed reversed ns → HasRepresentation direction (three_of s) closed ns
   to_closed ns found =
       let word = over listed_letters found.0 found.1 in
       let inside = over (sym read_letters) found.0 word in
       (found.0, word, found.2, (closure.language found.0 inside).1 (found.0, inside, refl, (is.language found.0 found.1).1 found.3))
 
-  pub adder_holds : HoldsOf way (three_of s) (HoldsInFile way s listed reversed) part.automaton
+  pub adder_holds : HoldsOf direction (three_of s) (HoldsInFile direction s listed reversed) part.automaton
   adder_holds =
-      holds_same way (three_of s) (HasSpelling way (three_of s) closed) (HoldsInFile way s listed reversed) part.automaton (λ ns long. (from_closed ns, to_closed ns))
-      (valid_part_spells way (three_of s) languages are (record { names = adder_names; automaton = closed }) part.automaton valid.sizes valid.language systems (closure.sizes ∙ is.sizes ∙ sizes) ignores)
+      holds_same direction (three_of s) (HasRepresentation direction (three_of s) closed) (HoldsInFile direction s listed reversed) part.automaton (λ ns long. (from_closed ns, to_closed ns))
+      (valid_part_represents direction (three_of s) languages are (record { names = adder_names; automaton = closed }) part.automaton valid.sizes valid.language systems (closure.sizes ∙ is.sizes ∙ sizes) ignores)
 
 -- the step valid on an automaton under these names makes such a part
 pub valid_made : (old new : StepLog) (languages : List Automaton) (a b : NamedAutomaton) (r : Result NamedAutomaton StepFault) → a ≡ b → DoesValid old languages a r new → IfOk r (IsValidPart languages b)

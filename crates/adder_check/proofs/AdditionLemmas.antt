@@ -1,4 +1,4 @@
--- The laws of zero and of the successor tell addition.
+-- The laws of zero and of the successor determine addition.
 use Rattle.std.proofs.Common.{◌≡◌, ℕ, zero, suc, ◌+◌, ◌↔◌, refl, arith}
 use Rattle.adder_check.specs.AdderLaws.{ZeroLaw, SuccessorLaw, IsAddition}
 

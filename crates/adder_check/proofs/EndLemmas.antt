@@ -3,22 +3,22 @@ use Rattle.std.proofs.Common.{◌≡◌, ◌==◌, not, ℕ, zero, suc, ◌<◌,
 use Rattle.std.specs.List.{list_any}
 use Rattle.std.specs.Option.{option_map_or}
 use Rattle.std.proofs.lemmas.Bool.{false≢true, true≢false, ne_eqb}
-use Rattle.digit_tuple.specs.declared.edges.Edge.{Edge}
-use Rattle.digit_tuple.specs.Deterministic.{Automaton, states_of, edges_of, step_of, accepting_of, accepts_from}
+use Rattle.digit_tuple.specs.declared.transitions.Transition.{Transition}
+use Rattle.digit_tuple.specs.Deterministic.{Automaton, states_of, transitions_of, step_of, accepting_of, accepts_from}
 use Rattle.digit_tuple.proofs.MemberLemmas.{list_any-contains, contains_from_list_any}
 use Rattle.minimise.specs.Canonical.{IsCanonical}
 use Rattle.adder_check.specs.Links.{TellsZero, IsEnd}
 use Rattle.adder_check.proofs.ZeroLemmas.{one_state, step_within, accepted_step, accepts_from-step}
-use Rattle.adder_check.proofs.LiveLemmas.{Reaches, Misses, reaches_or_misses, step_of_edge, edge_there, live_after}
+use Rattle.adder_check.proofs.LiveLemmas.{Reaches, Misses, reaches_or_misses, step_of_transition, transition_there, live_after}
 use Rattle.adder_check.proofs.RoundLemmas.{run_of-step}
 
 -- the letter is not 0
-abbrev is_other : Edge → Bool
+abbrev is_other : Transition → Bool
 is_other e = not (e.letter == 0)
 
 -- some letter but 0 leads somewhere
 abbrev pub has_other : Automaton → ℕ → Bool
-has_other d q = list_any is_other (edges_of d q)
+has_other d q = list_any is_other (transitions_of d q)
 
 other_letter : (a : ℕ) → not (a == 0) ≡ true → (b : ℕ) × (a ≡ suc b)
 other_letter zero is = absurd (false≢true is)
@@ -45,14 +45,14 @@ module _ (d : Automaton) where
 
     pub other_leads : (q : ℕ) → q < states_of d → has_other d q ≡ true → (b : ℕ) × (p : ℕ) × (step_of d q (suc b) ≡ Some p)
     other_leads q within is =
-        let found = contains_from_list_any is_other (edges_of d q) is in
+        let found = contains_from_list_any is_other (transitions_of d q) is in
         let letter = other_letter found.0.letter found.2 in
-        (letter.0, found.0.target, ap (step_of d q) (sym letter.1) ∙ step_of_edge d q canonical.table within found.0 found.1)
+        (letter.0, found.0.target, ap (step_of d q) (sym letter.1) ∙ step_of_transition d q canonical.table within found.0 found.1)
 
     no_other : (q b p : ℕ) → has_other d q ≡ false → ¬ (step_of d q (suc b) ≡ Some p)
     no_other q b p none leads =
-        let found = edge_there (edges_of d q) (suc b) p leads in
-        true≢false (sym (list_any-contains is_other (edges_of d q) found.0 found.1 (ap (λ (a : ℕ). not (a == 0)) found.2 ∙ ap not (ne_eqb (suc b) 0 (λ is. omega (arith, is))))) ∙ none)
+        let found = transition_there (transitions_of d q) (suc b) p leads in
+        true≢false (sym (list_any-contains is_other (transitions_of d q) found.0 found.1 (ap (λ (a : ℕ). not (a == 0)) found.2 ∙ ap not (ne_eqb (suc b) 0 (λ is. omega (arith, is))))) ∙ none)
 
     -- no state after which a letter is not 0 is reached
     abbrev IsBare : ℕ → Type 0
@@ -103,7 +103,7 @@ module _ (d : Automaton) where
             alone = λ a p. bare_other q a p bare;
           }
 
-      -- after an edge a letter but 0 is reached, or words of zeros alone are accepted
+      -- after a transition a letter but 0 is reached, or words of zeros alone are accepted
       pub rich_or_end : (p a q : ℕ) → p < states_of d → step_of d p a ≡ Some q → Reaches d canonical.table (has_other d) q ⊎ IsEnd d q
       rich_or_end p a q small leads = by (reaches_or_misses d canonical.table (has_other d) q within)
         where

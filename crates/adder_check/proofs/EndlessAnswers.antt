@@ -1,4 +1,4 @@
--- What ways round and places tell of a language, as an answer.
+-- What cycles and places say of a language, as an answer.
 use Rattle.std.proofs.Common.{◌≡◌, Bool, true, false, Result, Ok, Err, ◌↔◌, IsTrue, IfOk, refl}
 use Rattle.std.proofs.lemmas.Bool.{false≢true}
 

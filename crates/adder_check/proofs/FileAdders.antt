@@ -6,11 +6,11 @@ use Rattle.digit_tuple.specs.Paddings.{in_order}
 use Rattle.digit_tuple.specs.declared.direction.Direction.{Direction}
 use Rattle.digit_tuple.proofs.PaddingLemmas.{in_order-twice, IsWord-in_order}
 use Rattle.numeration.specs.Systems.{System, IsSystem, AreSystems}
-use Rattle.numeration.specs.Spelling.{Spells, letters_in}
+use Rattle.numeration.specs.Representation.{Represents, letters_in}
 use Rattle.numeration.specs.Relations.{HoldsOf, IsSum, IsAdderOf}
-use Rattle.numeration.proofs.SpellLemmas.{spelling}
-use Rattle.numeration.proofs.TrackLemmas.{numerals_from_spelling}
-use Rattle.numeration.proofs.PartSpelling.{numerals_only}
+use Rattle.numeration.proofs.RepresentLemmas.{representation}
+use Rattle.numeration.proofs.TrackLemmas.{numerals_from_representation}
+use Rattle.numeration.proofs.PartRepresentation.{numerals_only}
 use Rattle.num_system.specs.Links.{Passes}
 use Rattle.num_system.proofs.SuccessorLemmas.{holds_same}
 use Rattle.adder_check.specs.declared.admit_fault.AdmitFault.{AdmitFault}
@@ -63,40 +63,40 @@ excludes s adds laws.ZeroLaw wrong system is = wrong.1 ((laws_tell adds).1 is).0
 excludes s adds laws.SuccessorLaw wrong system is = wrong.2 ((laws_tell adds).1 is).1
 
 pub faults_exclude : FaultsExclude
-faults_exclude way s adder reversed law wrong both = excludes s (adds_in_file way s adder reversed) law wrong both.0 both.1
+faults_exclude direction s adder reversed law wrong both = excludes s (adds_in_file direction s adder reversed) law wrong both.0 both.1
 
 -- a relation of three numbers that an automaton holds of is decided by it
-module _ (way : Direction) (s : System) (system : IsSystem s) (holds : List ℕ → Type 0) (d : Automaton) (is : HoldsOf way (three_of s) holds d) where
+module _ (direction : Direction) (s : System) (system : IsSystem s) (holds : List ℕ → Type 0) (d : Automaton) (is : HoldsOf direction (three_of s) holds d) where
   three : AreSystems (three_of s)
   three = (system, (system, (system, tt)))
 
-  spelt : (x y z : ℕ) → (w : List ℕ) × IsWord (letters_in (three_of s)) w × Spells (three_of s) w (x ∷ y ∷ z ∷ [])
-  spelt x y z = spelling (three_of s) (x ∷ y ∷ z ∷ []) three refl
+  represented : (x y z : ℕ) → (w : List ℕ) × IsWord (letters_in (three_of s)) w × Represents (three_of s) w (x ∷ y ∷ z ∷ [])
+  represented x y z = representation (three_of s) (x ∷ y ∷ z ∷ []) three refl
 
   decides : List ℕ → Bool
   decides [] = false
   decides (x ∷ []) = false
   decides (x ∷ y ∷ []) = false
-  decides (x ∷ y ∷ z ∷ []) = accepts_of d (in_order way (spelt x y z).0)
+  decides (x ∷ y ∷ z ∷ []) = accepts_of d (in_order direction (represented x y z).0)
   decides (x ∷ y ∷ z ∷ w ∷ ns) = false
 
-  told : (x y z : ℕ) → holds (x ∷ y ∷ z ∷ []) ↔ IsTrue (accepts_of d (in_order way (spelt x y z).0))
-  told x y z = ((λ h. (is.accepts w over).1 (x ∷ y ∷ z ∷ [], spells, h)), back)
+  told : (x y z : ℕ) → holds (x ∷ y ∷ z ∷ []) ↔ IsTrue (accepts_of d (in_order direction (represented x y z).0))
+  told x y z = ((λ h. (is.accepts w over).1 (x ∷ y ∷ z ∷ [], represents, h)), back)
     where
       w : List ℕ
-      w = in_order way (spelt x y z).0
+      w = in_order direction (represented x y z).0
 
       over : IsWord (letters_in (three_of s)) w
-      over = IsWord-in_order way (letters_in (three_of s)) (spelt x y z).0 (spelt x y z).1
+      over = IsWord-in_order direction (letters_in (three_of s)) (represented x y z).0 (represented x y z).1
 
-      spells : Spells (three_of s) (in_order way w) (x ∷ y ∷ z ∷ [])
-      spells = subst (λ u. Spells (three_of s) u (x ∷ y ∷ z ∷ [])) (sym (in_order-twice way (spelt x y z).0)) (spelt x y z).2
+      represents : Represents (three_of s) (in_order direction w) (x ∷ y ∷ z ∷ [])
+      represents = subst (λ u. Represents (three_of s) u (x ∷ y ∷ z ∷ [])) (sym (in_order-twice direction (represented x y z).0)) (represented x y z).2
 
       back : IsTrue (accepts_of d w) → holds (x ∷ y ∷ z ∷ [])
       back t =
           let found = (is.accepts w over).0 t in
           subst holds
-          (numerals_only (three_of s) (in_order way w) found.0 (x ∷ y ∷ z ∷ []) (numerals_from_spelling (three_of s) (in_order way w) found.0 found.1) (numerals_from_spelling (three_of s) (in_order way w) (x ∷ y ∷ z ∷ []) spells)) found.2
+          (numerals_only (three_of s) (in_order direction w) found.0 (x ∷ y ∷ z ∷ []) (numerals_from_representation (three_of s) (in_order direction w) found.0 found.1) (numerals_from_representation (three_of s) (in_order direction w) (x ∷ y ∷ z ∷ []) represents)) found.2
 
   decided : (ns : List ℕ) → length ns ≡ 3 → holds ns ↔ IsTrue (decides ns)
   unfolding decides
@@ -114,9 +114,9 @@ module _ (way : Direction) (s : System) (system : IsSystem s) (holds : List ℕ 
 
   -- what the laws of its test are is what its own are
   pub adder_found : {A : Type 0} (r : Result A AdmitFault)
-      → ((test : List ℕ → Bool) → HoldsOf way (three_of s) (Passes test) d → MatchResult r (λ a. ZeroLaw (tells test) × SuccessorLaw (tells test)) (IsFirstAdderFault (tells test)))
+      → ((test : List ℕ → Bool) → HoldsOf direction (three_of s) (Passes test) d → MatchResult r (λ a. ZeroLaw (tells test) × SuccessorLaw (tells test)) (IsFirstAdderFault (tells test)))
       → MatchResult r (λ a. ZeroLaw adds × SuccessorLaw adds) (IsFirstAdderFault adds)
-  adder_found r found = by r (found decides (holds_same way (three_of s) holds (Passes decides) d decided is))
+  adder_found r found = by r (found decides (holds_same direction (three_of s) holds (Passes decides) d decided is))
     where
       same : (x y z : ℕ) → tells decides x y z ↔ adds x y z
       same x y z = turned (decided (x ∷ y ∷ z ∷ []) refl)
@@ -127,8 +127,8 @@ module _ (way : Direction) (s : System) (system : IsSystem s) (holds : List ℕ 
       by (Err fault) wrong = adder_fault_same (tells decides) adds same fault wrong
 
   -- where it is addition, the automaton is the adder
-  pub adder_is : IsAddition adds → IsAdderOf way s d
-  adder_is law = holds_same way (three_of s) holds IsSum d sums is
+  pub adder_is : IsAddition adds → IsAdderOf direction s d
+  adder_is law = holds_same direction (three_of s) holds IsSum d sums is
     where
       from_sum : (x y z : ℕ) → IsSum (x ∷ y ∷ z ∷ []) → x + y ≡ z
       from_sum x y z (a, b, equal) =

@@ -1,4 +1,4 @@
--- The automaton of a file's words, turned.
+-- The automaton of a file's words, reversed.
 use Rattle.std.proofs.Common.{◌≡◌, ℕ, true, List, reverse, Result, Ok, Err, ◌↔◌, IsTrue, IfOk, sym, ap, ◌∙◌, subst}
 use Rattle.digit_tuple.specs.Automaton.{Branching, Accepts, letters_of}
 use Rattle.digit_tuple.specs.Deterministic.{Automaton, accepts_of}
@@ -10,8 +10,8 @@ use Rattle.automaton_steps.specs.ReadSteps.{IsRead}
 use Rattle.automaton_steps.specs.ReverseSteps.{IsReversed, DoesReverse}
 use Rattle.adder_check.specs.LanguageSteps.{IsOfFile}
 
-pub turned_file : (listed : Branching) (read : Automaton) (old new : StepLog) (r : Result Automaton StepFault) → IsRead listed read → DoesReverse old read r new → IfOk r (IsOfFile listed true)
-turned_file listed read old new (Ok d) is done = record { sizes = turned.sizes ∙ is.sizes; canonical = turned.canonical; language = language }
+pub reversed_file : (listed : Branching) (read : Automaton) (old new : StepLog) (r : Result Automaton StepFault) → IsRead listed read → DoesReverse old read r new → IfOk r (IsOfFile listed true)
+reversed_file listed read old new (Ok d) is done = record { sizes = turned.sizes ∙ is.sizes; canonical = turned.canonical; language = language }
   where
     turned : IsReversed read d
     turned = done.step.reversed_is
@@ -21,4 +21,4 @@ turned_file listed read old new (Ok d) is done = record { sizes = turned.sizes �
         let same : accepts_of d w ≡ accepts_of read (reverse w) = turned.language w (subst (λ n. IsWord n w) (sym (ap product is.sizes)) over) in
         let says = is.language (reverse w) (IsWord-reverse (letters_of listed) w over) in
         ((λ t. says.0 (sym same ∙ t)), (λ a. same ∙ says.1 a))
-turned_file listed read old new (Err e) is done = tt
+reversed_file listed read old new (Err e) is done = tt

@@ -12,7 +12,7 @@ use Rattle.minimise.specs.Canonical.{IsCanonical}
 use Rattle.numeration.specs.Systems.{System, IsSystem}
 use Rattle.numeration.specs.Relations.{IsLanguageOf, IsZeroOf, IsEqualityOf}
 use Rattle.numeration.specs.SomeTracks.{system_at}
-use Rattle.numeration.specs.Spelling.{sizes_of}
+use Rattle.numeration.specs.Representation.{sizes_of}
 use Rattle.num_system.specs.Joined.{AreLanguagesOf}
 use Rattle.product_op.specs.Validity.{language_at}
 use Rattle.digit_tuple.proofs.PaddingLemmas.{in_order-twice}
@@ -34,43 +34,43 @@ pub own_size : (ns : List ℕ) (k : ℕ) → ns ≡ k ∷ [] → ns ≡ get_or n
 own_size ns k same = same ∙ ap (λ (n : ℕ). n ∷ []) (sym (ap (λ (ms : List ℕ). get_or ms 0 0) same))
 
 -- the automaton is that of its system's language
-pub own_language : (way : Direction) (d : Automaton) (k : ℕ) → d.sizes ≡ k ∷ [] → IsLanguageOf way (system_of way d) d
-own_language way d k same = record { sizes = own_size d.sizes k same; accepts = λ w. sym (ap (λ (v : List ℕ). accepts_of d v) (in_order-twice way w)) }
+pub own_language : (direction : Direction) (d : Automaton) (k : ℕ) → d.sizes ≡ k ∷ [] → IsLanguageOf direction (system_of direction d) d
+own_language direction d k same = record { sizes = own_size d.sizes k same; accepts = λ w. sym (ap (λ (v : List ℕ). accepts_of d v) (in_order-twice direction w)) }
 
-module _ (way : Direction) (listed : Branching) (reversed : Bool) (d : Automaton) (file : IsOfFile listed reversed d) (k : ℕ) (one : listed.sizes ≡ k ∷ []) where
+module _ (direction : Direction) (listed : Branching) (reversed : Bool) (d : Automaton) (file : IsOfFile listed reversed d) (k : ℕ) (one : listed.sizes ≡ k ∷ []) where
   letters : letters_of d ≡ branching.letters_of listed
   letters = ap product file.sizes
 
-  same_words : (w : List ℕ) → IsTrue (language_in way d w) ↔ (IsWord (branching.letters_of listed) (in_order way w) × Accepts listed (in_file reversed (in_order way w)))
-  same_words w = (there, λ both. (file.language (in_order way w) both.0).1 both.1)
+  same_words : (w : List ℕ) → IsTrue (language_in direction d w) ↔ (IsWord (branching.letters_of listed) (in_order direction w) × Accepts listed (in_file reversed (in_order direction w)))
+  same_words w = (there, λ both. (file.language (in_order direction w) both.0).1 both.1)
     where
-      there : IsTrue (language_in way d w) → IsWord (branching.letters_of listed) (in_order way w) × Accepts listed (in_file reversed (in_order way w))
+      there : IsTrue (language_in direction d w) → IsWord (branching.letters_of listed) (in_order direction w) × Accepts listed (in_file reversed (in_order direction w))
       there t =
-          let over = subst (λ n. IsWord n (in_order way w)) letters (accepted_over d (in_order way w) file.canonical.table t) in
-          (over, (file.language (in_order way w) over).0 t)
+          let over = subst (λ n. IsWord n (in_order direction w)) letters (accepted_over d (in_order direction w) file.canonical.table t) in
+          (over, (file.language (in_order direction w) over).0 t)
 
   pub sizes_of_one : d.sizes ≡ k ∷ []
   sizes_of_one = file.sizes ∙ one
 
   -- the automaton's system is that of the file
-  pub is_of_file : IsSystemOfFile way listed reversed (system_of way d)
+  pub is_of_file : IsSystemOfFile direction listed reversed (system_of direction d)
   is_of_file = record { sizes = sym file.sizes ∙ own_size d.sizes k sizes_of_one; language = same_words }
 
   -- and no other is
-  pub is_only : (s : System) → IsSystemOfFile way listed reversed s → s ≡ system_of way d
+  pub is_only : (s : System) → IsSystemOfFile direction listed reversed s → s ≡ system_of direction d
   is_only s is = λ i. record { digits = digits i; test = tests i }
     where
       digits : s.digits ≡ get_or d.sizes 0 0
       digits = ap (λ (ns : List ℕ). get_or ns 0 0) (sym is.sizes ∙ sym file.sizes)
 
-      tests : s.test ≡ language_in way d
-      tests = fun_ext (λ w. same_tests (s.test w) (language_in way d w) ((λ t. (same_words w).1 ((is.language w).0 t)), (λ t. (is.language w).1 ((same_words w).0 t))))
+      tests : s.test ≡ language_in direction d
+      tests = fun_ext (λ w. same_tests (s.test w) (language_in direction d w) ((λ t. (same_words w).1 ((is.language w).0 t)), (λ t. (is.language w).1 ((same_words w).0 t))))
 
-  pub system_from_laws : KeepsZeros (language_in way d) → IsEndless (language_in way d) → IsSystem (system_of way d)
-  system_from_laws keeps endless = (laws_tell_system way (get_or d.sizes 0 0) d (own_size d.sizes k sizes_of_one) file.canonical.table).0 (keeps, endless)
+  pub system_from_laws : KeepsZeros (language_in direction d) → IsEndless (language_in direction d) → IsSystem (system_of direction d)
+  system_from_laws keeps endless = (laws_tell_system direction (get_or d.sizes 0 0) d (own_size d.sizes k sizes_of_one) file.canonical.table).0 (keeps, endless)
 
   -- what is wrong with the automaton's language is wrong with the file's system
-  pub language_fault : (fault : AdmitFault) → IsFirstLanguageFault way d fault → (adder : Branching) → IsFirstFaultOfFiles way listed adder reversed fault
+  pub language_fault : (fault : AdmitFault) → IsFirstLanguageFault direction d fault → (adder : Branching) → IsFirstFaultOfFiles direction listed adder reversed fault
   language_fault (faults.NotAdmitted laws.NoZero) wrong adder s of = λ keeps. wrong (subst (λ (t : System). KeepsZeros t.test) (is_only s of) keeps)
   language_fault (faults.NotAdmitted laws.Finite) wrong adder s of =
       let same = is_only s of in
@@ -82,13 +82,13 @@ module _ (way : Direction) (listed : Branching) (reversed : Bool) (d : Automaton
   language_fault faults.Memory wrong adder s of = tt
 
 -- automata that are those of 0 and of equal numbers in each system of the language
-pub zero_and_equality : (way : Direction) (d nothing equal : Automaton) (k : ℕ) → d.sizes ≡ k ∷ [] → IsSystem (system_of way d)
+pub zero_and_equality : (direction : Direction) (d nothing equal : Automaton) (k : ℕ) → d.sizes ≡ k ∷ [] → IsSystem (system_of direction d)
     → ((turn : Direction) (s : System) → IsSystem s → d.sizes ≡ s.digits ∷ [] → IsZeroOf turn s nothing) → IsCanonical nothing
-    → ((s : System) → IsSystem s → IsLanguageOf way s d → IsEqualityOf way s equal) → IsCanonical equal → AreZeroAndEquality way (system_of way d) nothing equal
-zero_and_equality way d nothing equal k one system zeros zero_canonical equals equal_canonical = record {
-  zero_is = zeros way (system_of way d) system (own_size d.sizes k one);
+    → ((s : System) → IsSystem s → IsLanguageOf direction s d → IsEqualityOf direction s equal) → IsCanonical equal → AreZeroAndEquality direction (system_of direction d) nothing equal
+zero_and_equality direction d nothing equal k one system zeros zero_canonical equals equal_canonical = record {
+  zero_is = zeros direction (system_of direction d) system (own_size d.sizes k one);
   zero_canonical = zero_canonical;
-  equal_is = equals (system_of way d) system (own_language way d k one);
+  equal_is = equals (system_of direction d) system (own_language direction d k one);
   equal_canonical = equal_canonical;
 }
 
@@ -97,16 +97,16 @@ pub refused_by : {A : Type 0} (Q : AdmitFault → Type 0) (r : Result A AdmitFau
 refused_by {A = A} Q r fault is holds = let P : Result A AdmitFault → Type 0 = λ x. MatchResult x (λ a. ⊤) Q in subst P (sym is) holds
 
 -- three tracks over the language
-pub three_sizes : (way : Direction) (d : Automaton) (k : ℕ) (ns : List ℕ) → d.sizes ≡ k ∷ [] → ns ≡ k ∷ k ∷ k ∷ [] → ns ≡ sizes_of (three_of (system_of way d))
-three_sizes way d k ns one three = three ∙ ap (λ (n : ℕ). n ∷ n ∷ n ∷ []) (sym (ap (λ (ms : List ℕ). get_or ms 0 0) one))
+pub three_sizes : (direction : Direction) (d : Automaton) (k : ℕ) (ns : List ℕ) → d.sizes ≡ k ∷ [] → ns ≡ k ∷ k ∷ k ∷ [] → ns ≡ sizes_of (three_of (system_of direction d))
+three_sizes direction d k ns one three = three ∙ ap (λ (n : ℕ). n ∷ n ∷ n ∷ []) (sym (ap (λ (ms : List ℕ). get_or ms 0 0) one))
 
-pub three_languages : (way : Direction) (d : Automaton) (k : ℕ) → d.sizes ≡ k ∷ [] → AreLanguagesOf way (three_of (system_of way d)) (d ∷ d ∷ d ∷ [])
-three_languages way d k one = record { count = refl; each = each }
+pub three_languages : (direction : Direction) (d : Automaton) (k : ℕ) → d.sizes ≡ k ∷ [] → AreLanguagesOf direction (three_of (system_of direction d)) (d ∷ d ∷ d ∷ [])
+three_languages direction d k one = record { count = refl; each = each }
   where
-    each : (i : ℕ) → i < 3 → IsLanguageOf way (system_at (three_of (system_of way d)) i) (language_at (d ∷ d ∷ d ∷ []) i)
-    each zero within = own_language way d k one
-    each (suc zero) within = own_language way d k one
-    each (suc (suc zero)) within = own_language way d k one
+    each : (i : ℕ) → i < 3 → IsLanguageOf direction (system_at (three_of (system_of direction d)) i) (language_at (d ∷ d ∷ d ∷ []) i)
+    each zero within = own_language direction d k one
+    each (suc zero) within = own_language direction d k one
+    each (suc (suc zero)) within = own_language direction d k one
     each (suc (suc (suc i))) within = absurd (omega (arith, within))
 
 pub three_same : (a b c d : Automaton) → a ≡ d → b ≡ d → c ≡ d → a ∷ b ∷ c ∷ [] ≡ d ∷ d ∷ d ∷ []

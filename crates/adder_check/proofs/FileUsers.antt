@@ -36,38 +36,38 @@ letters_are d k n ns one same count =
     omega (arith, count, letters, first)
 
 -- so many digits, a language and an adder are a numeration system and its addition, those of the files
-pub record AreParts (way : Direction) (listed adder : Branching) (reversed : Bool) (n : ℕ) (d e : Automaton) : Type 0 where
+pub record AreParts (direction : Direction) (listed adder : Branching) (reversed : Bool) (n : ℕ) (d e : Automaton) : Type 0 where
   pub sizes : d.sizes ≡ n ∷ []
-  pub words : IsSystemOfFile way listed reversed (system_in way n d)
-  pub system : IsSystem (system_in way n d)
-  pub sums : IsAddition (adds_in_file way (system_in way n d) adder reversed)
-  pub adder_is : IsAdderOf way (system_in way n d) e
+  pub words : IsSystemOfFile direction listed reversed (system_in direction n d)
+  pub system : IsSystem (system_in direction n d)
+  pub sums : IsAddition (adds_in_file direction (system_in direction n d) adder reversed)
+  pub adder_is : IsAdderOf direction (system_in direction n d) e
 
-module _ (way : Direction) (listed adder : Branching) (reversed : Bool) (d a : Automaton) (file : IsOfFile listed reversed d) (k : ℕ) (one : listed.sizes ≡ k ∷ []) (system : IsSystem (system_of way d))
-    (holds : HoldsOf way (three_of (system_of way d)) (HoldsInFile way (system_of way d) adder reversed) a) where
+module _ (direction : Direction) (listed adder : Branching) (reversed : Bool) (d a : Automaton) (file : IsOfFile listed reversed d) (k : ℕ) (one : listed.sizes ≡ k ∷ []) (system : IsSystem (system_of direction d))
+    (holds : HoldsOf direction (three_of (system_of direction d)) (HoldsInFile direction (system_of direction d) adder reversed) a) where
   abbrev adds : ℕ → ℕ → ℕ → Type 0
-  adds = adds_in_file way (system_of way d) adder reversed
+  adds = adds_in_file direction (system_of direction d) adder reversed
 
   abbrev tells : (List ℕ → Bool) → ℕ → ℕ → ℕ → Type 0
   tells test x y z = IsTrue (test (x ∷ y ∷ z ∷ []))
 
   -- what is wrong with the adder is wrong with the files
-  pub adder_fault : (fault : AdmitFault) → ((test : List ℕ → Bool) → HoldsOf way (three_of (system_of way d)) (Passes test) a → IsFirstAdderFault (tells test) fault) → IsFirstFaultOfFiles way listed adder reversed fault
+  pub adder_fault : (fault : AdmitFault) → ((test : List ℕ → Bool) → HoldsOf direction (three_of (system_of direction d)) (Passes test) a → IsFirstAdderFault (tells test) fault) → IsFirstFaultOfFiles direction listed adder reversed fault
   adder_fault fault wrong = λ s of.
-      subst (λ (t : System). IsFirstFault t (adds_in_file way t adder reversed) fault) (sym (is_only way listed reversed d file k one s of))
-      (first_fault (system_of way d) adds system fault (adder_found way (system_of way d) system (HoldsInFile way (system_of way d) adder reversed) a holds {A = Unit {0}} (Err fault) wrong))
+      subst (λ (t : System). IsFirstFault t (adds_in_file direction t adder reversed) fault) (sym (is_only direction listed reversed d file k one s of))
+      (first_fault (system_of direction d) adds system fault (adder_found direction (system_of direction d) system (HoldsInFile direction (system_of direction d) adder reversed) a holds {A = Unit {0}} (Err fault) wrong))
 
   pub are_parts : (n : ℕ) (e : Automaton) → n ≡ get_or d.sizes 0 0 → e ≡ a
-      → ((test : List ℕ → Bool) → HoldsOf way (three_of (system_of way d)) (Passes test) a → ZeroLaw (tells test) × SuccessorLaw (tells test)) → AreParts way listed adder reversed n d e
+      → ((test : List ℕ → Bool) → HoldsOf direction (three_of (system_of direction d)) (Passes test) a → ZeroLaw (tells test) × SuccessorLaw (tells test)) → AreParts direction listed adder reversed n d e
   are_parts n e digits same laws =
-      subst (λ (m : ℕ). AreParts way listed adder reversed m d e) (sym digits)
-      (subst (λ (x : Automaton). AreParts way listed adder reversed (get_or d.sizes 0 0) d x) (sym same) record {
-        sizes = own_size d.sizes k (sizes_of_one way listed reversed d file k one);
-        words = is_of_file way listed reversed d file k one;
+      subst (λ (m : ℕ). AreParts direction listed adder reversed m d e) (sym digits)
+      (subst (λ (x : Automaton). AreParts direction listed adder reversed (get_or d.sizes 0 0) d x) (sym same) record {
+        sizes = own_size d.sizes k (sizes_of_one direction listed reversed d file k one);
+        words = is_of_file direction listed reversed d file k one;
         system = system;
         sums = law;
-        adder_is = adder_is way (system_of way d) system (HoldsInFile way (system_of way d) adder reversed) a holds law;
+        adder_is = adder_is direction (system_of direction d) system (HoldsInFile direction (system_of direction d) adder reversed) a holds law;
       })
     where
       law : IsAddition adds
-      law = (laws_tell adds).0 (adder_found way (system_of way d) system (HoldsInFile way (system_of way d) adder reversed) a holds {A = Unit {0}} (Ok tt) laws)
+      law = (laws_tell adds).0 (adder_found direction (system_of direction d) system (HoldsInFile direction (system_of direction d) adder reversed) a holds {A = Unit {0}} (Ok tt) laws)

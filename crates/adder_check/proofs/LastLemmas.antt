@@ -1,4 +1,4 @@
--- The same where the most significant digit stands last.
+-- The same where the most significant digit comes last.
 use Rattle.std.proofs.Common.{◌≡◌, ℕ, zero, suc, ◌+◌, ◌<◌, ◌≤◌, Bool, true, List, [], ◌∷◌, ◌++◌, length, reverse, get_or, Option, Some, ◌⊎◌, inl, inr, refl, sym, ap, ◌∙◌, subst, arith, IsTrue, length-append}
 use Rattle.std.specs.Option.{option_and_then}
 use Rattle.std.proofs.lemmas.Bool.{false≢true}
@@ -15,7 +15,7 @@ use Rattle.adder_check.specs.LanguageLaws.{KeepsZeros, IsEndless, language_in}
 use Rattle.adder_check.specs.Links.{IsLink, HasPlaces, HasRound, IsEnd}
 use Rattle.adder_check.proofs.ZeroLemmas.{step_within, accepted_step, accepts_from-step, accepts_from-run_to, kept_last}
 use Rattle.adder_check.proofs.LiveLemmas.{Reaches, live_after}
-use Rattle.adder_check.proofs.RoundLemmas.{HasWay, way_of}
+use Rattle.adder_check.proofs.RoundLemmas.{HasPath, path_of}
 use Rattle.adder_check.proofs.EndLemmas.{has_other, end_other, other_leads, rich_or_end}
 
 -- a word of the language is in it without its leading zeros
@@ -24,7 +24,7 @@ kept_without_zeros test keeps [] accepted = accepted
 kept_without_zeros test keeps (zero ∷ w) accepted = kept_without_zeros test keeps w ((keeps.zeros w).0 accepted)
 kept_without_zeros test keeps (suc a ∷ w) accepted = accepted
 
--- what stands after a digit but 0 stays
+-- what follows a digit but 0 stays
 long_without_zeros : (t : List ℕ) (b : ℕ) (s : List ℕ) → length s < length (without_zeros ((t ++ suc b ∷ []) ++ s))
 long_without_zeros [] b s = omega arith
 long_without_zeros (zero ∷ t) b s = long_without_zeros t b s
@@ -58,11 +58,11 @@ module _ (d : Automaton) (canonical : IsCanonical d) where
 
     -- from there a word with such a letter is accepted
     record HasTail (q : ℕ) : Type 0 where
-      front : List ℕ
+      prefix : List ℕ
       middle : ℕ
       digit : ℕ
       back : List ℕ
-      leads : run_of d q front ≡ Some middle
+      leads : run_of d q prefix ≡ Some middle
       accepted : accepts_from d middle (suc digit ∷ back) ≡ true
 
     tail_of : (q : ℕ) → IsChosen q → HasTail q
@@ -70,7 +70,7 @@ module _ (d : Automaton) (canonical : IsCanonical d) where
         let reached = is.reached in
         let other = other_leads d canonical reached.1 reached.3 reached.4 in
         let live = live_after d canonical reached.1 (suc other.0) other.1 reached.3 other.2 in record {
-          front = reached.0;
+          prefix = reached.0;
           middle = reached.1;
           digit = other.0;
           back = live.0;
@@ -84,38 +84,38 @@ module _ (d : Automaton) (canonical : IsCanonical d) where
       inside : IsTrue (language_in Lsd d word)
       plain : IsTrue (is_plain word)
 
-    long_word : (n q : ℕ) → HasWay d z round.is_on q n → HasTail q → IsLong n
-    long_word n q way tail = record {
+    long_word : (n q : ℕ) → HasPath d z round.is_on q n → HasTail q → IsLong n
+    long_word n q direction tail = record {
       word = without_zeros (reverse whole);
-      long = omega (arith, ap (λ (w : List ℕ). length (without_zeros w)) turned, long_without_zeros (reverse tail.back) tail.digit (reverse front), size);
+      long = omega (arith, ap (λ (w : List ℕ). length (without_zeros w)) turned, long_without_zeros (reverse tail.back) tail.digit (reverse prefix), size);
       inside = kept_without_zeros (language_in Lsd d) keeps (reverse whole) (ap (accepts_of d) (reverse-reverse whole) ∙ accepted);
       plain = without_zeros-plain (reverse whole);
     }
       where
         first : List ℕ
-        first = get_or canonical.firsts way.start []
+        first = get_or canonical.firsts direction.start []
 
-        front : List ℕ
-        front = first ++ (way.word ++ tail.front)
+        prefix : List ℕ
+        prefix = first ++ (direction.word ++ tail.prefix)
 
         whole : List ℕ
-        whole = front ++ suc tail.digit ∷ tail.back
+        whole = prefix ++ suc tail.digit ∷ tail.back
 
-        led : run_of d 0 front ≡ Some tail.middle
-        led = run_of-run_to d 0 way.start first (way.word ++ tail.front) (canonical.numbered.lead way.start way.within) ∙ run_of-run_to d way.start q way.word tail.front way.leads ∙ tail.leads
+        led : run_of d 0 prefix ≡ Some tail.middle
+        led = run_of-run_to d 0 direction.start first (direction.word ++ tail.prefix) (canonical.numbered.lead direction.start direction.within) ∙ run_of-run_to d direction.start q direction.word tail.prefix direction.leads ∙ tail.leads
 
         accepted : accepts_of d whole ≡ true
-        accepted = accepts_from-run_to d 0 tail.middle front (suc tail.digit ∷ tail.back) led ∙ tail.accepted
+        accepted = accepts_from-run_to d 0 tail.middle prefix (suc tail.digit ∷ tail.back) led ∙ tail.accepted
 
-        turned : reverse whole ≡ (reverse tail.back ++ suc tail.digit ∷ []) ++ reverse front
-        turned = reverse-append front (suc tail.digit ∷ tail.back) ∙ ap (λ (w : List ℕ). w ++ reverse front) (reverse-cons (suc tail.digit) tail.back)
+        turned : reverse whole ≡ (reverse tail.back ++ suc tail.digit ∷ []) ++ reverse prefix
+        turned = reverse-append prefix (suc tail.digit ∷ tail.back) ∙ ap (λ (w : List ℕ). w ++ reverse prefix) (reverse-cons (suc tail.digit) tail.back)
 
-        size : n ≤ length (reverse front)
-        size = omega (arith, length-reverse front, length-append first (way.word ++ tail.front), length-append way.word tail.front, way.size)
+        size : n ≤ length (reverse prefix)
+        size = omega (arith, length-reverse prefix, length-append first (direction.word ++ tail.prefix), length-append direction.word tail.prefix, direction.size)
 
     pub endless_last : IsEndless (language_in Lsd d)
     endless_last n =
-        let long = long_word n chosen.0 (way_of d z round chosen.0 chosen.1.within chosen.1.on n) (tail_of chosen.0 chosen.1) in
+        let long = long_word n chosen.0 (path_of d z round chosen.0 chosen.1.within chosen.1.on n) (tail_of chosen.0 chosen.1) in
         (long.word, long.long, long.inside, long.plain)
 
   module _ (z : ℕ) (ends : z < states_of d → IsEnd d z) (places : HasPlaces d z) where

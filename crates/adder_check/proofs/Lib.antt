@@ -6,9 +6,9 @@ pub mod RoundLemmas
 pub mod EndLemmas
 pub mod LastLemmas
 pub mod OrderLemmas
-pub mod EdgeCounts
+pub mod TransitionCounts
 pub mod LinkCounts
-pub mod WayLemmas
+pub mod PathLemmas
 pub mod EndRows
 pub mod EndlessAnswers
 pub mod FileLemmas

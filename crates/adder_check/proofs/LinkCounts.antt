@@ -5,14 +5,14 @@ use Rattle.std.proofs.lemmas.Bool.{ne_eqb, eqb-true, cases_eq, false≢true, tru
 use Rattle.std.proofs.lemmas.List.{get_or_default}
 use Rattle.std.proofs.lemmas.List.Folds.{list_any-append}
 use Rattle.std.proofs.lemmas.List.Sums.{count_by-le-length}
-use Rattle.digit_tuple.specs.declared.edges.Edge.{Edge}
-use Rattle.digit_tuple.specs.Deterministic.{Automaton, IsTable, IsByEarlier, letters_of, states_of, edges_of}
+use Rattle.digit_tuple.specs.declared.transitions.Transition.{Transition}
+use Rattle.digit_tuple.specs.Deterministic.{Automaton, IsTable, IsByEarlier, letters_of, states_of, transitions_of}
 use Rattle.digit_tuple.proofs.DfaLemmas.{row_at}
 use Rattle.digit_tuple.proofs.MemberLemmas.{Contains-head, Contains-tail, Contains-cases, Contains-none, AllPairs-tail}
 use Rattle.numeration.proofs.CountLemmas.{count_by-cons}
 use Rattle.adder_check.specs.Links.{IsLink}
 use Rattle.adder_check.specs.Counts.{StandsIn, is_in, is_kept, counts, links, unless, links_from, AreIncoming}
-use Rattle.adder_check.proofs.LiveLemmas.{step_of_edge, edge_there}
+use Rattle.adder_check.proofs.LiveLemmas.{step_of_transition, transition_there}
 
 -- a count above 0 is that of an element
 counted_some : {X : Type 0} (p : X → Bool) (xs : List X) → 0 < count_by p xs → (x : X) × Contains xs x × (p x ≡ true)
@@ -45,18 +45,18 @@ false_by : (b : Bool) → (b ≡ true → ⊥) → b ≡ false
 false_by true never = absurd (never refl)
 false_by false never = refl
 
--- an edge that counts is a link, and a link is counted
+-- a transition that counts is a link, and a link is counted
 pub link_counted : (d : Automaton) (z p a q : ℕ) → IsLink d z p a q → 0 < links d z p q
 link_counted d z p a q link =
-    let found = edge_there (edges_of d p) a q link.0 in
+    let found = transition_there (transitions_of d p) a q link.0 in
     let kept : is_kept (p == z) found.0 ≡ true = ap not (false_by ((p == z) && (found.0.letter == 0)) (λ is. let both = and_both (p == z) (found.0.letter == 0) is in link.1 (eqb-true p z both.0, sym found.2 ∙ eqb-true found.0.letter 0 both.1))) in
-    some_counted (counts (p == z) q) (edges_of d p) found.0 found.1 (ap (λ b. b && (found.0.target == q)) kept ∙ eq-eqb found.0.target q found.3)
+    some_counted (counts (p == z) q) (transitions_of d p) found.0 found.1 (ap (λ b. b && (found.0.target == q)) kept ∙ eq-eqb found.0.target q found.3)
 
 pub counted_link : (d : Automaton) (z p q : ℕ) → IsTable (letters_of d) d.states → p < states_of d → 0 < links d z p q → (a : ℕ) × IsLink d z p a q
 counted_link d z p q table within some =
-    let found = counted_some (counts (p == z) q) (edges_of d p) some in
+    let found = counted_some (counts (p == z) q) (transitions_of d p) some in
     let both = and_both (is_kept (p == z) found.0) (found.0.target == q) found.2 in
-    let leads = step_of_edge d p table within found.0 found.1 ∙ ap Some (eqb-true found.0.target q both.1) in
+    let leads = step_of_transition d p table within found.0 found.1 ∙ ap Some (eqb-true found.0.target q both.1) in
     (found.0.letter, (leads, λ zeros. true≢false (sym (ap (λ b. b && (found.0.letter == 0)) (eq-eqb p z zeros.0) ∙ eq-eqb found.0.letter 0 zeros.1) ∙ not_true ((p == z) && (found.0.letter == 0)) both.0)))
 
 -- one state more that is done with
@@ -128,34 +128,34 @@ module _ (d : Automaton) (z : ℕ) where
       by false is more (inl none) rest = let found = rest (omega (arith, more, none)) in (found.0, omega (arith, found.1), found.2, found.3)
       by false is more (inr other) rest = (n, omega arith, is, omega (arith, other))
 
-  -- no more than there may be edges
-  pub links_from-few : (q n bound : ℕ) → ((p : ℕ) → p < n → length (edges_of d p) ≤ bound) → links_from d z [] q n ≤ n * bound
+  -- no more than there may be transitions
+  pub links_from-few : (q n bound : ℕ) → ((p : ℕ) → p < n → length (transitions_of d p) ≤ bound) → links_from d z [] q n ≤ n * bound
   links_from-few q zero bound few = omega arith
   links_from-few q (suc n) bound few =
-      let here = count_by-le-length (counts (n == z) q) (edges_of d n) in
+      let here = count_by-le-length (counts (n == z) q) (transitions_of d n) in
       let rest = links_from-few q n bound (λ p low. few p (omega (arith, low))) in
       let widths = few n (omega arith) in
       subst (λ m. links_from d z [] q (suc n) ≤ m) (let e : n * bound + bound ≡ suc n * bound = omega arith in e) (omega (arith, here, rest, widths))
 
--- edges by ascending letters are no more than letters
-pub few_edges : (es : List Edge) (from letters : ℕ) → AllPairs IsByEarlier es → All (λ e. e.letter < letters) es → All (λ e. from ≤ e.letter) es → length es + from ≤ letters ⊎ (es ≡ [])
-few_edges [] from letters up below above = inr refl
-few_edges (e ∷ es) from letters up below above = by (few_edges es (suc e.letter) letters (AllPairs-tail IsByEarlier e es up) (λ k y within. below (suc k) y (omega (arith, within))) (λ k y within. up 0 (suc k) y (omega arith) (omega (arith, within))))
+-- transitions by ascending letters are no more than letters
+pub few_transitions : (es : List Transition) (from letters : ℕ) → AllPairs IsByEarlier es → All (λ e. e.letter < letters) es → All (λ e. from ≤ e.letter) es → length es + from ≤ letters ⊎ (es ≡ [])
+few_transitions [] from letters up below above = inr refl
+few_transitions (e ∷ es) from letters up below above = by (few_transitions es (suc e.letter) letters (AllPairs-tail IsByEarlier e es up) (λ k y within. below (suc k) y (omega (arith, within))) (λ k y within. up 0 (suc k) y (omega arith) (omega (arith, within))))
   where
     by : (length es + suc e.letter ≤ letters) ⊎ (es ≡ []) → length (e ∷ es) + from ≤ letters ⊎ (e ∷ es ≡ [])
     by (inl rest) = inl (omega (arith, rest, above 0 e (omega arith)))
     by (inr none) = inl (omega (arith, ap length none, above 0 e (omega arith), below 0 e (omega arith)))
 
-row_few : (d : Automaton) (p : ℕ) → IsTable (letters_of d) d.states → letters_of d ≤ 65536 → p < states_of d → length (edges_of d p) ≤ 65536
-row_few d p table few within = by (few_edges (edges_of d p) 0 (letters_of d) (row_at d p table within).ascending (λ k e inside. ((row_at d p table within).in_range k e inside).0) (λ k e inside. omega arith))
+row_few : (d : Automaton) (p : ℕ) → IsTable (letters_of d) d.states → letters_of d ≤ 65536 → p < states_of d → length (transitions_of d p) ≤ 65536
+row_few d p table few within = by (few_transitions (transitions_of d p) 0 (letters_of d) (row_at d p table within).ascending (λ k e inside. ((row_at d p table within).in_range k e inside).0) (λ k e inside. omega arith))
   where
-    by : (length (edges_of d p) + 0 ≤ letters_of d) ⊎ (edges_of d p ≡ []) → length (edges_of d p) ≤ 65536
+    by : (length (transitions_of d p) + 0 ≤ letters_of d) ⊎ (transitions_of d p ≡ []) → length (transitions_of d p) ≤ 65536
     by (inl low) = omega (arith, low, few)
     by (inr none) = omega (arith, ap length none)
 
 module _ (d : Automaton) (z : ℕ) (pending : List ℕ) (n : ℕ) (incoming : AreIncoming d z pending n) (within : n < states_of d) where
-  -- there is room for the edges of one state more
-  pub room_for : IsTable (letters_of d) d.states → letters_of d ≤ 65536 → (row : List Edge) → row ≡ edges_of d n → All (λ count. count + length row < 2 ^ 64) pending
+  -- there is room for the transitions of one state more
+  pub room_for : IsTable (letters_of d) d.states → letters_of d ≤ 65536 → (row : List Transition) → row ≡ transitions_of d n → All (λ count. count + length row < 2 ^ 64) pending
   room_for table few row is k e inside =
       let low : k < states_of d = omega (arith, inside, incoming.width) in
       let wide : length row ≤ 65536 = omega (arith, ap length is, row_few d n table few within) in

@@ -1,11 +1,11 @@
--- Edges of a table, and the states from which a good state is reached.
+-- Transitions of a table, and the states from which a good state is reached.
 use Rattle.std.proofs.Common.{◌≡◌, ◌==◌, ℕ, zero, suc, ◌+◌, ◌<◌, ◌≤◌, Bool, true, false, List, [], ◌∷◌, length, Option, None, Some, ◌⊎◌, inl, inr, refl, sym, ap, ◌∙◌, subst, arith, if◌then◌else◌}
 use Rattle.std.specs.List.{AllPairs, AllWithin, Contains}
 use Rattle.std.specs.Option.{option_map_or, option_and_then}
 use Rattle.std.proofs.lemmas.Bool.{false≢true, eqb-true}
 use Rattle.std.proofs.lemmas.List.{get_or_default}
-use Rattle.digit_tuple.specs.declared.edges.Edge.{Edge}
-use Rattle.digit_tuple.specs.Deterministic.{Automaton, IsTable, IsByEarlier, letters_of, states_of, edges_of, step_of, target_by, run_of, accepting_of, accepts_from}
+use Rattle.digit_tuple.specs.declared.transitions.Transition.{Transition}
+use Rattle.digit_tuple.specs.Deterministic.{Automaton, IsTable, IsByEarlier, letters_of, states_of, transitions_of, step_of, target_by, run_of, accepting_of, accepts_from}
 use Rattle.digit_tuple.proofs.DfaLemmas.{row_at, target_by-at}
 use Rattle.digit_tuple.proofs.MemberLemmas.{Contains-head, Contains-tail, Contains-cases, Contains-none}
 use Rattle.determinise.proofs.ReversalLemmas.{accepts_from-run}
@@ -14,31 +14,31 @@ use Rattle.minimise.specs.Residuals.{IsDead}
 use Rattle.minimise.proofs.PartitionLemmas.{cases_contains}
 use Rattle.adder_check.proofs.ZeroLemmas.{step_within}
 
--- an edge that stands among a state's is where its letter leads
-edge_leads : (es : List Edge) → AllPairs IsByEarlier es → (e : Edge) → Contains es e → target_by es e.letter ≡ Some e.target
-edge_leads es ascending e there = target_by-at es e.letter there.0 e before there.1 (ap (λ (f : Edge). f.letter) there.2) ∙ ap (λ (f : Edge). Some f.target) there.2
+-- a transition that is among a state's is where its letter leads
+transition_leads : (es : List Transition) → AllPairs IsByEarlier es → (e : Transition) → Contains es e → target_by es e.letter ≡ Some e.target
+transition_leads es ascending e there = target_by-at es e.letter there.0 e before there.1 (ap (λ (f : Transition). f.letter) there.2) ∙ ap (λ (f : Transition). Some f.target) there.2
   where
     before : AllWithin (λ f. f.letter < e.letter) es 0 there.0
-    before k z low high = omega (arith, ascending k there.0 z high there.1, ap (λ (f : Edge). f.letter) (get_or_default es there.0 z e there.1), ap (λ (f : Edge). f.letter) there.2)
+    before k z low high = omega (arith, ascending k there.0 z high there.1, ap (λ (f : Transition). f.letter) (get_or_default es there.0 z e there.1), ap (λ (f : Transition). f.letter) there.2)
 
-pub step_of_edge : (d : Automaton) (q : ℕ) → IsTable (letters_of d) d.states → q < states_of d → (e : Edge) → Contains (edges_of d q) e → step_of d q e.letter ≡ Some e.target
-step_of_edge d q table within e there = edge_leads (edges_of d q) (row_at d q table within).ascending e there
+pub step_of_transition : (d : Automaton) (q : ℕ) → IsTable (letters_of d) d.states → q < states_of d → (e : Transition) → Contains (transitions_of d q) e → step_of d q e.letter ≡ Some e.target
+step_of_transition d q table within e there = transition_leads (transitions_of d q) (row_at d q table within).ascending e there
 
--- where a letter leads, an edge stands
-pub edge_there : (es : List Edge) (a q : ℕ) → target_by es a ≡ Some q → (e : Edge) × Contains es e × (e.letter ≡ a) × (e.target ≡ q)
-edge_there [] a q leads = let none : None ≡ Some q = leads in absurd (cc)
-edge_there (e ∷ es) a q leads = by (e.letter == a) refl leads (edge_there es a q)
+-- where a letter leads, a transition is
+pub transition_there : (es : List Transition) (a q : ℕ) → target_by es a ≡ Some q → (e : Transition) × Contains es e × (e.letter ≡ a) × (e.target ≡ q)
+transition_there [] a q leads = let none : None ≡ Some q = leads in absurd (cc)
+transition_there (e ∷ es) a q leads = by (e.letter == a) refl leads (transition_there es a q)
   where
-    by : (b : Bool) → (e.letter == a) ≡ b → (if b then Some e.target else target_by es a) ≡ Some q → (target_by es a ≡ Some q → (f : Edge) × Contains es f × (f.letter ≡ a) × (f.target ≡ q)) → (f : Edge) × Contains (e ∷ es) f × (f.letter ≡ a) × (f.target ≡ q)
+    by : (b : Bool) → (e.letter == a) ≡ b → (if b then Some e.target else target_by es a) ≡ Some q → (target_by es a ≡ Some q → (f : Transition) × Contains es f × (f.letter ≡ a) × (f.target ≡ q)) → (f : Transition) × Contains (e ∷ es) f × (f.letter ≡ a) × (f.target ≡ q)
     by true is here rest = (e, Contains-head e es, eqb-true e.letter a is, (let same : Some e.target ≡ Some q = here in cc))
     by false is later rest = let found = rest later in (found.0, Contains-tail e es found.0 found.1, found.2, found.3)
 
 -- letters that lead somewhere are letters of the alphabet
 pub step_letter : (d : Automaton) (p a q : ℕ) → IsTable (letters_of d) d.states → p < states_of d → step_of d p a ≡ Some q → a < letters_of d
 step_letter d p a q table within leads =
-    let found = edge_there (edges_of d p) a q leads in
+    let found = transition_there (transitions_of d p) a q leads in
     let range = (row_at d p table within).in_range found.1.0 found.0 found.1.1 in
-    omega (arith, range.0, ap (λ (e : Edge). e.letter) found.1.2, found.2)
+    omega (arith, range.0, ap (λ (e : Transition). e.letter) found.1.2, found.2)
 
 -- some element is of one kind, or all are of the other
 some_or_all : {X : Type 0} (P Q : X → Type 0) (xs : List X) → ((x : X) → Contains xs x → P x ⊎ Q x) → ((x : X) × Contains xs x × P x) ⊎ ((x : X) → Contains xs x → Q x)
@@ -54,7 +54,7 @@ some_or_all P Q (x ∷ xs) each = by (each x (Contains-head x xs)) (some_or_all 
         at y (inl same) = subst Q same not_here
         at y (inr later) = none y later
 
--- a list without the first place at which a number stands
+-- a list without the first place at which a number is
 abbrev without : ℕ → List ℕ → List ℕ
 without x [] = []
 without x (y ∷ ys) = if y == x then ys else y ∷ without x ys
@@ -132,31 +132,31 @@ module _ (d : Automaton) (table : IsTable (letters_of d) d.states) (good : ℕ �
   abbrev pub Misses : ℕ → Type 0
   Misses q = (v : List ℕ) (r : ℕ) → run_of d q v ≡ Some r → good r ≡ false
 
-  -- the state is not good, and its edges lead to states that are left
+  -- the state is not good, and its transitions lead to states that are left
   abbrev IsClosed : List ℕ → ℕ → Type 0
-  IsClosed left q = (good q ≡ false) × ((e : Edge) → Contains (edges_of d q) e → Contains left e.target)
+  IsClosed left q = (good q ≡ false) × ((e : Transition) → Contains (transitions_of d q) e → Contains left e.target)
 
   reaches_or_closed : (left : List ℕ) → ((q : ℕ) → q < states_of d → ¬ Contains left q → Reaches q) → (q : ℕ) → q < states_of d → Reaches q ⊎ IsClosed left q
   reaches_or_closed left known q within = by (good q) refl
     where
-      edges : ((e : Edge) × Contains (edges_of d q) e × ¬ Contains left e.target) ⊎ ((e : Edge) → Contains (edges_of d q) e → Contains left e.target)
-      edges = some_or_all (λ e. ¬ Contains left e.target) (λ e. Contains left e.target) (edges_of d q) (λ e there. turned (cases_contains left e.target))
+      transitions : ((e : Transition) × Contains (transitions_of d q) e × ¬ Contains left e.target) ⊎ ((e : Transition) → Contains (transitions_of d q) e → Contains left e.target)
+      transitions = some_or_all (λ e. ¬ Contains left e.target) (λ e. Contains left e.target) (transitions_of d q) (λ e there. turned (cases_contains left e.target))
         where
           turned : {A : Type 0} → A ⊎ (A → ⊥) → (A → ⊥) ⊎ A
           turned (inl yes_it_is) = inr yes_it_is
           turned (inr not_it) = inl not_it
 
-      at : good q ≡ false → ((e : Edge) × Contains (edges_of d q) e × ¬ Contains left e.target) ⊎ ((e : Edge) → Contains (edges_of d q) e → Contains left e.target) → Reaches q ⊎ IsClosed left q
+      at : good q ≡ false → ((e : Transition) × Contains (transitions_of d q) e × ¬ Contains left e.target) ⊎ ((e : Transition) → Contains (transitions_of d q) e → Contains left e.target) → Reaches q ⊎ IsClosed left q
       at bad (inr all) = inr (bad, all)
       at bad (inl found) =
-          let e : Edge = found.0 in
-          let leads = step_of_edge d q table within e found.1 in
+          let e : Transition = found.0 in
+          let leads = step_of_transition d q table within e found.1 in
           let more = known e.target (step_within d table q e.letter e.target within leads) found.2 in
           inl (e.letter ∷ more.0, more.1, ap (λ (o : Option ℕ). option_and_then (λ p. run_of d p more.0) o) leads ∙ more.2, more.3, more.4)
 
       by : (b : Bool) → good q ≡ b → Reaches q ⊎ IsClosed left q
       by true is = inl ([], q, refl, within, is)
-      by false is = at is edges
+      by false is = at is transitions
 
   -- where all that are left are closed, none is left
   closed_misses : (left : List ℕ) → ((q : ℕ) → Contains left q → IsClosed left q) → (v : List ℕ) (q r : ℕ) → Contains left q → run_of d q v ≡ Some r → good r ≡ false
@@ -166,7 +166,7 @@ module _ (d : Automaton) (table : IsTable (letters_of d) d.states) (good : ℕ �
       by : (o : Option ℕ) → step_of d q a ≡ o → option_and_then (λ p. run_of d p v) o ≡ Some r → ((p : ℕ) → Contains left p → run_of d p v ≡ Some r → good r ≡ false) → good r ≡ false
       by None is none rest = let both : None ≡ Some r = none in absurd (cc)
       by (Some p) is some rest =
-          let found = edge_there (edges_of d q) a p is in
+          let found = transition_there (transitions_of d q) a p is in
           rest p (subst (Contains left) found.3 ((all q there).1 found.0 found.1)) some
 
   done : (left : List ℕ) → ((x : ℕ) → Contains left x → IsClosed left x) → ((q : ℕ) → q < states_of d → ¬ Contains left q → Reaches q) → (q : ℕ) → q < states_of d → Contains left q ⊎ (Contains left q → ⊥) → Reaches q ⊎ Misses q
@@ -206,7 +206,7 @@ module _ (d : Automaton) (table : IsTable (letters_of d) d.states) (good : ℕ �
   pub reaches_or_misses : (q : ℕ) → q < states_of d → Reaches q ⊎ Misses q
   reaches_or_misses q within = settle (states_of d) (below (states_of d)) (omega (arith, length-below (states_of d))) (λ p there. below_within (states_of d) p there) (λ p inside away. absurd (away (below_all (states_of d) p inside))) q within
 
--- after an edge some word is accepted
+-- after a transition some word is accepted
 pub live_after : (d : Automaton) → IsCanonical d → (p a q : ℕ) → p < states_of d → step_of d p a ≡ Some q → (v : List ℕ) × (accepts_from d q v ≡ true)
 live_after d canonical p a q within leads = by (reaches_or_misses d canonical.table (accepting_of d) q (step_within d canonical.table p a q within leads))
   where

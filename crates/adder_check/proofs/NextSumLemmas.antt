@@ -73,52 +73,52 @@ module _ (s : System) (test : List ℕ → Bool) where
   )
 
 -- what the steps make
-module _ (way : Direction) (s : System) (system : IsSystem s) (test : List ℕ → Bool) (adder next : Automaton) (adds : HoldsOf way (three_of s) (Passes test) adder) (follows : IsSuccessorOf way s next) where
+module _ (direction : Direction) (s : System) (system : IsSystem s) (test : List ℕ → Bool) (adder next : Automaton) (adds : HoldsOf direction (three_of s) (Passes test) adder) (follows : IsSuccessorOf direction s next) where
   abbrev four : List System
   four = four_of s test
 
   systems : AreSystems four
   systems = (system, (system, (system, (system, tt))))
 
-  with_next : (c : NamedAutomaton) → IsJoin And [] (order_on next name_y name_v) (sum_on adder name_x name_v name_z) c → HoldsOf way four (IsWithNext s test) c.automaton
+  with_next : (c : NamedAutomaton) → IsJoin And [] (order_on next name_y name_v) (sum_on adder name_x name_v name_z) c → HoldsOf direction four (IsWithNext s test) c.automaton
   with_next c made =
-      in_product_holds way four (order_on next name_y name_v) (sum_on adder name_x name_v name_z) IsNext (Passes test) refl (with_next_sizes adder next s.digits adds.sizes follows.sizes)
+      in_product_holds direction four (order_on next name_y name_v) (sum_on adder name_x name_v name_z) IsNext (Passes test) refl (with_next_sizes adder next s.digits adds.sizes follows.sizes)
       follows adds And [] tt (λ among. absurd (false≢true among)) c.automaton made.sizes made.language
 
-  sums_with_next : (c : Automaton) (sums : NamedAutomaton) → HoldsOf way four (IsWithNext s test) c
-      → IsProjection way (record { names = name_v ∷ name_x ∷ name_y ∷ name_z ∷ []; automaton = c }) name_v sums → HoldsOf way (three_of s) (IsSumWithNext test) sums.automaton
+  sums_with_next : (c : Automaton) (sums : NamedAutomaton) → HoldsOf direction four (IsWithNext s test) c
+      → IsProjection direction (record { names = name_v ∷ name_x ∷ name_y ∷ name_z ∷ []; automaton = c }) name_v sums → HoldsOf direction (three_of s) (IsSumWithNext test) sums.automaton
   sums_with_next c sums holds made =
-      holds_same way (three_of s) (completed four (1 ∷ 2 ∷ 3 ∷ []) (IsWithNext s test)) (IsSumWithNext test) sums.automaton (completed_sum s test)
-      (named_projection_holds way four systems (record { names = name_v ∷ name_x ∷ name_y ∷ name_z ∷ []; automaton = c }) name_v refl (IsWithNext s test) holds sums made)
+      holds_same direction (three_of s) (completed four (1 ∷ 2 ∷ 3 ∷ []) (IsWithNext s test)) (IsSumWithNext test) sums.automaton (completed_sum s test)
+      (named_projection_holds direction four systems (record { names = name_v ∷ name_x ∷ name_y ∷ name_z ∷ []; automaton = c }) name_v refl (IsWithNext s test) holds sums made)
 
-  pub with_next_holds : (a b c sums : NamedAutomaton) → a ≡ order_on next name_y name_v → b ≡ sum_on adder name_x name_v name_z → IsJoin And [] a b c → IsProjection way c name_v sums
-      → HoldsOf way (three_of s) (IsSumWithNext test) sums.automaton
+  pub with_next_holds : (a b c sums : NamedAutomaton) → a ≡ order_on next name_y name_v → b ≡ sum_on adder name_x name_v name_z → IsJoin And [] a b c → IsProjection direction c name_v sums
+      → HoldsOf direction (three_of s) (IsSumWithNext test) sums.automaton
   with_next_holds a b c sums first second join made =
       let here : IsJoin And [] (order_on next name_y name_v) (sum_on adder name_x name_v name_z) c =
       subst (λ (t : NamedAutomaton). IsJoin And [] t (sum_on adder name_x name_v name_z) c) first (subst (λ (t : NamedAutomaton). IsJoin And [] a t c) second join) in
       sums_with_next c.automaton sums (with_next c here)
-      (subst (λ (t : NamedAutomaton). IsProjection way t name_v sums) (under_names c (name_v ∷ name_x ∷ name_y ∷ name_z ∷ []) here.names) made)
+      (subst (λ (t : NamedAutomaton). IsProjection direction t name_v sums) (under_names c (name_v ∷ name_x ∷ name_y ∷ name_z ∷ []) here.names) made)
 
-  of_sum : (c : NamedAutomaton) → IsJoin And [] (sum_on adder name_x name_y name_w) (order_on next name_w name_z) c → HoldsOf way four (IsOfSum s test) c.automaton
+  of_sum : (c : NamedAutomaton) → IsJoin And [] (sum_on adder name_x name_y name_w) (order_on next name_w name_z) c → HoldsOf direction four (IsOfSum s test) c.automaton
   of_sum c made =
-      in_product_holds way four (sum_on adder name_x name_y name_w) (order_on next name_w name_z) (Passes test) IsNext refl (of_sums_sizes adder next s.digits adds.sizes follows.sizes)
+      in_product_holds direction four (sum_on adder name_x name_y name_w) (order_on next name_w name_z) (Passes test) IsNext refl (of_sums_sizes adder next s.digits adds.sizes follows.sizes)
       adds follows And [] tt (λ among. absurd (false≢true among)) c.automaton made.sizes made.language
 
-  next_of_sums : (c : Automaton) (sums : NamedAutomaton) → HoldsOf way four (IsOfSum s test) c
-      → IsProjection way (record { names = name_w ∷ name_x ∷ name_y ∷ name_z ∷ []; automaton = c }) name_w sums → HoldsOf way (three_of s) (IsNextOfSum test) sums.automaton
+  next_of_sums : (c : Automaton) (sums : NamedAutomaton) → HoldsOf direction four (IsOfSum s test) c
+      → IsProjection direction (record { names = name_w ∷ name_x ∷ name_y ∷ name_z ∷ []; automaton = c }) name_w sums → HoldsOf direction (three_of s) (IsNextOfSum test) sums.automaton
   next_of_sums c sums holds made =
-      holds_same way (three_of s) (completed four (1 ∷ 2 ∷ 3 ∷ []) (IsOfSum s test)) (IsNextOfSum test) sums.automaton (completed_next s test)
-      (named_projection_holds way four systems (record { names = name_w ∷ name_x ∷ name_y ∷ name_z ∷ []; automaton = c }) name_w refl (IsOfSum s test) holds sums made)
+      holds_same direction (three_of s) (completed four (1 ∷ 2 ∷ 3 ∷ []) (IsOfSum s test)) (IsNextOfSum test) sums.automaton (completed_next s test)
+      (named_projection_holds direction four systems (record { names = name_w ∷ name_x ∷ name_y ∷ name_z ∷ []; automaton = c }) name_w refl (IsOfSum s test) holds sums made)
 
-  pub of_sums_holds : (a b c sums : NamedAutomaton) → a ≡ sum_on adder name_x name_y name_w → b ≡ order_on next name_w name_z → IsJoin And [] a b c → IsProjection way c name_w sums
-      → HoldsOf way (three_of s) (IsNextOfSum test) sums.automaton
+  pub of_sums_holds : (a b c sums : NamedAutomaton) → a ≡ sum_on adder name_x name_y name_w → b ≡ order_on next name_w name_z → IsJoin And [] a b c → IsProjection direction c name_w sums
+      → HoldsOf direction (three_of s) (IsNextOfSum test) sums.automaton
   of_sums_holds a b c sums first second join made =
       let here : IsJoin And [] (sum_on adder name_x name_y name_w) (order_on next name_w name_z) c =
       subst (λ (t : NamedAutomaton). IsJoin And [] t (order_on next name_w name_z) c) first (subst (λ (t : NamedAutomaton). IsJoin And [] a t c) second join) in
       next_of_sums c.automaton sums (of_sum c here)
-      (subst (λ (t : NamedAutomaton). IsProjection way t name_w sums) (under_names c (name_w ∷ name_x ∷ name_y ∷ name_z ∷ []) here.names) made)
+      (subst (λ (t : NamedAutomaton). IsProjection direction t name_w sums) (under_names c (name_w ∷ name_x ∷ name_y ∷ name_z ∷ []) here.names) made)
 
--- triples tell their numbers
+-- triples determine their numbers
 at : {xs ys : List ℕ} (i : ℕ) → xs ≡ ys → get_or xs i 0 ≡ get_or ys i 0
 at i same = ap (λ (ns : List ℕ). get_or ns i 0) same
 
@@ -149,9 +149,9 @@ module _ (test : List ℕ → Bool) where
     (λ is. (is.0, is.1, suc is.2, is.3, (law is.0 is.1 (suc is.2)).1 (is.2, is.4, refl))),
   )
 
-  -- both have one language exactly where the law of the successor holds
-  pub successor_law_told : (way : Direction) (s : System) (d e : Automaton) → IsSystem s → HoldsOf way (three_of s) (IsSumWithNext test) d → HoldsOf way (three_of s) (IsNextOfSum test) e
+  -- both have one language if and only if the law of the successor holds
+  pub successor_law_told : (direction : Direction) (s : System) (d e : Automaton) → IsSystem s → HoldsOf direction (three_of s) (IsSumWithNext test) d → HoldsOf direction (three_of s) (IsNextOfSum test) e
       → SameLanguage d e ↔ SuccessorLaw adds
-  successor_law_told way s d e system one other =
-      let told = same_holds way (three_of s) (system, (system, (system, tt))) (IsSumWithNext test) (IsNextOfSum test) d e one other in
+  successor_law_told direction s d e system one other =
+      let told = same_holds direction (three_of s) (system, (system, (system, tt))) (IsSumWithNext test) (IsNextOfSum test) d e one other in
       ((λ same. law_from_triples (told.0 same)), (λ law. told.1 (triples_from_law law)))

@@ -73,14 +73,14 @@ staying : (c : NamedAutomaton) (d : ℕ) (l m n k : List ℕ) → staying_sizes 
 staying c d l m n k picks names same =
     ap (λ (a : NamedAutomaton). staying_sizes a l) (under_names c (l ∷ m ∷ n ∷ k ∷ []) names) ∙ picks ∙ ap (λ (ns : List ℕ). picked (1 ∷ 2 ∷ 3 ∷ []) ns) same
 
-module _ (way : Direction) (adder next : Automaton) (a b c made : NamedAutomaton) (d : ℕ) (sums : adder.sizes ≡ d ∷ d ∷ d ∷ []) (pairs : next.sizes ≡ d ∷ d ∷ []) where
-  pub with_next_projected : a ≡ order_on next name_y name_v → b ≡ sum_on adder name_x name_v name_z → IsJoin And [] a b c → IsProjection way c name_v made → made.automaton.sizes ≡ adder.sizes
+module _ (direction : Direction) (adder next : Automaton) (a b c made : NamedAutomaton) (d : ℕ) (sums : adder.sizes ≡ d ∷ d ∷ d ∷ []) (pairs : next.sizes ≡ d ∷ d ∷ []) where
+  pub with_next_projected : a ≡ order_on next name_y name_v → b ≡ sum_on adder name_x name_v name_z → IsJoin And [] a b c → IsProjection direction c name_v made → made.automaton.sizes ≡ adder.sizes
   with_next_projected first second join projection =
       let here : IsJoin And [] (order_on next name_y name_v) (sum_on adder name_x name_v name_z) c =
       subst (λ (t : NamedAutomaton). IsJoin And [] t (sum_on adder name_x name_v name_z) c) first (subst (λ (t : NamedAutomaton). IsJoin And [] a t c) second join) in
       projection.sizes ∙ staying c d name_v name_x name_y name_z refl here.names (here.sizes ∙ with_next_sizes adder next d sums pairs) ∙ sym sums
 
-  pub of_sums_projected : a ≡ sum_on adder name_x name_y name_w → b ≡ order_on next name_w name_z → IsJoin And [] a b c → IsProjection way c name_w made → made.automaton.sizes ≡ adder.sizes
+  pub of_sums_projected : a ≡ sum_on adder name_x name_y name_w → b ≡ order_on next name_w name_z → IsJoin And [] a b c → IsProjection direction c name_w made → made.automaton.sizes ≡ adder.sizes
   of_sums_projected first second join projection =
       let here : IsJoin And [] (sum_on adder name_x name_y name_w) (order_on next name_w name_z) c =
       subst (λ (t : NamedAutomaton). IsJoin And [] t (order_on next name_w name_z) c) first (subst (λ (t : NamedAutomaton). IsJoin And [] a t c) second join) in

@@ -18,7 +18,7 @@ use Rattle.adder_check.specs.AdderRelation.{DoesAdder}
 use Rattle.adder_check.specs.Admission.{KeepsLanguage, DoesLanguage, IsThrough, DoesLaws, IsMade}
 use Rattle.adder_check.specs.Faults.{Lifted}
 use Rattle.adder_check.specs.LanguageLaws.{KeepsZeros, IsEndless, language_in, system_in, system_of}
-use Rattle.adder_check.specs.LanguageSteps.{DoesFile, DoesTurn, IsFirstLanguageFault}
+use Rattle.adder_check.specs.LanguageSteps.{DoesFile, DoesReversal, IsFirstLanguageFault}
 use Rattle.adder_check.specs.NextSums.{DoesNextSums}
 use Rattle.adder_check.specs.OneAnswer.{HasOneAnswer, AdmissionHasOneAnswer}
 use Rattle.adder_check.specs.SuccessorPlan.{DoesSuccessor}
@@ -34,19 +34,19 @@ file_made : (listed : Branching) (reversed : Bool) (old new : StepLog) (d : Auto
 file_made listed reversed old new d (inr (f, does, none)) = absurd (ok_not_err d f none)
 file_made listed reversed old new d (inl (read, mid, does, turns)) = by reversed turns
   where
-    by : (reversed : Bool) → DoesTurn reversed read mid (Ok d) new → (d.sizes ≡ listed.sizes) × IsCanonical d
+    by : (reversed : Bool) → DoesReversal reversed read mid (Ok d) new → (d.sizes ≡ listed.sizes) × IsCanonical d
     by true turn = (turn.step.reversed_is.sizes ∙ does.step.read_is.sizes, turn.step.reversed_is.canonical)
     by false turn = subst (λ (e : Automaton). (e.sizes ≡ listed.sizes) × IsCanonical e) (sym (from_ok d read turn.0)) (does.step.read_is.sizes, does.step.read_is.canonical)
 
-module _ (way : Direction) (d : Automaton) where
+module _ (direction : Direction) (d : Automaton) where
   abbrev keeps : Type 0
-  keeps = KeepsZeros (language_in way d)
+  keeps = KeepsZeros (language_in direction d)
 
   abbrev endless : Type 0
-  endless = IsEndless (language_in way d)
+  endless = IsEndless (language_in direction d)
 
   abbrev is_first : AdmitFault → Type 0
-  is_first fault = IsFirstLanguageFault way d fault
+  is_first fault = IsFirstLanguageFault direction d fault
 
   only_memory : (fault : AdmitFault) → keeps → endless → is_first fault → fault ≡ faults.Memory
   only_memory (faults.NotAdmitted laws.NoZero) zeros long wrong = absurd (wrong zeros)
@@ -87,7 +87,7 @@ module _ (way : Direction) (d : Automaton) where
   one_fault (faults.States step) f wrong also = absurd wrong
   one_fault faults.Memory f wrong also = inl refl
 
-  keeps_one : HasOneAnswer faults.Memory (KeepsLanguage way d)
+  keeps_one : HasOneAnswer faults.Memory (KeepsLanguage direction d)
   keeps_one old (Ok a) (Ok b) m n does also = inr (inr (ap (λ x. Ok x) (does.1.0 ∙ sym also.1.0), does.0 ∙ sym also.0))
   keeps_one old (Ok a) (Err f) m n does also = inr (inl (ap (λ x. Err x) (only_memory f does.1.1 does.1.2 also.1)))
   keeps_one old (Err e) (Ok b) m n does also = inl (ap (λ x. Err x) (only_memory e also.1.1 also.1.2 does.1))
@@ -99,17 +99,17 @@ module _ (way : Direction) (d : Automaton) where
     ]
   ]
 
-language_one : (way : Direction) (listed : Branching) (reversed : Bool) → HasOneAnswer faults.Memory (DoesLanguage way listed reversed)
-language_one way listed reversed =
-    then_one faults.Memory (Lifted (DoesFile listed reversed)) (KeepsLanguage way) (lifted_one (DoesFile listed reversed) (file_one listed reversed)) (λ d old mid does. keeps_one way d)
+language_one : (direction : Direction) (listed : Branching) (reversed : Bool) → HasOneAnswer faults.Memory (DoesLanguage direction listed reversed)
+language_one direction listed reversed =
+    then_one faults.Memory (Lifted (DoesFile listed reversed)) (KeepsLanguage direction) (lifted_one (DoesFile listed reversed) (file_one listed reversed)) (λ d old mid does. keeps_one direction d)
 
 -- the language is that of a numeration system
-language_made : (way : Direction) (listed : Branching) (reversed : Bool) (digits : ℕ) → listed.sizes ≡ digits ∷ [] → (old new : StepLog) (d : Automaton) → DoesLanguage way listed reversed old (Ok d) new
-    → IsSystem (system_of way d) × (d.sizes ≡ digits ∷ [])
-language_made way listed reversed digits one old new d (inr (f, does, none)) = absurd (ok_not_err d f none)
-language_made way listed reversed digits one old new d (inl (made, mid, does, kept)) =
-    subst (λ (e : Automaton). IsSystem (system_of way e) × (e.sizes ≡ digits ∷ [])) (sym kept.1.0)
-    ((laws_tell_system way (get_or made.sizes 0 0) made (own_size made.sizes digits sizes) is.1.table).0 (kept.1.1, kept.1.2), sizes)
+language_made : (direction : Direction) (listed : Branching) (reversed : Bool) (digits : ℕ) → listed.sizes ≡ digits ∷ [] → (old new : StepLog) (d : Automaton) → DoesLanguage direction listed reversed old (Ok d) new
+    → IsSystem (system_of direction d) × (d.sizes ≡ digits ∷ [])
+language_made direction listed reversed digits one old new d (inr (f, does, none)) = absurd (ok_not_err d f none)
+language_made direction listed reversed digits one old new d (inl (made, mid, does, kept)) =
+    subst (λ (e : Automaton). IsSystem (system_of direction e) × (e.sizes ≡ digits ∷ [])) (sym kept.1.0)
+    ((laws_tell_system direction (get_or made.sizes 0 0) made (own_size made.sizes digits sizes) is.1.table).0 (kept.1.1, kept.1.2), sizes)
   where
     is : (made.sizes ≡ listed.sizes) × IsCanonical made
     is = file_made listed reversed old mid made does
@@ -117,38 +117,38 @@ language_made way listed reversed digits one old new d (inl (made, mid, does, ke
     sizes : made.sizes ≡ digits ∷ []
     sizes = is.0 ∙ one
 
-laws_one : (way : Direction) (d next : Automaton) (adder : NamedAutomaton) → IsSystem (system_of way d) → HasOneAnswer faults.Memory (DoesLaws way d next adder)
-laws_one way d next adder system =
-    then_one faults.Memory (Lifted (DoesZeroLaw way d adder)) _ (lifted_one (DoesZeroLaw way d adder) (zero_law_one way d adder system))
-    (λ zero_law old mid does. where_one zero_law laws.ZeroLaw _ (then_one faults.Memory (Lifted (DoesNextSums way adder.automaton next)) _ (lifted_one (DoesNextSums way adder.automaton next) (next_sums_one way adder.automaton next))
+laws_one : (direction : Direction) (d next : Automaton) (adder : NamedAutomaton) → IsSystem (system_of direction d) → HasOneAnswer faults.Memory (DoesLaws direction d next adder)
+laws_one direction d next adder system =
+    then_one faults.Memory (Lifted (DoesZeroLaw direction d adder)) _ (lifted_one (DoesZeroLaw direction d adder) (zero_law_one direction d adder system))
+    (λ zero_law old mid does. where_one zero_law laws.ZeroLaw _ (then_one faults.Memory (Lifted (DoesNextSums direction adder.automaton next)) _ (lifted_one (DoesNextSums direction adder.automaton next) (next_sums_one direction adder.automaton next))
     (λ next_law old mid does. where_one next_law laws.SuccessorLaw IsThrough through_one)))
 
 -- users' systems of the same automata are one
 same_user : (u v : UserSystem) → u.direction ≡ v.direction → u.language ≡ v.language → u.adder ≡ v.adder → u ≡ v
-same_user u v way language adder = λ i. record {
+same_user u v direction language adder = λ i. record {
   digits = digits i;
-  direction = way i;
+  direction = direction i;
   language = language i;
   adder = adder i;
   sizes = is_prop→PathP (λ i. (language i).sizes ≡ digits i ∷ []) (λ i. Coded-set (coded_list coded_ℕ) _ _) u.sizes v.sizes i;
-  is_system = is_prop→PathP (λ i. ∥ IsSystem (system_in (way i) (digits i) (language i)) ∥₁) (λ i. ∥∥₁_prop) u.is_system v.is_system i;
-  adds = is_prop→PathP (λ i. ∥ IsAdderOf (way i) (system_in (way i) (digits i) (language i)) (adder i) ∥₁) (λ i. ∥∥₁_prop) u.adds v.adds i;
+  is_system = is_prop→PathP (λ i. ∥ IsSystem (system_in (direction i) (digits i) (language i)) ∥₁) (λ i. ∥∥₁_prop) u.is_system v.is_system i;
+  adds = is_prop→PathP (λ i. ∥ IsAdderOf (direction i) (system_in (direction i) (digits i) (language i)) (adder i) ∥₁) (λ i. ∥∥₁_prop) u.adds v.adds i;
 }
   where
     digits : u.digits ≡ v.digits
     digits = ap (λ (ns : List ℕ). get_or ns 0 0) (sym u.sizes ∙ ap (λ (d : Automaton). d.sizes) language ∙ v.sizes)
 
-made_one : (way : Direction) (d : Automaton) (adder : NamedAutomaton) → HasOneAnswer faults.Memory (IsMade way d adder)
-made_one way d adder old (Ok u) (Ok v) m n does also =
+made_one : (direction : Direction) (d : Automaton) (adder : NamedAutomaton) → HasOneAnswer faults.Memory (IsMade direction d adder)
+made_one direction d adder old (Ok u) (Ok v) m n does also =
     inr (inr (ap (λ x. Ok x) (same_user u v (does.1.0 ∙ sym also.1.0) (does.1.1 ∙ sym also.1.1) (does.1.2 ∙ sym also.1.2)), does.0 ∙ sym also.0))
-made_one way d adder old (Ok u) (Err f) m n does also = absurd also.1
-made_one way d adder old (Err e) s m n does also = absurd does.1
+made_one direction d adder old (Ok u) (Err f) m n does also = absurd also.1
+made_one direction d adder old (Err e) s m n does also = absurd does.1
 
 pub admission_one : AdmissionHasOneAnswer
-admission_one way language adder reversed digits one =
-    then_one faults.Memory (DoesLanguage way language reversed) _ (language_one way language reversed)
+admission_one direction language adder reversed digits one =
+    then_one faults.Memory (DoesLanguage direction language reversed) _ (language_one direction language reversed)
     (λ d old mid does.
-    let made = language_made way language reversed digits one old mid d does in
-    then_one faults.Memory (Lifted (DoesSuccessor way d)) _ (lifted_one (DoesSuccessor way d) (successor_one way d (system_of way d) made.0 (own_language way d digits made.1)))
-    (λ next old mid does. then_one faults.Memory (Lifted (DoesAdder way adder reversed (d ∷ d ∷ d ∷ []))) _ (lifted_one (DoesAdder way adder reversed (d ∷ d ∷ d ∷ [])) (adder_one way adder reversed (d ∷ d ∷ d ∷ [])))
-    (λ sums old mid does. then_one faults.Memory (DoesLaws way d next sums) _ (laws_one way d next sums made.0) (λ done old mid does. made_one way d sums))))
+    let made = language_made direction language reversed digits one old mid d does in
+    then_one faults.Memory (Lifted (DoesSuccessor direction d)) _ (lifted_one (DoesSuccessor direction d) (successor_one direction d (system_of direction d) made.0 (own_language direction d digits made.1)))
+    (λ next old mid does. then_one faults.Memory (Lifted (DoesAdder direction adder reversed (d ∷ d ∷ d ∷ []))) _ (lifted_one (DoesAdder direction adder reversed (d ∷ d ∷ d ∷ [])) (adder_one direction adder reversed (d ∷ d ∷ d ∷ [])))
+    (λ sums old mid does. then_one faults.Memory (DoesLaws direction d next sums) _ (laws_one direction d next sums made.0) (λ done old mid does. made_one direction d sums))))

@@ -129,7 +129,7 @@ module _ {A : Type 0} (does : StepLog → Result A StepFault → StepLog → Typ
       by (inr (inl ran_out)) = inr (inl (lifted_err other f also_is ran_out))
       by (inr (inr same)) = inr (inr (ap (λ x. Err x) (is ∙ ap fault_of (from_err e f same.0) ∙ sym also_is), same.1))
 
--- whether two are the same is told in one way
+-- whether two are the same is reported in one way
 pub tells_one : (a b : Automaton) → HasOneAnswer steps.Memory (TellsSame a b)
 tells_one a b old (Ok is) (Ok also) m n one other = inr (inr (ap (λ x. Ok x) (same_tests is also ((λ t. other.0.1 (one.0.0 t)), (λ t. one.0.1 (other.0.0 t)))), one.1 ∙ sym other.1))
 tells_one a b old (Ok is) (Err f) m n one other = absurd other

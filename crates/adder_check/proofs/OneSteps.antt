@@ -24,7 +24,7 @@ use Rattle.automaton_steps.proofs.OneOutcomes.{read_outcome, reverse_outcome, pa
 use Rattle.adder_check.specs.AdderRelation.{DoesAdder, adder_names, name_z}
 use Rattle.adder_check.specs.Faults.{Then, TellsSame}
 use Rattle.adder_check.specs.LanguageLaws.{system_of}
-use Rattle.adder_check.specs.LanguageSteps.{DoesFile, DoesTurn}
+use Rattle.adder_check.specs.LanguageSteps.{DoesFile, DoesReversal}
 use Rattle.adder_check.specs.NextSums.{DoesNextSums, DoesSumsWithNext, DoesNextOfSums, sum_on, name_v, name_w}
 use Rattle.adder_check.specs.OneAnswer.{HasOneAnswer}
 use Rattle.adder_check.specs.SuccessorPlan.{DoesChain, DoesBetween, DoesNext, DoesSuccessor}
@@ -36,23 +36,23 @@ join_one : (op : Op) (languages : List Automaton) (a b : NamedAutomaton) → Has
 join_one op languages a b =
     step_one (λ limit joined line. IsJoinStep limit op languages a b joined line) (JoinExceedsLetters a b) (λ limit. JoinExceeds limit op languages a b) (λ limit. join_outcome limit op languages a b)
 
-project_one : (way : Direction) (track : List ℕ) (a : NamedAutomaton) → HasOneAnswer steps.Memory (λ old result new. DoesProject old way track a result new)
-project_one way track a =
-    step_one (λ limit made line. IsProjectStep limit way track a made line) (ProjectExceedsLetters track a) (λ limit. ProjectExceeds limit way track a) (λ limit. project_outcome limit way track a)
+project_one : (direction : Direction) (track : List ℕ) (a : NamedAutomaton) → HasOneAnswer steps.Memory (λ old result new. DoesProject old direction track a result new)
+project_one direction track a =
+    step_one (λ limit made line. IsProjectStep limit direction track a made line) (ProjectExceedsLetters track a) (λ limit. ProjectExceeds limit direction track a) (λ limit. project_outcome limit direction track a)
 
-turn_one : (reversed : Bool) (read : Automaton) → HasOneAnswer steps.Memory (DoesTurn reversed read)
+turn_one : (reversed : Bool) (read : Automaton) → HasOneAnswer steps.Memory (DoesReversal reversed read)
 turn_one true read = step_one (λ limit made line. IsReverseStep limit read made line) ⊥ (λ limit. ReverseExceeds limit read) (λ limit. reverse_outcome limit read)
 turn_one false read = λ old r s m n does also. inr (inr (does.0 ∙ sym also.0, does.1 ∙ sym also.1))
 
 pub file_one : (listed : Branching) (reversed : Bool) → HasOneAnswer steps.Memory (DoesFile listed reversed)
 file_one listed reversed =
-    then_one steps.Memory (λ old result new. DoesRead old listed result new) (DoesTurn reversed)
+    then_one steps.Memory (λ old result new. DoesRead old listed result new) (DoesReversal reversed)
     (step_one (λ limit read line. IsReadStep limit listed read line) ⊥ (λ limit. ReadExceeds limit listed) (λ limit. read_outcome limit listed)) (λ read old mid does. turn_one reversed read)
 
-pub adder_one : (way : Direction) (listed : Branching) (reversed : Bool) (languages : List Automaton) → HasOneAnswer steps.Memory (DoesAdder way listed reversed languages)
-adder_one way listed reversed languages =
-    then_one steps.Memory (DoesFile listed reversed) _ (file_one listed reversed) (λ read old mid does. then_one steps.Memory (λ old result new. DoesPad old way read result new) _
-    (step_one (λ limit closed line. IsPadStep limit way read closed line) ⊥ (λ limit. PadExceeds limit way read) (λ limit. pad_outcome limit way read))
+pub adder_one : (direction : Direction) (listed : Branching) (reversed : Bool) (languages : List Automaton) → HasOneAnswer steps.Memory (DoesAdder direction listed reversed languages)
+adder_one direction listed reversed languages =
+    then_one steps.Memory (DoesFile listed reversed) _ (file_one listed reversed) (λ read old mid does. then_one steps.Memory (λ old result new. DoesPad old direction read result new) _
+    (step_one (λ limit closed line. IsPadStep limit direction read closed line) ⊥ (λ limit. PadExceeds limit direction read) (λ limit. pad_outcome limit direction read))
     (λ closed old mid does. let named : NamedAutomaton = record { names = adder_names; automaton = closed } in
     step_one (λ limit part line. IsValidStep limit languages named part line) ⊥ (λ limit. ValidExceeds limit languages named) (λ limit. valid_outcome limit languages named)))
 
@@ -72,37 +72,37 @@ next_one less between =
           one_limit = one.one_limit;
         }
 
-pub successor_one : (way : Direction) (d : Automaton) (s : System) → IsSystem s → IsLanguageOf way s d → HasOneAnswer steps.Memory (DoesSuccessor way d)
-successor_one way d s system is =
-    then_one steps.Memory (λ old result new. DoesOrder old way d result new) _
-    (step_one (λ limit ordered line. IsOrderStep limit way d ordered line) (OrderExceedsLetters d) (λ limit. OrderExceeds limit way d) (λ limit. order_outcome limit way s d system is))
+pub successor_one : (direction : Direction) (d : Automaton) (s : System) → IsSystem s → IsLanguageOf direction s d → HasOneAnswer steps.Memory (DoesSuccessor direction d)
+successor_one direction d s system is =
+    then_one steps.Memory (λ old result new. DoesOrder old direction d result new) _
+    (step_one (λ limit ordered line. IsOrderStep limit direction d ordered line) (OrderExceedsLetters d) (λ limit. OrderExceeds limit direction d) (λ limit. order_outcome limit direction s d system is))
     (λ less old mid does. then_one steps.Memory (DoesChain less) _ (join_one And [] (order_on less name_x name_u) (order_on less name_u name_y))
-    (λ chain old mid does. then_one steps.Memory (DoesBetween way chain) _ (project_one way name_u chain) (λ between old mid does. next_one less between)))
+    (λ chain old mid does. then_one steps.Memory (DoesBetween direction chain) _ (project_one direction name_u chain) (λ between old mid does. next_one less between)))
 
-sums_one : (way : Direction) (track : List ℕ) (a b : NamedAutomaton)
-    → HasOneAnswer steps.Memory (Then (λ old result new. DoesJoin old And [] a b result new) (λ joined old result new. DoesProject old way track joined result new))
-sums_one way track a b = then_one steps.Memory (λ old result new. DoesJoin old And [] a b result new) _ (join_one And [] a b) (λ joined old mid does. project_one way track joined)
+sums_one : (direction : Direction) (track : List ℕ) (a b : NamedAutomaton)
+    → HasOneAnswer steps.Memory (Then (λ old result new. DoesJoin old And [] a b result new) (λ joined old result new. DoesProject old direction track joined result new))
+sums_one direction track a b = then_one steps.Memory (λ old result new. DoesJoin old And [] a b result new) _ (join_one And [] a b) (λ joined old mid does. project_one direction track joined)
 
-pub next_sums_one : (way : Direction) (adder next : Automaton) → HasOneAnswer steps.Memory (DoesNextSums way adder next)
-next_sums_one way adder next =
-    then_one steps.Memory (DoesSumsWithNext way adder next) _ (sums_one way name_v (order_on next name_y name_v) (sum_on adder name_x name_v name_z))
-    (λ with_next old mid does. then_one steps.Memory (DoesNextOfSums way adder next) _ (sums_one way name_w (sum_on adder name_x name_y name_w) (order_on next name_w name_z))
+pub next_sums_one : (direction : Direction) (adder next : Automaton) → HasOneAnswer steps.Memory (DoesNextSums direction adder next)
+next_sums_one direction adder next =
+    then_one steps.Memory (DoesSumsWithNext direction adder next) _ (sums_one direction name_v (order_on next name_y name_v) (sum_on adder name_x name_v name_z))
+    (λ with_next old mid does. then_one steps.Memory (DoesNextOfSums direction adder next) _ (sums_one direction name_w (sum_on adder name_x name_y name_w) (order_on next name_w name_z))
     (λ of_sums old mid does. tells_one with_next.automaton of_sums.automaton))
 
 -- canonical automata that hold of one relation are one
-one_automaton : (way : Direction) (ss : List System) → AreSystems ss → (P : List ℕ → Type 0) (d e : Automaton) → IsCanonical d → IsCanonical e → HoldsOf way ss P d → HoldsOf way ss P e → d ≡ e
-one_automaton way ss systems P d e first second one other = canonical_forms d e first second (one.sizes ∙ sym other.sizes) ((same_holds way ss systems P P d e one other).1 (λ ns long. ((λ h. h), (λ h. h))))
+one_automaton : (direction : Direction) (ss : List System) → AreSystems ss → (P : List ℕ → Type 0) (d e : Automaton) → IsCanonical d → IsCanonical e → HoldsOf direction ss P d → HoldsOf direction ss P e → d ≡ e
+one_automaton direction ss systems P d e first second one other = canonical_forms d e first second (one.sizes ∙ sym other.sizes) ((same_holds direction ss systems P P d e one other).1 (λ ns long. ((λ h. h), (λ h. h))))
 
-pub zero_law_one : (way : Direction) (d : Automaton) (adder : NamedAutomaton) → IsSystem (system_of way d) → HasOneAnswer steps.Memory (DoesZeroLaw way d adder)
-zero_law_one way d adder system old r s m n (inl ran_out) also = inl ran_out.0
-zero_law_one way d adder system old r s m n (inr does) (inl ran_out) = inr (inl ran_out.0)
-zero_law_one way d adder system old r s m n (inr (zero, equal, are, does)) (inr (nothing, same, also_are, also)) =
-    then_one steps.Memory (DoesZeroSums way adder zero) (λ sums. TellsSame sums.automaton equal) (sums_one way name_y adder (on_y zero)) (λ sums old mid done. tells_one sums.automaton equal) old r s m n does
-    (subst (λ (z : Automaton). Then (DoesZeroSums way adder z) (λ sums. TellsSame sums.automaton equal) old s n) (sym zeros)
-    (subst (λ (e : Automaton). Then (DoesZeroSums way adder nothing) (λ sums. TellsSame sums.automaton e) old s n) (sym equals) also))
+pub zero_law_one : (direction : Direction) (d : Automaton) (adder : NamedAutomaton) → IsSystem (system_of direction d) → HasOneAnswer steps.Memory (DoesZeroLaw direction d adder)
+zero_law_one direction d adder system old r s m n (inl ran_out) also = inl ran_out.0
+zero_law_one direction d adder system old r s m n (inr does) (inl ran_out) = inr (inl ran_out.0)
+zero_law_one direction d adder system old r s m n (inr (zero, equal, are, does)) (inr (nothing, same, also_are, also)) =
+    then_one steps.Memory (DoesZeroSums direction adder zero) (λ sums. TellsSame sums.automaton equal) (sums_one direction name_y adder (on_y zero)) (λ sums old mid done. tells_one sums.automaton equal) old r s m n does
+    (subst (λ (z : Automaton). Then (DoesZeroSums direction adder z) (λ sums. TellsSame sums.automaton equal) old s n) (sym zeros)
+    (subst (λ (e : Automaton). Then (DoesZeroSums direction adder nothing) (λ sums. TellsSame sums.automaton e) old s n) (sym equals) also))
   where
     zeros : zero ≡ nothing
-    zeros = one_automaton way (system_of way d ∷ []) (system, tt) IsZero zero nothing are.zero_canonical also_are.zero_canonical are.zero_is also_are.zero_is
+    zeros = one_automaton direction (system_of direction d ∷ []) (system, tt) IsZero zero nothing are.zero_canonical also_are.zero_canonical are.zero_is also_are.zero_is
 
     equals : equal ≡ same
-    equals = one_automaton way (system_of way d ∷ system_of way d ∷ []) (system, (system, tt)) IsEqual equal same are.equal_canonical also_are.equal_canonical are.equal_is also_are.equal_is
+    equals = one_automaton direction (system_of direction d ∷ system_of direction d ∷ []) (system, (system, tt)) IsEqual equal same are.equal_canonical also_are.equal_canonical are.equal_is also_are.equal_is

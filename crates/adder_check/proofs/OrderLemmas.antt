@@ -30,7 +30,7 @@ AreFree-skip pending order n free some = record {
     by q inside is (inr (inl less)) = free.placed q less is
     by q inside is (inr (inr more)) = absurd (omega (arith, inside, more))
 
--- one that is pushed: it does not stand in the order yet
+-- one that is pushed: it is not in the order yet
 pushed : (old pending order : List ℕ) (m n t : ℕ) → AreFree old order m → m ≤ n → t < n → ((i : ℕ) → i < length order → get_or order i 0 ≢ t)
     → get_or pending t 0 ≡ 0 → ((i : ℕ) → i < length order → get_or pending (get_or order i 0) 0 ≡ 0)
     → ((q : ℕ) → q < n → get_or pending q 0 ≡ 0 → (q ≡ t) ⊎ StandsIn order q) → AreFree pending (order ++ t ∷ []) n

@@ -25,12 +25,12 @@ two_of language less one is = let pair = by language.sizes one in (pair.0, is �
     by (d ∷ e ∷ ns) more = absurd (omega (arith, more))
 
 -- a projection step makes a projection
-pub projected : (old new : StepLog) (way : Direction) (track : List ℕ) (a : NamedAutomaton) (r : Result NamedAutomaton StepFault) → DoesProject old way track a r new → IfOk r (IsProjection way a track)
-projected old new way track a (Ok c) done =
+pub projected : (old new : StepLog) (direction : Direction) (track : List ℕ) (a : NamedAutomaton) (r : Result NamedAutomaton StepFault) → DoesProject old direction track a r new → IfOk r (IsProjection direction a track)
+projected old new direction track a (Ok c) done =
     let made = done.step.projection in record { names = made.names; sizes = made.sizes; canonical = made.canonical; language = made.language }
-projected old new way track a (Err e) done = tt
+projected old new direction track a (Err e) done = tt
 
-module _ (way : Direction) (less : Automaton) (chain between : NamedAutomaton) (d : ℕ) (sizes : less.sizes ≡ d ∷ d ∷ []) (is : IsChain less chain) (made : IsProjection way chain name_u between) where
+module _ (direction : Direction) (less : Automaton) (chain between : NamedAutomaton) (d : ℕ) (sizes : less.sizes ≡ d ∷ d ∷ []) (is : IsChain less chain) (made : IsProjection direction chain name_u between) where
   pub between_names : between.names ≡ name_x ∷ name_y ∷ []
   between_names = made.names ∙ ap (λ (ns : List (List ℕ)). names_without ns name_u) is.names
 

@@ -1,4 +1,4 @@
--- Ways round through links, and places that rise along them, tell whether a language has an end.
+-- Cycles through links, and places that rise along them, say whether a language has an end.
 use Rattle.std.proofs.Common.{◌≡◌, ◌≢◌, ℕ, zero, suc, ◌+◌, ◌<◌, Bool, true, List, [], ◌∷◌, ◌++◌, length, get_or, Option, Some, refl, sym, ap, ◌∙◌, arith, IsTrue, length-append}
 use Rattle.std.specs.Option.{option_and_then}
 use Rattle.std.proofs.lemmas.Bool.{false≢true}
@@ -23,7 +23,7 @@ pub run_of-step : (d : Automaton) (q a p : ℕ) (w : List ℕ) → step_of d q a
 run_of-step d q a p w leads = ap (λ (o : Option ℕ). option_and_then (λ r. run_of d r w) o) leads
 
 -- a way of links of each length leads to a state on the round
-pub record HasWay (d : Automaton) (z : ℕ) (is_on : ℕ → Bool) (goal n : ℕ) : Type 0 where
+pub record HasPath (d : Automaton) (z : ℕ) (is_on : ℕ → Bool) (goal n : ℕ) : Type 0 where
   pub start : ℕ
   pub word : List ℕ
   pub within : start < states_of d
@@ -32,23 +32,23 @@ pub record HasWay (d : Automaton) (z : ℕ) (is_on : ℕ → Bool) (goal n : ℕ
   pub leads : run_of d start word ≡ Some goal
   pub plain : start ≡ z → IsTrue (is_plain word)
 
-pub way_of : (d : Automaton) (z : ℕ) (round : HasRound d z) (goal : ℕ) → goal < states_of d → round.is_on goal ≡ true → (n : ℕ) → HasWay d z round.is_on goal n
-way_of d z round goal within on zero = record { start = goal; word = []; within = within; on = on; size = refl; leads = refl; plain = λ is. refl }
-way_of d z round goal within on (suc n) = longer (way_of d z round goal within on n)
+pub path_of : (d : Automaton) (z : ℕ) (round : HasRound d z) (goal : ℕ) → goal < states_of d → round.is_on goal ≡ true → (n : ℕ) → HasPath d z round.is_on goal n
+path_of d z round goal within on zero = record { start = goal; word = []; within = within; on = on; size = refl; leads = refl; plain = λ is. refl }
+path_of d z round goal within on (suc n) = longer (path_of d z round goal within on n)
   where
-    longer : HasWay d z round.is_on goal n → HasWay d z round.is_on goal (suc n)
-    longer way =
-        let before = round.from way.start way.within way.on in record {
+    longer : HasPath d z round.is_on goal n → HasPath d z round.is_on goal (suc n)
+    longer direction =
+        let before = round.from direction.start direction.within direction.on in record {
           start = before.0;
-          word = before.1 ∷ way.word;
+          word = before.1 ∷ direction.word;
           within = before.2;
           on = before.3;
-          size = omega (arith, way.size);
-          leads = run_of-step d before.0 before.1 way.start way.word before.4.0 ∙ way.leads;
+          size = omega (arith, direction.size);
+          leads = run_of-step d before.0 before.1 direction.start direction.word before.4.0 ∙ direction.leads;
           plain = λ is. plain_link before.1 (λ none. before.4.1 (is, none));
         }
       where
-        plain_link : (a : ℕ) → a ≢ 0 → IsTrue (is_plain (a ∷ way.word))
+        plain_link : (a : ℕ) → a ≢ 0 → IsTrue (is_plain (a ∷ direction.word))
         plain_link zero some = absurd (some refl)
         plain_link (suc a) some = refl
 
@@ -67,7 +67,7 @@ module _ (d : Automaton) (canonical : IsCanonical d) where
     plain_joined (suc a ∷ u) v x p leads plain some from = refl
 
     pub endless_first : HasRound d 0 → IsEndless (language_in Msd d)
-    endless_first round n = (u ++ (way.word ++ tail.0), long, accepted, plain_joined u way.word tail.0 way.start reached (without_zeros-plain first) (omega (arith, way.size)) way.plain)
+    endless_first round n = (u ++ (direction.word ++ tail.0), long, accepted, plain_joined u direction.word tail.0 direction.start reached (without_zeros-plain first) (omega (arith, direction.size)) direction.plain)
       where
         before : (p : ℕ) × (a : ℕ) × (p < states_of d) × (round.is_on p ≡ true) × IsLink d 0 p a round.some
         before = round.from round.some round.within round.on
@@ -75,23 +75,23 @@ module _ (d : Automaton) (canonical : IsCanonical d) where
         tail : (v : List ℕ) × (accepts_from d round.some v ≡ true)
         tail = live_after d canonical before.0 before.1 round.some before.2 before.4.0
 
-        way : HasWay d 0 round.is_on round.some (suc n)
-        way = way_of d 0 round round.some round.within round.on (suc n)
+        direction : HasPath d 0 round.is_on round.some (suc n)
+        direction = path_of d 0 round round.some round.within round.on (suc n)
 
         first : List ℕ
-        first = get_or canonical.firsts way.start []
+        first = get_or canonical.firsts direction.start []
 
         u : List ℕ
         u = without_zeros first
 
-        reached : run_of d 0 u ≡ Some way.start
-        reached = run_of-without_zeros first ∙ canonical.numbered.lead way.start way.within
+        reached : run_of d 0 u ≡ Some direction.start
+        reached = run_of-without_zeros first ∙ canonical.numbered.lead direction.start direction.within
 
-        accepted : accepts_of d (u ++ (way.word ++ tail.0)) ≡ true
-        accepted = accepts_from-run_to d 0 way.start u (way.word ++ tail.0) reached ∙ accepts_from-run_to d way.start round.some way.word tail.0 way.leads ∙ tail.1
+        accepted : accepts_of d (u ++ (direction.word ++ tail.0)) ≡ true
+        accepted = accepts_from-run_to d 0 direction.start u (direction.word ++ tail.0) reached ∙ accepts_from-run_to d direction.start round.some direction.word tail.0 direction.leads ∙ tail.1
 
-        long : n < length (u ++ (way.word ++ tail.0))
-        long = omega (arith, length-append u (way.word ++ tail.0), length-append way.word tail.0, way.size)
+        long : n < length (u ++ (direction.word ++ tail.0))
+        long = omega (arith, length-append u (direction.word ++ tail.0), length-append direction.word tail.0, direction.size)
 
     -- words after a link from the initial state are as short as places are few
     short_after : (places : HasPlaces d 0) (w : List ℕ) (p : ℕ) → p < states_of d → places.place 0 < places.place p → accepts_from d p w ≡ true → places.place p + length w < states_of d

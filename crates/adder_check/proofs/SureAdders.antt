@@ -7,10 +7,10 @@ use Rattle.digit_tuple.specs.Letters.{IsWord}
 use Rattle.digit_tuple.specs.Paddings.{in_order}
 use Rattle.digit_tuple.specs.declared.direction.Direction.{Direction}
 use Rattle.numeration.specs.Systems.{System}
-use Rattle.numeration.specs.Spelling.{Spells, letters_in, sizes_of}
+use Rattle.numeration.specs.Representation.{Represents, letters_in, sizes_of}
 use Rattle.numeration.specs.Relations.{IsAdderOf, IsSum}
-use Rattle.numeration.proofs.TrackLemmas.{numerals_from_spelling, spelling_from_numerals}
-use Rattle.numeration.proofs.PartSpelling.{AreValid, valid_numerals, numerals_valid, numerals_only, ranks}
+use Rattle.numeration.proofs.TrackLemmas.{numerals_from_representation, representation_from_numerals}
+use Rattle.numeration.proofs.PartRepresentation.{AreValid, valid_numerals, numerals_valid, numerals_only, ranks}
 use Rattle.adder_check.specs.AdderRelation.{three_of}
 use mathlib.Core.Bool.{Bool-set}
 
@@ -24,23 +24,23 @@ sum_of ns = get_or ns 0 0 ∷ get_or ns 1 0 ∷ (get_or ns 0 0 + get_or ns 1 0) 
 placed : (ns : List ℕ) → IsSum ns → ns ≡ sum_of ns
 placed ns (x, y, is) = is ∙ sym (ap sum_of is)
 
-pub surely_adder : (way : Direction) (s : System) (d : Automaton) → ∥ IsAdderOf way s d ∥₁ → IsAdderOf way s d
-surely_adder way s d known = record {
+pub surely_adder : (direction : Direction) (s : System) (d : Automaton) → ∥ IsAdderOf direction s d ∥₁ → IsAdderOf direction s d
+surely_adder direction s d known = record {
   sizes = ∥∥₁_elim known (lists_set d.sizes (sizes_of (three_of s))) (λ is. is.sizes);
   accepts = λ w over. (there w over, λ found. ∥∥₁_elim known (Bool-set _ _) (λ is. (is.accepts w over).1 found));
 }
   where
-    valid : (w : List ℕ) → IsWord (letters_in (three_of s)) w → IsTrue (accepts_of d w) → AreValid (three_of s) (in_order way w)
+    valid : (w : List ℕ) → IsWord (letters_in (three_of s)) w → IsTrue (accepts_of d w) → AreValid (three_of s) (in_order direction w)
     valid w over accepted =
         ∥∥₁_elim known (Π_prop (λ i. Π_prop (λ within. Bool-set _ _)))
-        (λ is. let found = (is.accepts w over).0 accepted in valid_numerals (three_of s) (in_order way w) found.0 (numerals_from_spelling (three_of s) (in_order way w) found.0 found.1))
+        (λ is. let found = (is.accepts w over).0 accepted in valid_numerals (three_of s) (in_order direction w) found.0 (numerals_from_representation (three_of s) (in_order direction w) found.0 found.1))
 
-    there : (w : List ℕ) → IsWord (letters_in (three_of s)) w → IsTrue (accepts_of d w) → (ns : List ℕ) × Spells (three_of s) (in_order way w) ns × IsSum ns
+    there : (w : List ℕ) → IsWord (letters_in (three_of s)) w → IsTrue (accepts_of d w) → (ns : List ℕ) × Represents (three_of s) (in_order direction w) ns × IsSum ns
     there w over accepted =
-        let ns : List ℕ = ranks (three_of s) (in_order way w) in
-        let are = numerals_valid (three_of s) (in_order way w) (valid w over accepted) in
+        let ns : List ℕ = ranks (three_of s) (in_order direction w) in
+        let are = numerals_valid (three_of s) (in_order direction w) (valid w over accepted) in
         let same : ns ≡ sum_of ns =
         ∥∥₁_elim known (lists_set ns (sum_of ns)) (λ is.
         let found = (is.accepts w over).0 accepted in
-        placed ns (subst IsSum (numerals_only (three_of s) (in_order way w) found.0 ns (numerals_from_spelling (three_of s) (in_order way w) found.0 found.1) are) found.2)) in
-        (ns, spelling_from_numerals (three_of s) (in_order way w) ns are, (get_or ns 0 0, get_or ns 1 0, same))
+        placed ns (subst IsSum (numerals_only (three_of s) (in_order direction w) found.0 ns (numerals_from_representation (three_of s) (in_order direction w) found.0 found.1) are) found.2)) in
+        (ns, representation_from_numerals (three_of s) (in_order direction w) ns are, (get_or ns 0 0, get_or ns 1 0, same))

@@ -1,4 +1,4 @@
--- The laws of a language tell numeration systems.
+-- The laws of a language determine numeration systems.
 use Rattle.std.proofs.Common.{◌≡◌, ℕ, List, ap, ◌∙◌, subst, arith, IsTrue}
 use Rattle.digit_tuple.specs.Deterministic.{letters_of}
 use Rattle.digit_tuple.specs.Letters.{IsWord, product}
@@ -8,7 +8,7 @@ use Rattle.digit_tuple.proofs.PaddingLemmas.{in_order-twice, IsWord-in_order}
 use Rattle.adder_check.specs.LanguageLaws.{language_in, LawsTellSystems}
 
 pub laws_tell_system : LawsTellSystems
-laws_tell_system way digits d sizes table = (
+laws_tell_system direction digits d sizes table = (
   (λ both. record { over = over; empty = both.0.empty; zeros = both.0.zeros; endless = both.1 }),
   (λ system. (record { empty = system.empty; zeros = system.zeros }, system.endless)),
 )
@@ -16,6 +16,6 @@ laws_tell_system way digits d sizes table = (
     letters : letters_of d ≡ digits
     letters = ap product sizes ∙ omega arith
 
-    over : (w : List ℕ) → IsTrue (language_in way d w) → IsWord digits w
-    over w accepted = subst (IsWord digits) (in_order-twice way w) (IsWord-in_order way digits (in_order way w)
-        (subst (λ n. IsWord n (in_order way w)) letters (accepted_over d (in_order way w) table accepted)))
+    over : (w : List ℕ) → IsTrue (language_in direction d w) → IsWord digits w
+    over w accepted = subst (IsWord digits) (in_order-twice direction w) (IsWord-in_order direction digits (in_order direction w)
+        (subst (λ n. IsWord n (in_order direction w)) letters (accepted_over d (in_order direction w) table accepted)))

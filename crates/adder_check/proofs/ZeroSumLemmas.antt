@@ -38,14 +38,14 @@ zero_sizes adder zero d same also =
     ∙ ap (λ (ns : List ℕ). let a : Automaton = record { sizes = d ∷ d ∷ d ∷ []; states = adder.states } in let b : Automaton = record { sizes = ns; states = zero.states } in joint_sizes (record { names = adder_names; automaton = a }) (on_y b)) also
     ∙ max_zero d
 
-module _ (way : Direction) (s : System) (system : IsSystem s) (test : List ℕ → Bool) (adder zero : Automaton) (adds : HoldsOf way (three_of s) (Passes test) adder) (nothing : IsZeroOf way s zero) where
+module _ (direction : Direction) (s : System) (system : IsSystem s) (test : List ℕ → Bool) (adder zero : Automaton) (adds : HoldsOf direction (three_of s) (Passes test) adder) (nothing : IsZeroOf direction s zero) where
   -- the product of the adder with 0
   abbrev IsWithZero : List ℕ → Type 0
   IsWithZero = joined And (0 ∷ 1 ∷ 2 ∷ []) (Passes test) (1 ∷ []) IsZero
 
-  with_zero : (c : NamedAutomaton) → IsJoin And [] (record { names = adder_names; automaton = adder }) (on_y zero) c → HoldsOf way (three_of s) IsWithZero c.automaton
+  with_zero : (c : NamedAutomaton) → IsJoin And [] (record { names = adder_names; automaton = adder }) (on_y zero) c → HoldsOf direction (three_of s) IsWithZero c.automaton
   with_zero c made =
-      in_product_holds way (three_of s) (record { names = adder_names; automaton = adder }) (on_y zero) (Passes test) IsZero refl (zero_sizes adder zero s.digits adds.sizes nothing.sizes)
+      in_product_holds direction (three_of s) (record { names = adder_names; automaton = adder }) (on_y zero) (Passes test) IsZero refl (zero_sizes adder zero s.digits adds.sizes nothing.sizes)
       adds nothing And [] tt (λ among. absurd (false≢true among)) c.automaton made.sizes made.language
 
   zero_sum_from : (ms ns : List ℕ) → length ms ≡ 3 → picked (0 ∷ 2 ∷ []) ms ≡ ns → IsWithZero ms → IsZeroSum test ns
@@ -63,24 +63,24 @@ module _ (way : Direction) (s : System) (system : IsSystem s) (test : List ℕ �
     (λ is. (is.0 ∷ 0 ∷ is.1 ∷ [], refl, sym is.2, (is.3, refl))),
   )
 
-  sums_from : (c : Automaton) (sums : NamedAutomaton) → HoldsOf way (three_of s) IsWithZero c → IsProjection way (record { names = adder_names; automaton = c }) name_y sums → HoldsOf way (s ∷ s ∷ []) (IsZeroSum test) sums.automaton
+  sums_from : (c : Automaton) (sums : NamedAutomaton) → HoldsOf direction (three_of s) IsWithZero c → IsProjection direction (record { names = adder_names; automaton = c }) name_y sums → HoldsOf direction (s ∷ s ∷ []) (IsZeroSum test) sums.automaton
   sums_from c sums holds made =
-      holds_same way (s ∷ s ∷ []) (completed (three_of s) (0 ∷ 2 ∷ []) IsWithZero) (IsZeroSum test) sums.automaton completed_zero
-      (named_projection_holds way (three_of s) (system, (system, (system, tt))) (record { names = adder_names; automaton = c }) name_y refl IsWithZero holds sums made)
+      holds_same direction (s ∷ s ∷ []) (completed (three_of s) (0 ∷ 2 ∷ []) IsWithZero) (IsZeroSum test) sums.automaton completed_zero
+      (named_projection_holds direction (three_of s) (system, (system, (system, tt))) (record { names = adder_names; automaton = c }) name_y refl IsWithZero holds sums made)
 
 -- what the two steps make
-pub zero_sums_hold : (way : Direction) (s : System) (test : List ℕ → Bool) (a b c sums : NamedAutomaton) (zero : Automaton) → IsSystem s → HoldsOf way (three_of s) (Passes test) a.automaton → IsZeroOf way s zero
-    → a.names ≡ adder_names → b ≡ on_y zero → IsJoin And [] a b c → IsProjection way c name_y sums → HoldsOf way (s ∷ s ∷ []) (IsZeroSum test) sums.automaton
-zero_sums_hold way s test a b c sums zero system adds nothing names is join made =
+pub zero_sums_hold : (direction : Direction) (s : System) (test : List ℕ → Bool) (a b c sums : NamedAutomaton) (zero : Automaton) → IsSystem s → HoldsOf direction (three_of s) (Passes test) a.automaton → IsZeroOf direction s zero
+    → a.names ≡ adder_names → b ≡ on_y zero → IsJoin And [] a b c → IsProjection direction c name_y sums → HoldsOf direction (s ∷ s ∷ []) (IsZeroSum test) sums.automaton
+zero_sums_hold direction s test a b c sums zero system adds nothing names is join made =
     let here : IsJoin And [] (record { names = adder_names; automaton = a.automaton }) (on_y zero) c =
     subst (λ (n : NamedAutomaton). IsJoin And [] n (on_y zero) c) (under_names a adder_names names) (subst (λ (n : NamedAutomaton). IsJoin And [] a n c) is join) in
-    sums_from way s system test a.automaton zero adds nothing c.automaton sums (with_zero way s system test a.automaton zero adds nothing c here)
-    (subst (λ (n : NamedAutomaton). IsProjection way n name_y sums) (under_names c adder_names here.names) made)
+    sums_from direction s system test a.automaton zero adds nothing c.automaton sums (with_zero direction s system test a.automaton zero adds nothing c here)
+    (subst (λ (n : NamedAutomaton). IsProjection direction n name_y sums) (under_names c adder_names here.names) made)
 
 -- and their tracks
-pub zero_sums_sizes : (way : Direction) (a b c sums : NamedAutomaton) (zero : Automaton) (d : ℕ) → a.automaton.sizes ≡ d ∷ d ∷ d ∷ [] → zero.sizes ≡ d ∷ [] → a.names ≡ adder_names → b ≡ on_y zero → IsJoin And [] a b c
-    → IsProjection way c name_y sums → sums.automaton.sizes ≡ pair_sizes zero
-zero_sums_sizes way a b c sums zero d three one names is join made =
+pub zero_sums_sizes : (direction : Direction) (a b c sums : NamedAutomaton) (zero : Automaton) (d : ℕ) → a.automaton.sizes ≡ d ∷ d ∷ d ∷ [] → zero.sizes ≡ d ∷ [] → a.names ≡ adder_names → b ≡ on_y zero → IsJoin And [] a b c
+    → IsProjection direction c name_y sums → sums.automaton.sizes ≡ pair_sizes zero
+zero_sums_sizes direction a b c sums zero d three one names is join made =
     let here : IsJoin And [] (record { names = adder_names; automaton = a.automaton }) (on_y zero) c =
     subst (λ (n : NamedAutomaton). IsJoin And [] n (on_y zero) c) (under_names a adder_names names) (subst (λ (n : NamedAutomaton). IsJoin And [] a n c) is join) in
     made.sizes
@@ -88,7 +88,7 @@ zero_sums_sizes way a b c sums zero d three one names is join made =
     ∙ ap (λ (ns : List ℕ). picked (0 ∷ 2 ∷ []) ns) (here.sizes ∙ zero_sizes a.automaton zero d three one)
     ∙ sym (ap (λ (ns : List ℕ). ns ++ ns) one)
 
--- pairs tell their numbers
+-- pairs determine their numbers
 pair_first : (x z y w : ℕ) → x ∷ z ∷ [] ≡ y ∷ w ∷ [] → x ≡ y
 pair_first x z y w same = ap (λ (ns : List ℕ). get_or ns 0 0) same
 
@@ -116,8 +116,8 @@ module _ (test : List ℕ → Bool) where
     (λ is. (is.0, is.1, is.2, (law is.0 is.1).1 (sym is.3))),
   )
 
-  -- the sums with 0 have the language of equal numbers exactly where the law of zero holds
-  pub zero_law_told : (way : Direction) (s : System) (d e : Automaton) → IsSystem s → HoldsOf way (s ∷ s ∷ []) (IsZeroSum test) d → IsEqualityOf way s e → SameLanguage d e ↔ ZeroLaw adds
-  zero_law_told way s d e system sums equal =
-      let told = same_holds way (s ∷ s ∷ []) (system, (system, tt)) (IsZeroSum test) IsEqual d e sums equal in
+  -- the sums with 0 have the language of equal numbers if and only if the law of zero holds
+  pub zero_law_told : (direction : Direction) (s : System) (d e : Automaton) → IsSystem s → HoldsOf direction (s ∷ s ∷ []) (IsZeroSum test) d → IsEqualityOf direction s e → SameLanguage d e ↔ ZeroLaw adds
+  zero_law_told direction s d e system sums equal =
+      let told = same_holds direction (s ∷ s ∷ []) (system, (system, tt)) (IsZeroSum test) IsEqual d e sums equal in
       ((λ same. law_from_pairs (told.0 same)), (λ law. told.1 (pairs_from_law law)))

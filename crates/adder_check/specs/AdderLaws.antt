@@ -13,6 +13,6 @@ SuccessorLaw adds = (x y z : ℕ) → adds x (suc y) z ↔ ((w : ℕ) × adds x 
 abbrev pub IsAddition : (ℕ → ℕ → ℕ → Type 0) → Type 0
 IsAddition adds = (x y z : ℕ) → adds x y z ↔ (x + y ≡ z)
 
--- a relation meets both laws exactly where it is addition
+-- a relation meets both laws if and only if it is addition
 abbrev pub LawsTellAddition : Type 0
 LawsTellAddition = (test : ℕ → ℕ → ℕ → Bool) → (ZeroLaw (λ x y z. IsTrue (test x y z)) × SuccessorLaw (λ x y z. IsTrue (test x y z))) ↔ IsAddition (λ x y z. IsTrue (test x y z))

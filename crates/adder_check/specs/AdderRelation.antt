@@ -9,7 +9,7 @@ use Rattle.digit_tuple.specs.declared.direction.Direction.{Direction}
 use Rattle.digit_tuple.specs.declared.step_fault.StepFault.{StepFault}
 use Rattle.minimise.specs.Tracked.{NamedAutomaton}
 use Rattle.numeration.specs.Systems.{System}
-use Rattle.numeration.specs.Spelling.{Spells}
+use Rattle.numeration.specs.Representation.{Represents}
 use Rattle.num_system.specs.SuccessorSteps.{name_x, name_y}
 use Rattle.automaton_steps.specs.PadSteps.{DoesPad}
 use Rattle.automaton_steps.specs.ValidSteps.{DoesValid}
@@ -26,16 +26,16 @@ adder_names = name_x ∷ name_y ∷ name_z ∷ []
 abbrev pub three_of : System → List System
 three_of s = s ∷ s ∷ s ∷ []
 
--- some word that spells the numbers is one of the file's
+-- some word that represents the numbers is one of the file's
 abbrev pub HoldsInFile : Direction → System → Branching → Bool → List ℕ → Type 0
-HoldsInFile way s listed reversed ns = (v : List ℕ) × IsWord (letters_of listed) v × Spells (three_of s) (in_order way v) ns × Accepts listed (in_file reversed v)
+HoldsInFile direction s listed reversed ns = (v : List ℕ) × IsWord (letters_of listed) v × Represents (three_of s) (in_order direction v) ns × Accepts listed (in_file reversed v)
 
 -- the relation of the file
 abbrev pub adds_in_file : Direction → System → Branching → Bool → ℕ → ℕ → ℕ → Type 0
-adds_in_file way s listed reversed x y z = HoldsInFile way s listed reversed (x ∷ y ∷ z ∷ [])
+adds_in_file direction s listed reversed x y z = HoldsInFile direction s listed reversed (x ∷ y ∷ z ∷ [])
 
 -- the steps read, reverse where words are of the other direction, pad and valid
 abbrev pub DoesAdder : Direction → Branching → Bool → List Automaton → StepLog → Result NamedAutomaton StepFault → StepLog → Type 0
-DoesAdder way listed reversed languages =
-    Then (DoesFile listed reversed) (λ read. Then (λ old result new. DoesPad old way read result new)
+DoesAdder direction listed reversed languages =
+    Then (DoesFile listed reversed) (λ read. Then (λ old result new. DoesPad old direction read result new)
     (λ closed old result new. DoesValid old languages (record { names = adder_names; automaton = closed }) result new))

@@ -25,11 +25,11 @@ use Rattle.adder_check.specs.ZeroSums.{DoesZeroLaw}
 
 -- the steps of a language's file, and then its laws, which are no steps
 abbrev pub KeepsLanguage : Direction → Automaton → StepLog → Result Automaton AdmitFault → StepLog → Type 0
-KeepsLanguage way d old result new =
-    (new ≡ old) × MatchResult result (λ kept. (kept ≡ d) × KeepsZeros (language_in way d) × IsEndless (language_in way d)) (IsFirstLanguageFault way d)
+KeepsLanguage read_direction d old result new =
+    (new ≡ old) × MatchResult result (λ kept. (kept ≡ d) × KeepsZeros (language_in read_direction d) × IsEndless (language_in read_direction d)) (IsFirstLanguageFault read_direction d)
 
 abbrev pub DoesLanguage : Direction → Branching → Bool → StepLog → Result Automaton AdmitFault → StepLog → Type 0
-DoesLanguage way listed reversed = Then (Lifted (DoesFile listed reversed)) (KeepsLanguage way)
+DoesLanguage read_direction listed reversed = Then (Lifted (DoesFile listed reversed)) (KeepsLanguage read_direction)
 
 -- where the law holds, the next is done; where it does not, it is the answer
 abbrev pub Where : {B : Type 0} → Bool → Law → (StepLog → Result B AdmitFault → StepLog → Type 0) → StepLog → Result B AdmitFault → StepLog → Type 0
@@ -42,24 +42,24 @@ IsThrough old result new = (result ≡ Ok tt) × (new ≡ old)
 
 -- the steps and the law of 0, and then those of the successor
 abbrev pub DoesLaws : Direction → Automaton → Automaton → NamedAutomaton → StepLog → Result ⊤ AdmitFault → StepLog → Type 0
-DoesLaws way d next adder =
-    Then (Lifted (DoesZeroLaw way d adder)) (λ zero_law. Where zero_law laws.ZeroLaw
-    (Then (Lifted (DoesNextSums way adder.automaton next)) (λ next_law. Where next_law laws.SuccessorLaw IsThrough)))
+DoesLaws read_direction d next adder =
+    Then (Lifted (DoesZeroLaw read_direction d adder)) (λ zero_law. Where zero_law laws.ZeroLaw
+    (Then (Lifted (DoesNextSums read_direction adder.automaton next)) (λ next_law. Where next_law laws.SuccessorLaw IsThrough)))
 
 -- the user's system is made of the automata
 abbrev pub IsMade : Direction → Automaton → NamedAutomaton → StepLog → Result UserSystem AdmitFault → StepLog → Type 0
-IsMade way d adder old result new = (new ≡ old) × MatchResult result (λ user. (user.direction ≡ way) × (user.language ≡ d) × (user.adder ≡ adder.automaton)) (λ _. ⊥)
+IsMade read_direction d adder old result new = (new ≡ old) × MatchResult result (λ user. (user.direction ≡ read_direction) × (user.language ≡ d) × (user.adder ≡ adder.automaton)) (λ _. ⊥)
 
 -- the language, the successor, the adder, and the laws of the adder
 abbrev pub DoesAdmission : Direction → Branching → Branching → Bool → StepLog → Result UserSystem AdmitFault → StepLog → Type 0
-DoesAdmission way language adder reversed =
-    Then (DoesLanguage way language reversed) (λ d. Then (Lifted (DoesSuccessor way d)) (λ next. Then (Lifted (DoesAdder way adder reversed (d ∷ d ∷ d ∷ [])))
-    (λ sums. Then (DoesLaws way d next sums) (λ _. IsMade way d sums))))
+DoesAdmission read_direction language adder reversed =
+    Then (DoesLanguage read_direction language reversed) (λ d. Then (Lifted (DoesSuccessor read_direction d)) (λ next. Then (Lifted (DoesAdder read_direction adder reversed (d ∷ d ∷ d ∷ [])))
+    (λ sums. Then (DoesLaws read_direction d next sums) (λ _. IsMade read_direction d sums))))
 
 -- the system whose words the file lists
-pub record IsSystemOfFile (way : Direction) (listed : Branching) (reversed : Bool) (s : System) : Type 0 where
+pub record IsSystemOfFile (read_direction : Direction) (listed : Branching) (reversed : Bool) (s : System) : Type 0 where
   pub sizes : listed.sizes ≡ s.digits ∷ []
-  pub language : (w : List ℕ) → IsTrue (s.test w) ↔ (IsWord (letters_of listed) (in_order way w) × Accepts listed (in_file reversed (in_order way w)))
+  pub language : (w : List ℕ) → IsTrue (s.test w) ↔ (IsWord (letters_of listed) (in_order read_direction w) × Accepts listed (in_file reversed (in_order read_direction w)))
 
 -- the first law of an adder that does not hold
 abbrev pub IsFirstAdderFault : (ℕ → ℕ → ℕ → Type 0) → AdmitFault → Type 0
@@ -83,21 +83,21 @@ IsFirstFault s adds faults.Memory = ⊤
 
 -- and of two files
 abbrev pub IsFirstFaultOfFiles : Direction → Branching → Branching → Bool → AdmitFault → Type 0
-IsFirstFaultOfFiles way language adder reversed fault = (s : System) → IsSystemOfFile way language reversed s → IsFirstFault s (adds_in_file way s adder reversed) fault
+IsFirstFaultOfFiles read_direction language adder reversed fault = (s : System) → IsSystemOfFile read_direction language reversed s → IsFirstFault s (adds_in_file read_direction s adder reversed) fault
 
 -- the system that a user's system is
 abbrev pub user_system : UserSystem → System
 user_system user = system_in user.direction user.digits user.language
 
 -- the user's system is that of the files: a numeration system, with its addition
-pub record IsAdmitted (way : Direction) (language adder : Branching) (reversed : Bool) (user : UserSystem) : Type 0 where
-  pub direction : user.direction ≡ way
-  pub words : IsSystemOfFile way language reversed (user_system user)
+pub record IsAdmitted (read_direction : Direction) (language adder : Branching) (reversed : Bool) (user : UserSystem) : Type 0 where
+  pub direction : user.direction ≡ read_direction
+  pub words : IsSystemOfFile read_direction language reversed (user_system user)
   pub system : IsSystem (user_system user)
-  pub sums : IsAddition (adds_in_file way (user_system user) adder reversed)
-  pub adder_is : IsAdderOf way (user_system user) user.adder
+  pub sums : IsAddition (adds_in_file read_direction (user_system user) adder reversed)
+  pub adder_is : IsAdderOf read_direction (user_system user) user.adder
 
 -- where a law does not hold, the two are not a system and its addition
 abbrev pub FaultsExclude : Type 0
-FaultsExclude = (way : Direction) (s : System) (adder : Branching) (reversed : Bool) (law : Law) → IsFirstFault s (adds_in_file way s adder reversed) (faults.NotAdmitted law)
-    → ¬ (IsSystem s × IsAddition (adds_in_file way s adder reversed))
+FaultsExclude = (read_direction : Direction) (s : System) (adder : Branching) (reversed : Bool) (law : Law) → IsFirstFault s (adds_in_file read_direction s adder reversed) (faults.NotAdmitted law)
+    → ¬ (IsSystem s × IsAddition (adds_in_file read_direction s adder reversed))

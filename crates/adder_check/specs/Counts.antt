@@ -1,27 +1,27 @@
 -- How many links lead to a state, and states put in order.
 use Rattle.std.specs.Prelude.{◌≡◌, ◌≢◌, ◌==◌, ◌&&◌, not, ℕ, zero, suc, ◌+◌, ◌<◌, Bool, true, false, List, [], ◌++◌, length, slice_index_or}
 use Rattle.std.specs.List.{count_by, list_any}
-use Rattle.digit_tuple.specs.declared.edges.Edge.{Edge}
-use Rattle.digit_tuple.specs.Deterministic.{Automaton, states_of, edges_of}
+use Rattle.digit_tuple.specs.declared.transitions.Transition.{Transition}
+use Rattle.digit_tuple.specs.Deterministic.{Automaton, states_of, transitions_of}
 use Rattle.adder_check.specs.Links.{IsLink}
 
--- the edge is not by 0 where such edges are left out
-abbrev pub is_kept : Bool → Edge → Bool
+-- the transition is not by 0 where such transitions are left out
+abbrev pub is_kept : Bool → Transition → Bool
 is_kept without_zero e = not (without_zero && (e.letter == 0))
 
 -- it is kept, and leads to the state
-abbrev pub counts : Bool → ℕ → Edge → Bool
+abbrev pub counts : Bool → ℕ → Transition → Bool
 counts without_zero q e = is_kept without_zero e && (e.target == q)
 
--- how many of the edges do
-abbrev pub counted : Bool → List Edge → ℕ → ℕ
+-- how many of the transitions do
+abbrev pub counted : Bool → List Transition → ℕ → ℕ
 counted without_zero es q = count_by (counts without_zero q) es
 
 -- how many links lead from p to q
 abbrev pub links : Automaton → ℕ → ℕ → ℕ → ℕ
-links d z p q = counted (p == z) (edges_of d p) q
+links d z p q = counted (p == z) (transitions_of d p) q
 
--- the number stands in the list
+-- the number is in the list
 abbrev pub StandsIn : List ℕ → ℕ → Type 0
 StandsIn xs k = (i : ℕ) × (i < length xs) × (slice_index_or xs i 0 ≡ k)
 
@@ -54,13 +54,13 @@ pub record AreFree (pending order : List ℕ) (n : ℕ) : Type 0 where
   pub placed : (q : ℕ) → q < n → slice_index_or pending q 0 ≡ 0 → StandsIn order q
   pub none : (i : ℕ) → i < length order → slice_index_or pending (slice_index_or order i 0) 0 ≡ 0
 
--- the counts with one more for each edge that counts
-pub record AreAdded (without_zero : Bool) (es : List Edge) (old new : List ℕ) : Type 0 where
+-- the counts with one more for each transition that counts
+pub record AreAdded (without_zero : Bool) (es : List Transition) (old new : List ℕ) : Type 0 where
   pub width : length new ≡ length old
   pub counts : (q : ℕ) → slice_index_or new q 0 ≡ slice_index_or old q 0 + counted without_zero es q
 
 -- and with one less
-pub record AreReleased (without_zero : Bool) (es : List Edge) (old new : List ℕ) : Type 0 where
+pub record AreReleased (without_zero : Bool) (es : List Transition) (old new : List ℕ) : Type 0 where
   pub width : length new ≡ length old
   pub counts : (q : ℕ) → slice_index_or new q 0 + counted without_zero es q ≡ slice_index_or old q 0
 

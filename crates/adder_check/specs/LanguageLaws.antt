@@ -8,7 +8,7 @@ use Rattle.numeration.specs.Systems.{System, IsSystem}
 
 -- the accepted words, read from the most significant digit on
 abbrev pub language_in : Direction → Automaton → List ℕ → Bool
-language_in way d w = accepts_of d (in_order way w)
+language_in direction d w = accepts_of d (in_order direction w)
 
 -- the empty word is in the language, and a leading zero changes nothing
 pub record KeepsZeros (test : List ℕ → Bool) : Type 0 where
@@ -21,13 +21,13 @@ IsEndless test = (n : ℕ) → (w : List ℕ) × (n < length w) × IsTrue (test 
 
 -- the system of an automaton over so many digits
 abbrev pub system_in : Direction → ℕ → Automaton → System
-system_in way digits d = record { digits = digits; test = language_in way d }
+system_in direction digits d = record { digits = digits; test = language_in direction d }
 
 -- the system whose words an automaton of one track accepts
 abbrev pub system_of : Direction → Automaton → System
-system_of way d = system_in way (slice_index_or d.sizes 0 0) d
+system_of direction d = system_in direction (slice_index_or d.sizes 0 0) d
 
--- both laws hold exactly where the language of the automaton is that of a numeration system
+-- both laws hold if and only if the language of the automaton is that of a numeration system
 abbrev pub LawsTellSystems : Type 0
-LawsTellSystems = (way : Direction) (digits : ℕ) (d : Automaton) → d.sizes ≡ digits ∷ [] → IsTable (letters_of d) d.states
-    → (KeepsZeros (language_in way d) × IsEndless (language_in way d)) ↔ IsSystem (system_in way digits d)
+LawsTellSystems = (direction : Direction) (digits : ℕ) (d : Automaton) → d.sizes ≡ digits ∷ [] → IsTable (letters_of d) d.states
+    → (KeepsZeros (language_in direction d) × IsEndless (language_in direction d)) ↔ IsSystem (system_in direction digits d)

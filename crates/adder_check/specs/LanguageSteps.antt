@@ -27,24 +27,24 @@ pub record IsOfFile (listed : Branching) (reversed : Bool) (d : Automaton) : Typ
   pub language : (w : List ℕ) → IsWord (letters_of listed) w → IsTrue (accepts_of d w) ↔ Accepts listed (in_file reversed w)
 
 -- the step reverse, where words are of the other direction
-abbrev pub DoesTurn : Bool → Automaton → StepLog → Result Automaton StepFault → StepLog → Type 0
-DoesTurn true read old result new = DoesReverse old read result new
-DoesTurn false read old result new = (result ≡ Ok read) × (new ≡ old)
+abbrev pub DoesReversal : Bool → Automaton → StepLog → Result Automaton StepFault → StepLog → Type 0
+DoesReversal true read old result new = DoesReverse old read result new
+DoesReversal false read old result new = (result ≡ Ok read) × (new ≡ old)
 
 -- the step read, and that one after it
 abbrev pub DoesFile : Branching → Bool → StepLog → Result Automaton StepFault → StepLog → Type 0
-DoesFile listed reversed = Then (λ old result new. DoesRead old listed result new) (DoesTurn reversed)
+DoesFile listed reversed = Then (λ old result new. DoesRead old listed result new) (DoesReversal reversed)
 
 -- the first law of a language that does not hold
 abbrev pub IsFirstLanguageFault : Direction → Automaton → AdmitFault → Type 0
-IsFirstLanguageFault way d (faults.NotAdmitted laws.NoZero) = ¬ KeepsZeros (language_in way d)
-IsFirstLanguageFault way d (faults.NotAdmitted laws.Finite) = KeepsZeros (language_in way d) × ¬ IsEndless (language_in way d)
-IsFirstLanguageFault way d (faults.NotAdmitted laws.ZeroLaw) = ⊥
-IsFirstLanguageFault way d (faults.NotAdmitted laws.SuccessorLaw) = ⊥
-IsFirstLanguageFault way d (faults.Letters step) = ⊥
-IsFirstLanguageFault way d (faults.States step) = ⊥
-IsFirstLanguageFault way d faults.Memory = ⊤
+IsFirstLanguageFault direction d (faults.NotAdmitted laws.NoZero) = ¬ KeepsZeros (language_in direction d)
+IsFirstLanguageFault direction d (faults.NotAdmitted laws.Finite) = KeepsZeros (language_in direction d) × ¬ IsEndless (language_in direction d)
+IsFirstLanguageFault direction d (faults.NotAdmitted laws.ZeroLaw) = ⊥
+IsFirstLanguageFault direction d (faults.NotAdmitted laws.SuccessorLaw) = ⊥
+IsFirstLanguageFault direction d (faults.Letters step) = ⊥
+IsFirstLanguageFault direction d (faults.States step) = ⊥
+IsFirstLanguageFault direction d faults.Memory = ⊤
 
 -- both laws hold, or this is the first that does not
 abbrev pub ChecksLanguage : {A : Type 0} → Direction → Automaton → Result A AdmitFault → Type 0
-ChecksLanguage way d result = MatchResult result (λ _. KeepsZeros (language_in way d) × IsEndless (language_in way d)) (IsFirstLanguageFault way d)
+ChecksLanguage direction d result = MatchResult result (λ _. KeepsZeros (language_in direction d) × IsEndless (language_in direction d)) (IsFirstLanguageFault direction d)

@@ -2,7 +2,7 @@
 use Rattle.std.specs.Prelude.{◌≡◌, ℕ, suc, ◌<◌, Bool, true, [], ◌∷◌, Some}
 use Rattle.digit_tuple.specs.Deterministic.{Automaton, states_of, step_of, accepting_of, accepts_from}
 
--- the word of one zero is accepted from the state exactly where the empty word is
+-- the word of one zero is accepted from the state if and only if the empty word is
 abbrev pub TellsZero : Automaton → ℕ → Type 0
 TellsZero d q = accepts_from d q (0 ∷ []) ≡ accepting_of d q
 
@@ -24,7 +24,7 @@ pub record HasRound (d : Automaton) (z : ℕ) : Type 0 where
   pub on : is_on some ≡ true
   pub from : (q : ℕ) → q < states_of d → is_on q ≡ true → (p : ℕ) × (a : ℕ) × (p < states_of d) × (is_on p ≡ true) × IsLink d z p a q
 
--- only words of zeros are accepted from the state: it accepts, and its one edge is by 0 to itself
+-- only words of zeros are accepted from the state: it accepts, and its one transition is by 0 to itself
 pub record IsEnd (d : Automaton) (q : ℕ) : Type 0 where
   pub accepts : accepting_of d q ≡ true
   pub loop : step_of d q 0 ≡ Some q

@@ -25,17 +25,17 @@ sum_on adder first second third = record { names = first ∷ second ∷ third �
 
 -- the product of `v is one more than y` with `z is a sum of x and v`, and its projection
 abbrev pub DoesSumsWithNext : Direction → Automaton → Automaton → StepLog → Result NamedAutomaton StepFault → StepLog → Type 0
-DoesSumsWithNext way adder next =
-    Then (λ old result new. DoesJoin old And [] (order_on next name_y name_v) (sum_on adder name_x name_v name_z) result new) (λ joined old result new. DoesProject old way name_v joined result new)
+DoesSumsWithNext direction adder next =
+    Then (λ old result new. DoesJoin old And [] (order_on next name_y name_v) (sum_on adder name_x name_v name_z) result new) (λ joined old result new. DoesProject old direction name_v joined result new)
 
 -- the product of `w is a sum of x and y` with `z is one more than w`, and its projection
 abbrev pub DoesNextOfSums : Direction → Automaton → Automaton → StepLog → Result NamedAutomaton StepFault → StepLog → Type 0
-DoesNextOfSums way adder next =
-    Then (λ old result new. DoesJoin old And [] (sum_on adder name_x name_y name_w) (order_on next name_w name_z) result new) (λ joined old result new. DoesProject old way name_w joined result new)
+DoesNextOfSums direction adder next =
+    Then (λ old result new. DoesJoin old And [] (sum_on adder name_x name_y name_w) (order_on next name_w name_z) result new) (λ joined old result new. DoesProject old direction name_w joined result new)
 
 -- the four steps, and whether they make one language
 abbrev pub DoesNextSums : Direction → Automaton → Automaton → StepLog → Result Bool StepFault → StepLog → Type 0
-DoesNextSums way adder next = Then (DoesSumsWithNext way adder next) (λ with_next. Then (DoesNextOfSums way adder next) (λ of_sums. TellsSame with_next.automaton of_sums.automaton))
+DoesNextSums direction adder next = Then (DoesSumsWithNext direction adder next) (λ with_next. Then (DoesNextOfSums direction adder next) (λ of_sums. TellsSame with_next.automaton of_sums.automaton))
 
 -- the third number is a sum of the first with one more than the second
 abbrev pub IsSumWithNext : (List ℕ → Bool) → List ℕ → Type 0

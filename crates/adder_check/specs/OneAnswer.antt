@@ -15,5 +15,5 @@ HasOneAnswer memory does = (old : StepLog) (first other : _) (after next : StepL
 
 -- the answer, with its steps and their lines
 abbrev pub AdmissionHasOneAnswer : Type 0
-AdmissionHasOneAnswer = (way : Direction) (language adder : Branching) (reversed : Bool) (digits : ℕ) → language.sizes ≡ digits ∷ []
-    → HasOneAnswer faults.Memory (DoesAdmission way language adder reversed)
+AdmissionHasOneAnswer = (direction : Direction) (language adder : Branching) (reversed : Bool) (digits : ℕ) → language.sizes ≡ digits ∷ []
+    → HasOneAnswer faults.Memory (DoesAdmission direction language adder reversed)

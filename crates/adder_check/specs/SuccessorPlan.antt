@@ -20,7 +20,7 @@ DoesChain less old result new = DoesJoin old And [] (order_on less name_x name_u
 
 -- its projection
 abbrev pub DoesBetween : Direction → NamedAutomaton → StepLog → Result NamedAutomaton StepFault → StepLog → Type 0
-DoesBetween way chain old result new = DoesProject old way name_u chain result new
+DoesBetween direction chain old result new = DoesProject old direction name_u chain result new
 
 -- the product of x < y and not that
 abbrev pub DoesNext : Automaton → NamedAutomaton → StepLog → Result Automaton StepFault → StepLog → Type 0
@@ -30,5 +30,5 @@ DoesNext less between old result new =
 
 -- the step order and these three
 abbrev pub DoesSuccessor : Direction → Automaton → StepLog → Result Automaton StepFault → StepLog → Type 0
-DoesSuccessor way language =
-    Then (λ old result new. DoesOrder old way language result new) (λ less. Then (DoesChain less) (λ chain. Then (DoesBetween way chain) (λ between. DoesNext less between)))
+DoesSuccessor direction language =
+    Then (λ old result new. DoesOrder old direction language result new) (λ less. Then (DoesChain less) (λ chain. Then (DoesBetween direction chain) (λ between. DoesNext less between)))

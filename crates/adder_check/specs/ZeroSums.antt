@@ -22,20 +22,20 @@ on_y zero = record { names = name_y ∷ []; automaton = zero }
 
 -- the product of the adder with 0 on y, and its projection
 abbrev pub DoesZeroSums : Direction → NamedAutomaton → Automaton → StepLog → Result NamedAutomaton StepFault → StepLog → Type 0
-DoesZeroSums way adder zero = Then (λ old result new. DoesJoin old And [] adder (on_y zero) result new) (λ joined old result new. DoesProject old way name_y joined result new)
+DoesZeroSums direction adder zero = Then (λ old result new. DoesJoin old And [] adder (on_y zero) result new) (λ joined old result new. DoesProject old direction name_y joined result new)
 
 -- the canonical automata of 0 and of equal numbers
-pub record AreZeroAndEquality (way : Direction) (s : System) (zero equal : Automaton) : Type 0 where
-  pub zero_is : IsZeroOf way s zero
+pub record AreZeroAndEquality (direction : Direction) (s : System) (zero equal : Automaton) : Type 0 where
+  pub zero_is : IsZeroOf direction s zero
   pub zero_canonical : IsCanonical zero
-  pub equal_is : IsEqualityOf way s equal
+  pub equal_is : IsEqualityOf direction s equal
   pub equal_canonical : IsCanonical equal
 
 -- memory ran out before a step, or the steps of the sums with 0 are done, and whether they are the equal numbers
 abbrev pub DoesZeroLaw : Direction → Automaton → NamedAutomaton → StepLog → Result Bool StepFault → StepLog → Type 0
-DoesZeroLaw way d adder old result new =
+DoesZeroLaw direction d adder old result new =
     ((result ≡ Err steps.Memory) × (new ≡ old))
-    ⊎ ((zero : Automaton) × (equal : Automaton) × AreZeroAndEquality way (system_of way d) zero equal × Then (DoesZeroSums way adder zero) (λ sums. TellsSame sums.automaton equal) old result new)
+    ⊎ ((zero : Automaton) × (equal : Automaton) × AreZeroAndEquality direction (system_of direction d) zero equal × Then (DoesZeroSums direction adder zero) (λ sums. TellsSame sums.automaton equal) old result new)
 
 -- the second number is a sum of the first with 0
 abbrev pub IsZeroSum : (List ℕ → Bool) → List ℕ → Type 0

@@ -4,7 +4,7 @@ ghost use Rattle.std.specs.Prelude.{◌≡◌, length, map, IfOk};
 ghost use Rattle.std.specs.Rc.{rc_value};
 ghost use Rattle.minimise.specs.Canonical.{IsCanonical};
 ghost use Rattle.numeration.specs.Relations.{HoldsOf};
-ghost use Rattle.numeration.specs.Spelling.{sizes_of};
+ghost use Rattle.numeration.specs.Representation.{sizes_of};
 ghost use Rattle.numeration.specs.Systems.{System, IsSystem};
 ghost use Rattle.num_system.specs.Joined.{AreLanguagesOf};
 ghost use Rattle.product_op.specs.Validity.{AreLanguages};
@@ -32,9 +32,9 @@ pub struct FileWords<'a> {
 }
 
 /// The canonical automaton of the triples of numbers x, y and z of which a file of three tracks lists some
-/// spelling, by the steps `read`, `reverse` where the words are of the other direction, `pad` and `valid`
-/// as the next ones. There are three languages, each the canonical one of the system. The widths and the
-/// costs are those of the steps.
+/// representation, by the steps `read`, `reverse` where the words are of the other direction, `pad` and `valid` as the
+/// next ones. There are three languages, each the canonical one of the system. The widths and the costs are those of
+/// the steps.
 ///
 /// # Errors
 /// `States` exactly at the first step whose width passes the limit.

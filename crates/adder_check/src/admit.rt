@@ -34,7 +34,7 @@ use std::rc::Rc;
 pub struct SystemFiles<'a> {
     /// The valid words.
     pub language: &'a Nfa,
-    /// The words of three tracks that spell numbers of which the third is to be the sum of the others.
+    /// The words of three tracks that represent numbers of which the third is to be the sum of the others.
     pub adder: &'a Nfa,
     /// Whether the words of both are of the other direction.
     pub reversed: bool,

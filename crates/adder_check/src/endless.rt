@@ -9,13 +9,12 @@ ghost use Rattle.adder_check.specs.Links.{IsEnd, IsEndState};
 use crate::sorting::has_round;
 use digit_tuple::dfa::Dfa;
 use digit_tuple::direction::Direction;
-use digit_tuple::edges::Edge;
 use digit_tuple::faults::OutOfMemory;
+use digit_tuple::transitions::Transition;
 use std::alloc::Global;
 
-/// Whether there are longer words than any in the language of a canonical automaton, without leading
-/// zeros, where leading zeros keep its words. Words are read in the direction. The time follows the
-/// number of edges.
+/// Whether there are longer words than any in the language of a canonical automaton, without leading zeros, where
+/// leading zeros keep its words. Words are read in the direction. The time follows the number of transitions.
 pub fn is_endless(alloc: Global, language: &Dfa, direction: Direction) -> Result<bool, OutOfMemory>
     requires canonical { IsCanonical language.now }
     requires zeros { KeepsZeros (language_in direction language.now) }
@@ -27,7 +26,7 @@ pub fn is_endless(alloc: Global, language: &Dfa, direction: Direction) -> Result
     }
 }
 
-// The same where the most significant digit stands first: the zeros of the initial state are left out.
+// The same where the most significant digit comes first: the zeros of the initial state are left out.
 fn has_round_first(alloc: Global, language: &Dfa) -> Result<bool, OutOfMemory>
     requires canonical { IsCanonical language.now }
     requires zeros { KeepsZeros (language_in Direction.Msd language.now) }
@@ -36,7 +35,7 @@ fn has_round_first(alloc: Global, language: &Dfa) -> Result<bool, OutOfMemory>
     has_round(alloc, language, 0)
 }
 
-// The same where it stands last: the zeros after whole words are left out.
+// The same where it comes last: the zeros after whole words are left out.
 fn has_round_last(alloc: Global, language: &Dfa) -> Result<bool, OutOfMemory>
     requires canonical { IsCanonical language.now }
     requires zeros { KeepsZeros (language_in Direction.Lsd language.now) }
@@ -62,11 +61,11 @@ fn end_state(alloc: Global, language: &Dfa) -> Result<u32, OutOfMemory>
 }
 
 // Whether only words of zeros are accepted from the state. The row may hold anything.
-fn is_end(language: &Dfa, state: u32, row: &mut Vec<Edge>) -> Result<bool, OutOfMemory>
+fn is_end(language: &Dfa, state: u32, row: &mut Vec<Transition>) -> Result<bool, OutOfMemory>
     requires within { state < states_of language.now }
     ensures { IfOk result (λ is. IsTrue is ↔ IsEnd language.now state) }
 {
-    language.edges_into(state, row)?;
+    language.transitions_into(state, row)?;
     if row.len() != 1 {
         return Ok(false);
     }

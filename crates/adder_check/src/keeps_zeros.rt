@@ -9,9 +9,9 @@ ghost use Rattle.adder_check.specs.Links.{TellsZero};
 use digit_tuple::dfa::Dfa;
 use digit_tuple::direction::Direction;
 
-/// Whether the empty word is in the language of a canonical automaton, and a leading zero changes nothing:
-/// a word with one is in it exactly where the word without it is. Words are read in the direction. The cost
-/// is at most a look at each state.
+/// Whether the empty word is in the language of a canonical automaton, and a leading zero changes nothing: a word with
+/// one is in it if and only if the word without it is. Words are read in the direction. The cost is at most a look at
+/// each state.
 pub fn keeps_zeros(language: &Dfa, direction: Direction) -> bool
     requires canonical { IsCanonical language.now }
     ensures { IsTrue result ↔ KeepsZeros (language_in direction language.now) }
@@ -22,7 +22,7 @@ pub fn keeps_zeros(language: &Dfa, direction: Direction) -> bool
     }
 }
 
-// The same where the most significant digit stands first.
+// The same where the most significant digit comes first.
 fn keeps_first_zeros(language: &Dfa) -> bool
     requires canonical { IsCanonical language.now }
     ensures { IsTrue result ↔ KeepsZeros (language_in Direction.Msd language.now) }
@@ -30,7 +30,7 @@ fn keeps_first_zeros(language: &Dfa) -> bool
     language.accepting(0) && language.step(0, 0) == Some(0)
 }
 
-// The same where it stands last.
+// The same where it comes last.
 fn keeps_last_zeros(language: &Dfa) -> bool
     requires canonical { IsCanonical language.now }
     ensures { IsTrue result ↔ KeepsZeros (language_in Direction.Lsd language.now) }
@@ -46,7 +46,7 @@ fn keeps_last_zeros(language: &Dfa) -> bool
     true
 }
 
-// Whether the word of one zero is accepted from the state exactly where the empty word is.
+// Whether the word of one zero is accepted from the state if and only if the empty word is.
 fn tells_zero(language: &Dfa, state: u32) -> bool
     requires within { state < states_of language.now }
     ensures { IsTrue result ↔ TellsZero language.now state }

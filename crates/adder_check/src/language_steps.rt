@@ -39,12 +39,11 @@ pub fn file_steps(
     }
 }
 
-/// Whether the language of a canonical automaton of one track is that of a numeration system. Words are
-/// read in the direction. The time follows the number of edges.
+/// Whether the language of a canonical automaton of one track is that of a numeration system. Words are read in the
+/// direction. The time follows the number of transitions.
 ///
 /// # Errors
-/// `NotAdmitted` with the first law that does not hold, of `NoZero` and `Finite`, exactly where one does
-/// not.
+/// `NotAdmitted` with the first law that does not hold, of `NoZero` and `Finite`, if and only if one does not.
 pub fn check_language(alloc: Global, language: &Dfa, direction: Direction) -> Result<(), AdmitFault>
     requires canonical { IsCanonical language.now }
     ensures { ChecksLanguage direction language.now result }

@@ -5,13 +5,13 @@ ghost use Rattle.adder_check.specs.Admission.{FaultsExclude};
 ghost use Rattle.adder_check.specs.OneAnswer.{AdmissionHasOneAnswer};
 ghost use Rattle.adder_check.specs.LanguageLaws.{LawsTellSystems};
 
-/// A relation of three numbers is addition exactly where it meets the laws of zero and of the successor.
+/// A relation of three numbers is addition if and only if it meets the laws of zero and of the successor.
 pub fn laws_tell_addition()
     ensures { LawsTellAddition }
 {}
 
-/// The language of an automaton is that of a numeration system exactly where leading zeros keep its words
-/// and it has no end.
+/// The language of an automaton is that of a numeration system if and only if leading zeros keep its words and it has
+/// no end.
 pub fn laws_tell_systems()
     ensures { LawsTellSystems }
 {}

@@ -12,7 +12,7 @@ pub mod admit_fault;
 /// Whether leading zeros keep the words of a language.
 pub mod keeps_zeros;
 
-/// States in order, and ways round.
+/// States in order, and cycles.
 mod sorting;
 
 /// Whether a language has an end.

@@ -1,5 +1,5 @@
-//! States put in order by the links between them (Arthur Kahn, "Topological sorting of large networks"): a
-//! state comes where links lead to it from earlier ones alone. What is left over has a way round.
+//! States put in order by the links between them (Arthur Kahn, "Topological sorting of large networks"): a state comes
+//! where links lead to it from earlier ones alone. What is left over has a cycle.
 
 ghost use Rattle.std.specs.Prelude.{◌≡◌, ◌+◌, ◌*◌, ◌<◌, ◌≤◌, ◌^◌, ◌==◌, ℕ, length, slice_index_or, true, false, IfOk, OnOk};
 ghost use Rattle.std.specs.List.{All};
@@ -8,12 +8,12 @@ ghost use Rattle.adder_check.specs.Links.{HasPlaces, HasRound};
 ghost use Rattle.adder_check.specs.Counts.{AreIncoming, AreFree, AreAdded, AreReleased, IsOneLess, IsSorted, Grows, counted, is_kept as keeps};
 
 use digit_tuple::dfa::Dfa;
-use digit_tuple::edges::Edge;
 use digit_tuple::faults::OutOfMemory;
+use digit_tuple::transitions::Transition;
 use std::alloc::Global;
 
-/// Whether links lead round. The zero of one state is no link; there may be no such state. The time
-/// follows the number of edges.
+/// Whether links lead round. The zero of one state is no link; there may be no such state. The time follows the number
+/// of transitions.
 pub(crate) fn has_round(alloc: Global, language: &Dfa, without: u32) -> Result<bool, OutOfMemory>
     ensures round { IfOk result (λ is. is ≡ true → HasRound language.now without) }
     ensures places { IfOk result (λ is. is ≡ false → HasPlaces language.now without) }
@@ -38,7 +38,7 @@ fn sorted(alloc: Global, language: &Dfa, without: u32) -> Result<Vec<u64>, OutOf
     for place in 0..language.states() as usize {
         if place < order.len() {
             let state = order[place];
-            language.edges_into(state, &mut row)?;
+            language.transitions_into(state, &mut row)?;
             release(&mut pending, &mut order, &row, state == without)?;
         }
     }
@@ -54,21 +54,21 @@ fn incoming(alloc: Global, language: &Dfa, without: u32) -> Result<Vec<u64>, Out
     let mut pending = vec![in alloc; 0; states as usize]?;
     let mut row = Vec::new(alloc);
     for state in 0..states {
-        language.edges_into(state, &mut row)?;
+        language.transitions_into(state, &mut row)?;
         add_links(&mut pending, &row, state == without);
     }
     Ok(pending)
 }
 
-// Counts one link more to the target of each edge, but for zeros where they are left out.
-fn add_links(pending: &mut Vec<u64>, edges: &[Edge], without_zero: bool)
-    requires targets { All (λ edge. edge.target < length pending.old.items) edges.now }
-    requires room { All (λ count. count + length edges.now < 2 ^ 64) pending.old.items }
-    ensures { AreAdded without_zero edges.now pending.old.items pending.new.items }
+// Counts one link more to the target of each transition, but for zeros where they are left out.
+fn add_links(pending: &mut Vec<u64>, transitions: &[Transition], without_zero: bool)
+    requires targets { All (λ transition. transition.target < length pending.old.items) transitions.now }
+    requires room { All (λ count. count + length transitions.now < 2 ^ 64) pending.old.items }
+    ensures { AreAdded without_zero transitions.now pending.old.items pending.new.items }
 {
-    for edge in edges {
-        if is_kept(edge, without_zero) {
-            pending[edge.target as usize] += 1;
+    for transition in transitions {
+        if is_kept(transition, without_zero) {
+            pending[transition.target as usize] += 1;
         }
     }
 }
@@ -87,23 +87,23 @@ fn free_states(alloc: Global, pending: &[u64]) -> Result<Vec<u32>, OutOfMemory>
     Ok(order)
 }
 
-// Lets the links of a state's edges go, and puts the states into the order to which none leads then.
+// Lets the links of a state's transitions go, and puts the states into the order to which none leads then.
 fn release(
     pending: &mut Vec<u64>,
     order: &mut Vec<u32>,
-    edges: &[Edge],
+    transitions: &[Transition],
     without_zero: bool,
 ) -> Result<(), OutOfMemory>
     requires free { AreFree pending.old.items order.old.items (length pending.old.items) }
-    requires targets { All (λ edge. edge.target < length pending.old.items) edges.now }
-    requires enough { (q : ℕ) → q < length pending.old.items → counted without_zero edges.now q ≤ slice_index_or pending.old.items q 0 }
-    ensures released { OnOk result (AreReleased without_zero edges.now pending.old.items pending.new.items) }
+    requires targets { All (λ transition. transition.target < length pending.old.items) transitions.now }
+    requires enough { (q : ℕ) → q < length pending.old.items → counted without_zero transitions.now q ≤ slice_index_or pending.old.items q 0 }
+    ensures released { OnOk result (AreReleased without_zero transitions.now pending.old.items pending.new.items) }
     ensures free { OnOk result (AreFree pending.new.items order.new.items (length pending.new.items)) }
     ensures grows { OnOk result (Grows order.old.items order.new.items) }
 {
-    for edge in edges {
-        if is_kept(edge, without_zero) {
-            release_link(pending, order, edge.target)?;
+    for transition in transitions {
+        if is_kept(transition, without_zero) {
+            release_link(pending, order, transition.target)?;
         }
     }
     Ok(())
@@ -130,9 +130,9 @@ fn release_link(
     Ok(())
 }
 
-// Whether the edge is not by 0, where such edges are left out.
-fn is_kept(edge: &Edge, without_zero: bool) -> bool
-    ensures { result ≡ keeps without_zero edge.now }
+// Whether the transition is not by 0, where such transitions are left out.
+fn is_kept(transition: &Transition, without_zero: bool) -> bool
+    ensures { result ≡ keeps without_zero transition.now }
 {
-    !(without_zero && edge.letter == 0)
+    !(without_zero && transition.letter == 0)
 }

@@ -55,7 +55,7 @@ fn chain_step(alloc: Global, less: &Dfa, steps: &mut Steps) -> Result<Tracked, S
     requires tracks { (digits : ℕ) × (less.now.sizes ≡ digits ∷ digits ∷ []) }
     ensures steps { DoesChain less.now steps.old result steps.new }
     ensures chain { IfOk result (IsChain less.now) }
-    ensures relation { IfOk result (λ chain. (way : Direction) (s : System) → IsSystem s → IsOrderOf way s less.now → HoldsOf way (s ∷ s ∷ s ∷ []) IsInside chain.automaton) }
+    ensures relation { IfOk result (λ chain. (direction : Direction) (s : System) → IsSystem s → IsOrderOf direction s less.now → HoldsOf direction (s ∷ s ∷ s ∷ []) IsInside chain.automaton) }
 {
     match chain_of(alloc, less, steps.limit()) {
         Ok(Stepped { result, width }) => {
@@ -96,7 +96,7 @@ fn next_step(
     requires sizes { between.now.automaton.sizes ≡ less.now.sizes }
     requires fits { IsAlphabet less.now.sizes }
     ensures steps { DoesNext less.now between.now steps.old result steps.new }
-    ensures relation { IfOk result (λ next. (way : Direction) (s : System) → IsOrderOf way s less.now → HoldsOf way (s ∷ s ∷ []) HasInside between.now.automaton → IsSuccessorOf way s next) }
+    ensures relation { IfOk result (λ next. (direction : Direction) (s : System) → IsOrderOf direction s less.now → HoldsOf direction (s ∷ s ∷ []) HasInside between.now.automaton → IsSuccessorOf direction s next) }
 {
     match next_of(alloc, less, between, steps.limit()) {
         Ok(Stepped { result, width }) => {

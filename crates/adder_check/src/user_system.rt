@@ -17,7 +17,7 @@ use std::alloc::Global;
 pub struct UserSystem {
     /// How many digits there are.
     pub digits: u32,
-    /// Which digit of a word stands first.
+    /// Which digit of a word comes first.
     pub direction: Direction,
     /// The automaton of the valid words.
     pub language: Dfa,
@@ -33,14 +33,14 @@ impl NumSystem for UserSystem {
 
     ghost system = { λ s. system_in s.direction s.digits s.language };
 
-    ghost way = { λ s. s.direction };
+    ghost first_digit = { λ s. s.direction };
 
     /// How many digits there are.
     fn digits(&self) -> u32 {
         self.digits
     }
 
-    /// Which digit of a word stands first.
+    /// Which digit of a word comes first.
     fn direction(&self) -> Direction {
         self.direction
     }

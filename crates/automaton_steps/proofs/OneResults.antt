@@ -9,7 +9,7 @@ use Rattle.minimise.specs.Tracked.{NamedAutomaton}
 use Rattle.minimise.proofs.CanonicalLemmas.{canonical_forms}
 use Rattle.digit_tuple.specs.Paddings.{in_order}
 use Rattle.numeration.specs.Relations.{IsLanguageOf, IsOrderOf, IsLess}
-use Rattle.numeration.specs.Spelling.{Spells, sizes_of}
+use Rattle.numeration.specs.Representation.{Represents, sizes_of}
 use Rattle.numeration.specs.Systems.{System, IsSystem}
 use Rattle.product_op.specs.declared.op.Op.{Op}
 use Rattle.project_close.specs.Padding.{IsPadded}
@@ -70,4 +70,4 @@ one_order direction s language d e system is one other =
     let first : IsOrderOf direction s d = one.order s system is in
     let second : IsOrderOf direction s e = other.order s system is in
     one_automaton (sizes_of (s ∷ s ∷ [])) d e one.canonical other.canonical first.sizes second.sizes
-    (λ w over. by_fact d e ((ns : List ℕ) × Spells (s ∷ s ∷ []) (in_order direction w) ns × IsLess ns) w (first.accepts w over) (second.accepts w over))
+    (λ w over. by_fact d e ((ns : List ℕ) × Represents (s ∷ s ∷ []) (in_order direction w) ns × IsLess ns) w (first.accepts w over) (second.accepts w over))

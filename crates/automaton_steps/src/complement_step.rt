@@ -21,8 +21,7 @@ use std::rc::Rc;
 /// and the cost are those of `complement_in`.
 ///
 /// # Errors
-/// `States` exactly where the width passes the limit. The steps are as before then, also where memory
-/// is wanting.
+/// `States` if and only if the width passes the limit. The steps are as before then, also where memory is wanting.
 pub fn complement_step(
     alloc: Global,
     argument: &Tracked,

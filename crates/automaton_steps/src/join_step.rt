@@ -32,8 +32,8 @@ pub struct Joining<'a> {
 /// both. The tracks, the width and the cost are those of `product`.
 ///
 /// # Errors
-/// `Letters` exactly where there are too many tracks or letters, looked at first; `States` exactly
-/// where the width passes the limit. The steps are as before then, also where memory is wanting.
+/// `Letters` if and only if there are too many tracks or letters, looked at first; `States` if and only if the width
+/// passes the limit. The steps are as before then, also where memory is wanting.
 pub fn join_step(
     alloc: Global,
     a: &Tracked,

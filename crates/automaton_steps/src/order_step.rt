@@ -19,8 +19,8 @@ use std::alloc::Global;
 /// of `order_of`.
 ///
 /// # Errors
-/// `Letters` exactly where two tracks have too many letters, looked at first; `States` exactly where
-/// the width passes the limit. The steps are as before then, also where memory is wanting.
+/// `Letters` if and only if two tracks have too many letters, looked at first; `States` if and only if the width passes
+/// the limit. The steps are as before then, also where memory is wanting.
 pub fn order_step(
     alloc: Global,
     language: &Dfa,

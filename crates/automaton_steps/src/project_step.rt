@@ -19,9 +19,8 @@ use std::alloc::Global;
 /// `project`.
 ///
 /// # Errors
-/// `Letters` exactly where the tracks that stay have too many letters, looked at first; `States`
-/// exactly where the width passes the limit. The steps are as before then, also where memory is
-/// wanting.
+/// `Letters` if and only if the tracks that stay have too many letters, looked at first; `States` if and only if the
+/// width passes the limit. The steps are as before then, also where memory is wanting.
 pub fn project_step(
     alloc: Global,
     argument: &Tracked,

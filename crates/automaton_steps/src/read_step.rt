@@ -13,13 +13,12 @@ use digit_tuple::steps::Steps;
 use minimise::canonical::canonical;
 use std::alloc::Global;
 
-/// The canonical automaton with the language of a nondeterministic one, by the step `read` as the next
-/// one. The width is the number of sets of states that words lead to, the empty one among them. Time
-/// and memory follow the sizes of these sets and their edges, as for `determinise`.
+/// The canonical automaton with the language of a nondeterministic one, by the step `read` as the next one. The width
+/// is the number of sets of states that words lead to, the empty one among them. Time and memory follow the sizes of
+/// these sets and their transitions, as for `determinise`.
 ///
 /// # Errors
-/// `States` exactly where the width passes the limit. The steps are as before then, also where memory
-/// is wanting.
+/// `States` if and only if the width passes the limit. The steps are as before then, also where memory is wanting.
 pub fn read_step(alloc: Global, listed: &Nfa, steps: &mut Steps) -> Result<Dfa, StepFault>
     ensures { DoesRead steps.old listed.now result steps.new }
 {

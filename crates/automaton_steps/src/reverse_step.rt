@@ -17,8 +17,7 @@ use std::alloc::Global;
 /// occurs. The cost is that of `reverse`.
 ///
 /// # Errors
-/// `States` exactly where the width passes the limit. The steps are as before then, also where memory
-/// is wanting.
+/// `States` if and only if the width passes the limit. The steps are as before then, also where memory is wanting.
 pub fn reverse_step(alloc: Global, argument: &Dfa, steps: &mut Steps) -> Result<Dfa, StepFault>
     ensures { DoesReverse steps.old argument.now result steps.new }
 {

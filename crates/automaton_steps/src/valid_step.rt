@@ -21,8 +21,7 @@ use std::rc::Rc;
 /// are those of `valid_part`.
 ///
 /// # Errors
-/// `States` exactly where the width passes the limit. The steps are as before then, also where memory
-/// is wanting.
+/// `States` if and only if the width passes the limit. The steps are as before then, also where memory is wanting.
 pub fn valid_step(
     alloc: Global,
     argument: &Tracked,

@@ -1,4 +1,4 @@
--- Carry automata accept the words that spell two numbers and their sum.
+-- Carry automata accept the words that represent two numbers and their sum.
 use Rattle.std.proofs.Common.{◌≡◌, ℕ, ◌+◌, ◌*◌, ◌/◌, ◌%◌, ◌<◌, ◌≤◌, IsTrue, ◌↔◌, List, [], ◌∷◌, map, refl, sym, ap, ◌∙◌, subst, arith}
 use Rattle.std.proofs.lemmas.Simd.{map-map}
 use Rattle.std.proofs.Math.Nat.{div-lt_iff_lt-mul}
@@ -8,7 +8,7 @@ use Rattle.digit_tuple.specs.Deterministic.{Automaton, accepts_of}
 use Rattle.digit_tuple.specs.declared.direction.Direction.{Direction}
 use Rattle.digit_tuple.specs.declared.direction.Direction.TheVariants.{Msd, Lsd}
 use Rattle.numeration.specs.Systems.{System, IsNumeral}
-use Rattle.numeration.specs.Spelling.{Spells, letters_in, first_track, other_tracks}
+use Rattle.numeration.specs.Representation.{Represents, letters_in, first_track, other_tracks}
 use Rattle.numeration.specs.Relations.{IsSum, IsAdderOf}
 use Rattle.digit_tuple.proofs.PaddingLemmas.{IsWord-in_order}
 use Rattle.base_k.specs.Positional.{base, value}
@@ -79,9 +79,9 @@ value_on k v u n some same over numeral = value_numeral k u n some over (subst (
 abbrev pub ValuesAdd : ℕ → List ℕ → Type 0
 ValuesAdd k w = value k (map (tracks k).third w) ≡ value k (map (tracks k).first w) + value k (map (tracks k).second w)
 
--- a word spells two numbers and their sum just where the values of its tracks are such numbers
-pub spells_sum : (k : ℕ) (w : List ℕ) → 2 ≤ k → IsWord (letters_in (three k)) w → ValuesAdd k w ↔ ((ns : List ℕ) × Spells (three k) w ns × IsSum ns)
-spells_sum k w some over = (forth, λ all. back all.0 all.1 all.2.0 all.2.1 all.2.2)
+-- a word represents two numbers and their sum if and only if the values of its tracks are such numbers
+pub represents_sum : (k : ℕ) (w : List ℕ) → 2 ≤ k → IsWord (letters_in (three k)) w → ValuesAdd k w ↔ ((ns : List ℕ) × Represents (three k) w ns × IsSum ns)
+represents_sum k w some over = (forth, λ all. back all.0 all.1 all.2.0 all.2.1 all.2.2)
   where
     positive : 0 < k
     positive = omega (arith, some)
@@ -95,7 +95,7 @@ spells_sum k w some over = (forth, λ all. back all.0 all.1 all.2.0 all.2.1 all.
     third_over : IsWord k (map (tracks k).third w)
     third_over = track_over k (letters_in (three k)) (tracks k).third w (λ a within. third_small k a positive) over
 
-    forth : ValuesAdd k w → (ns : List ℕ) × Spells (three k) w ns × IsSum ns
+    forth : ValuesAdd k w → (ns : List ℕ) × Represents (three k) w ns × IsSum ns
     forth adds =
         let x = value k (map (tracks k).first w) in
         let y = value k (map (tracks k).second w) in (
@@ -110,20 +110,20 @@ spells_sum k w some over = (forth, λ all. back all.0 all.1 all.2.0 all.2.1 all.
           (x, y, refl),
         )
 
-    spelled : (x y z : ℕ) → Spells (three k) w (x ∷ y ∷ z ∷ []) → (value k (map (tracks k).first w) ≡ x) × (value k (map (tracks k).second w) ≡ y) × (value k (map (tracks k).third w) ≡ z)
-    spelled x y z spells = (
-      value_on k _ _ x some (first_is k w) first_over spells.0,
-      value_on k _ _ y some (second_is k w) second_over spells.1.0,
-      value_on k _ _ z some (third_is k w) third_over spells.1.1.0,
+    represented : (x y z : ℕ) → Represents (three k) w (x ∷ y ∷ z ∷ []) → (value k (map (tracks k).first w) ≡ x) × (value k (map (tracks k).second w) ≡ y) × (value k (map (tracks k).third w) ≡ z)
+    represented x y z represents = (
+      value_on k _ _ x some (first_is k w) first_over represents.0,
+      value_on k _ _ y some (second_is k w) second_over represents.1.0,
+      value_on k _ _ z some (third_is k w) third_over represents.1.1.0,
     )
 
-    back : (ns : List ℕ) → Spells (three k) w ns → (x y : ℕ) → ns ≡ x ∷ y ∷ (x + y) ∷ [] → ValuesAdd k w
-    back ns spells x y is =
-        let values = spelled x y (x + y) (subst (Spells (three k) w) is spells) in
+    back : (ns : List ℕ) → Represents (three k) w ns → (x y : ℕ) → ns ≡ x ∷ y ∷ (x + y) ∷ [] → ValuesAdd k w
+    back ns represents x y is =
+        let values = represented x y (x + y) (subst (Represents (three k) w) is represents) in
         omega (arith, values.0, values.1, values.2)
 
--- a carry automaton accepts just where the values of the tracks add up
-values_add : (way : Direction) (k : ℕ) (d : Automaton) (w : List ℕ) → IsCarrying k (letters_in (three k)) (next_carry way k) (tracks k) d → IsWord (letters_in (three k)) w → IsTrue (accepts_of d w) ↔ ValuesAdd k (in_order way w)
+-- a carry automaton accepts if and only if the values of the tracks add up
+values_add : (direction : Direction) (k : ℕ) (d : Automaton) (w : List ℕ) → IsCarrying k (letters_in (three k)) (next_carry direction k) (tracks k) d → IsWord (letters_in (three k)) w → IsTrue (accepts_of d w) ↔ ValuesAdd k (in_order direction w)
 values_add Msd k d w carrying over =
     let t = tracks k in
     iff_trans _ _ _ (msd_accepts k (letters_in (three k)) t d 0 w carrying (omega arith) over) (λ h. omega (arith, h), λ h. omega (arith, h))
@@ -135,8 +135,8 @@ values_add Lsd k d w carrying over =
     iff_trans _ _ _ (lsd_accepts k (letters_in (three k)) t d 0 w carrying (omega arith) over) (λ h. omega (arith, h, x, y, z), λ h. omega (arith, h, x, y, z))
 
 -- the carry automaton adds
-pub carries_add : (way : Direction) (k : ℕ) (d : Automaton) → 2 ≤ k → d.sizes ≡ k ∷ k ∷ k ∷ [] → IsCarrying k (letters_in (three k)) (next_carry way k) (tracks k) d → IsAdderOf way (base k) d
-carries_add way k d some sizes carrying = record {
+pub carries_add : (direction : Direction) (k : ℕ) (d : Automaton) → 2 ≤ k → d.sizes ≡ k ∷ k ∷ k ∷ [] → IsCarrying k (letters_in (three k)) (next_carry direction k) (tracks k) d → IsAdderOf direction (base k) d
+carries_add direction k d some sizes carrying = record {
   sizes = sizes;
-  accepts = λ w over. iff_trans _ _ _ (values_add way k d w carrying over) (spells_sum k (in_order way w) some (IsWord-in_order way (letters_in (three k)) w over));
+  accepts = λ w over. iff_trans _ _ _ (values_add direction k d w carrying over) (represents_sum k (in_order direction w) some (IsWord-in_order direction (letters_in (three k)) w over));
 }

@@ -85,6 +85,6 @@ digits_reverse : (k : ℕ) (w : List ℕ) → are_digits k (reverse w) ≡ are_d
 digits_reverse k [] = refl
 digits_reverse k (a ∷ w) = ap (are_digits k) (reverse-append (a ∷ []) w) ∙ digits_push k (reverse w) a ∙ ap (λ (t : Bool). nat_lt a k && t) (digits_reverse k w)
 
-pub digits_in_order : (way : Direction) (k : ℕ) (w : List ℕ) → are_digits k (in_order way w) ≡ are_digits k w
+pub digits_in_order : (direction : Direction) (k : ℕ) (w : List ℕ) → are_digits k (in_order direction w) ≡ are_digits k w
 digits_in_order Msd k w = refl
 digits_in_order Lsd k w = digits_reverse k w

@@ -7,7 +7,7 @@ use Rattle.digit_tuple.specs.Paddings.{zeros}
 use Rattle.numeration.specs.Systems.{IsSystem}
 use Rattle.base_k.specs.Positional.{are_digits, base}
 
--- a word is valid just where it is over the digits
+-- a word is valid if and only if it is over the digits
 pub digits_over : (k : ℕ) (w : List ℕ) → IsTrue (are_digits k w) → IsWord k w
 digits_over k [] valid = tt
 digits_over k (a ∷ w) valid =

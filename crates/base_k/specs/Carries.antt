@@ -19,4 +19,4 @@ next_carry Lsd k carry x y z = carry_out k carry x y z
 
 -- the carry after a letter of three tracks, of which the first changes slowest
 abbrev pub carry_after : Direction → ℕ → ℕ → ℕ → Option ℕ
-carry_after way k carry letter = next_carry way k carry (letter / (k * k)) (letter % (k * k) / k) (letter % (k * k) % k)
+carry_after direction k carry letter = next_carry direction k carry (letter / (k * k)) (letter % (k * k) / k) (letter % (k * k) % k)

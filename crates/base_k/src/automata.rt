@@ -4,25 +4,25 @@ ghost use Rattle.std.specs.Prelude.{◌≡◌, ℕ, ◌*◌, ◌<◌, ◌≤◌,
 ghost use Rattle.digit_tuple.specs.declared.direction.Direction.{Direction};
 ghost use Rattle.numeration.specs.Relations.{IsLanguageOf, IsAdderOf};
 ghost use Rattle.base_k.specs.Positional.{base};
-ghost use Rattle.digit_tuple.specs.EdgesBy.{AreEdgesBy};
+ghost use Rattle.digit_tuple.specs.TransitionsBy.{AreTransitionsBy};
 ghost use Rattle.base_k.specs.Carries.{carry_in, carry_out, next_carry, carry_after};
 
 use digit_tuple::alphabet::Alphabet;
 use digit_tuple::dfa::{Dfa, DfaState};
 use digit_tuple::direction::Direction;
-use digit_tuple::edges::Edge;
 use digit_tuple::faults::OutOfMemory;
+use digit_tuple::transitions::Transition;
 use std::alloc::Global;
 
 /// The automaton of all words over the digits of a base, in either direction.
 pub fn language_in(alloc: Global, k: u32) -> Result<Dfa, OutOfMemory>
     requires few { k ≤ 40 }
-    ensures { IfOk result (λ dfa. (way : Direction) → IsLanguageOf way (base k) dfa) }
+    ensures { IfOk result (λ dfa. (direction : Direction) → IsLanguageOf direction (base k) dfa) }
 {
     let alphabet = Alphabet::fitting(alloc, &[k])?;
     let state = DfaState {
         accepting: true,
-        edges: edges_home(alloc, k)?,
+        transitions: transitions_home(alloc, k)?,
     };
     Dfa::from_states(alloc, alphabet, vec![in alloc; state]?)
 }
@@ -41,15 +41,15 @@ pub fn adder_in(alloc: Global, direction: Direction, k: u32) -> Result<Dfa, OutO
     Dfa::from_states(alloc, alphabet, vec![in alloc; none, one]?)
 }
 
-// Edges by each digit to the first state.
-fn edges_home(alloc: Global, digits: u32) -> Result<Vec<Edge>, OutOfMemory>
-    ensures { IfOk result (λ edges. AreEdgesBy (λ _. Some 0) digits 1 edges.items) }
+// Transitions by each digit to the first state.
+fn transitions_home(alloc: Global, digits: u32) -> Result<Vec<Transition>, OutOfMemory>
+    ensures { IfOk result (λ transitions. AreTransitionsBy (λ _. Some 0) digits 1 transitions.items) }
 {
-    let mut edges = Vec::new(alloc);
+    let mut transitions = Vec::new(alloc);
     for letter in 0..digits {
-        edges.push(Edge { letter, target: 0 })?;
+        transitions.push(Transition { letter, target: 0 })?;
     }
-    Ok(edges)
+    Ok(transitions)
 }
 
 // The state of a carry. It accepts where there is none.
@@ -63,40 +63,40 @@ fn carry_state(
     requires few { k ≤ 40 }
     requires carry { carry < 2 }
     ensures accepting { IfOk result (λ state. state.accepting ≡ nat_eq carry 0) }
-    ensures edges { IfOk result (λ state. AreEdgesBy (carry_after direction k carry) (k * (k * k)) 2 state.edges.items) }
+    ensures transitions { IfOk result (λ state. AreTransitionsBy (carry_after direction k carry) (k * (k * k)) 2 state.transitions.items) }
 {
     Ok(DfaState {
         accepting: carry == 0,
-        edges: carry_edges(alloc, direction, k, carry)?,
+        transitions: carry_transitions(alloc, direction, k, carry)?,
     })
 }
 
-// The edges of a carry: by each letter to the carry at the other side of its digits.
-fn carry_edges(
+// The transitions of a carry: by each letter to the carry at the other side of its digits.
+fn carry_transitions(
     alloc: Global,
     direction: Direction,
     k: u32,
     carry: u32,
-) -> Result<Vec<Edge>, OutOfMemory>
+) -> Result<Vec<Transition>, OutOfMemory>
     requires some { 2 ≤ k }
     requires few { k ≤ 40 }
     requires carry { carry < 2 }
-    ensures { IfOk result (λ edges. AreEdgesBy (carry_after direction k carry) (k * (k * k)) 2 edges.items) }
+    ensures { IfOk result (λ transitions. AreTransitionsBy (carry_after direction k carry) (k * (k * k)) 2 transitions.items) }
 {
     let square = k * k;
-    let mut edges = Vec::new(alloc);
+    let mut transitions = Vec::new(alloc);
     for letter in 0..k * square {
         let rest = letter % square;
         let next = next_carry(direction, k, carry, letter / square, rest / k, rest % k);
         if let Some(target) = next {
-            edges.push(Edge { letter, target })?;
+            transitions.push(Transition { letter, target })?;
         }
     }
-    Ok(edges)
+    Ok(transitions)
 }
 
-// The carry at the other side of a place with the digits x, y and z, of which z is the sum's: what must
-// come into the place where the most significant digit stands first, else what goes out of it.
+// The carry at the other side of a place with the digits x, y and z, of which z is the sum's: what must come into the
+// place where the most significant digit comes first, else what goes out of it.
 fn next_carry(direction: Direction, k: u32, carry: u32, x: u32, y: u32, z: u32) -> Option<u32>
     requires k { k ≤ 40 }
     requires carry { carry < 2 }

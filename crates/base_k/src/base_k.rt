@@ -22,15 +22,15 @@ pub const GREATEST_BASE: u32 = 40;
 pub struct BaseK {
     /// The base, which is the number of digits.
     pub base: u32,
-    /// Which digit of a word stands first.
+    /// Which digit of a word comes first.
     pub direction: Direction,
     ghost at_least: { 2 ≤ base },
     ghost at_most: { base ≤ 40 },
 }
 
 impl BaseK {
-    /// The system in base `k`, whose words have the digit first that the direction says. There is
-    /// none exactly where `k` is outside of 2 to 40.
+    /// The system in base `k`, whose words have the digit first that the direction says. There is none if and only if
+    /// `k` is outside of 2 to 40.
     pub fn new(k: u32, direction: Direction) -> Option<BaseK>
         ensures exists { IsSome result ↔ ((2 ≤ k) × (k ≤ 40)) }
         ensures base { IfSome result (λ system. system.base ≡ k) }
@@ -49,14 +49,14 @@ impl NumSystem for BaseK {
 
     ghost system = { λ s. base s.base };
 
-    ghost way = { λ s. s.direction };
+    ghost first_digit = { λ s. s.direction };
 
     /// The base.
     fn digits(&self) -> u32 {
         self.base
     }
 
-    /// Which digit of a word stands first.
+    /// Which digit of a word comes first.
     fn direction(&self) -> Direction {
         self.direction
     }

@@ -123,17 +123,17 @@ module _ (sizes : List ℕ) (languages : List Automaton) (fit : AllFitTracks siz
 
     held : (w : List ℕ) → IsWord (product sizes) w → held_letter parts (beside parts) (tuple_after (beside parts) w) ≡ letter_here w
     held w over =
-        let behind : List Bool = flags_of tracks w in
-        let flags : flags_at (beside parts) (tuple_after (beside parts) w) ≡ accepted parts w ++ behind =
+        let suffix : List Bool = flags_of tracks w in
+        let flags : flags_at (beside parts) (tuple_after (beside parts) w) ≡ accepted parts w ++ suffix =
         ap (flags_at (beside parts)) (sym (tuple_after-lead (beside parts) w)) ∙ flags_at-lead (beside parts) w ∙ flags_joined parts are w over in
         ap (λ (fs : List Bool). if all_true (drop (length parts) fs) then Some (first_held parts fs) else None) flags
-        ∙ ap (λ (fs : List Bool). if all_true fs then Some (first_held parts (accepted parts w ++ behind)) else None) (drop_accepted parts w behind)
-        ∙ ap (λ (b : Bool). if b then Some (first_held parts (accepted parts w ++ behind)) else None) (all_true-valid sizes languages w over)
-        ∙ ap (λ (x : ℤ). if is_valid sizes languages w then Some x else None) (first_held-append parts (λ (part : PartValue). accepts_of part.relation.automaton w) behind)
+        ∙ ap (λ (fs : List Bool). if all_true fs then Some (first_held parts (accepted parts w ++ suffix)) else None) (drop_accepted parts w suffix)
+        ∙ ap (λ (b : Bool). if b then Some (first_held parts (accepted parts w ++ suffix)) else None) (all_true-valid sizes languages w over)
+        ∙ ap (λ (x : ℤ). if is_valid sizes languages w then Some x else None) (first_held-append parts (λ (part : PartValue). accepts_of part.relation.automaton w) suffix)
 
-    -- the first track's language stands behind the relations
-    behind_within : length parts < length (beside parts)
-    behind_within =
+    -- the first track's language comes after the relations
+    after_within : length parts < length (beside parts)
+    after_within =
         omega (
           arith,
           some,
@@ -146,12 +146,12 @@ module _ (sizes : List ℕ) (languages : List Automaton) (fit : AllFitTracks siz
     none_at_sinks : (w : List ℕ) → are_sinks (beside parts) (tuple_after (beside parts) w) ≡ true → held_letter parts (beside parts) (tuple_after (beside parts) w) ≡ None
     none_at_sinks w sinks =
         let key : List ℕ = tuple_after (beside parts) w in
-        let at = are_sinks-at (beside parts) key (length parts) behind_within sinks in
+        let at = are_sinks-at (beside parts) key (length parts) after_within sinks in
         let refuses : accepting_of (reading_at (beside parts) (length parts)).automaton (state_at key (length parts)) ≡ false =
         not_accepting_past (reading_at (beside parts) (length parts)).automaton (state_at key (length parts)) (omega (arith, at)) in
         let rest : Bool = all_true (drop (length parts + 1) (flags_at (beside parts) key)) in
         ap (λ (b : Bool). if b then Some (first_held parts (flags_at (beside parts) key)) else None)
-        (all_true_more (beside parts) key (length parts) behind_within ∙ ap (λ (b : Bool). b && rest) refuses)
+        (all_true_more (beside parts) key (length parts) after_within ∙ ap (λ (b : Bool). b && rest) refuses)
 
     pub letters_held : (keys : List (List ℕ)) (e : Automaton) → AreTuples (product sizes) (beside parts) keys e
         → (w : List ℕ) → IsWord (product sizes) w → letter_led e (held_letters parts (beside parts) keys) w ≡ letter_here w

@@ -32,7 +32,7 @@ first_held-none (part ∷ parts) [] none = refl
 first_held-none (part ∷ parts) (flag ∷ flags) none =
     if_false flag part.value (first_held parts flags) (none 0 (omega arith)) ∙ first_held-none parts flags (λ k less. none (suc k) (omega (arith, less)))
 
--- flags behind those of the relations do not count
+-- flags after those of the relations do not count
 pub first_held-append : (parts : List PartValue) (test : PartValue → Bool) (flags : List Bool) → first_held parts (map test parts ++ flags) ≡ first_held parts (map test parts)
 first_held-append [] test flags = refl
 first_held-append (part ∷ parts) test flags = ap (λ (letter : ℤ). if test part then part.value else letter) (first_held-append parts test flags)

@@ -10,15 +10,15 @@ use Rattle.digit_tuple.specs.Width.{IsEquivalence}
 use Rattle.digit_tuple.specs.declared.kind.Kind.TheVariants as kinds
 use Rattle.digit_tuple.specs.declared.step_fault.StepFault.TheVariants as faults
 use Rattle.digit_tuple.proofs.WidthLemmas.{IsOneWidth-equivalence}
-use Rattle.numeration.specs.Spelling.{letters_in, sizes_of}
+use Rattle.numeration.specs.Representation.{letters_in, sizes_of}
 use Rattle.num_system.specs.Sealed.{SystemValue, system_of}
-use Rattle.num_system.specs.Tracks.{systems_of, way_of}
-use Rattle.num_system.proofs.HoldLemmas.{spelled_count}
+use Rattle.num_system.specs.Tracks.{systems_of, direction_of}
+use Rattle.num_system.proofs.HoldLemmas.{represented_count}
 use Rattle.num_system.proofs.StepLemmas.{not_too_large}
 use Rattle.automaton_steps.specs.Laws.{HasOneOutcome}
 use Rattle.automaton_steps.proofs.OneLines.{not_beside, one_line}
 use Rattle.word_output.specs.LetterFunctions.{letter_after}
-use Rattle.word_output.specs.Words.{SpellsPlace, WordValue}
+use Rattle.word_output.specs.Words.{RepresentsPlace, WordValue}
 use Rattle.word_output.proofs.LetterEquality.{letter_functions}
 use Rattle.word_output.proofs.OptionLemmas.{same_option}
 use Rattle.word_output.proofs.OutcomeLemmas.{not_refused, one_refusal}
@@ -51,9 +51,9 @@ module _ (parts : List PartValue) (systems : List SystemValue) where
       → letter_after word.function w ≡ Some letter → letter_after other.function w ≡ Some letter
   carried word other one two w over letter has =
       let place = place_of_letter word w letter one.word_is (subst (λ (ss : List SystemValue). IsWord (letters_in (systems_of ss)) w) (sym one.systems_are) over) has in
-      let spelled : SpellsPlace systems place.0 w = subst (λ (ss : List SystemValue). SpellsPlace ss place.0 w) one.systems_are place.1 in
-      let count : length place.0 ≡ length systems = spelled_count (systems_of systems) (in_order (way_of systems) w) place.0 spelled.spells ∙ length-map systems system_of in
-      letter_of_place other place.0 w letter two.word_is (subst (λ (ss : List SystemValue). SpellsPlace ss place.0 w) (sym two.systems_are) spelled)
+      let represented : RepresentsPlace systems place.0 w = subst (λ (ss : List SystemValue). RepresentsPlace ss place.0 w) one.systems_are place.1 in
+      let count : length place.0 ≡ length systems = represented_count (systems_of systems) (in_order (direction_of systems) w) place.0 represented.represents ∙ length-map systems system_of in
+      letter_of_place other place.0 w letter two.word_is (subst (λ (ss : List SystemValue). RepresentsPlace ss place.0 w) (sym two.systems_are) represented)
       ((two.letters place.0 letter count).1 ((one.letters place.0 letter count).0 place.2))
 
   one_word : (word other : WordValue) → IsCombination parts systems word → IsCombination parts systems other → word ≡ other

@@ -1,30 +1,30 @@
--- Relations that have the tracks of the first one stand over the systems that were given.
+-- Relations that have the tracks of the first one are over the systems that were given.
 use Rattle.std.proofs.Common.{◌≡◌, ◌<◌, List, [], ◌∷◌, length, get_or, sym, subst, arith}
 use Rattle.std.specs.List.{All, AllByRecursion}
 use Rattle.std.proofs.lemmas.List.Elements.{All-head}
 use Rattle.minimise.specs.Canonical.{IsCanonical}
 use Rattle.numeration.specs.Relations.{HoldsOf}
-use Rattle.numeration.specs.Spelling.{sizes_of}
+use Rattle.numeration.specs.Representation.{sizes_of}
 use Rattle.numeration.specs.Systems.{System}
 use Rattle.num_system.specs.Sealed.{IsSealed, SystemValue}
-use Rattle.num_system.specs.Tracks.{HaveOneWay, systems_of, way_of}
+use Rattle.num_system.specs.Tracks.{ShareDirection, systems_of, direction_of}
 use Rattle.digit_tuple.specs.declared.direction.Direction.{Direction}
 use Rattle.number_relations.specs.Relations.{IsRelation, RelationHolds}
 use Rattle.combinations.specs.Parts.{PartValue, systems_at}
 use Rattle.combinations.specs.Shapes.{HaveOneShape, HaveSameTracks}
 use Rattle.combinations.specs.Combined.{AreSystemsFor}
 use Rattle.combinations.proofs.CombinedReadings.{IsOverSizes}
-use Rattle.combinations.proofs.TrackLemmas.{systems_at-is, systems_same, way_same}
+use Rattle.combinations.proofs.TrackLemmas.{systems_at-is, systems_same, direction_same}
 
 -- a relation's automaton is canonical, and holds of its tuples over these systems
 pub record FitsSystems (systems : List SystemValue) (part : PartValue) : Type 0 where
   pub canonical : IsCanonical part.relation.automaton
-  pub holds : HoldsOf (way_of systems) (systems_of systems) (RelationHolds part.relation) part.relation.automaton
+  pub holds : HoldsOf (direction_of systems) (systems_of systems) (RelationHolds part.relation) part.relation.automaton
 
 pub over_sizes : (systems : List SystemValue) (part : PartValue) → FitsSystems systems part → IsOverSizes (sizes_of (systems_of systems)) part
 over_sizes systems part fits = record { canonical = fits.canonical; sizes_are = fits.holds.sizes }
 
--- the first relation stands over the systems that were given
+-- the first relation is over the systems that were given
 given_first : (parts : List PartValue) (systems : List SystemValue) → AreSystemsFor parts systems → 0 < length parts → systems_at parts 0 ≡ systems
 given_first [] systems given some = absurd (omega (arith, some))
 given_first (part ∷ parts) systems given some = sym given
@@ -34,8 +34,8 @@ fits_from systems part sealed is same =
     let r = part.relation in record {
       canonical = is.tracked.canonical;
       holds =
-          subst (λ (way : Direction). HoldsOf way (systems_of systems) (RelationHolds r) r.automaton) (sym (way_same systems r.systems same))
-          (subst (λ (ss : List System). HoldsOf (way_of r.systems) ss (RelationHolds r) r.automaton) (sym (systems_same systems r.systems sealed is.sealed same)) is.closed);
+          subst (λ (direction : Direction). HoldsOf direction (systems_of systems) (RelationHolds r) r.automaton) (sym (direction_same systems r.systems same))
+          (subst (λ (ss : List System). HoldsOf (direction_of r.systems) ss (RelationHolds r) r.automaton) (sym (systems_same systems r.systems sealed is.sealed same)) is.closed);
     }
 
 module _ (parts : List PartValue) (systems : List SystemValue) (given : AreSystemsFor parts systems) (shape : HaveOneShape parts) (are : All (λ (part : PartValue). IsRelation part.relation) parts) where
@@ -55,6 +55,6 @@ some_track [] systems given shape = given.0
 some_track (part ∷ parts) systems given shape = subst (λ (ss : List SystemValue). 0 < length ss) (sym given) (shape 0 (omega arith)).0
 
 -- and one direction
-pub one_direction : (parts : List PartValue) (systems : List SystemValue) → AreSystemsFor parts systems → All (λ (part : PartValue). IsRelation part.relation) parts → HaveOneWay systems
+pub one_direction : (parts : List PartValue) (systems : List SystemValue) → AreSystemsFor parts systems → All (λ (part : PartValue). IsRelation part.relation) parts → ShareDirection systems
 one_direction [] systems given are = given.1
-one_direction (part ∷ parts) systems given are = subst HaveOneWay (sym given) (All-head (λ (p : PartValue). IsRelation p.relation) part parts are).one_way
+one_direction (part ∷ parts) systems given are = subst ShareDirection (sym given) (All-head (λ (p : PartValue). IsRelation p.relation) part parts are).shared_direction

@@ -12,7 +12,7 @@ use Rattle.product_op.specs.Tuples.{AreTuples, LeadToOne}
 use Rattle.product_op.specs.declared.reader.Reader.{Reader}
 use Rattle.product_op.proofs.ReaderLemmas.{length-readings}
 use Rattle.product_op.proofs.ReadingLemmas.{AllFitTracks-languages}
-use Rattle.numeration.specs.Spelling.{letters_in, sizes_of}
+use Rattle.numeration.specs.Representation.{letters_in, sizes_of}
 use Rattle.num_system.specs.Sealed.{IsSealed, SystemValue}
 use Rattle.num_system.specs.Tracks.{languages_of, systems_of}
 use Rattle.num_system.proofs.SealedLemmas.{languages_fit}

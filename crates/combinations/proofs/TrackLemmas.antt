@@ -7,7 +7,7 @@ use Rattle.digit_tuple.specs.Deterministic.{accepts_of}
 use Rattle.digit_tuple.specs.Paddings.{in_order}
 use Rattle.minimise.proofs.CanonicalLemmas.{canonical_forms}
 use Rattle.num_system.specs.Sealed.{IsSealed, SystemValue, system_of}
-use Rattle.num_system.specs.Tracks.{absent_system, systems_of, way_of}
+use Rattle.num_system.specs.Tracks.{absent_system, systems_of, direction_of}
 use Rattle.combinations.specs.Parts.{PartValue, systems_at}
 use Rattle.combinations.specs.Shapes.{AreSameSystem, HaveSameTracks}
 
@@ -20,7 +20,7 @@ same_language s t is also same =
 same_system : (s t : SystemValue) → IsSealed s → IsSealed t → AreSameSystem s t → system_of s ≡ system_of t
 same_system s t is also same =
     let language = same_language s t is also same in
-    λ i. record { digits = same.digits i; test = λ w. accepts_of (language i) (in_order (same.way i) w) }
+    λ i. record { digits = same.digits i; test = λ w. accepts_of (language i) (in_order (same.direction i) w) }
 
 sealed_at : (systems : List SystemValue) → AllByRecursion IsSealed systems → (track : ℕ) → track < length systems → IsSealed (get_or systems track absent_system)
 sealed_at systems sealed track inside = All-get_or IsSealed systems track absent_system inside (All-from_recursion IsSealed systems sealed)
@@ -35,11 +35,11 @@ systems_same ss ts sealed also same =
     ∙ same_system (get_or ss track absent_system) (get_or ts track absent_system) (sealed_at ss sealed track here) (sealed_at ts also track there) (same.each track here)
     ∙ sym (get_or-map system_of ts track absent_system (system_of absent_system) there))
 
-pub way_same : (ss ts : List SystemValue) → HaveSameTracks ss ts → way_of ss ≡ way_of ts
-way_same [] [] same = refl
-way_same [] (t ∷ ts) same = absurd (omega (arith, same.count))
-way_same (s ∷ ss) [] same = absurd (omega (arith, same.count))
-way_same (s ∷ ss) (t ∷ ts) same = (same.each 0 (omega arith)).way
+pub direction_same : (ss ts : List SystemValue) → HaveSameTracks ss ts → direction_of ss ≡ direction_of ts
+direction_same [] [] same = refl
+direction_same [] (t ∷ ts) same = absurd (omega (arith, same.count))
+direction_same (s ∷ ss) [] same = absurd (omega (arith, same.count))
+direction_same (s ∷ ss) (t ∷ ts) same = (same.each 0 (omega arith)).direction
 
 -- the systems of a relation in the list
 pub systems_at-is : (parts : List PartValue) (place : ℕ) (default : PartValue) → place < length parts → systems_at parts place ≡ (get_or parts place default).relation.systems

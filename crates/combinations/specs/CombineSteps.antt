@@ -10,7 +10,7 @@ use Rattle.digit_tuple.specs.declared.step_fault.StepFault.{StepFault}
 use Rattle.digit_tuple.specs.declared.steps.StepLine.{StepLine}
 use Rattle.minimise.specs.Residuals.{SameAfter}
 use Rattle.product_op.specs.Validity.{TracksAlike}
-use Rattle.numeration.specs.Spelling.{letters_in, sizes_of}
+use Rattle.numeration.specs.Representation.{letters_in, sizes_of}
 use Rattle.num_system.specs.Sealed.{SystemValue}
 use Rattle.num_system.specs.Tracks.{languages_of, systems_of}
 use Rattle.automaton_steps.specs.StepLines.{Exceeds, IsRefused, IsStepLine}

@@ -1,7 +1,7 @@
 -- The letter that several relations make together.
 use Rattle.std.specs.Prelude.{◌≡◌, ◌⊎◌, ◌↔◌, ℕ, ◌<◌, ℤ, pos, List, [], ◌∷◌, length}
 use Rattle.num_system.specs.Sealed.{SystemValue}
-use Rattle.num_system.specs.Tracks.{HaveOneWay}
+use Rattle.num_system.specs.Tracks.{ShareDirection}
 use Rattle.number_relations.specs.Relations.{RelationHolds}
 use Rattle.word_output.specs.Words.{HasLetter, IsWordValue, WordValue}
 use Rattle.combinations.specs.Parts.{PartValue}
@@ -13,7 +13,7 @@ IsCombined (part ∷ parts) ns letter = (RelationHolds part.relation ns × (lett
 
 -- the systems are those of the first relation; without one, they are some of one direction
 abbrev pub AreSystemsFor : List PartValue → List SystemValue → Type 0
-AreSystemsFor [] systems = (0 < length systems) × HaveOneWay systems
+AreSystemsFor [] systems = (0 < length systems) × ShareDirection systems
 AreSystemsFor (part ∷ parts) systems = systems ≡ part.relation.systems
 
 -- the word over these systems that has at each place the combined letter

@@ -19,7 +19,7 @@ part_readings parts = map (λ (part : PartValue). whole_reading part.relation.au
 abbrev pub combined_readings : List PartValue → List ℕ → List Automaton → List Reading
 combined_readings parts sizes languages = part_readings parts ++ track_readings sizes languages
 
--- the value of the first relation that accepts at the tuple, where the languages behind the relations accept
+-- the value of the first relation that accepts at the tuple, where the languages after the relations accept
 abbrev pub held_letter : List PartValue → List Reading → List ℕ → Option ℤ
 held_letter parts readings key = if all_true (drop (length parts) (flags_at readings key)) then Some (first_held parts (flags_at readings key)) else None
 

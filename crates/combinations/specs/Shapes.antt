@@ -8,7 +8,7 @@ use Rattle.combinations.specs.Parts.{PartValue, systems_at}
 -- the systems have the same digits, direction and language
 pub record AreSameSystem (s t : SystemValue) : Type 0 where
   pub digits : s.digits ≡ t.digits
-  pub way : s.way ≡ t.way
+  pub direction : s.direction ≡ t.direction
   pub language : SameLanguage s.language t.language
 
 -- there are as many tracks, and each has the same system

@@ -7,7 +7,7 @@ ghost use Rattle.digit_tuple.specs.Deterministic.{states_of};
 ghost use Rattle.digit_tuple.specs.Letters.{IsAlphabet};
 ghost use Rattle.digit_tuple.specs.StepResults.{IsDone};
 ghost use Rattle.digit_tuple.specs.Width.{HasWidth};
-ghost use Rattle.numeration.specs.Spelling.{letters_in, sizes_of};
+ghost use Rattle.numeration.specs.Representation.{letters_in, sizes_of};
 ghost use Rattle.num_system.specs.Tracks.{systems_of};
 ghost use Rattle.automaton_steps.specs.StepLines.{IsRefused};
 ghost use Rattle.combinations.specs.Combined.{AreSystemsFor, IsCombination};
@@ -42,9 +42,9 @@ use word_output::word::Word;
 /// follow the width and the letters by which some residual of a tuple leads to one that is not empty.
 ///
 /// # Errors
-/// `Shape` exactly where the relations have not the same tracks, or have none: it is looked at first. Then
-/// `Letters` exactly where there are too many tracks or letters, and `States` exactly where the width passes
-/// the limit, each with the number of the step. The steps are as before then, also where memory is wanting.
+/// `Shape` if and only if the relations have not the same tracks, or have none: it is looked at first. Then `Letters`
+/// if and only if there are too many tracks or letters, and `States` if and only if the width passes the limit, each
+/// with the number of the step. The steps are as before then, also where memory is wanting.
 pub fn combine(
     alloc: Global,
     parts: &[Part],

@@ -18,7 +18,7 @@ use product_op::reader_states::all_accept;
 use std::alloc::Global;
 use std::rc::Rc;
 
-/// The readers of the relations, and behind them those of each track's language.
+/// The readers of the relations, and after them those of each track's language.
 pub(crate) fn combined_readers<'a>(
     alloc: Global,
     alphabet: &Alphabet,

@@ -8,13 +8,13 @@ use Rattle.command_head.specs.Readings.{Refusal, Form, Range, fault_at, placed}
 use Rattle.text_grammar.specs.Results.{◌>>=◌}
 use Rattle.text_grammar.specs.Numbers.{begins_with, is_number, is_short, number_of}
 use Rattle.command_head.specs.Members.{has, put, with_member}
-use Rattle.text_grammar.specs.Fronts.{begins_in}
+use Rattle.text_grammar.specs.Prefixes.{begins_in}
 use Rattle.text_grammar.specs.Systems.{is_system}
-use Rattle.command_head.specs.Parts.{Part, behind_blanks, behind_word, texts_of, parts_of, number_place, is_name, is_quoted}
-use Rattle.command_head.specs.Heads.{RegHead, Stage, AtWord, AtName, BehindName, AtNumber, BehindNumber, BehindSet, BehindSystem, AtEnd, body_step, step, ended, run, reg_at}
+use Rattle.command_head.specs.Parts.{Part, after_blanks, after_word, texts_of, parts_of, number_place, is_name, is_quoted}
+use Rattle.command_head.specs.Heads.{RegHead, Stage, AtWord, AtName, AfterName, AtNumber, AfterNumber, AfterSet, AfterSystem, AtEnd, body_step, step, ended, run, reg_at}
 use Rattle.command_head.specs.Grammar.{SpellsReg}
 use Rattle.command_head.specs.Breaks.{part_at, ExceedsAt, IsSyntaxAt, IsNumberAt}
-use Rattle.command_head.proofs.PartSteps.{length-parts, length-behind_word}
+use Rattle.command_head.proofs.PartSteps.{length-parts, length-after_word}
 use Rattle.command_head.proofs.Walks.{goes_step, goes_first}
 use Rattle.command_head.proofs.ReadHeads.{reg_spelled}
 use Rattle.command_head.proofs.SpelledHeads.{reg_goes}
@@ -28,7 +28,7 @@ abbrev KindOf : Refusal → (List (List ℕ) → RegHead → Type 0) → List (L
 KindOf Form grammar parts count = ExceedsAt grammar parts count → ⊥
 KindOf Range grammar parts count = ExceedsAt grammar parts count × (number_place (part_at parts count) ≡ 0)
 
--- where parts break what may come behind a stage
+-- where parts break what may come after a stage
 record IsBroken (whole : ℕ) (stage : Stage) (parts : List Part) (at : ℕ) (refusal : Refusal) : Type 0 where
   count : ℕ
   breaks : BreaksAt (GoesAs stage) (texts_of parts) count
@@ -59,11 +59,11 @@ ok_err r x e h g = cc
 ended_form : (stage : Stage) (refusal : Refusal) → ended stage ≡ Err refusal → refusal ≡ Form
 ended_form AtWord refusal h = cc
 ended_form AtName refusal h = cc
-ended_form (BehindName name) refusal h = cc
+ended_form (AfterName name) refusal h = cc
 ended_form (AtNumber name sets members) refusal h = cc
-ended_form (BehindNumber name sets members) refusal h = cc
-ended_form (BehindSet name sets) refusal h = cc
-ended_form (BehindSystem name names) refusal h = cc
+ended_form (AfterNumber name sets members) refusal h = cc
+ended_form (AfterSet name sets) refusal h = cc
+ended_form (AfterSystem name names) refusal h = cc
 ended_form (AtEnd head) refusal h = cc
 
 broken_end : (limit whole : ℕ) (stage : Stage) (at : ℕ) (refusal : Refusal) → limit ≤ 2 ^ 32 → spent stage ≤ limit → Sane limit stage → placed whole (ended stage) ≡ Err (fault_at at refusal) → IsBroken whole stage [] at refusal
@@ -115,25 +115,25 @@ range_step : (stage : Stage) (part : List ℕ) → step stage part ≡ Err Range
 unfolding step body_step with_member
 range_step AtWord part h = absurd (no_range (bytes_eq part (codes "reg")) _ h)
 range_step AtName part h = absurd (no_range (is_name part) _ h)
-range_step (BehindName name) part h = absurd (no_range_2 (bytes_eq part (codes "{")) (is_system part) _ _ h)
+range_step (AfterName name) part h = absurd (no_range_2 (bytes_eq part (codes "{")) (is_system part) _ _ h)
 range_step (AtNumber name sets members) part h =
-    let t = range_tests (is_number part) (is_short (2 ^ 31) (number_of part)) (has members (number_of part)) (put members (number_of part)) (λ more. BehindNumber name sets more) h in
+    let t = range_tests (is_number part) (is_short (2 ^ 31) (number_of part)) (has members (number_of part)) (put members (number_of part)) (λ more. AfterNumber name sets more) h in
     record { at_number = tt; number = t.0; long = t.1 }
-range_step (BehindNumber name sets members) part h = absurd (no_range_2 (bytes_eq part (codes ",")) (bytes_eq part (codes "}")) _ _ h)
-range_step (BehindSet name sets) part h = absurd (no_range_2 (bytes_eq part (codes "{")) (is_quoted part) _ _ h)
-range_step (BehindSystem name names) part h = absurd (no_range_2 (is_system part) (is_quoted part) _ _ h)
+range_step (AfterNumber name sets members) part h = absurd (no_range_2 (bytes_eq part (codes ",")) (bytes_eq part (codes "}")) _ _ h)
+range_step (AfterSet name sets) part h = absurd (no_range_2 (bytes_eq part (codes "{")) (is_quoted part) _ _ h)
+range_step (AfterSystem name names) part h = absurd (no_range_2 (is_system part) (is_quoted part) _ _ h)
 range_step (AtEnd head) part h = cc
 
 form_step : (stage : Stage) (part : List ℕ) → IsAtNumber stage → step stage part ≡ Err Form → is_number part ≡ true → is_short (2 ^ 31) (number_of part) ≡ false → ⊥
 unfolding step with_member
 form_step (AtNumber name sets members) part at_number h number long =
-    form_tests (is_number part) (is_short (2 ^ 31) (number_of part)) (has members (number_of part)) (put members (number_of part)) (λ more. BehindNumber name sets more) number long h
+    form_tests (is_number part) (is_short (2 ^ 31) (number_of part)) (has members (number_of part)) (put members (number_of part)) (λ more. AfterNumber name sets more) number long h
 form_step AtWord part at_number h number long = at_number
 form_step AtName part at_number h number long = at_number
-form_step (BehindName name) part at_number h number long = at_number
-form_step (BehindNumber name sets members) part at_number h number long = at_number
-form_step (BehindSet name sets) part at_number h number long = at_number
-form_step (BehindSystem name names) part at_number h number long = at_number
+form_step (AfterName name) part at_number h number long = at_number
+form_step (AfterNumber name sets members) part at_number h number long = at_number
+form_step (AfterSet name sets) part at_number h number long = at_number
+form_step (AfterSystem name names) part at_number h number long = at_number
 form_step (AtEnd head) part at_number h number long = at_number
 
 -- a part that is refused
@@ -187,13 +187,13 @@ broken_here limit whole stage part parts refusal low room sane h = record {
 suc_plus : (k : ℕ) → suc k + 1 ≡ suc (k + 1)
 suc_plus k = omega arith
 
--- behind a part that goes on
+-- after a part that goes on
 module _ (stage next : Stage) (part : List ℕ) (parts : List (List ℕ)) (h : step stage part ≡ Ok next) where
-  begins_more : (front : List (List ℕ)) → Begins (GoesAs next) front → Begins (GoesAs stage) (part ∷ front)
-  begins_more front b = (b.0, b.1, goes_step stage next part (front ++ b.0) h ∙ b.2)
+  begins_more : (prefix : List (List ℕ)) → Begins (GoesAs next) prefix → Begins (GoesAs stage) (part ∷ prefix)
+  begins_more prefix b = (b.0, b.1, goes_step stage next part (prefix ++ b.0) h ∙ b.2)
 
-  begins_less : (front : List (List ℕ)) → Begins (GoesAs stage) (part ∷ front) → Begins (GoesAs next) front
-  begins_less front b = (b.0, b.1, sym (goes_step stage next part (front ++ b.0) h) ∙ b.2)
+  begins_less : (prefix : List (List ℕ)) → Begins (GoesAs stage) (part ∷ prefix) → Begins (GoesAs next) prefix
+  begins_less prefix b = (b.0, b.1, sym (goes_step stage next part (prefix ++ b.0) h) ∙ b.2)
 
   breaks_more : (count : ℕ) → BreaksAt (GoesAs next) parts count → BreaksAt (GoesAs stage) (part ∷ parts) (suc count)
   breaks_more count b = record {
@@ -256,11 +256,11 @@ broken limit whole stage (part ∷ parts) at refusal low room sane h = by_step (
         subst (λ (byte : ℕ). IsBroken whole stage (part ∷ parts) byte refusal) p.place (broken_here limit whole stage part parts refusal low (omega arith) sane (e ∙ ap (λ (r : Refusal). Err r) (same_refusal refused refusal p.refused)))
 
 -- the same of the grammar of a `reg`
-reg_begins : (front : List (List ℕ)) → Begins (GoesAs AtWord) front → Begins SpellsReg front
-reg_begins front b = (b.0, b.1, reg_spelled (front ++ b.0) b.1 b.2)
+reg_begins : (prefix : List (List ℕ)) → Begins (GoesAs AtWord) prefix → Begins SpellsReg prefix
+reg_begins prefix b = (b.0, b.1, reg_spelled (prefix ++ b.0) b.1 b.2)
 
-reg_goes_on : (front : List (List ℕ)) → Begins SpellsReg front → Begins (GoesAs AtWord) front
-reg_goes_on front b = (b.0, b.1, reg_goes (front ++ b.0) b.1 b.2)
+reg_goes_on : (prefix : List (List ℕ)) → Begins SpellsReg prefix → Begins (GoesAs AtWord) prefix
+reg_goes_on prefix b = (b.0, b.1, reg_goes (prefix ++ b.0) b.1 b.2)
 
 reg_breaks : (parts : List (List ℕ)) (count : ℕ) → BreaksAt (GoesAs AtWord) parts count → BreaksAt SpellsReg parts count
 reg_breaks parts count b = record {
@@ -279,8 +279,8 @@ exceeds_reg parts count e = record { within = e.within; number = e.number; long 
 few_parts : (text : List ℕ) → spent AtWord + length (parts_of text) ≤ length text + 1
 unfolding parts_of
 few_parts text =
-    let few = length-parts (length text) (length text) (begins_in Blank (behind_word text)) (behind_blanks (behind_word text)) in
-    let less = length-behind_word text in
+    let few = length-parts (length text) (length text) (begins_in Blank (after_word text)) (after_blanks (after_word text)) in
+    let less = length-after_word text in
     omega arith
 
 reg_broken : (text : List ℕ) (at : ℕ) (refusal : Refusal) → length text < 2 ^ 32 → reg_at text ≡ Err (fault_at at refusal) → IsBroken (length text) AtWord (parts_of text) at refusal

@@ -4,15 +4,15 @@ use Rattle.std.proofs.lemmas.List.{append-nil, append_assoc, take-append-drop}
 use Rattle.std.proofs.lemmas.Bool.{false≢true, and_parts}
 use Rattle.text_grammar.specs.Faults.{Begins}
 use Rattle.text_grammar.specs.declared.class.Class.TheVariants.{Letter, NameByte}
-use Rattle.text_grammar.specs.Fronts.{begins_in, behind_front, front_len, front_of, is_in}
+use Rattle.text_grammar.specs.Prefixes.{begins_in, after_prefix, prefix_len, prefix_of, is_in}
 use Rattle.text_grammar.specs.Numbers.{begins_with, is_number, is_short, number_of}
 use Rattle.command_head.specs.Parts.{is_name, is_word, number_place}
 use Rattle.command_head.specs.Heads.{ValuedName, CombineHead}
 use Rattle.command_head.specs.Values.{IsValueText, IsLongValued}
 use Rattle.command_head.specs.Grammar.{SpellsNumber, SpellsValue, SpellsValued, SpellEach, SpellsCombine}
-use Rattle.command_head.proofs.FrontSteps.{Stops, front_of-append, behind_front-append}
+use Rattle.command_head.proofs.PrefixSteps.{Stops, prefix_of-append, after_prefix-append}
 use Rattle.command_head.proofs.PartShape.{name_bytes, word_name}
-use Rattle.command_head.proofs.ValuedParts.{IsBehindName, letter_append, number_split, back_is, front_is, letter_number, numbered_name, number_place-valued}
+use Rattle.command_head.proofs.ValuedParts.{IsAfterName, letter_append, number_split, back_is, prefix_is, letter_number, numbered_name, number_place-valued}
 use Rattle.command_head.proofs.Expecting.{Expects, IsLong}
 
 -- a part that is a name, alone or with a value
@@ -24,9 +24,9 @@ abbrev alone : List ℕ → ValuedName
 alone name = record { name = name; value = None }
 
 alone_spelled : (name : List ℕ) → is_name name ≡ true → SpellsValued name (alone name)
-alone_spelled name named = record { behind = []; part_is = sym (append-nil name); name = named; value = refl }
+alone_spelled name named = record { suffix = []; part_is = sym (append-nil name); name = named; value = refl }
 
--- parts behind those that are spelled
+-- parts after those that are spelled
 pub each_append : (parts more : List (List ℕ)) (automata others : List ValuedName) → SpellEach parts automata → SpellEach more others → SpellEach (parts ++ more) (automata ++ others)
 each_append [] more [] others each last = last
 each_append [] more (valued ∷ automata) others each last = absurd each
@@ -48,9 +48,9 @@ some_append : (automata : List ValuedName) (valued : ValuedName) → automata ++
 some_append [] valued e = cc
 some_append (first ∷ automata) valued e = cc
 
--- what stands behind the word of a head
-behind_two : (a b x y : List ℕ) (xs ys : List (List ℕ)) → a ∷ b ∷ xs ≡ x ∷ y ∷ ys → xs ≡ ys
-behind_two a b x y xs ys e = ap (λ (l : List (List ℕ)). drop 2 l) e
+-- what follows the word of a head
+after_two : (a b x y : List ℕ) (xs ys : List (List ℕ)) → a ∷ b ∷ xs ≡ x ∷ y ∷ ys → xs ≡ ys
+after_two a b x y xs ys e = ap (λ (l : List (List ℕ)). drop 2 l) e
 
 head_made : (word : List ℕ) (items : List (List ℕ)) (automata : List ValuedName) → is_word word ≡ true → automata ≢ [] → SpellEach items automata →
     SpellsCombine (codes "combine" ∷ word ∷ items) (record { word = word; automata = automata })
@@ -78,7 +78,7 @@ more_expects word items automata is_word each = record {
         (each_append items (codes "a" ∷ []) automata (alone (codes "a") ∷ []) each (alone_spelled (codes "a") refl, tt)),
   );
   only = λ part begins.
-      let same = behind_two (codes "combine") word (codes "combine") begins.1.word ((items ++ part ∷ []) ++ begins.0) begins.2.automata begins.2.parts_are in
+      let same = after_two (codes "combine") word (codes "combine") begins.1.word ((items ++ part ∷ []) ++ begins.0) begins.2.automata begins.2.parts_are in
       each_part items part begins.0 begins.1.automata (subst (λ (l : List (List ℕ)). SpellEach l begins.1.automata) (sym same) begins.2.each);
 }
 
@@ -88,7 +88,7 @@ word_unended head s = let lengths = ap length s.parts_are in absurd (omega arith
 
 pub none_unended : (word : List ℕ) (head : CombineHead) → SpellsCombine (codes "combine" ∷ word ∷ []) head → ⊥
 none_unended word head s =
-    let same : [] ≡ s.automata = behind_two (codes "combine") word (codes "combine") head.word [] s.automata s.parts_are in
+    let same : [] ≡ s.automata = after_two (codes "combine") word (codes "combine") head.word [] s.automata s.parts_are in
     s.some (each_none head.automata (subst (λ (l : List (List ℕ)). SpellEach l head.automata) (sym same) s.each))
 
 -- a number instead of the first word or of the word
@@ -98,43 +98,43 @@ first_long part long = numbered_name part long.other long.other_number (ap is_na
 pub word_long : (part : List ℕ) → IsLong (λ (l : List ℕ). is_word l ≡ true) part → ⊥
 word_long part long = numbered_name part long.other long.other_number (word_name (take (number_place part) part ++ long.other) long.taken)
 
--- The name of a part is its front of bytes of names.
-value_stops : (behind : List ℕ) → IsValueText behind → Stops NameByte behind
+-- The name of a part is its prefix of bytes of names.
+value_stops : (suffix : List ℕ) → IsValueText suffix → Stops NameByte suffix
 value_stops [] value = tt
 value_stops (b ∷ bs) value = ⊎_elim (λ e. absurd (no_cons e)) (λ v. ap (is_in NameByte) (ap (λ (l : List ℕ). get_or l 0 0) v.1)) value
   where
     no_cons : b ∷ bs ≡ [] → ⊥
     no_cons e = cc
 
-pub value_text_of : (behind : List ℕ) (value : Option ℤ) → SpellsValue behind value → IsValueText behind
-value_text_of behind None s = inl s
-value_text_of behind (Some n) s = inr (s.0, s.1, s.2.number)
+pub value_text_of : (suffix : List ℕ) (value : Option ℤ) → SpellsValue suffix value → IsValueText suffix
+value_text_of suffix None s = inl s
+value_text_of suffix (Some n) s = inr (s.0, s.1, s.2.number)
 
-pub name_front : (part name behind : List ℕ) → part ≡ name ++ behind → is_name name ≡ true → IsValueText behind → front_of NameByte part ≡ name
-name_front part name behind e named value = ap (front_of NameByte) e ∙ front_of-append NameByte name behind (name_bytes name named) (value_stops behind value)
+pub name_prefix : (part name suffix : List ℕ) → part ≡ name ++ suffix → is_name name ≡ true → IsValueText suffix → prefix_of NameByte part ≡ name
+name_prefix part name suffix e named value = ap (prefix_of NameByte) e ∙ prefix_of-append NameByte name suffix (name_bytes name named) (value_stops suffix value)
 
-pub name_back : (part name behind : List ℕ) → part ≡ name ++ behind → is_name name ≡ true → IsValueText behind → behind_front NameByte part ≡ behind
-name_back part name behind e named value = ap (behind_front NameByte) e ∙ behind_front-append NameByte name behind (name_bytes name named) (value_stops behind value)
+pub name_back : (part name suffix : List ℕ) → part ≡ name ++ suffix → is_name name ≡ true → IsValueText suffix → after_prefix NameByte part ≡ suffix
+name_back part name suffix e named value = ap (after_prefix NameByte) e ∙ after_prefix-append NameByte name suffix (name_bytes name named) (value_stops suffix value)
 
--- what is said of the front of a part, and of what stands behind it, is said of any name with its value
-pub not_named : (part front : List ℕ) (len : ℕ) (t : Bool) → len ≡ front_len NameByte part → front ≡ take len part → t ≡ is_name front → t ≡ false →
-    (name : List ℕ) (behind : List ℕ) → part ≡ name ++ behind → is_name name ≡ true → IsValueText behind → ⊥
-not_named part front len t len_is front_is test fails name behind e named value =
-    let same : front ≡ name = front_is ∙ ap (λ (n : ℕ). take n part) len_is ∙ name_front part name behind e named value in
+-- what is said of the prefix of a part, and of what follows it, is said of any name with its value
+pub not_named : (part prefix : List ℕ) (len : ℕ) (t : Bool) → len ≡ prefix_len NameByte part → prefix ≡ take len part → t ≡ is_name prefix → t ≡ false →
+    (name : List ℕ) (suffix : List ℕ) → part ≡ name ++ suffix → is_name name ≡ true → IsValueText suffix → ⊥
+not_named part prefix len t len_is prefix_is test fails name suffix e named value =
+    let same : prefix ≡ name = prefix_is ∙ ap (λ (n : ℕ). take n part) len_is ∙ name_prefix part name suffix e named value in
     false≢true (sym fails ∙ test ∙ ap is_name same ∙ named)
 
-pub not_value : (part back : List ℕ) (len : ℕ) → len ≡ front_len NameByte part → back ≡ drop len part → (IsValueText back → ⊥) →
-    (name : List ℕ) (behind : List ℕ) → part ≡ name ++ behind → is_name name ≡ true → IsValueText behind → ⊥
-not_value part back len len_is back_is refused name behind e named value =
-    let same : back ≡ behind = back_is ∙ ap (λ (n : ℕ). drop n part) len_is ∙ name_back part name behind e named value in
+pub not_value : (part back : List ℕ) (len : ℕ) → len ≡ prefix_len NameByte part → back ≡ drop len part → (IsValueText back → ⊥) →
+    (name : List ℕ) (suffix : List ℕ) → part ≡ name ++ suffix → is_name name ≡ true → IsValueText suffix → ⊥
+not_value part back len len_is back_is refused name suffix e named value =
+    let same : back ≡ suffix = back_is ∙ ap (λ (n : ℕ). drop n part) len_is ∙ name_back part name suffix e named value in
     refused (subst IsValueText (sym same) value)
 
-pub split_is : (part front back : List ℕ) (len : ℕ) → front ≡ take len part → back ≡ drop len part → part ≡ front ++ back
-split_is part front back len front_is back_is = rw (front_is, back_is) (sym (take-append-drop len part))
+pub split_is : (part prefix back : List ℕ) (len : ℕ) → prefix ≡ take len part → back ≡ drop len part → part ≡ prefix ++ back
+split_is part prefix back len prefix_is back_is = rw (prefix_is, back_is) (sym (take-append-drop len part))
 
 -- a part of another form has no number that is out of range
-pub form_long : (part : List ℕ) → ((name : List ℕ) (behind : List ℕ) → part ≡ name ++ behind → is_name name ≡ true → IsValueText behind → ⊥) → IsLong IsSomeValued part → ⊥
-form_long part refused long = ⊎_elim alone_number (λ s. behind_name s) (number_split part)
+pub form_long : (part : List ℕ) → ((name : List ℕ) (suffix : List ℕ) → part ≡ name ++ suffix → is_name name ≡ true → IsValueText suffix → ⊥) → IsLong IsSomeValued part → ⊥
+form_long part refused long = ⊎_elim alone_number (λ s. after_name s) (number_split part)
   where
     valued : ValuedName
     valued = long.taken.0
@@ -145,16 +145,16 @@ form_long part refused long = ⊎_elim alone_number (λ s. behind_name s) (numbe
     alone_number : number_place part ≡ 0 → ⊥
     alone_number z =
         let letter : begins_in Letter (take (number_place part) part ++ long.other) ≡ true =
-        subst (λ (l : List ℕ). begins_in Letter l ≡ true) (sym spells.part_is) (letter_append valued.name spells.behind (and_parts _ _ spells.name).0) in
+        subst (λ (l : List ℕ). begins_in Letter l ≡ true) (sym spells.part_is) (letter_append valued.name spells.suffix (and_parts _ _ spells.name).0) in
         letter_number long.other (subst (λ (n : ℕ). begins_in Letter (take n part ++ long.other) ≡ true) z letter) long.other_number
 
-    behind_name : IsBehindName part → ⊥
-    behind_name s =
-        let whole : take (number_place part) part ++ long.other ≡ s.name ++ 61 ∷ long.other = ap (λ (l : List ℕ). l ++ long.other) (front_is part s) ∙ append_assoc s.name (61 ∷ []) long.other in
+    after_name : IsAfterName part → ⊥
+    after_name s =
+        let whole : take (number_place part) part ++ long.other ≡ s.name ++ 61 ∷ long.other = ap (λ (l : List ℕ). l ++ long.other) (prefix_is part s) ∙ append_assoc s.name (61 ∷ []) long.other in
         let same : s.name ≡ valued.name =
-        sym (front_of-append NameByte s.name (61 ∷ long.other) s.bytes refl) ∙ ap (front_of NameByte) (sym whole)
-        ∙ name_front _ valued.name spells.behind spells.part_is spells.name (value_text_of spells.behind valued.value spells.value) in
-        refused s.name (61 ∷ s.behind) s.part_is (ap is_name same ∙ spells.name) (inr (s.behind, refl, subst (λ (l : List ℕ). is_number l ≡ true) (back_is part s) long.number))
+        sym (prefix_of-append NameByte s.name (61 ∷ long.other) s.bytes refl) ∙ ap (prefix_of NameByte) (sym whole)
+        ∙ name_prefix _ valued.name spells.suffix spells.part_is spells.name (value_text_of spells.suffix valued.value spells.value) in
+        refused s.name (61 ∷ s.suffix) s.part_is (ap is_name same ∙ spells.name) (inr (s.suffix, refl, subst (λ (l : List ℕ). is_number l ≡ true) (back_is part s) long.number))
 
 -- zero, with a sign or without
 abbrev zero_of : Bool → List ℕ
@@ -169,9 +169,9 @@ zero_spelled false = (record { number = refl; value = refl; short = refl }, refl
 pub value_long : (part : List ℕ) (place : ℕ) → IsLongValued part place → (number_place part ≡ place) × IsLong IsSomeValued part
 value_long part place is =
     let value = is.value in
-    let part_is : part ≡ is.name ++ 61 ∷ value.number = is.part_is ∙ ap (λ (l : List ℕ). is.name ++ l) value.behind_is in
+    let part_is : part ≡ is.name ++ 61 ∷ value.number = is.part_is ∙ ap (λ (l : List ℕ). is.name ++ l) value.after_is in
     let place_is : number_place part ≡ length is.name + 1 = ap number_place part_is ∙ number_place-valued is.name value.number is.is_named in
-    let split : IsBehindName part = record { name = is.name; behind = value.number; part_is = part_is; letter = (and_parts _ _ is.is_named).0; bytes = name_bytes is.name is.is_named; place = place_is } in
+    let split : IsAfterName part = record { name = is.name; suffix = value.number; part_is = part_is; letter = (and_parts _ _ is.is_named).0; bytes = name_bytes is.name is.is_named; place = place_is } in
     let other = zero_of (begins_with 45 value.number) in
     let zero = zero_spelled (begins_with 45 value.number) in (
       place_is ∙ is.place,
@@ -184,8 +184,8 @@ value_long part place is =
         taken = (
           record { name = is.name; value = Some (pos 0) },
           record {
-            behind = 61 ∷ other;
-            part_is = ap (λ (l : List ℕ). l ++ other) (front_is part split) ∙ append_assoc is.name (61 ∷ []) other;
+            suffix = 61 ∷ other;
+            part_is = ap (λ (l : List ℕ). l ++ other) (prefix_is part split) ∙ append_assoc is.name (61 ∷ []) other;
             name = is.is_named;
             value = (other, refl, zero.0);
           },
@@ -198,10 +198,10 @@ pub long_refused : (part : List ℕ) (place : ℕ) → IsLongValued part place �
 long_refused part place is some =
     let spells = some.1 in
     let value = is.value in
-    let own : IsValueText is.behind = inr (value.number, value.behind_is, value.digits) in
-    let same : spells.behind ≡ is.behind =
-    sym (name_back part some.0.name spells.behind spells.part_is spells.name (value_text_of spells.behind some.0.value spells.value)) ∙ name_back part is.name is.behind is.part_is is.is_named own in
-    by_value some.0.value (subst (λ (l : List ℕ). SpellsValue l some.0.value) (same ∙ value.behind_is) spells.value)
+    let own : IsValueText is.suffix = inr (value.number, value.after_is, value.digits) in
+    let same : spells.suffix ≡ is.suffix =
+    sym (name_back part some.0.name spells.suffix spells.part_is spells.name (value_text_of spells.suffix some.0.value spells.value)) ∙ name_back part is.name is.suffix is.part_is is.is_named own in
+    by_value some.0.value (subst (λ (l : List ℕ). SpellsValue l some.0.value) (same ∙ value.after_is) spells.value)
   where
     by_value : (v : Option ℤ) → SpellsValue (61 ∷ is.value.number) v → ⊥
     by_value None s = cc
@@ -220,27 +220,27 @@ long_begins word items automata part is_word each some = (
 )
 
 -- parts that spell a `combine` spell one
-value_is : (behind : List ℕ) (value other : Option ℤ) → SpellsValue behind value → SpellsValue behind other → value ≡ other
-value_is behind None None a b = refl
-value_is behind None (Some n) a b = absurd (no_cons b.0 (sym b.1 ∙ a))
+value_is : (suffix : List ℕ) (value other : Option ℤ) → SpellsValue suffix value → SpellsValue suffix other → value ≡ other
+value_is suffix None None a b = refl
+value_is suffix None (Some n) a b = absurd (no_cons b.0 (sym b.1 ∙ a))
   where
     no_cons : (bs : List ℕ) → 61 ∷ bs ≡ [] → ⊥
     no_cons bs e = cc
-value_is behind (Some n) None a b = absurd (no_cons a.0 (sym a.1 ∙ b))
+value_is suffix (Some n) None a b = absurd (no_cons a.0 (sym a.1 ∙ b))
   where
     no_cons : (bs : List ℕ) → 61 ∷ bs ≡ [] → ⊥
     no_cons bs e = cc
-value_is behind (Some n) (Some m) a b =
+value_is suffix (Some n) (Some m) a b =
     let e : a.0 ≡ b.0 = ap (λ (l : List ℕ). drop 1 l) (sym a.1 ∙ b.1) in
     ap (λ (k : ℤ). Some k) (sym a.2.value ∙ ap number_of e ∙ b.2.value)
 
 one_valued : (part : List ℕ) (valued other : ValuedName) → SpellsValued part valued → SpellsValued part other → valued ≡ other
 one_valued part valued other a b =
-    let text = value_text_of a.behind valued.value a.value in
-    let text' = value_text_of b.behind other.value b.value in
-    let names : valued.name ≡ other.name = sym (name_front part valued.name a.behind a.part_is a.name text) ∙ name_front part other.name b.behind b.part_is b.name text' in
-    let behinds : a.behind ≡ b.behind = sym (name_back part valued.name a.behind a.part_is a.name text) ∙ name_back part other.name b.behind b.part_is b.name text' in
-    let values = value_is b.behind valued.value other.value (subst (λ (l : List ℕ). SpellsValue l valued.value) behinds a.value) b.value in
+    let text = value_text_of a.suffix valued.value a.value in
+    let text' = value_text_of b.suffix other.value b.value in
+    let names : valued.name ≡ other.name = sym (name_prefix part valued.name a.suffix a.part_is a.name text) ∙ name_prefix part other.name b.suffix b.part_is b.name text' in
+    let behinds : a.suffix ≡ b.suffix = sym (name_back part valued.name a.suffix a.part_is a.name text) ∙ name_back part other.name b.suffix b.part_is b.name text' in
+    let values = value_is b.suffix valued.value other.value (subst (λ (l : List ℕ). SpellsValue l valued.value) behinds a.value) b.value in
     ap (λ (n : List ℕ). record { name = n; value = valued.value }) names ∙ ap (λ (v : Option ℤ). record { name = other.name; value = v }) values
 
 one_each : (parts : List (List ℕ)) (automata others : List ValuedName) → SpellEach parts automata → SpellEach parts others → automata ≡ others

@@ -5,14 +5,14 @@ use Rattle.std.proofs.lemmas.Bool.{and_parts, eqb-true, leb-true, false≢true}
 use Rattle.text_grammar.specs.Faults.{Begins}
 use Rattle.text_grammar.specs.declared.class.Class.TheVariants.{Digit, NameByte, Unquoted}
 use Rattle.text_grammar.specs.Bytes.{is_letter, is_digit}
-use Rattle.text_grammar.specs.Fronts.{all_in, behind_front, is_in}
+use Rattle.text_grammar.specs.Prefixes.{all_in, after_prefix, is_in}
 use Rattle.command_head.specs.Readings.{Form}
 use Rattle.command_head.specs.Members.{has, put}
 use Rattle.command_head.specs.Grammar.{SpellsNumber}
 use Rattle.text_grammar.specs.Numbers.{begins_with, is_number, unsigned}
 use Rattle.text_grammar.specs.Systems.{is_system}
 use Rattle.command_head.specs.Parts.{is_name, is_quoted, unquoted}
-use Rattle.command_head.specs.Heads.{Alphabets, Sets, Systems, RegHead, Stage, AtWord, AtName, BehindName, AtNumber, BehindNumber, BehindSet, BehindSystem, AtEnd, body_step, step}
+use Rattle.command_head.specs.Heads.{Alphabets, Sets, Systems, RegHead, Stage, AtWord, AtName, AfterName, AtNumber, AfterNumber, AfterSet, AfterSystem, AtEnd, body_step, step}
 use Rattle.command_head.proofs.ReadingSteps.{then_ok}
 use Rattle.command_head.proofs.PartShape.{letter-high, all_in-all, system_read, direction_is}
 use Rattle.command_head.proofs.Numerals.{number_part, negative_part, fresh, fresh_below}
@@ -21,7 +21,7 @@ use Rattle.command_head.proofs.ReadHeads.{word_step, first_name_step, name_step,
 use Rattle.command_head.proofs.SpelledHeads.{member_read, last_number}
 use Rattle.command_head.proofs.Sane.{spent, Sane, end_refused}
 
--- a stage, as a grammar of what may come behind it
+-- a stage, as a grammar of what may come after it
 abbrev pub GoesAs : Stage → List (List ℕ) → RegHead → Type 0
 GoesAs stage parts head = goes stage parts ≡ Ok head
 
@@ -34,13 +34,13 @@ abbrev pub IsAtNumber : Stage → Type 0
 IsAtNumber (AtNumber name sets members) = Unit {0}
 IsAtNumber AtWord = ⊥
 IsAtNumber AtName = ⊥
-IsAtNumber (BehindName name) = ⊥
-IsAtNumber (BehindNumber name sets members) = ⊥
-IsAtNumber (BehindSet name sets) = ⊥
-IsAtNumber (BehindSystem name names) = ⊥
+IsAtNumber (AfterName name) = ⊥
+IsAtNumber (AfterNumber name sets members) = ⊥
+IsAtNumber (AfterSet name sets) = ⊥
+IsAtNumber (AfterSystem name names) = ⊥
 IsAtNumber (AtEnd head) = ⊥
 
-set_ends : (name : List ℕ) (sets : List (List ℤ)) → goes (BehindSet name sets) (empty ∷ []) ≡ Ok (record { name = name; alphabets = Sets sets; body = [] })
+set_ends : (name : List ℕ) (sets : List (List ℤ)) → goes (AfterSet name sets) (empty ∷ []) ≡ Ok (record { name = name; alphabets = Sets sets; body = [] })
 unfolding step body_step
 set_ends name sets = refl
 
@@ -76,10 +76,10 @@ allowed limit (AtNumber name sets members) true room low sane at_number =
     member_allowed name sets members true (negsuc new.k) new.new (negative_part new.k (omega arith))
 allowed limit AtWord sign room low sane at_number = absurd at_number
 allowed limit AtName sign room low sane at_number = absurd at_number
-allowed limit (BehindName name) sign room low sane at_number = absurd at_number
-allowed limit (BehindNumber name sets members) sign room low sane at_number = absurd at_number
-allowed limit (BehindSet name sets) sign room low sane at_number = absurd at_number
-allowed limit (BehindSystem name names) sign room low sane at_number = absurd at_number
+allowed limit (AfterName name) sign room low sane at_number = absurd at_number
+allowed limit (AfterNumber name sets members) sign room low sane at_number = absurd at_number
+allowed limit (AfterSet name sets) sign room low sane at_number = absurd at_number
+allowed limit (AfterSystem name names) sign room low sane at_number = absurd at_number
 allowed limit (AtEnd head) sign room low sane at_number = absurd at_number
 
 -- each stage leads to a head
@@ -87,14 +87,14 @@ pub completes : (limit : ℕ) (stage : Stage) → spent stage ≤ limit → limi
 unfolding step body_step is_system
 completes limit AtWord room low sane = (codes "reg" ∷ codes "a" ∷ codes "msd_2" ∷ empty ∷ [], record { name = codes "a"; alphabets = Systems (codes "msd_2" ∷ []); body = [] }, refl)
 completes limit AtName room low sane = (codes "a" ∷ codes "msd_2" ∷ empty ∷ [], record { name = codes "a"; alphabets = Systems (codes "msd_2" ∷ []); body = [] }, refl)
-completes limit (BehindName name) room low sane = (codes "msd_2" ∷ empty ∷ [], record { name = name; alphabets = Systems (codes "msd_2" ∷ []); body = [] }, refl)
+completes limit (AfterName name) room low sane = (codes "msd_2" ∷ empty ∷ [], record { name = name; alphabets = Systems (codes "msd_2" ∷ []); body = [] }, refl)
 completes limit (AtNumber name sets members) room low sane =
     let a = allowed limit (AtNumber name sets members) false room low sane tt in
     let b = a.begins in
     (a.other ∷ b.0, b.1, b.2)
-completes limit (BehindNumber name sets members) room low sane = (codes "}" ∷ empty ∷ [], record { name = name; alphabets = Sets (sets ++ members ∷ []); body = [] }, refl)
-completes limit (BehindSet name sets) room low sane = (empty ∷ [], record { name = name; alphabets = Sets sets; body = [] }, refl)
-completes limit (BehindSystem name names) room low sane = (empty ∷ [], record { name = name; alphabets = Systems names; body = [] }, refl)
+completes limit (AfterNumber name sets members) room low sane = (codes "}" ∷ empty ∷ [], record { name = name; alphabets = Sets (sets ++ members ∷ []); body = [] }, refl)
+completes limit (AfterSet name sets) room low sane = (empty ∷ [], record { name = name; alphabets = Sets sets; body = [] }, refl)
+completes limit (AfterSystem name names) room low sane = (empty ∷ [], record { name = name; alphabets = Systems names; body = [] }, refl)
 completes limit (AtEnd head) room low sane = ([], head, refl)
 
 -- the first byte of a number
@@ -112,9 +112,9 @@ pub number_first : (part : List ℕ) → is_number part ≡ true → FirstOfNumb
 number_first [] h = absurd (false≢true h)
 number_first (b ∷ bs) h = by_sign (b == 45) refl
   where
-    plain : (t : Bool) (behind : List ℕ) → behind ≡ b ∷ bs → (t && all_in Digit behind) ≡ true → (45 ≤ b) × (b ≤ 57)
-    plain t behind e g =
-        let all = subst (λ (l : List ℕ). AllByRecursion (λ x. is_in Digit x ≡ true) l) e (all_in-all Digit behind (and_parts t (all_in Digit behind) g).1) in
+    plain : (t : Bool) (suffix : List ℕ) → suffix ≡ b ∷ bs → (t && all_in Digit suffix) ≡ true → (45 ≤ b) × (b ≤ 57)
+    plain t suffix e g =
+        let all = subst (λ (l : List ℕ). AllByRecursion (λ x. is_in Digit x ≡ true) l) e (all_in-all Digit suffix (and_parts t (all_in Digit suffix) g).1) in
         digit_first b all.0
 
     by_sign : (t : Bool) → (b == 45) ≡ t → (45 ≤ b) × (b ≤ 57)
@@ -137,7 +137,7 @@ system_first (b ∷ bs) h first =
 pub quoted_first : (part : List ℕ) → is_quoted part ≡ true → FirstOfNumber part → ⊥
 quoted_first [] h first = first
 quoted_first (b ∷ bs) h first =
-    let is = eqb-true b 34 (and_parts (b == 34) (bytes_eq (behind_front Unquoted (drop 1 (b ∷ bs))) (codes "\"")) h).0 in
+    let is = eqb-true b 34 (and_parts (b == 34) (bytes_eq (after_prefix Unquoted (drop 1 (b ∷ bs))) (codes "\"")) h).0 in
     let from = first.0 in omega arith
 
 text_first : (part text : List ℕ) → part ≡ text → is_number text ≡ false → is_number part ≡ true → ⊥
@@ -151,13 +151,13 @@ body_first name alphabets part next h first =
 pub number_stage : (stage : Stage) (part : List ℕ) (next : Stage) → is_number part ≡ true → step stage part ≡ Ok next → IsAtNumber stage
 number_stage AtWord part next number h = text_first part (codes "reg") (word_step part next h).0 refl number
 number_stage AtName part next number h = name_first part (first_name_step part next h).0 (number_first part number)
-number_stage (BehindName name) part next number h =
+number_stage (AfterName name) part next number h =
     ⊎_elim (λ g. text_first part (codes "{") g.0 refl number) (λ g. system_first part g.0 (number_first part number)) (name_step name part next h)
 number_stage (AtNumber name sets members) part next number h = tt
-number_stage (BehindNumber name sets members) part next number h =
+number_stage (AfterNumber name sets members) part next number h =
     ⊎_elim (λ g. text_first part (codes ",") g.0 refl number) (λ g. text_first part (codes "}") g.0 refl number) (divider_step name sets members part next h)
-number_stage (BehindSet name sets) part next number h =
+number_stage (AfterSet name sets) part next number h =
     ⊎_elim (λ g. text_first part (codes "{") g.0 refl number) (λ g. body_first name (Sets sets) part next g (number_first part number)) (set_step name sets part next h)
-number_stage (BehindSystem name names) part next number h =
+number_stage (AfterSystem name names) part next number h =
     ⊎_elim (λ g. system_first part g.0 (number_first part number)) (λ g. body_first name (Systems names) part next g.1 (number_first part number)) (system_step name names part next h)
 number_stage (AtEnd head) part next number h = end_refused head part next h

@@ -52,29 +52,29 @@ examples_fit : (kinds : List Kind) → Fit kinds (map example kinds)
 examples_fit [] = tt
 examples_fit (kind ∷ kinds) = (example_fits kind, examples_fit kinds)
 
-fit_append : (kinds more : List Kind) (front parts : List (List ℕ)) → Fit kinds front → Fit more parts → Fit (kinds ++ more) (front ++ parts)
+fit_append : (kinds more : List Kind) (prefix parts : List (List ℕ)) → Fit kinds prefix → Fit more parts → Fit (kinds ++ more) (prefix ++ parts)
 fit_append [] more [] parts fits others = others
-fit_append [] more (part ∷ front) parts fits others = absurd fits
+fit_append [] more (part ∷ prefix) parts fits others = absurd fits
 fit_append (kind ∷ kinds) more [] parts fits others = absurd fits
-fit_append (kind ∷ kinds) more (part ∷ front) parts fits others = (fits.0, fit_append kinds more front parts fits.1 others)
+fit_append (kind ∷ kinds) more (part ∷ prefix) parts fits others = (fits.0, fit_append kinds more prefix parts fits.1 others)
 
-fit_part : (kinds : List Kind) (kind : Kind) (more : List Kind) (front : List (List ℕ)) (part : List ℕ) (parts : List (List ℕ)) → Fit kinds front → Fit (kinds ++ kind ∷ more) ((front ++ part ∷ []) ++ parts) → Takes kind part
+fit_part : (kinds : List Kind) (kind : Kind) (more : List Kind) (prefix : List (List ℕ)) (part : List ℕ) (parts : List (List ℕ)) → Fit kinds prefix → Fit (kinds ++ kind ∷ more) ((prefix ++ part ∷ []) ++ parts) → Takes kind part
 fit_part [] kind more [] part parts fits all = all.0
-fit_part [] kind more (first ∷ front) part parts fits all = absurd fits
+fit_part [] kind more (first ∷ prefix) part parts fits all = absurd fits
 fit_part (first_kind ∷ kinds) kind more [] part parts fits all = absurd fits
-fit_part (first_kind ∷ kinds) kind more (first ∷ front) part parts fits all = fit_part kinds kind more front part parts fits.1 all.1
+fit_part (first_kind ∷ kinds) kind more (first ∷ prefix) part parts fits all = fit_part kinds kind more prefix part parts fits.1 all.1
 
-fit_end : (kinds : List Kind) (front : List (List ℕ)) (part : List ℕ) (parts : List (List ℕ)) → Fit kinds front → Fit kinds ((front ++ part ∷ []) ++ parts) → ⊥
+fit_end : (kinds : List Kind) (prefix : List (List ℕ)) (part : List ℕ) (parts : List (List ℕ)) → Fit kinds prefix → Fit kinds ((prefix ++ part ∷ []) ++ parts) → ⊥
 fit_end [] [] part parts fits all = all
-fit_end [] (first ∷ front) part parts fits all = fits
+fit_end [] (first ∷ prefix) part parts fits all = fits
 fit_end (kind ∷ kinds) [] part parts fits all = fits
-fit_end (kind ∷ kinds) (first ∷ front) part parts fits all = fit_end kinds front part parts fits.1 all.1
+fit_end (kind ∷ kinds) (first ∷ prefix) part parts fits all = fit_end kinds prefix part parts fits.1 all.1
 
-fit_unended : (kinds : List Kind) (kind : Kind) (more : List Kind) (front : List (List ℕ)) → Fit kinds front → Fit (kinds ++ kind ∷ more) front → ⊥
+fit_unended : (kinds : List Kind) (kind : Kind) (more : List Kind) (prefix : List (List ℕ)) → Fit kinds prefix → Fit (kinds ++ kind ∷ more) prefix → ⊥
 fit_unended [] kind more [] fits all = all
-fit_unended [] kind more (first ∷ front) fits all = fits
+fit_unended [] kind more (first ∷ prefix) fits all = fits
 fit_unended (first_kind ∷ kinds) kind more [] fits all = fits
-fit_unended (first_kind ∷ kinds) kind more (first ∷ front) fits all = fit_unended kinds kind more front fits.1 all.1
+fit_unended (first_kind ∷ kinds) kind more (first ∷ prefix) fits all = fit_unended kinds kind more prefix fits.1 all.1
 
 -- a kind that no part with a number is of
 abbrev pub Plain : Kind → Type 0
@@ -89,18 +89,18 @@ plain_long AName part plain long = numbered_name part long.other long.other_numb
 plain_long AWord part plain long = numbered_name part long.other long.other_number (word_name (take (number_place part) part ++ long.other) long.taken)
 plain_long AText part plain long = numbered_quoted part long.other long.other_number long.taken
 
-module _ {H : Type 0} (grammar : List (List ℕ) → H → Type 0) (kinds : List Kind) (kind : Kind) (more : List Kind) (form : IsForm grammar (kinds ++ kind ∷ more)) (front : List (List ℕ)) (fits : Fit kinds front) where
-  form_expects : Expects grammar front (Takes kind)
+module _ {H : Type 0} (grammar : List (List ℕ) → H → Type 0) (kinds : List Kind) (kind : Kind) (more : List Kind) (form : IsForm grammar (kinds ++ kind ∷ more)) (prefix : List (List ℕ)) (fits : Fit kinds prefix) where
+  form_expects : Expects grammar prefix (Takes kind)
   form_expects =
       let others = map example (kind ∷ more) in
-      let made = form.makes (front ++ others) (fit_append kinds (kind ∷ more) front others fits (examples_fit (kind ∷ more))) in
+      let made = form.makes (prefix ++ others) (fit_append kinds (kind ∷ more) prefix others fits (examples_fit (kind ∷ more))) in
       record {
         goes_on = (others, made.0, made.1);
-        only = λ part begins. fit_part kinds kind more front part begins.0 fits (form.reads ((front ++ part ∷ []) ++ begins.0) begins.1 begins.2);
+        only = λ part begins. fit_part kinds kind more prefix part begins.0 fits (form.reads ((prefix ++ part ∷ []) ++ begins.0) begins.1 begins.2);
       }
 
-  form_unended : (head : H) → grammar front head → ⊥
-  form_unended head spells = fit_unended kinds kind more front fits (form.reads front head spells)
+  form_unended : (head : H) → grammar prefix head → ⊥
+  form_unended head spells = fit_unended kinds kind more prefix fits (form.reads prefix head spells)
 
 -- a test that fails, and one that the empty part fails
 pub refuted : (t : Bool) → t ≡ false → t ≡ true → ⊥
@@ -115,17 +115,17 @@ form_word grammar word more text form named other =
     word_syntax grammar (Takes (This word)) text (form_expects grammar [] (This word) more form [] tt) other (plain_long (This word) (first_word_of text) named)
 
 -- a part of another kind, or none
-pub form_part : {H : Type 0} (grammar : List (List ℕ) → H → Type 0) (kinds : List Kind) (kind : Kind) (more : List Kind) (text : List ℕ) (front : List (List ℕ)) (whole : ℕ) (blank : Bool) (rest part : List ℕ) (at : ℕ) →
-    IsForm grammar (kinds ++ kind ∷ more) → Plain kind → Fit kinds front → IsRead text front whole blank rest → at ≡ whole - length rest → part ≡ first_in blank rest → (Takes kind part → ⊥) → IsSyntaxAt grammar text at
-form_part grammar kinds kind more text front whole blank rest part at form plain fits read at_is part_is refused =
-    refused_syntax grammar front (Takes kind) text whole blank rest part at (form_expects grammar kinds kind more form front fits) (λ none. form_unended grammar kinds kind more form front fits) read at_is part_is refused (plain_long kind part plain)
+pub form_part : {H : Type 0} (grammar : List (List ℕ) → H → Type 0) (kinds : List Kind) (kind : Kind) (more : List Kind) (text : List ℕ) (prefix : List (List ℕ)) (whole : ℕ) (blank : Bool) (rest part : List ℕ) (at : ℕ) →
+    IsForm grammar (kinds ++ kind ∷ more) → Plain kind → Fit kinds prefix → IsRead text prefix whole blank rest → at ≡ whole - length rest → part ≡ first_in blank rest → (Takes kind part → ⊥) → IsSyntaxAt grammar text at
+form_part grammar kinds kind more text prefix whole blank rest part at form plain fits read at_is part_is refused =
+    refused_syntax grammar prefix (Takes kind) text whole blank rest part at (form_expects grammar kinds kind more form prefix fits) (λ none. form_unended grammar kinds kind more form prefix fits) read at_is part_is refused (plain_long kind part plain)
 
 -- a part too many
-pub form_end : {H : Type 0} (grammar : List (List ℕ) → H → Type 0) (kinds : List Kind) (text : List ℕ) (front : List (List ℕ)) (whole : ℕ) (blank : Bool) (rest : List ℕ) → IsForm grammar kinds → Fit kinds front →
-    IsRead text front whole blank rest → rest ≢ [] → IsSyntaxAt grammar text (whole - length rest)
-form_end grammar kinds text front whole blank rest form fits read some =
-    let made = form.makes front fits in
-    left_syntax grammar front text whole blank rest record {
-      goes_on = ([], made.0, subst (λ (l : List (List ℕ)). grammar l made.0) (sym (append-nil front)) made.1);
-      only = λ part begins. fit_end kinds front part begins.0 fits (form.reads ((front ++ part ∷ []) ++ begins.0) begins.1 begins.2);
+pub form_end : {H : Type 0} (grammar : List (List ℕ) → H → Type 0) (kinds : List Kind) (text : List ℕ) (prefix : List (List ℕ)) (whole : ℕ) (blank : Bool) (rest : List ℕ) → IsForm grammar kinds → Fit kinds prefix →
+    IsRead text prefix whole blank rest → rest ≢ [] → IsSyntaxAt grammar text (whole - length rest)
+form_end grammar kinds text prefix whole blank rest form fits read some =
+    let made = form.makes prefix fits in
+    left_syntax grammar prefix text whole blank rest record {
+      goes_on = ([], made.0, subst (λ (l : List (List ℕ)). grammar l made.0) (sym (append-nil prefix)) made.1);
+      only = λ part begins. fit_end kinds prefix part begins.0 fits (form.reads ((prefix ++ part ∷ []) ++ begins.0) begins.1 begins.2);
     } read some

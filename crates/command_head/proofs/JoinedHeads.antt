@@ -5,21 +5,21 @@ use Rattle.std.proofs.lemmas.List.{append-nil, append_assoc}
 use Rattle.std.proofs.lemmas.Bool.{and_parts, ne_eqb, false≢true}
 use Rattle.text_grammar.specs.declared.class.Class.TheVariants.{Digit, NameByte}
 use Rattle.text_grammar.specs.Bytes.{is_letter}
-use Rattle.text_grammar.specs.Fronts.{all_in, begins_in, front_len}
+use Rattle.text_grammar.specs.Prefixes.{all_in, begins_in, prefix_len}
 use Rattle.text_grammar.specs.Numbers.{is_number, number_len, unsigned}
 use Rattle.command_head.specs.Parts.{ending_len, part_len, parts_of, texts_of, is_name}
 use Rattle.command_head.specs.Heads.{ValuedName, PromoteHead, ImageHead, CombineHead}
 use Rattle.command_head.specs.Grammar.{SpellsValue, SpellsValued, SpellEach, SpellsPromote, SpellsImage, SpellsCombine}
-use Rattle.command_head.proofs.FrontSteps.{front_len-append, behind_front-append}
+use Rattle.command_head.proofs.PrefixSteps.{prefix_len-append, after_prefix-append}
 use Rattle.command_head.proofs.PartShape.{all_in-all, name_bytes, word_name}
 use Rattle.command_head.proofs.JoinedParts.{Stands, stands_name, letter_solid, letter_len, text_of, word_bytes, word_first}
 
 -- digits before a blank
-digits_front : (digits rest : List ℕ) → (not (length digits == 0) && all_in Digit digits) ≡ true → (begins_in Digit (digits ++ 32 ∷ rest) ≡ true) × (front_len Digit (digits ++ 32 ∷ rest) ≡ length digits)
-digits_front [] rest h = absurd (false≢true h)
-digits_front (d ∷ ds) rest h =
+digits_prefix : (digits rest : List ℕ) → (not (length digits == 0) && all_in Digit digits) ≡ true → (begins_in Digit (digits ++ 32 ∷ rest) ≡ true) × (prefix_len Digit (digits ++ 32 ∷ rest) ≡ length digits)
+digits_prefix [] rest h = absurd (false≢true h)
+digits_prefix (d ∷ ds) rest h =
     let all = all_in-all Digit (d ∷ ds) (and_parts (not (length (d ∷ ds) == 0)) (all_in Digit (d ∷ ds)) h).1 in
-    (all.0, front_len-append Digit (d ∷ ds) (32 ∷ rest) all refl)
+    (all.0, prefix_len-append Digit (d ∷ ds) (32 ∷ rest) all refl)
 
 -- and a sign before them
 abbrev len_of : ℕ → ℕ → ℕ
@@ -32,35 +32,35 @@ digits_some : (digits : List ℕ) → (not (length digits == 0) && all_in Digit 
 digits_some [] h = absurd (false≢true h)
 digits_some (d ∷ ds) h = omega arith
 
-signed_front : (sign : Bool) (b : ℕ) (bs rest : List ℕ) → (not (length (cond sign bs (b ∷ bs)) == 0) && all_in Digit (cond sign bs (b ∷ bs))) ≡ true →
-    (begins_in Digit (cond sign (bs ++ 32 ∷ rest) (b ∷ (bs ++ 32 ∷ rest))) ≡ true) × (len_of (cond sign 1 0) (front_len Digit (cond sign (bs ++ 32 ∷ rest) (b ∷ (bs ++ 32 ∷ rest)))) ≡ length (b ∷ bs))
-signed_front true b bs rest h = let d = digits_front bs rest h in (d.0, len_some 1 _ (length bs) d.1 (digits_some bs h) ∙ (let e : 1 + length bs ≡ suc (length bs) = omega arith in e))
-signed_front false b bs rest h = let d = digits_front (b ∷ bs) rest h in (d.0, len_some 0 _ (length (b ∷ bs)) d.1 (digits_some (b ∷ bs) h) ∙ (let e : 0 + suc (length bs) ≡ suc (length bs) = omega arith in e))
+signed_prefix : (sign : Bool) (b : ℕ) (bs rest : List ℕ) → (not (length (cond sign bs (b ∷ bs)) == 0) && all_in Digit (cond sign bs (b ∷ bs))) ≡ true →
+    (begins_in Digit (cond sign (bs ++ 32 ∷ rest) (b ∷ (bs ++ 32 ∷ rest))) ≡ true) × (len_of (cond sign 1 0) (prefix_len Digit (cond sign (bs ++ 32 ∷ rest) (b ∷ (bs ++ 32 ∷ rest)))) ≡ length (b ∷ bs))
+signed_prefix true b bs rest h = let d = digits_prefix bs rest h in (d.0, len_some 1 _ (length bs) d.1 (digits_some bs h) ∙ (let e : 1 + length bs ≡ suc (length bs) = omega arith in e))
+signed_prefix false b bs rest h = let d = digits_prefix (b ∷ bs) rest h in (d.0, len_some 0 _ (length (b ∷ bs)) d.1 (digits_some (b ∷ bs) h) ∙ (let e : 0 + suc (length bs) ≡ suc (length bs) = omega arith in e))
 
-number_front : (number rest : List ℕ) → is_number number ≡ true → (begins_in Digit (unsigned (number ++ 32 ∷ rest)) ≡ true) × (number_len (number ++ 32 ∷ rest) ≡ length number)
-number_front [] rest h = absurd (false≢true h)
-number_front (b ∷ bs) rest h = signed_front (b == 45) b bs rest h
+number_prefix : (number rest : List ℕ) → is_number number ≡ true → (begins_in Digit (unsigned (number ++ 32 ∷ rest)) ≡ true) × (number_len (number ++ 32 ∷ rest) ≡ length number)
+number_prefix [] rest h = absurd (false≢true h)
+number_prefix (b ∷ bs) rest h = signed_prefix (b == 45) b bs rest h
 
 value_len : (number rest : List ℕ) → is_number number ≡ true → ending_len (61 ∷ (number ++ 32 ∷ rest)) ≡ suc (length number)
-value_len number rest h = let front = number_front number rest h in rw (front.0, front.1) (omega arith)
+value_len number rest h = let prefix = number_prefix number rest h in rw (prefix.0, prefix.1) (omega arith)
 
 valued_len : (b : ℕ) (bs number rest : List ℕ) → is_name (b ∷ bs) ≡ true → is_number number ≡ true → part_len (((b ∷ bs) ++ 61 ∷ number) ++ 32 ∷ rest) ≡ length ((b ∷ bs) ++ 61 ∷ number)
 valued_len b bs number rest named digits =
     let bytes = name_bytes (b ∷ bs) named in
     let letter = (and_parts (is_letter b) _ named).0 in
-    let behind = 61 ∷ (number ++ 32 ∷ rest) in
-    let front = front_len-append NameByte (b ∷ bs) behind bytes refl in
+    let suffix = 61 ∷ (number ++ 32 ∷ rest) in
+    let prefix = prefix_len-append NameByte (b ∷ bs) suffix bytes refl in
     let value = value_len number rest digits in
     let all = length-append (b ∷ bs) (61 ∷ number) in
     ap part_len (append_assoc (b ∷ bs) (61 ∷ number) (32 ∷ rest))
-    ∙ letter_len b (bs ++ behind) letter
-    ∙ ap (λ (l : List ℕ). front_len NameByte ((b ∷ bs) ++ behind) + ending_len l) (behind_front-append NameByte (b ∷ bs) behind bytes refl)
-    ∙ (let sum : front_len NameByte ((b ∷ bs) ++ behind) + ending_len behind ≡ length ((b ∷ bs) ++ 61 ∷ number) = omega arith in sum)
+    ∙ letter_len b (bs ++ suffix) letter
+    ∙ ap (λ (l : List ℕ). prefix_len NameByte ((b ∷ bs) ++ suffix) + ending_len l) (after_prefix-append NameByte (b ∷ bs) suffix bytes refl)
+    ∙ (let sum : prefix_len NameByte ((b ∷ bs) ++ suffix) + ending_len suffix ≡ length ((b ∷ bs) ++ 61 ∷ number) = omega arith in sum)
 
 -- a name with a number
-stands_number_behind : (name number : List ℕ) → is_name name ≡ true → is_number number ≡ true → Stands (name ++ 61 ∷ number)
-stands_number_behind [] number named digits = absurd (false≢true named)
-stands_number_behind (b ∷ bs) number named digits = record {
+stands_number_after : (name number : List ℕ) → is_name name ≡ true → is_number number ≡ true → Stands (name ++ 61 ∷ number)
+stands_number_after [] number named digits = absurd (false≢true named)
+stands_number_after (b ∷ bs) number named digits = record {
   first = b;
   others = bs ++ 61 ∷ number;
   is = refl;
@@ -72,9 +72,9 @@ stands_number_behind (b ∷ bs) number named digits = record {
 stands_valued : (part : List ℕ) (valued : ValuedName) → SpellsValued part valued → Stands part
 stands_valued part valued s = by_value valued.value s.value
   where
-    by_value : (value : Option ℤ) → SpellsValue s.behind value → Stands part
+    by_value : (value : Option ℤ) → SpellsValue s.suffix value → Stands part
     by_value None e = subst Stands (sym (s.part_is ∙ ap (λ (l : List ℕ). valued.name ++ l) e ∙ append-nil valued.name)) (stands_name valued.name s.name)
-    by_value (Some n) v = subst Stands (sym (s.part_is ∙ ap (λ (l : List ℕ). valued.name ++ l) v.1)) (stands_number_behind valued.name v.0 s.name v.2.number)
+    by_value (Some n) v = subst Stands (sym (s.part_is ∙ ap (λ (l : List ℕ). valued.name ++ l) v.1)) (stands_number_after valued.name v.0 s.name v.2.number)
 
 stand_each : (parts : List (List ℕ)) (automata : List ValuedName) → SpellEach parts automata → AllByRecursion Stands parts
 stand_each [] automata each = tt

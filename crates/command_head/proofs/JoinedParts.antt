@@ -5,21 +5,21 @@ use Rattle.std.proofs.lemmas.List.{take_at, drop_at, append_assoc}
 use Rattle.std.proofs.lemmas.Bool.{ne_eqb, or_from, and_parts, lt-leb, leb-true, eqb-true, false≢true}
 use Rattle.text_grammar.specs.declared.class.Class.TheVariants.{Blank, Digit, Letter, NameByte, Unquoted, Word}
 use Rattle.text_grammar.specs.Bytes.{is_blank, is_letter, is_digit}
-use Rattle.text_grammar.specs.Fronts.{all_in, begins_in, behind_front, front_len, is_in}
+use Rattle.text_grammar.specs.Prefixes.{all_in, begins_in, after_prefix, prefix_len, is_in}
 use Rattle.text_grammar.specs.Numbers.{is_number, unsigned}
 use Rattle.text_grammar.specs.Systems.{is_system}
-use Rattle.command_head.specs.Parts.{behind_blanks, ending_len, part_len, behind_first, first_in, behind_word, parts_of_rest, parts_of, texts_of, is_name}
+use Rattle.command_head.specs.Parts.{after_blanks, ending_len, part_len, after_first, first_in, after_word, parts_of_rest, parts_of, texts_of, is_name}
 use Rattle.command_head.specs.Heads.{Alphabets, Sets, Systems, RegHead, NamedHead}
 use Rattle.command_head.specs.Grammar.{SpellsMentions, SpellsSet, SpellSets, SpellAlphabets, AreUnquoted, quoted, SpellsReg, SpellsNamed}
-use Rattle.command_head.proofs.FrontSteps.{Stops, front_len-append, front_of-append, behind_front-append}
+use Rattle.command_head.proofs.PrefixSteps.{Stops, prefix_len-append, prefix_of-append, after_prefix-append}
 use Rattle.command_head.proofs.PartShape.{AllByRecursion-weaker, all_in-all, name_bytes, letter-high, unquoted_in, system_read, direction_is, system_bytes}
 
--- parts, a blank behind each
+-- parts, a blank after each
 unfoldable pub join : List (List ℕ) → List ℕ
 join [] = []
 join (part ∷ parts) = part ++ 32 ∷ join parts
 
--- a part that is one also where a blank stands behind it
+-- a part that is one also where a blank comes after it
 pub record Stands (part : List ℕ) : Type 0 where
   pub first : ℕ
   pub others : List ℕ
@@ -27,10 +27,10 @@ pub record Stands (part : List ℕ) : Type 0 where
   pub solid : is_blank first ≡ false
   pub len : (rest : List ℕ) → part_len (part ++ 32 ∷ rest) ≡ length part
 
-behind_solid : (part rest : List ℕ) → part_len (part ++ rest) ≡ length part → behind_first (part ++ rest) ≡ rest
-behind_solid part rest len = ap (λ (n : ℕ). drop n (part ++ rest)) len ∙ drop_at part rest (length part) refl
+after_solid : (part rest : List ℕ) → part_len (part ++ rest) ≡ length part → after_first (part ++ rest) ≡ rest
+after_solid part rest len = ap (λ (n : ℕ). drop n (part ++ rest)) len ∙ drop_at part rest (length part) refl
 
--- a part behind a blank
+-- a part after a blank
 first_spaced : (part rest : List ℕ) → part_len (part ++ rest) ≡ length part → first_in true (part ++ rest) ≡ part
 unfolding first_in
 first_spaced part rest len = either (begins_in Letter (part ++ rest)) _ _ ∙ ap (λ (n : ℕ). take n (part ++ rest)) len ∙ take_at part rest (length part) refl
@@ -40,25 +40,25 @@ first_spaced part rest len = either (begins_in Letter (part ++ rest)) _ _ ∙ ap
     either false x y = refl
 
 first_part : (count whole b : ℕ) (bs rest : List ℕ) → part_len (b ∷ (bs ++ rest)) ≡ length (b ∷ bs) →
-    texts_of (parts_of_rest (suc count) whole true (b ∷ (bs ++ rest))) ≡ (b ∷ bs) ∷ texts_of (parts_of_rest count whole (begins_in Blank rest) (behind_blanks rest))
+    texts_of (parts_of_rest (suc count) whole true (b ∷ (bs ++ rest))) ≡ (b ∷ bs) ∷ texts_of (parts_of_rest count whole (begins_in Blank rest) (after_blanks rest))
 unfolding parts_of_rest
 first_part count whole b bs rest len =
-    ap (λ (l : List ℕ). l ∷ texts_of (parts_of_rest count whole (begins_in Blank (behind_first (b ∷ (bs ++ rest)))) (behind_blanks (behind_first (b ∷ (bs ++ rest)))))) (first_spaced (b ∷ bs) rest len)
-    ∙ ap (λ (l : List ℕ). (b ∷ bs) ∷ texts_of (parts_of_rest count whole (begins_in Blank l) (behind_blanks l))) (behind_solid (b ∷ bs) rest len)
+    ap (λ (l : List ℕ). l ∷ texts_of (parts_of_rest count whole (begins_in Blank (after_first (b ∷ (bs ++ rest)))) (after_blanks (after_first (b ∷ (bs ++ rest)))))) (first_spaced (b ∷ bs) rest len)
+    ∙ ap (λ (l : List ℕ). (b ∷ bs) ∷ texts_of (parts_of_rest count whole (begins_in Blank l) (after_blanks l))) (after_solid (b ∷ bs) rest len)
 
 no_part : (count whole : ℕ) (blank : Bool) → texts_of (parts_of_rest count whole blank []) ≡ []
 unfolding parts_of_rest
 no_part zero whole blank = refl
 no_part (suc count) whole blank = refl
 
--- behind a blank the parts follow
-solid_join : (parts : List (List ℕ)) → AllByRecursion Stands parts → behind_blanks (32 ∷ join parts) ≡ join parts
+-- after a blank the parts follow
+solid_join : (parts : List (List ℕ)) → AllByRecursion Stands parts → after_blanks (32 ∷ join parts) ≡ join parts
 unfolding join
 solid_join [] all = refl
 solid_join (part ∷ parts) all =
     let s = all.0 in
     let stops : Stops Blank (part ++ 32 ∷ join parts) = subst (λ (l : List ℕ). Stops Blank (l ++ 32 ∷ join parts)) (sym s.is) s.solid in
-    behind_front-append Blank (32 ∷ []) (part ++ 32 ∷ join parts) (refl, tt) stops
+    after_prefix-append Blank (32 ∷ []) (part ++ 32 ∷ join parts) (refl, tt) stops
 
 parts_join : (parts : List (List ℕ)) (count whole : ℕ) → AllByRecursion Stands parts → length (join parts) ≤ count → texts_of (parts_of_rest count whole true (join parts)) ≡ parts
 unfolding join
@@ -83,7 +83,7 @@ letter_solid b letter = let high = letter-high b letter in high-blank b (omega a
 low-letter : (b : ℕ) → b ≤ 64 → is_letter b ≡ false
 low-letter b h = rw (lt-leb 65 b (omega arith), lt-leb 97 b (omega arith)) refl
 
-pub letter_len : (b : ℕ) (bs : List ℕ) → is_letter b ≡ true → part_len (b ∷ bs) ≡ front_len NameByte (b ∷ bs) + ending_len (behind_front NameByte (b ∷ bs))
+pub letter_len : (b : ℕ) (bs : List ℕ) → is_letter b ≡ true → part_len (b ∷ bs) ≡ prefix_len NameByte (b ∷ bs) + ending_len (after_prefix NameByte (b ∷ bs))
 unfolding part_len
 letter_len b bs h = taken (is_letter b) _ _ h
   where
@@ -99,8 +99,8 @@ stands_letter b bs letter all = record {
   solid = letter_solid b letter;
   len = λ rest.
       letter_len b (bs ++ 32 ∷ rest) letter
-      ∙ ap (λ (l : List ℕ). front_len NameByte (b ∷ (bs ++ 32 ∷ rest)) + ending_len l) (behind_front-append NameByte (b ∷ bs) (32 ∷ rest) all refl)
-      ∙ (let n = front_len-append NameByte (b ∷ bs) (32 ∷ rest) all refl in omega arith);
+      ∙ ap (λ (l : List ℕ). prefix_len NameByte (b ∷ (bs ++ 32 ∷ rest)) + ending_len l) (after_prefix-append NameByte (b ∷ bs) (32 ∷ rest) all refl)
+      ∙ (let n = prefix_len-append NameByte (b ∷ bs) (32 ∷ rest) all refl in omega arith);
 }
 
 pub stands_name : (part : List ℕ) → is_name part ≡ true → Stands part
@@ -132,17 +132,17 @@ stands_comma : Stands (codes ",")
 unfolding part_len
 stands_comma = record { first = 44; others = []; is = refl; solid = refl; len = λ rest. refl }
 
--- digits, and digits behind a sign
+-- digits, and digits after a sign
 signed_len : (d : ℕ) (ds rest : List ℕ) → AllByRecursion (λ c. is_in Digit c ≡ true) (d ∷ ds) → part_len (45 ∷ ((d ∷ ds) ++ 32 ∷ rest)) ≡ length (45 ∷ d ∷ ds)
 unfolding part_len
-signed_len d ds rest all = rw (all.0, front_len-append Digit ds (32 ∷ rest) all.1 refl) (rw (ne_eqb (suc (length ds)) 0 (λ e. omega arith)) (omega arith))
+signed_len d ds rest all = rw (all.0, prefix_len-append Digit ds (32 ∷ rest) all.1 refl) (rw (ne_eqb (suc (length ds)) 0 (λ e. omega arith)) (omega arith))
 
 digits_len : (d : ℕ) (ds rest : List ℕ) → 48 ≤ d → d ≤ 57 → AllByRecursion (λ c. is_in Digit c ≡ true) (d ∷ ds) → part_len ((d ∷ ds) ++ 32 ∷ rest) ≡ length (d ∷ ds)
 unfolding part_len
 digits_len d ds rest from to all =
     let letter : is_letter d ≡ false = low-letter d (omega arith) in
     let sign : (d == 45) ≡ false = ne_eqb d 45 (λ e. omega arith) in
-    rw (letter, sign) (rw (all.0, front_len-append Digit ds (32 ∷ rest) all.1 refl) (rw (ne_eqb (suc (length ds)) 0 (λ e. omega arith)) (omega arith)))
+    rw (letter, sign) (rw (all.0, prefix_len-append Digit ds (32 ∷ rest) all.1 refl) (rw (ne_eqb (suc (length ds)) 0 (λ e. omega arith)) (omega arith)))
 
 digit_range : (b : ℕ) → is_digit b ≡ true → (48 ≤ b) × (b ≤ 57)
 digit_range b h = let p = and_parts (nat_le 48 b) (nat_le b 57) h in (leb-true 48 b p.0, leb-true b 57 p.1)
@@ -166,22 +166,22 @@ stands_number (b ∷ bs) h = by_sign (b == 45) refl (unsigned (b ∷ bs)) refl h
     not_true true e = sym e
     not_true false e = refl
 
-    by_sign : (t : Bool) → (b == 45) ≡ t → (behind : List ℕ) → cond t bs (b ∷ bs) ≡ behind → (not (length behind == 0) && all_in Digit behind) ≡ true → Stands (b ∷ bs)
-    by_sign true e behind is g =
-        let p = and_parts (not (length behind == 0)) (all_in Digit behind) g in
+    by_sign : (t : Bool) → (b == 45) ≡ t → (suffix : List ℕ) → cond t bs (b ∷ bs) ≡ suffix → (not (length suffix == 0) && all_in Digit suffix) ≡ true → Stands (b ∷ bs)
+    by_sign true e suffix is g =
+        let p = and_parts (not (length suffix == 0)) (all_in Digit suffix) g in
         let P : List ℕ → Type 0 = λ l. AllByRecursion (λ c. is_in Digit c ≡ true) l in
         subst (λ (c : ℕ). Stands (c ∷ bs)) (sym (eqb-true b 45 e))
-        (stands_signed bs (subst (λ (l : List ℕ). (length l == 0) ≡ false) (sym is) (not_true (length behind == 0) p.0)) (subst P (sym is) (all_in-all Digit behind p.1)))
-    by_sign false e behind is g =
-        let p = and_parts (not (length behind == 0)) (all_in Digit behind) g in
+        (stands_signed bs (subst (λ (l : List ℕ). (length l == 0) ≡ false) (sym is) (not_true (length suffix == 0) p.0)) (subst P (sym is) (all_in-all Digit suffix p.1)))
+    by_sign false e suffix is g =
+        let p = and_parts (not (length suffix == 0)) (all_in Digit suffix) g in
         let P : List ℕ → Type 0 = λ l. AllByRecursion (λ c. is_in Digit c ≡ true) l in
-        stands_digits (b ∷ bs) (subst (λ (l : List ℕ). (length l == 0) ≡ false) (sym is) (not_true (length behind == 0) p.0)) (subst P (sym is) (all_in-all Digit behind p.1))
+        stands_digits (b ∷ bs) (subst (λ (l : List ℕ). (length l == 0) ≡ false) (sym is) (not_true (length suffix == 0) p.0)) (subst P (sym is) (all_in-all Digit suffix p.1))
 
 quoted_length : (body rest : List ℕ) → AreUnquoted body → part_len (quoted body ++ 32 ∷ rest) ≡ length (quoted body)
 unfolding part_len
 quoted_length body rest all =
     let in_body = AllByRecursion-weaker (λ b. b ≢ 34) (λ b. is_in Unquoted b ≡ true) unquoted_in body all in
-    let n : front_len Unquoted ((body ++ 34 ∷ []) ++ 32 ∷ rest) ≡ length body = ap (front_len Unquoted) (append_assoc body (34 ∷ []) (32 ∷ rest)) ∙ front_len-append Unquoted body (34 ∷ 32 ∷ rest) in_body refl in
+    let n : prefix_len Unquoted ((body ++ 34 ∷ []) ++ 32 ∷ rest) ≡ length body = ap (prefix_len Unquoted) (append_assoc body (34 ∷ []) (32 ∷ rest)) ∙ prefix_len-append Unquoted body (34 ∷ 32 ∷ rest) in_body refl in
     rw n (omega (arith, length-append body (34 ∷ []), length-append (body ++ 34 ∷ []) (32 ∷ rest)))
 
 stands_quoted : (body : List ℕ) → AreUnquoted body → Stands (quoted body)
@@ -223,8 +223,8 @@ word_first word parts of_word all =
     let rest = 32 ∷ join parts in
     let text = word ++ rest in
     let few : length (join parts) ≤ length text = omega (arith, length-append word rest) in
-    ap (λ (l : List ℕ). l ∷ texts_of (parts_of_rest (length text) (length text) (begins_in Blank (behind_word text)) (behind_blanks (behind_word text)))) (front_of-append Word word rest of_word refl)
-    ∙ ap (λ (l : List ℕ). word ∷ texts_of (parts_of_rest (length text) (length text) (begins_in Blank l) (behind_blanks l))) (behind_front-append Word word rest of_word refl)
+    ap (λ (l : List ℕ). l ∷ texts_of (parts_of_rest (length text) (length text) (begins_in Blank (after_word text)) (after_blanks (after_word text)))) (prefix_of-append Word word rest of_word refl)
+    ∙ ap (λ (l : List ℕ). word ∷ texts_of (parts_of_rest (length text) (length text) (begins_in Blank l) (after_blanks l))) (after_prefix-append Word word rest of_word refl)
     ∙ ap (λ (l : List ℕ). word ∷ texts_of (parts_of_rest (length text) (length text) true l)) (solid_join parts all)
     ∙ ap (λ (l : List (List ℕ)). word ∷ l) (parts_join parts (length text) (length text) all few)
 

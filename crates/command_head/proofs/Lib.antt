@@ -1,5 +1,5 @@
 pub mod ReadingSteps
-pub mod FrontSteps
+pub mod PrefixSteps
 pub mod SetShape
 pub mod OrderSteps
 pub mod Gathering

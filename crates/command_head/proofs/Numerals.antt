@@ -11,7 +11,7 @@ use Rattle.std.proofs.lemmas.Cmp.{int_ranked}
 use Rattle.std.proofs.lemmas.Int.{ints}
 use Rattle.text_grammar.specs.Bytes.{is_digit}
 use Rattle.text_grammar.specs.declared.class.Class.TheVariants.{Digit}
-use Rattle.text_grammar.specs.Fronts.{all_in, front_len}
+use Rattle.text_grammar.specs.Prefixes.{all_in, prefix_len}
 use Rattle.text_grammar.specs.Numbers.{begins_with, signed, unsigned, value_after, value_of}
 use Rattle.command_head.specs.Members.{has}
 use Rattle.command_head.specs.Grammar.{SpellsNumber}
@@ -52,7 +52,7 @@ numeral_within : (bound n : ℕ) → n ≤ bound → IsNumeral n
 numeral_within zero n h = record { digits = 48 ∷ []; all = (refl, tt); some = some_more [] 48; value = omega arith }
 numeral_within (suc bound) n h = numeral_more (n / 10) (n % 10) n (omega arith) (omega arith) (numeral_within bound (n / 10) (omega arith))
 
-all_digits : (digits : List ℕ) → AllByRecursion (λ b. is_digit b ≡ true) digits → front_len Digit digits ≡ length digits
+all_digits : (digits : List ℕ) → AllByRecursion (λ b. is_digit b ≡ true) digits → prefix_len Digit digits ≡ length digits
 all_digits [] all = refl
 all_digits (d ∷ ds) all = rw (all.0, all_digits ds all.1) refl
 
@@ -89,11 +89,11 @@ number_part n small =
     unsigned_plain : (bytes : List ℕ) (t : Bool) → begins_with 45 bytes ≡ t → t ≡ false → unsigned bytes ≡ bytes
     unsigned_plain bytes t e h = rw (e ∙ h) refl
 
-    number_is : (digits behind : List ℕ) → behind ≡ digits → (length digits == 0) ≡ false → front_len Digit digits ≡ length digits → (not (length behind == 0) && all_in Digit behind) ≡ true
-    number_is digits behind e some all = rw (e, some) (eqb_self (front_len Digit digits) (length digits) all)
+    number_is : (digits suffix : List ℕ) → suffix ≡ digits → (length digits == 0) ≡ false → prefix_len Digit digits ≡ length digits → (not (length suffix == 0) && all_in Digit suffix) ≡ true
+    number_is digits suffix e some all = rw (e, some) (eqb_self (prefix_len Digit digits) (length digits) all)
 
-    value_is : (digits : List ℕ) (t : Bool) (behind : List ℕ) → t ≡ false → behind ≡ digits → signed t (value_of behind) ≡ pos (value_of digits)
-    value_is digits t behind e h = rw (e, h) refl
+    value_is : (digits : List ℕ) (t : Bool) (suffix : List ℕ) → t ≡ false → suffix ≡ digits → signed t (value_of suffix) ≡ pos (value_of digits)
+    value_is digits t suffix e h = rw (e, h) refl
 
 -- and one with a sign
 pub negative_part : (n : ℕ) → n < 2147483648 → (part : List ℕ) × SpellsNumber part (negsuc n) × (begins_with 45 part ≡ true)
@@ -102,7 +102,7 @@ negative_part n small =
     let digits = numeral.digits in (
       45 ∷ digits,
       record {
-        number = rw (length_some digits numeral.some) (eqb_self (front_len Digit digits) (length digits) (all_digits digits numeral.all));
+        number = rw (length_some digits numeral.some) (eqb_self (prefix_len Digit digits) (length digits) (all_digits digits numeral.all));
         value = ap (λ (k : ℕ). neg_ℤ (pos k)) numeral.value;
         short = (Decides-ltb n 2147483648).1 small;
       },

@@ -20,7 +20,7 @@ placed_told at (Ok x) h = cc
 placed_told at (Err Form) h = cc
 placed_told at (Err Range) h = cc
 
--- what is read is never want of memory
+-- what is read is never out of memory
 run_told : (whole : ℕ) (stage : Stage) (parts : List Part) → run whole stage parts ≡ Err Memory → ⊥
 unfolding run
 run_told whole stage [] h = placed_told whole (ended stage) h

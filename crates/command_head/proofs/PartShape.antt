@@ -7,12 +7,12 @@ use Rattle.std.proofs.lemmas.Bool.{and_parts, or_cases, eqb-true, ne_eqb, false�
 use Rattle.text_grammar.specs.declared.class.Class.{Class}
 use Rattle.text_grammar.specs.declared.class.Class.TheVariants.{Letter, NameByte, Unquoted}
 use Rattle.text_grammar.specs.Bytes.{is_alphanumeric, is_letter, is_digit, is_name_byte}
-use Rattle.text_grammar.specs.Fronts.{all_in, begins_in, behind_front, front_len, front_of, is_in}
+use Rattle.text_grammar.specs.Prefixes.{all_in, begins_in, after_prefix, prefix_len, prefix_of, is_in}
 use Rattle.text_grammar.specs.Numbers.{begins_with}
 use Rattle.text_grammar.specs.Systems.{is_direction, is_system}
 use Rattle.command_head.specs.Parts.{is_name, is_word, is_quoted, unquoted}
 use Rattle.command_head.specs.Grammar.{AreUnquoted, quoted}
-use Rattle.command_head.proofs.FrontSteps.{begins_with-split, front_split, front_of-all, front_of-append, behind_front-append}
+use Rattle.command_head.proofs.PrefixSteps.{begins_with-split, prefix_split, prefix_of-all, prefix_of-append, after_prefix-append}
 
 -- what holds of each where another thing does
 pub AllByRecursion-weaker : (P Q : ℕ → Type 0) → ((b : ℕ) → P b → Q b) → (bytes : List ℕ) → AllByRecursion P bytes → AllByRecursion Q bytes
@@ -46,8 +46,8 @@ low (b ∷ bs) all (suc i) = low bs all.1 i
 -- bytes that are all of a class
 pub all_in-all : (class : Class) (bytes : List ℕ) → all_in class bytes ≡ true → AllByRecursion (λ b. is_in class b ≡ true) bytes
 all_in-all class bytes h =
-    let same : front_of class bytes ≡ bytes = take_all (front_len class bytes) bytes (let whole = eqb-true (front_len class bytes) (length bytes) h in omega arith) in
-    subst (λ (l : List ℕ). AllByRecursion (λ b. is_in class b ≡ true) l) same (front_of-all class bytes)
+    let same : prefix_of class bytes ≡ bytes = take_all (prefix_len class bytes) bytes (let whole = eqb-true (prefix_len class bytes) (length bytes) h in omega arith) in
+    subst (λ (l : List ℕ). AllByRecursion (λ b. is_in class b ≡ true) l) same (prefix_of-all class bytes)
 
 -- names have bytes of names
 pub name_bytes : (part : List ℕ) → is_name part ≡ true → AllByRecursion (λ b. is_in NameByte b ≡ true) part
@@ -117,13 +117,13 @@ pub system_bytes : (part : List ℕ) → is_system part ≡ true → AllByRecurs
 system_bytes part h =
     let read = system_read part h in
     let P : List ℕ → Type 0 = λ l. AllByRecursion (λ c. is_in NameByte c ≡ true) l in
-    let front : P (take 4 part) = ⊎_elim (λ e. subst P (sym e) (refl, (refl, (refl, (refl, tt))))) (λ e. subst P (sym e) (refl, (refl, (refl, (refl, tt))))) (direction_is (take 4 part) read.direction) in
-    subst P (take-append-drop 4 part) (all-append (λ c. is_in NameByte c ≡ true) (take 4 part) (drop 4 part) front (alphanumeric_names (drop 4 part) read.others))
+    let prefix : P (take 4 part) = ⊎_elim (λ e. subst P (sym e) (refl, (refl, (refl, (refl, tt))))) (λ e. subst P (sym e) (refl, (refl, (refl, (refl, tt))))) (direction_is (take 4 part) read.direction) in
+    subst P (take-append-drop 4 part) (all-append (λ c. is_in NameByte c ≡ true) (take 4 part) (drop 4 part) prefix (alphanumeric_names (drop 4 part) read.others))
 
 pub unquoted_in : (b : ℕ) → b ≢ 34 → is_in Unquoted b ≡ true
 unquoted_in b h = rw (ne_eqb b 34 h) refl
 
--- a text in quotes is one, with what stands in them
+-- a text in quotes is one, with what is in them
 pub record IsQuoted (part body : List ℕ) : Type 0 where
   pub test : is_quoted part ≡ true
   pub inside : unquoted part ≡ body
@@ -131,19 +131,19 @@ pub record IsQuoted (part body : List ℕ) : Type 0 where
 pub quoted_is : (body : List ℕ) → AreUnquoted body → IsQuoted (quoted body) body
 quoted_is body all =
     let in_body = AllByRecursion-weaker (λ b. b ≢ 34) (λ b. is_in Unquoted b ≡ true) unquoted_in body all in
-    let back = behind_front-append Unquoted body (34 ∷ []) in_body refl in
-    record { test = rw back refl; inside = front_of-append Unquoted body (34 ∷ []) in_body refl }
+    let back = after_prefix-append Unquoted body (34 ∷ []) in_body refl in
+    record { test = rw back refl; inside = prefix_of-append Unquoted body (34 ∷ []) in_body refl }
 
 quote_refused : (b : ℕ) → is_in Unquoted b ≡ true → b ≢ 34
 quote_refused b h e = false≢true (subst (λ (x : ℕ). is_in Unquoted x ≡ true) e h)
 
--- a part that is one is what stands in its quotes, between quotes
+-- a part that is one is what is in its quotes, between quotes
 pub is_quoted-part : (part : List ℕ) → is_quoted part ≡ true → (part ≡ quoted (unquoted part)) × AreUnquoted (unquoted part)
 is_quoted-part part h =
-    let p = and_parts (begins_with 34 part) (bytes_eq (behind_front Unquoted (drop 1 part)) (codes "\"")) h in
-    let closes : behind_front Unquoted (drop 1 part) ≡ codes "\"" = (bytes_eq-Decides (behind_front Unquoted (drop 1 part)) (codes "\"")).0 p.1 in (
-      begins_with-split 34 part p.0 ∙ ap (λ (l : List ℕ). 34 ∷ l) (sym (front_split Unquoted (drop 1 part)) ∙ ap (λ (l : List ℕ). unquoted part ++ l) closes),
-      AllByRecursion-weaker (λ b. is_in Unquoted b ≡ true) (λ b. b ≢ 34) quote_refused (unquoted part) (front_of-all Unquoted (drop 1 part)),
+    let p = and_parts (begins_with 34 part) (bytes_eq (after_prefix Unquoted (drop 1 part)) (codes "\"")) h in
+    let closes : after_prefix Unquoted (drop 1 part) ≡ codes "\"" = (bytes_eq-Decides (after_prefix Unquoted (drop 1 part)) (codes "\"")).0 p.1 in (
+      begins_with-split 34 part p.0 ∙ ap (λ (l : List ℕ). 34 ∷ l) (sym (prefix_split Unquoted (drop 1 part)) ∙ ap (λ (l : List ℕ). unquoted part ++ l) closes),
+      AllByRecursion-weaker (λ b. is_in Unquoted b ≡ true) (λ b. b ≢ 34) quote_refused (unquoted part) (prefix_of-all Unquoted (drop 1 part)),
     )
 
 and_false : (a b : Bool) → (a && (b && false)) ≡ false

@@ -8,7 +8,7 @@ use Rattle.text_grammar.specs.Numbers.{is_number, is_short, number_of}
 use Rattle.command_head.specs.Members.{has, put, with_member}
 use Rattle.text_grammar.specs.Systems.{is_system}
 use Rattle.command_head.specs.Parts.{is_name, is_quoted, unquoted}
-use Rattle.command_head.specs.Heads.{Alphabets, Sets, Systems, RegHead, Stage, AtWord, AtName, BehindName, AtNumber, BehindNumber, BehindSet, BehindSystem, AtEnd, body_step, step}
+use Rattle.command_head.specs.Heads.{Alphabets, Sets, Systems, RegHead, Stage, AtWord, AtName, AfterName, AtNumber, AfterNumber, AfterSet, AfterSystem, AtEnd, body_step, step}
 use Rattle.command_head.specs.Grammar.{SpellsNumber, SpellsMentions, SpellsSet, SpellSets, SpellAlphabets, AreUnquoted, quoted, SpellsReg}
 use Rattle.command_head.proofs.ReadingSteps.{bind_ok, then_ok, else_ok, chosen, ok_is}
 use Rattle.command_head.proofs.PartShape.{is_quoted-part}
@@ -33,7 +33,7 @@ member_spelled members part more h =
 is_part : (part text : List ℕ) → bytes_eq part text ≡ true → part ≡ text
 is_part part text h = (bytes_eq-Decides part text).0 h
 
--- behind the text in quotes nothing comes
+-- after the text in quotes nothing comes
 end_spelled : (parts : List (List ℕ)) (end head : RegHead) → goes (AtEnd end) parts ≡ Ok head → (parts ≡ []) × (end ≡ head)
 unfolding step
 end_spelled [] end head h = (refl, ok_is _ _ _ refl h)
@@ -62,17 +62,17 @@ record AreSystemsRead (name : List ℕ) (names : List (List ℕ)) (parts : List 
   all : AreUnquoted body
   head_is : record { name = name; alphabets = Systems (names ++ more); body = body } ≡ head
 
-pub system_step : (name : List ℕ) (names : List (List ℕ)) (part : List ℕ) (next : Stage) → step (BehindSystem name names) part ≡ Ok next →
-    ((is_system part ≡ true) × (came (BehindSystem name (names ++ part ∷ [])) ≡ Ok next)) ⊎ ((is_system part ≡ false) × (body_step name (Systems names) part ≡ Ok next))
+pub system_step : (name : List ℕ) (names : List (List ℕ)) (part : List ℕ) (next : Stage) → step (AfterSystem name names) part ≡ Ok next →
+    ((is_system part ≡ true) × (came (AfterSystem name (names ++ part ∷ [])) ≡ Ok next)) ⊎ ((is_system part ≡ false) × (body_step name (Systems names) part ≡ Ok next))
 unfolding step
 system_step name names part next h = chosen (is_system part) _ _ _ h
 
-systems_spelled : (parts : List (List ℕ)) (name : List ℕ) (names : List (List ℕ)) (head : RegHead) → goes (BehindSystem name names) parts ≡ Ok head → AreSystemsRead name names parts head
+systems_spelled : (parts : List (List ℕ)) (name : List ℕ) (names : List (List ℕ)) (head : RegHead) → goes (AfterSystem name names) parts ≡ Ok head → AreSystemsRead name names parts head
 systems_spelled [] name names head h = cc
 systems_spelled (part ∷ parts) name names head h =
-    let f = goes_first (BehindSystem name names) part parts head h in
+    let f = goes_first (AfterSystem name names) part parts head h in
     ⊎_elim
-    (λ g. let read = systems_spelled parts name (names ++ part ∷ []) head (goes_at (BehindSystem name (names ++ part ∷ [])) f.0 parts head g.1 f.2) in
+    (λ g. let read = systems_spelled parts name (names ++ part ∷ []) head (goes_at (AfterSystem name (names ++ part ∷ [])) f.0 parts head g.1 f.2) in
     record {
       more = part ∷ read.more;
       body = read.body;
@@ -105,20 +105,20 @@ record IsSetRead (name : List ℕ) (sets : List (List ℤ)) (members : List ℤ)
   parts_are : parts ≡ inside ++ codes "}" ∷ rest
   spelled : SpellsMentions inside mentions
   gathers : Gathers members mentions out
-  goes_on : goes (BehindSet name (sets ++ out ∷ [])) rest ≡ Ok head
+  goes_on : goes (AfterSet name (sets ++ out ∷ [])) rest ≡ Ok head
   shorter : length rest < length parts
 
 pub number_step : (name : List ℕ) (sets : List (List ℤ)) (members : List ℤ) (part : List ℕ) (next : Stage) → step (AtNumber name sets members) part ≡ Ok next →
-    (more : List ℤ) × (with_member members part ≡ Ok more) × (came (BehindNumber name sets more) ≡ Ok next)
+    (more : List ℤ) × (with_member members part ≡ Ok more) × (came (AfterNumber name sets more) ≡ Ok next)
 unfolding step
-number_step name sets members part next h = bind_ok (with_member members part) (λ more. Ok (BehindNumber name sets more)) next h
+number_step name sets members part next h = bind_ok (with_member members part) (λ more. Ok (AfterNumber name sets more)) next h
 
-pub divider_step : (name : List ℕ) (sets : List (List ℤ)) (members : List ℤ) (part : List ℕ) (next : Stage) → step (BehindNumber name sets members) part ≡ Ok next →
-    ((part ≡ codes ",") × (came (AtNumber name sets members) ≡ Ok next)) ⊎ ((part ≡ codes "}") × (came (BehindSet name (sets ++ members ∷ [])) ≡ Ok next))
+pub divider_step : (name : List ℕ) (sets : List (List ℤ)) (members : List ℤ) (part : List ℕ) (next : Stage) → step (AfterNumber name sets members) part ≡ Ok next →
+    ((part ≡ codes ",") × (came (AtNumber name sets members) ≡ Ok next)) ⊎ ((part ≡ codes "}") × (came (AfterSet name (sets ++ members ∷ [])) ≡ Ok next))
 unfolding step
 divider_step name sets members part next h =
     ⊎_elim (λ g. inl (is_part part (codes ",") g.0, g.1))
-    (λ g. let t = then_ok (bytes_eq part (codes "}")) Form (Ok (BehindSet name (sets ++ members ∷ []))) next g.1 in inr (is_part part (codes "}") t.0, t.1))
+    (λ g. let t = then_ok (bytes_eq part (codes "}")) Form (Ok (AfterSet name (sets ++ members ∷ []))) next g.1 in inr (is_part part (codes "}") t.0, t.1))
     (chosen (bytes_eq part (codes ",")) _ _ _ h)
 
 -- a number before others
@@ -134,14 +134,14 @@ set_spelled [] name sets members head h = cc
 set_spelled (part ∷ []) name sets members head h =
     let f = goes_first (AtNumber name sets members) part [] head h in
     let m = number_step name sets members part f.0 f.1 in
-    absurd (none (goes (BehindNumber name sets m.0) []) refl (goes_at (BehindNumber name sets m.0) f.0 [] head m.2 f.2))
+    absurd (none (goes (AfterNumber name sets m.0) []) refl (goes_at (AfterNumber name sets m.0) f.0 [] head m.2 f.2))
   where
     none : (r : Result RegHead Refusal) → r ≡ Err Form → r ≡ Ok head → ⊥
     none r e g = cc
 set_spelled (part ∷ mark ∷ parts) name sets members head h =
     let f = goes_first (AtNumber name sets members) part (mark ∷ parts) head h in
     let m = number_step name sets members part f.0 f.1 in
-    let d = goes_first (BehindNumber name sets m.0) mark parts head (goes_at (BehindNumber name sets m.0) f.0 (mark ∷ parts) head m.2 f.2) in
+    let d = goes_first (AfterNumber name sets m.0) mark parts head (goes_at (AfterNumber name sets m.0) f.0 (mark ∷ parts) head m.2 f.2) in
     let member = member_spelled members part m.0 m.1 in
     ⊎_elim
     (λ g. let read = set_spelled parts name sets m.0 head (goes_at (AtNumber name sets m.0) d.0 parts head g.1 d.2) in
@@ -164,7 +164,7 @@ set_spelled (part ∷ mark ∷ parts) name sets members head h =
       parts_are = ap (λ (l : List ℕ). part ∷ l ∷ parts) g.0;
       spelled = (part, refl, member.spells);
       gathers = (member.new, member.more_is);
-      goes_on = goes_at (BehindSet name (sets ++ m.0 ∷ [])) d.0 parts head g.1 d.2;
+      goes_on = goes_at (AfterSet name (sets ++ m.0 ∷ [])) d.0 parts head g.1 d.2;
       shorter = omega arith;
     })
     (divider_step name sets m.0 mark d.0 d.1)
@@ -182,7 +182,7 @@ record AreSetsRead (name : List ℕ) (sets : List (List ℤ)) (parts : List (Lis
   all : AreUnquoted body
   head_is : record { name = name; alphabets = Sets (sets ++ more); body = body } ≡ head
 
-pub set_step : (name : List ℕ) (sets : List (List ℤ)) (part : List ℕ) (next : Stage) → step (BehindSet name sets) part ≡ Ok next →
+pub set_step : (name : List ℕ) (sets : List (List ℤ)) (part : List ℕ) (next : Stage) → step (AfterSet name sets) part ≡ Ok next →
     ((part ≡ codes "{") × (came (AtNumber name sets []) ≡ Ok next)) ⊎ (body_step name (Sets sets) part ≡ Ok next)
 unfolding step
 set_step name sets part next h = ⊎_elim (λ g. inl (is_part part (codes "{") g.0, g.1)) (λ g. inr g.1) (chosen (bytes_eq part (codes "{")) _ _ _ h)
@@ -194,11 +194,11 @@ regrouped parts rest inside alphabets end parts_are rest_is =
     ap (λ (l : List (List ℕ)). codes "{" ∷ l) (parts_are ∙ ap (λ (l : List (List ℕ)). inside ++ codes "}" ∷ l) rest_is ∙ sym (append_assoc inside (codes "}" ∷ []) (alphabets ++ end)))
     ∙ sym (append_assoc (codes "{" ∷ (inside ++ codes "}" ∷ [])) alphabets end)
 
-sets_spelled : (bound : ℕ) (parts : List (List ℕ)) (name : List ℕ) (sets : List (List ℤ)) (head : RegHead) → length parts ≤ bound → goes (BehindSet name sets) parts ≡ Ok head → AreSetsRead name sets parts head
+sets_spelled : (bound : ℕ) (parts : List (List ℕ)) (name : List ℕ) (sets : List (List ℤ)) (head : RegHead) → length parts ≤ bound → goes (AfterSet name sets) parts ≡ Ok head → AreSetsRead name sets parts head
 sets_spelled bound [] name sets head room h = cc
 sets_spelled zero (part ∷ parts) name sets head room h = absurd (omega arith)
 sets_spelled (suc bound) (part ∷ parts) name sets head room h =
-    let f = goes_first (BehindSet name sets) part parts head h in
+    let f = goes_first (AfterSet name sets) part parts head h in
     ⊎_elim
     (λ g. let set = set_spelled parts name sets [] head (goes_at (AtNumber name sets []) f.0 parts head g.1 f.2) in
     let others = sets_spelled bound set.rest name (sets ++ set.out ∷ []) head (let less = set.shorter in omega arith) set.goes_on in
@@ -236,20 +236,20 @@ record AreTracksRead (name : List ℕ) (parts : List (List ℕ)) (head : RegHead
   all : AreUnquoted body
   head_is : record { name = name; alphabets = over; body = body } ≡ head
 
-pub name_step : (name part : List ℕ) (next : Stage) → step (BehindName name) part ≡ Ok next →
-    ((part ≡ codes "{") × (came (AtNumber name [] []) ≡ Ok next)) ⊎ ((is_system part ≡ true) × (came (BehindSystem name (part ∷ [])) ≡ Ok next))
+pub name_step : (name part : List ℕ) (next : Stage) → step (AfterName name) part ≡ Ok next →
+    ((part ≡ codes "{") × (came (AtNumber name [] []) ≡ Ok next)) ⊎ ((is_system part ≡ true) × (came (AfterSystem name (part ∷ [])) ≡ Ok next))
 unfolding step
 name_step name part next h =
-    ⊎_elim (λ g. inl (is_part part (codes "{") g.0, g.1)) (λ g. inr (then_ok (is_system part) Form (Ok (BehindSystem name (part ∷ []))) next g.1))
+    ⊎_elim (λ g. inl (is_part part (codes "{") g.0, g.1)) (λ g. inr (then_ok (is_system part) Form (Ok (AfterSystem name (part ∷ []))) next g.1))
     (chosen (bytes_eq part (codes "{")) _ _ _ h)
 
 some : {X : Type 0} (x : X) (xs : List X) → x ∷ xs ≢ []
 some x xs e = cc
 
-alphabets_spelled : (parts : List (List ℕ)) (name : List ℕ) (head : RegHead) → goes (BehindName name) parts ≡ Ok head → AreTracksRead name parts head
+alphabets_spelled : (parts : List (List ℕ)) (name : List ℕ) (head : RegHead) → goes (AfterName name) parts ≡ Ok head → AreTracksRead name parts head
 alphabets_spelled [] name head h = cc
 alphabets_spelled (part ∷ parts) name head h =
-    let f = goes_first (BehindName name) part parts head h in
+    let f = goes_first (AfterName name) part parts head h in
     ⊎_elim
     (λ g. let set = set_spelled parts name [] [] head (goes_at (AtNumber name [] []) f.0 parts head g.1 f.2) in
     let others = sets_spelled (length set.rest) set.rest name (set.out ∷ []) head (omega arith) set.goes_on in
@@ -262,7 +262,7 @@ alphabets_spelled (part ∷ parts) name head h =
       all = others.all;
       head_is = others.head_is;
     })
-    (λ g. let read = systems_spelled parts name (part ∷ []) head (goes_at (BehindSystem name (part ∷ [])) f.0 parts head g.1 f.2) in
+    (λ g. let read = systems_spelled parts name (part ∷ []) head (goes_at (AfterSystem name (part ∷ [])) f.0 parts head g.1 f.2) in
     record {
       alphabets = part ∷ read.more;
       over = Systems (part ∷ read.more);
@@ -278,9 +278,9 @@ pub word_step : (part : List ℕ) (next : Stage) → step AtWord part ≡ Ok nex
 unfolding step
 word_step part next h = let t = then_ok (bytes_eq part (codes "reg")) Form (Ok AtName) next h in (is_part part (codes "reg") t.0, t.1)
 
-pub first_name_step : (part : List ℕ) (next : Stage) → step AtName part ≡ Ok next → (is_name part ≡ true) × (came (BehindName part) ≡ Ok next)
+pub first_name_step : (part : List ℕ) (next : Stage) → step AtName part ≡ Ok next → (is_name part ≡ true) × (came (AfterName part) ≡ Ok next)
 unfolding step
-first_name_step part next h = then_ok (is_name part) Form (Ok (BehindName part)) next h
+first_name_step part next h = then_ok (is_name part) Form (Ok (AfterName part)) next h
 
 record IsNameRead (parts : List (List ℕ)) (head : RegHead) : Type 0 where
   name : List ℕ
@@ -298,7 +298,7 @@ name_spelled [] head h = cc
 name_spelled (part ∷ parts) head h =
     let f = goes_first AtName part parts head h in
     let n = first_name_step part f.0 f.1 in
-    let t = alphabets_spelled parts part head (goes_at (BehindName part) f.0 parts head n.1 f.2) in
+    let t = alphabets_spelled parts part head (goes_at (AfterName part) f.0 parts head n.1 f.2) in
     record { name = part; alphabets = t.alphabets; over = t.over; body = t.body; parts_are = ap (λ (l : List (List ℕ)). part ∷ l) t.parts_are; name_is = n.0; spelled = t.spelled; all = t.all; head_is = t.head_is }
 
 -- parts that lead to a head spell it

@@ -7,7 +7,7 @@ use Rattle.command_head.specs.Readings.{Form, placed}
 use Rattle.text_grammar.specs.Numbers.{is_short}
 use Rattle.text_grammar.specs.Systems.{is_system}
 use Rattle.command_head.specs.Parts.{Part, is_quoted, unquoted}
-use Rattle.command_head.specs.Heads.{Alphabets, Sets, Systems, RegHead, Stage, AtWord, AtName, BehindName, AtNumber, BehindNumber, BehindSet, BehindSystem, AtEnd, body_step, step, ended, run}
+use Rattle.command_head.specs.Heads.{Alphabets, Sets, Systems, RegHead, Stage, AtWord, AtName, AfterName, AtNumber, AfterNumber, AfterSet, AfterSystem, AtEnd, body_step, step, ended, run}
 use Rattle.command_head.specs.Formed.{IsSmallSet, IsSystemName, AreFormed}
 use Rattle.command_head.proofs.ReadingSteps.{bind_ok, then_ok, ok_is}
 use Rattle.command_head.proofs.PartShape.{IsAscii-system}
@@ -20,12 +20,12 @@ use Rattle.command_head.proofs.ReadHeads.{member_spelled, word_step, first_name_
 -- how many parts a stage took at least
 abbrev pub spent : Stage → ℕ
 spent (AtNumber name sets members) = 1 + 2 * length members
-spent (BehindNumber name sets members) = 2 * length members
+spent (AfterNumber name sets members) = 2 * length members
 spent AtWord = 0
 spent AtName = 0
-spent (BehindName name) = 0
-spent (BehindSet name sets) = 0
-spent (BehindSystem name names) = 0
+spent (AfterName name) = 0
+spent (AfterSet name sets) = 0
+spent (AfterSystem name names) = 0
 spent (AtEnd head) = 0
 
 -- numbers of 32 bits in order
@@ -35,13 +35,13 @@ pub record AreMembers (members : List ℤ) : Type 0 where
 
 abbrev pub Sane : ℕ → Stage → Type 0
 Sane limit (AtNumber name sets members) = AllByRecursion (IsSmallSet limit) sets × AreMembers members
-Sane limit (BehindNumber name sets members) = AllByRecursion (IsSmallSet limit) sets × AreMembers members × (0 < length members)
-Sane limit (BehindSet name sets) = AreFormed limit (Sets sets)
-Sane limit (BehindSystem name names) = AreFormed limit (Systems names)
+Sane limit (AfterNumber name sets members) = AllByRecursion (IsSmallSet limit) sets × AreMembers members × (0 < length members)
+Sane limit (AfterSet name sets) = AreFormed limit (Sets sets)
+Sane limit (AfterSystem name names) = AreFormed limit (Systems names)
 Sane limit (AtEnd head) = AreFormed limit head.alphabets
 Sane limit AtWord = Unit {0}
 Sane limit AtName = Unit {0}
-Sane limit (BehindName name) = Unit {0}
+Sane limit (AfterName name) = Unit {0}
 
 pub record Keeps (limit : ℕ) (stage next : Stage) : Type 0 where
   pub spends : spent next ≤ spent stage + 1
@@ -75,17 +75,17 @@ end_refused head part next h = cc
 -- a part more keeps this
 pub step_keeps : (limit : ℕ) (stage : Stage) (part : List ℕ) (next : Stage) → spent stage < limit → Sane limit stage → step stage part ≡ Ok next → Keeps limit stage next
 step_keeps limit AtWord part next room sane h = at_next limit AtWord AtName next (word_step part next h).1 record { spends = omega arith; sane = tt }
-step_keeps limit AtName part next room sane h = at_next limit AtName (BehindName part) next (first_name_step part next h).1 record { spends = omega arith; sane = tt }
-step_keeps limit (BehindName name) part next room sane h =
-    ⊎_elim (λ g. at_next limit (BehindName name) (AtNumber name [] []) next g.1 record { spends = omega arith; sane = (tt, no_members) })
-    (λ g. at_next limit (BehindName name) (BehindSystem name (part ∷ [])) next g.1 record { spends = omega arith; sane = (omega arith, (system_name part g.0, tt)) })
+step_keeps limit AtName part next room sane h = at_next limit AtName (AfterName part) next (first_name_step part next h).1 record { spends = omega arith; sane = tt }
+step_keeps limit (AfterName name) part next room sane h =
+    ⊎_elim (λ g. at_next limit (AfterName name) (AtNumber name [] []) next g.1 record { spends = omega arith; sane = (tt, no_members) })
+    (λ g. at_next limit (AfterName name) (AfterSystem name (part ∷ [])) next g.1 record { spends = omega arith; sane = (omega arith, (system_name part g.0, tt)) })
     (name_step name part next h)
 step_keeps limit (AtNumber name sets members) part next room sane h =
     let m = number_step name sets members part next h in
     let read = member_spelled members part m.0 m.1 in
     let more = put-length members read.n in
     let same = ap length read.more_is in
-    at_next limit (AtNumber name sets members) (BehindNumber name sets m.0) next m.2 record {
+    at_next limit (AtNumber name sets members) (AfterNumber name sets m.0) next m.2 record {
       spends = omega arith;
       sane = (
         sane.0,
@@ -96,9 +96,9 @@ step_keeps limit (AtNumber name sets members) part next room sane h =
         subst (λ (l : List ℤ). 0 < length l) read.more_is (put-some members read.n),
       );
     }
-step_keeps limit (BehindNumber name sets members) part next room sane h =
-    ⊎_elim (λ g. at_next limit (BehindNumber name sets members) (AtNumber name sets members) next g.1 record { spends = omega arith; sane = (sane.0, sane.1) })
-    (λ g. at_next limit (BehindNumber name sets members) (BehindSet name (sets ++ members ∷ [])) next g.1 record {
+step_keeps limit (AfterNumber name sets members) part next room sane h =
+    ⊎_elim (λ g. at_next limit (AfterNumber name sets members) (AtNumber name sets members) next g.1 record { spends = omega arith; sane = (sane.0, sane.1) })
+    (λ g. at_next limit (AfterNumber name sets members) (AfterSet name (sets ++ members ∷ [])) next g.1 record {
       spends = omega arith;
       sane = (
         omega (arith, length-append sets (members ∷ [])),
@@ -107,28 +107,28 @@ step_keeps limit (BehindNumber name sets members) part next room sane h =
       );
     })
     (divider_step name sets members part next h)
-step_keeps limit (BehindSet name sets) part next room sane h =
-    ⊎_elim (λ g. at_next limit (BehindSet name sets) (AtNumber name sets []) next g.1 record { spends = omega arith; sane = (sane.1, no_members) })
-    (λ g. body_keeps limit (BehindSet name sets) name (Sets sets) part next sane g)
+step_keeps limit (AfterSet name sets) part next room sane h =
+    ⊎_elim (λ g. at_next limit (AfterSet name sets) (AtNumber name sets []) next g.1 record { spends = omega arith; sane = (sane.1, no_members) })
+    (λ g. body_keeps limit (AfterSet name sets) name (Sets sets) part next sane g)
     (set_step name sets part next h)
-step_keeps limit (BehindSystem name names) part next room sane h =
-    ⊎_elim (λ g. at_next limit (BehindSystem name names) (BehindSystem name (names ++ part ∷ [])) next g.1 record {
+step_keeps limit (AfterSystem name names) part next room sane h =
+    ⊎_elim (λ g. at_next limit (AfterSystem name names) (AfterSystem name (names ++ part ∷ [])) next g.1 record {
       spends = omega arith;
       sane = (omega (arith, length-append names (part ∷ [])), all_more IsSystemName names part sane.1 (system_name part g.0));
     })
-    (λ g. body_keeps limit (BehindSystem name names) name (Systems names) part next sane g.1)
+    (λ g. body_keeps limit (AfterSystem name names) name (Systems names) part next sane g.1)
     (system_step name names part next h)
 step_keeps limit (AtEnd head) part next room sane h = absurd (end_refused head part next h)
 
 ended_sane : (limit : ℕ) (stage : Stage) (head : RegHead) → Sane limit stage → ended stage ≡ Ok head → AreFormed limit head.alphabets
 ended_sane limit (AtEnd end) head sane h = subst (λ (r : RegHead). AreFormed limit r.alphabets) (ok_is (ended (AtEnd end)) end head refl h) sane
 ended_sane limit (AtNumber name sets members) head sane h = cc
-ended_sane limit (BehindNumber name sets members) head sane h = cc
+ended_sane limit (AfterNumber name sets members) head sane h = cc
 ended_sane limit AtWord head sane h = cc
 ended_sane limit AtName head sane h = cc
-ended_sane limit (BehindName name) head sane h = cc
-ended_sane limit (BehindSet name sets) head sane h = cc
-ended_sane limit (BehindSystem name names) head sane h = cc
+ended_sane limit (AfterName name) head sane h = cc
+ended_sane limit (AfterSet name sets) head sane h = cc
+ended_sane limit (AfterSystem name names) head sane h = cc
 
 -- the tracks of a head that was read are well formed
 pub run_sane : (limit whole : ℕ) (stage : Stage) (parts : List Part) (head : RegHead) → spent stage + length parts ≤ limit → Sane limit stage → run whole stage parts ≡ Ok head → AreFormed limit head.alphabets

@@ -6,7 +6,7 @@ use Rattle.text_grammar.specs.Numbers.{is_number, is_short, number_of}
 use Rattle.command_head.specs.Members.{has, put, with_member}
 use Rattle.text_grammar.specs.Systems.{is_system}
 use Rattle.command_head.specs.Parts.{is_name, is_quoted}
-use Rattle.command_head.specs.Heads.{Alphabets, Sets, Systems, RegHead, AtWord, AtName, BehindName, AtNumber, BehindSet, BehindSystem, AtEnd, body_step, step}
+use Rattle.command_head.specs.Heads.{Alphabets, Sets, Systems, RegHead, AtWord, AtName, AfterName, AtNumber, AfterSet, AfterSystem, AtEnd, body_step, step}
 use Rattle.command_head.specs.Grammar.{SpellsNumber, SpellsMentions, SpellSets, SpellAlphabets, AreUnquoted, quoted, SpellsReg}
 use Rattle.command_head.proofs.PartShape.{quoted_is, quoted-system, system-brace}
 use Rattle.command_head.proofs.Gathering.{Gathers, set_gathered}
@@ -24,7 +24,7 @@ member_read members part n s new =
     by_tests a b c x y z w h g k = rw (h, g, k) refl
 
 pub last_number : (name : List ℕ) (sets : List (List ℤ)) (members more : List ℤ) (part : List ℕ) (parts : List (List ℕ)) → with_member members part ≡ Ok more →
-    goes (AtNumber name sets members) (part ∷ codes "}" ∷ parts) ≡ goes (BehindSet name (sets ++ more ∷ [])) parts
+    goes (AtNumber name sets members) (part ∷ codes "}" ∷ parts) ≡ goes (AfterSet name (sets ++ more ∷ [])) parts
 unfolding step
 last_number name sets members more part parts h = rw h refl
 
@@ -35,12 +35,12 @@ number_more name sets members more part parts h = rw h refl
 
 -- the numbers of a set
 mentions_read : (mentions : List ℤ) (name : List ℕ) (sets : List (List ℤ)) (members out : List ℤ) (inside parts : List (List ℕ)) → SpellsMentions inside mentions → Gathers members mentions out →
-    goes (AtNumber name sets members) (inside ++ codes "}" ∷ parts) ≡ goes (BehindSet name (sets ++ out ∷ [])) parts
+    goes (AtNumber name sets members) (inside ++ codes "}" ∷ parts) ≡ goes (AfterSet name (sets ++ out ∷ [])) parts
 mentions_read [] name sets members out inside parts spelled gathers = absurd spelled
 mentions_read (n ∷ []) name sets members out inside parts spelled gathers =
     ap (λ (l : List (List ℕ)). goes (AtNumber name sets members) (l ++ codes "}" ∷ parts)) spelled.1
     ∙ last_number name sets members (put members n) spelled.0 parts (member_read members spelled.0 n spelled.2 gathers.0)
-    ∙ ap (λ (l : List ℤ). goes (BehindSet name (sets ++ l ∷ [])) parts) gathers.1
+    ∙ ap (λ (l : List ℤ). goes (AfterSet name (sets ++ l ∷ [])) parts) gathers.1
 mentions_read (n ∷ m ∷ ns) name sets members out inside parts spelled gathers =
     ap (λ (l : List (List ℕ)). goes (AtNumber name sets members) (l ++ codes "}" ∷ parts)) spelled.2
     ∙ number_more name sets members (put members n) spelled.0 (spelled.1 ++ codes "}" ∷ parts) (member_read members spelled.0 n spelled.3 gathers.0)
@@ -55,15 +55,15 @@ body_read name alphabets body all = let q = quoted_is body all in
     taken : {A : Type 0} (a : Bool) (x y : A) → a ≡ true → cond a x y ≡ x
     taken a x y h = rw h refl
 
-set_opens : (name : List ℕ) (sets : List (List ℤ)) (parts : List (List ℕ)) → goes (BehindSet name sets) (codes "{" ∷ parts) ≡ goes (AtNumber name sets []) parts
+set_opens : (name : List ℕ) (sets : List (List ℤ)) (parts : List (List ℕ)) → goes (AfterSet name sets) (codes "{" ∷ parts) ≡ goes (AtNumber name sets []) parts
 unfolding step
 set_opens name sets parts = refl
 
-first_set_opens : (name : List ℕ) (parts : List (List ℕ)) → goes (BehindName name) (codes "{" ∷ parts) ≡ goes (AtNumber name [] []) parts
+first_set_opens : (name : List ℕ) (parts : List (List ℕ)) → goes (AfterName name) (codes "{" ∷ parts) ≡ goes (AtNumber name [] []) parts
 unfolding step
 first_set_opens name parts = refl
 
-set_closes : (name : List ℕ) (sets : List (List ℤ)) (body : List ℕ) → step (BehindSet name sets) (quoted body) ≡ body_step name (Sets sets) (quoted body)
+set_closes : (name : List ℕ) (sets : List (List ℤ)) (body : List ℕ) → step (AfterSet name sets) (quoted body) ≡ body_step name (Sets sets) (quoted body)
 unfolding step
 set_closes name sets body = refl
 
@@ -75,35 +75,35 @@ regrouped first others parts inside first_is =
     ∙ ap (λ (l : List (List ℕ)). codes "{" ∷ l) (append_assoc inside (codes "}" ∷ []) (others ++ parts))
 
 sets_read : (more : List (List ℤ)) (name : List ℕ) (sets : List (List ℤ)) (parts : List (List ℕ)) (body : List ℕ) → SpellSets parts more → AreUnquoted body →
-    goes (BehindSet name sets) (parts ++ quoted body ∷ []) ≡ Ok (record { name = name; alphabets = Sets (sets ++ more); body = body })
+    goes (AfterSet name sets) (parts ++ quoted body ∷ []) ≡ Ok (record { name = name; alphabets = Sets (sets ++ more); body = body })
 sets_read [] name sets parts body spelled all =
-    ap (λ (l : List (List ℕ)). goes (BehindSet name sets) (l ++ quoted body ∷ [])) spelled
-    ∙ goes_step (BehindSet name sets) _ (quoted body) [] (set_closes name sets body ∙ body_read name (Sets sets) body all)
+    ap (λ (l : List (List ℕ)). goes (AfterSet name sets) (l ++ quoted body ∷ [])) spelled
+    ∙ goes_step (AfterSet name sets) _ (quoted body) [] (set_closes name sets body ∙ body_read name (Sets sets) body all)
     ∙ ap (λ (l : List (List ℤ)). Ok (record { name = name; alphabets = Sets l; body = body })) (sym (append-nil sets))
 sets_read (set ∷ more) name sets parts body spelled all =
     let s = spelled.3 in
-    ap (λ (l : List (List ℕ)). goes (BehindSet name sets) (l ++ quoted body ∷ [])) spelled.2
-    ∙ ap (goes (BehindSet name sets)) (regrouped spelled.0 spelled.1 (quoted body ∷ []) s.inside s.parts_are)
+    ap (λ (l : List (List ℕ)). goes (AfterSet name sets) (l ++ quoted body ∷ [])) spelled.2
+    ∙ ap (goes (AfterSet name sets)) (regrouped spelled.0 spelled.1 (quoted body ∷ []) s.inside s.parts_are)
     ∙ set_opens name sets (s.inside ++ codes "}" ∷ (spelled.1 ++ quoted body ∷ []))
     ∙ mentions_read s.mentions name sets [] set s.inside (spelled.1 ++ quoted body ∷ []) s.spelled (set_gathered s.mentions set s.members)
     ∙ sets_read more name (sets ++ set ∷ []) spelled.1 body spelled.4 all
     ∙ ap (λ (l : List (List ℤ)). Ok (record { name = name; alphabets = Sets l; body = body })) (append_assoc sets (set ∷ []) more)
 
-system_more : (name : List ℕ) (names : List (List ℕ)) (part : List ℕ) → is_system part ≡ true → step (BehindSystem name names) part ≡ Ok (BehindSystem name (names ++ part ∷ []))
+system_more : (name : List ℕ) (names : List (List ℕ)) (part : List ℕ) → is_system part ≡ true → step (AfterSystem name names) part ≡ Ok (AfterSystem name (names ++ part ∷ []))
 unfolding step
 system_more name names part h = taken (is_system part) _ _ h
   where
     taken : {A : Type 0} (a : Bool) (x y : A) → a ≡ true → cond a x y ≡ x
     taken a x y h = rw h refl
 
-first_system : (name part : List ℕ) → is_system part ≡ true → step (BehindName name) part ≡ Ok (BehindSystem name (part ∷ []))
+first_system : (name part : List ℕ) → is_system part ≡ true → step (AfterName name) part ≡ Ok (AfterSystem name (part ∷ []))
 unfolding step
 first_system name part h = other (bytes_eq part (codes "{")) (is_system part) _ _ _ (system-brace part h) h
   where
     other : {A : Type 0} (a b : Bool) (x y z : A) → a ≡ false → b ≡ true → cond a x (cond b y z) ≡ y
     other a b x y z h g = rw (h, g) refl
 
-systems_close : (name : List ℕ) (names : List (List ℕ)) (body : List ℕ) → step (BehindSystem name names) (quoted body) ≡ body_step name (Systems names) (quoted body)
+systems_close : (name : List ℕ) (names : List (List ℕ)) (body : List ℕ) → step (AfterSystem name names) (quoted body) ≡ body_step name (Systems names) (quoted body)
 unfolding step
 systems_close name names body = passed (is_system (quoted body)) _ _ (quoted-system (body ++ 34 ∷ []))
   where
@@ -111,37 +111,37 @@ systems_close name names body = passed (is_system (quoted body)) _ _ (quoted-sys
     passed a x y h = rw h refl
 
 systems_read : (more : List (List ℕ)) (name : List ℕ) (names : List (List ℕ)) (body : List ℕ) → AllByRecursion (λ n. is_system n ≡ true) more → AreUnquoted body →
-    goes (BehindSystem name names) (more ++ quoted body ∷ []) ≡ Ok (record { name = name; alphabets = Systems (names ++ more); body = body })
+    goes (AfterSystem name names) (more ++ quoted body ∷ []) ≡ Ok (record { name = name; alphabets = Systems (names ++ more); body = body })
 systems_read [] name names body systems all =
-    goes_step (BehindSystem name names) _ (quoted body) [] (systems_close name names body ∙ body_read name (Systems names) body all)
+    goes_step (AfterSystem name names) _ (quoted body) [] (systems_close name names body ∙ body_read name (Systems names) body all)
     ∙ ap (λ (l : List (List ℕ)). Ok (record { name = name; alphabets = Systems l; body = body })) (sym (append-nil names))
 systems_read (part ∷ more) name names body systems all =
-    goes_step (BehindSystem name names) _ part (more ++ quoted body ∷ []) (system_more name names part systems.0)
+    goes_step (AfterSystem name names) _ part (more ++ quoted body ∷ []) (system_more name names part systems.0)
     ∙ systems_read more name (names ++ part ∷ []) body systems.1 all
     ∙ ap (λ (l : List (List ℕ)). Ok (record { name = name; alphabets = Systems l; body = body })) (append_assoc names (part ∷ []) more)
 
 alphabets_read : (name : List ℕ) (alphabets : Alphabets) (parts : List (List ℕ)) (body : List ℕ) → SpellAlphabets parts alphabets → AreUnquoted body →
-    goes (BehindName name) (parts ++ quoted body ∷ []) ≡ Ok (record { name = name; alphabets = alphabets; body = body })
+    goes (AfterName name) (parts ++ quoted body ∷ []) ≡ Ok (record { name = name; alphabets = alphabets; body = body })
 alphabets_read name (Sets []) parts body spelled all = absurd (spelled.0 refl)
 alphabets_read name (Sets (set ∷ sets)) parts body spelled all =
     let sets_are = spelled.1 in
     let s = sets_are.3 in
-    ap (λ (l : List (List ℕ)). goes (BehindName name) (l ++ quoted body ∷ [])) sets_are.2
-    ∙ ap (goes (BehindName name)) (regrouped sets_are.0 sets_are.1 (quoted body ∷ []) s.inside s.parts_are)
+    ap (λ (l : List (List ℕ)). goes (AfterName name) (l ++ quoted body ∷ [])) sets_are.2
+    ∙ ap (goes (AfterName name)) (regrouped sets_are.0 sets_are.1 (quoted body ∷ []) s.inside s.parts_are)
     ∙ first_set_opens name (s.inside ++ codes "}" ∷ (sets_are.1 ++ quoted body ∷ []))
     ∙ mentions_read s.mentions name [] [] set s.inside (sets_are.1 ++ quoted body ∷ []) s.spelled (set_gathered s.mentions set s.members)
     ∙ sets_read sets name (set ∷ []) sets_are.1 body sets_are.4 all
 alphabets_read name (Systems []) parts body spelled all = absurd (spelled.0 refl)
 alphabets_read name (Systems (first ∷ more)) parts body spelled all =
-    ap (λ (l : List (List ℕ)). goes (BehindName name) (l ++ quoted body ∷ [])) spelled.1
-    ∙ goes_step (BehindName name) _ first (more ++ quoted body ∷ []) (first_system name first spelled.2.0)
+    ap (λ (l : List (List ℕ)). goes (AfterName name) (l ++ quoted body ∷ [])) spelled.1
+    ∙ goes_step (AfterName name) _ first (more ++ quoted body ∷ []) (first_system name first spelled.2.0)
     ∙ systems_read more name (first ∷ []) body spelled.2.1 all
 
 word_read : (parts : List (List ℕ)) → goes AtWord (codes "reg" ∷ parts) ≡ goes AtName parts
 unfolding step
 word_read parts = refl
 
-name_read : (name : List ℕ) → is_name name ≡ true → step AtName name ≡ Ok (BehindName name)
+name_read : (name : List ℕ) → is_name name ≡ true → step AtName name ≡ Ok (AfterName name)
 unfolding step
 name_read name h = taken (is_name name) _ _ h
   where

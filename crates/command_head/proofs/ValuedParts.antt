@@ -1,70 +1,70 @@
--- Parts that end with a number: a number alone, or one behind a name and `=`.
+-- Parts that end with a number: a number alone, or one after a name and `=`.
 use Rattle.std.proofs.Common.{◌≡◌, ℕ, ◌+◌, Bool, true, false, cond, ◌&&◌, List, [], ◌∷◌, ◌++◌, length, take, drop, refl, sym, ◌∙◌, ap, subst, arith, ◌⊎◌, inl, inr, ⊎_elim, length-append}
 use Rattle.std.specs.List.{AllByRecursion}
 use Rattle.std.proofs.lemmas.List.{take_at, drop_at, append_assoc}
 use Rattle.std.proofs.lemmas.Bool.{and_parts, eqb-true, false≢true}
 use Rattle.text_grammar.specs.declared.class.Class.TheVariants.{Letter, NameByte}
-use Rattle.text_grammar.specs.Fronts.{begins_in, behind_front, front_len, front_of, is_in}
+use Rattle.text_grammar.specs.Prefixes.{begins_in, after_prefix, prefix_len, prefix_of, is_in}
 use Rattle.text_grammar.specs.Numbers.{begins_with, is_number}
 use Rattle.text_grammar.specs.Systems.{is_system}
 use Rattle.command_head.specs.Parts.{is_name, is_quoted, number_place}
-use Rattle.command_head.proofs.FrontSteps.{front_split, front_of-all, begins_with-split, front_len-append, behind_front-append}
+use Rattle.command_head.proofs.PrefixSteps.{prefix_split, prefix_of-all, begins_with-split, prefix_len-append, after_prefix-append}
 use Rattle.command_head.proofs.PartShape.{letter-high, name_bytes, system_bytes}
 use Rattle.command_head.proofs.Completions.{number_first, name_first, quoted_first}
 
 -- bytes of names that begin with a letter, `=`, and more
-pub record IsBehindName (part : List ℕ) : Type 0 where
+pub record IsAfterName (part : List ℕ) : Type 0 where
   pub name : List ℕ
-  pub behind : List ℕ
-  pub part_is : part ≡ name ++ 61 ∷ behind
+  pub suffix : List ℕ
+  pub part_is : part ≡ name ++ 61 ∷ suffix
   pub letter : begins_in Letter name ≡ true
   pub bytes : AllByRecursion (λ b. is_in NameByte b ≡ true) name
   pub place : number_place part ≡ length name + 1
 
-letter_front : (bytes : List ℕ) → begins_in Letter bytes ≡ true → begins_in Letter (front_of NameByte bytes) ≡ true
-letter_front [] h = absurd (false≢true h)
-letter_front (b ∷ bs) h = rw h h
+letter_prefix : (bytes : List ℕ) → begins_in Letter bytes ≡ true → begins_in Letter (prefix_of NameByte bytes) ≡ true
+letter_prefix [] h = absurd (false≢true h)
+letter_prefix (b ∷ bs) h = rw h h
 
-length-front_of : (part : List ℕ) (behind : List ℕ) → part ≡ front_of NameByte part ++ 61 ∷ behind → front_len NameByte part ≡ length (front_of NameByte part)
-length-front_of part behind e =
-    ap (front_len NameByte) e ∙ front_len-append NameByte (front_of NameByte part) (61 ∷ behind) (front_of-all NameByte part) refl
+length-prefix_of : (part : List ℕ) (suffix : List ℕ) → part ≡ prefix_of NameByte part ++ 61 ∷ suffix → prefix_len NameByte part ≡ length (prefix_of NameByte part)
+length-prefix_of part suffix e =
+    ap (prefix_len NameByte) e ∙ prefix_len-append NameByte (prefix_of NameByte part) (61 ∷ suffix) (prefix_of-all NameByte part) refl
 
 place_is : (t : Bool) (n : ℕ) → t ≡ true → cond t (n + 1) 0 ≡ n + 1
 place_is t n e = rw e refl
 
--- a number begins a part, or stands behind a name
-pub number_split : (part : List ℕ) → (number_place part ≡ 0) ⊎ IsBehindName part
+-- a number begins a part, or comes after a name
+pub number_split : (part : List ℕ) → (number_place part ≡ 0) ⊎ IsAfterName part
 unfolding number_place
-number_split part = by_test (begins_in Letter part && begins_with 61 (behind_front NameByte part)) refl
+number_split part = by_test (begins_in Letter part && begins_with 61 (after_prefix NameByte part)) refl
   where
-    by_test : (t : Bool) → (begins_in Letter part && begins_with 61 (behind_front NameByte part)) ≡ t → (number_place part ≡ 0) ⊎ IsBehindName part
+    by_test : (t : Bool) → (begins_in Letter part && begins_with 61 (after_prefix NameByte part)) ≡ t → (number_place part ≡ 0) ⊎ IsAfterName part
     by_test false e = inl (rw e refl)
     by_test true e =
-        let p = and_parts (begins_in Letter part) (begins_with 61 (behind_front NameByte part)) e in
-        let part_is : part ≡ front_of NameByte part ++ 61 ∷ drop 1 (behind_front NameByte part) = sym (front_split NameByte part) ∙ ap (λ (l : List ℕ). front_of NameByte part ++ l) (begins_with-split 61 (behind_front NameByte part) p.1) in
+        let p = and_parts (begins_in Letter part) (begins_with 61 (after_prefix NameByte part)) e in
+        let part_is : part ≡ prefix_of NameByte part ++ 61 ∷ drop 1 (after_prefix NameByte part) = sym (prefix_split NameByte part) ∙ ap (λ (l : List ℕ). prefix_of NameByte part ++ l) (begins_with-split 61 (after_prefix NameByte part) p.1) in
         inr record {
-          name = front_of NameByte part;
-          behind = drop 1 (behind_front NameByte part);
+          name = prefix_of NameByte part;
+          suffix = drop 1 (after_prefix NameByte part);
           part_is = part_is;
-          letter = letter_front part p.0;
-          bytes = front_of-all NameByte part;
-          place = place_is (begins_in Letter part && begins_with 61 (behind_front NameByte part)) (front_len NameByte part) e ∙ ap (λ (n : ℕ). n + 1) (length-front_of part (drop 1 (behind_front NameByte part)) part_is);
+          letter = letter_prefix part p.0;
+          bytes = prefix_of-all NameByte part;
+          place = place_is (begins_in Letter part && begins_with 61 (after_prefix NameByte part)) (prefix_len NameByte part) e ∙ ap (λ (n : ℕ). n + 1) (length-prefix_of part (drop 1 (after_prefix NameByte part)) part_is);
         }
 
--- what stands before the number, and behind
-pub front_is : (part : List ℕ) (split : IsBehindName part) → take (number_place part) part ≡ split.name ++ 61 ∷ []
-front_is part split =
+-- what comes before the number, and after
+pub prefix_is : (part : List ℕ) (split : IsAfterName part) → take (number_place part) part ≡ split.name ++ 61 ∷ []
+prefix_is part split =
     ap (λ (n : ℕ). take n part) split.place
-    ∙ ap (take (length split.name + 1)) (split.part_is ∙ sym (append_assoc split.name (61 ∷ []) split.behind))
-    ∙ take_at (split.name ++ 61 ∷ []) split.behind (length split.name + 1) (length-append split.name (61 ∷ []))
+    ∙ ap (take (length split.name + 1)) (split.part_is ∙ sym (append_assoc split.name (61 ∷ []) split.suffix))
+    ∙ take_at (split.name ++ 61 ∷ []) split.suffix (length split.name + 1) (length-append split.name (61 ∷ []))
 
-pub back_is : (part : List ℕ) (split : IsBehindName part) → drop (number_place part) part ≡ split.behind
+pub back_is : (part : List ℕ) (split : IsAfterName part) → drop (number_place part) part ≡ split.suffix
 back_is part split =
     ap (λ (n : ℕ). drop n part) split.place
-    ∙ ap (drop (length split.name + 1)) (split.part_is ∙ sym (append_assoc split.name (61 ∷ []) split.behind))
-    ∙ drop_at (split.name ++ 61 ∷ []) split.behind (length split.name + 1) (length-append split.name (61 ∷ []))
+    ∙ ap (drop (length split.name + 1)) (split.part_is ∙ sym (append_assoc split.name (61 ∷ []) split.suffix))
+    ∙ drop_at (split.name ++ 61 ∷ []) split.suffix (length split.name + 1) (length-append split.name (61 ∷ []))
 
--- Such a part with another number in the place of its own: a number, or one behind a name.
+-- Such a part with another number in the place of its own: a number, or one after a name.
 pub record IsValued (part : List ℕ) : Type 0 where
   pub letter : begins_in Letter part ≡ true
   pub other_byte : AllByRecursion (λ b. is_in NameByte b ≡ true) part → ⊥
@@ -77,9 +77,9 @@ pub letter_append : (xs ys : List ℕ) → begins_in Letter xs ≡ true → begi
 letter_append [] ys h = absurd (false≢true h)
 letter_append (x ∷ xs) ys h = h
 
-pub valued_split : (part other : List ℕ) → IsBehindName part → IsValued (take (number_place part) part ++ other)
+pub valued_split : (part other : List ℕ) → IsAfterName part → IsValued (take (number_place part) part ++ other)
 valued_split part other s =
-    let whole : take (number_place part) part ++ other ≡ s.name ++ 61 ∷ other = ap (λ (l : List ℕ). l ++ other) (front_is part s) ∙ append_assoc s.name (61 ∷ []) other in
+    let whole : take (number_place part) part ++ other ≡ s.name ++ 61 ∷ other = ap (λ (l : List ℕ). l ++ other) (prefix_is part s) ∙ append_assoc s.name (61 ∷ []) other in
     subst IsValued (sym whole) record { letter = letter_append s.name (61 ∷ other) s.letter; other_byte = all_middle s.name other }
 
 pub numbered : (part other : List ℕ) → is_number other ≡ true → (is_number (take (number_place part) part ++ other) ≡ true) ⊎ IsValued (take (number_place part) part ++ other)
@@ -119,17 +119,17 @@ numbered_quoted part other number q = ⊎_elim (λ n. number_quoted (take (numbe
 -- the number of a part that is one begins at its first byte
 pub number_place-number : (part : List ℕ) → is_number part ≡ true → number_place part ≡ 0
 number_place-number part number =
-    ⊎_elim (λ e. e) (λ s. absurd (letter_number part (subst (λ (l : List ℕ). begins_in Letter l ≡ true) (sym s.part_is) (letter_append s.name (61 ∷ s.behind) s.letter)) number)) (number_split part)
+    ⊎_elim (λ e. e) (λ s. absurd (letter_number part (subst (λ (l : List ℕ). begins_in Letter l ≡ true) (sym s.part_is) (letter_append s.name (61 ∷ s.suffix) s.letter)) number)) (number_split part)
 
--- and that of a name with a value, behind the `=`
-pub number_place-valued : (name behind : List ℕ) → is_name name ≡ true → number_place (name ++ 61 ∷ behind) ≡ length name + 1
+-- and that of a name with a value, after the `=`
+pub number_place-valued : (name suffix : List ℕ) → is_name name ≡ true → number_place (name ++ 61 ∷ suffix) ≡ length name + 1
 unfolding number_place
-number_place-valued name behind named =
+number_place-valued name suffix named =
     let bytes = name_bytes name named in
-    let letter = letter_append name (61 ∷ behind) (and_parts _ _ named).0 in
-    let len = front_len-append NameByte name (61 ∷ behind) bytes refl in
-    let back = behind_front-append NameByte name (61 ∷ behind) bytes refl in
-    taken (begins_in Letter (name ++ 61 ∷ behind)) (begins_with 61 (behind_front NameByte (name ++ 61 ∷ behind))) (front_len NameByte (name ++ 61 ∷ behind)) letter (ap (begins_with 61) back) len
+    let letter = letter_append name (61 ∷ suffix) (and_parts _ _ named).0 in
+    let len = prefix_len-append NameByte name (61 ∷ suffix) bytes refl in
+    let back = after_prefix-append NameByte name (61 ∷ suffix) bytes refl in
+    taken (begins_in Letter (name ++ 61 ∷ suffix)) (begins_with 61 (after_prefix NameByte (name ++ 61 ∷ suffix))) (prefix_len NameByte (name ++ 61 ∷ suffix)) letter (ap (begins_with 61) back) len
   where
     taken : (a b : Bool) (n : ℕ) → a ≡ true → b ≡ true → n ≡ length name → cond (a && b) (n + 1) 0 ≡ length name + 1
     taken a b n e g h = rw (e, g, h) refl

@@ -8,16 +8,16 @@ use Rattle.command_head.specs.Parts.{Part, parts_of, texts_of, number_place}
 use Rattle.command_head.specs.Heads.{reg_at}
 use Rattle.command_head.specs.Grammar.{SpellsReg}
 
--- the byte at which a part of a text begins, the parts counted from 0; behind the last it is the text's length
+-- the byte at which a part of a text begins, the parts counted from 0; after the last it is the text's length
 abbrev pub place_of : List ℕ → ℕ → ℕ
 place_of text count = slice_index_or (map (λ (p : Part). p.at) (parts_of text)) count (length text)
 
--- the part that stands at a place in a list of parts
+-- the part that is at a place in a list of parts
 abbrev pub part_at : List (List ℕ) → ℕ → List ℕ
 part_at parts count = slice_index_or parts count []
 
--- This part is a number, or ends with one behind a name and `=`, and the number does not fit 32 bits, signed; with another number of the
--- same sign in its place the part goes on behind those before it.
+-- This part is a number, or ends with one after a name and `=`, and the number does not fit 32 bits, signed; with another number of the
+-- same sign in its place the part goes on after those before it.
 pub record ExceedsAt {H : Type 0} (grammar : List (List ℕ) → H → Type 0) (parts : List (List ℕ)) (count : ℕ) : Type 0 where
   pub within : count < length parts
   pub number : is_number (drop (number_place (part_at parts count)) (part_at parts count)) ≡ true
@@ -53,7 +53,7 @@ HasHead grammar view text (Err (Syntax at)) = IsSyntaxAt grammar text at
 HasHead grammar view text (Err (Number at)) = IsNumberAt grammar text at
 HasHead grammar view text (Err Memory) = ⊤
 
--- a text has one head or one fault by a grammar, beside want of memory
+-- a text has one head or one fault by a grammar, apart from out of memory
 abbrev pub HasOneHead : {H : Type 0} → (List (List ℕ) → H → Type 0) → Type 0
 HasOneHead {H} grammar = (text : List ℕ) (result other : Result H HeadFault) → HasHead grammar (λ head. head) text result → HasHead grammar (λ head. head) text other
     → result ≢ Err Memory → other ≢ Err Memory → result ≡ other

@@ -1,4 +1,4 @@
--- The grammars of heads: which parts, one behind another, spell which head.
+-- The grammars of heads: which parts, one after another, spell which head.
 use Rattle.std.specs.Prelude.{◌≡◌, ◌≢◌, ℕ, true, List, [], ◌∷◌, ◌++◌, ℤ, codes, ◌↔◌, Option, None, Some, Ok, ⊤, ◌^◌}
 use Rattle.std.specs.List.{AllByRecursion, AllPairs}
 use Rattle.digit_tuple.specs.Sets.{IsAscending}
@@ -34,7 +34,7 @@ pub record SpellsSet (parts : List (List ℕ)) (set : List ℤ) : Type 0 where
   pub spelled : SpellsMentions inside mentions
   pub members : IsSetOf mentions set
 
--- sets, one behind another
+-- sets, one after another
 abbrev pub SpellSets : List (List ℕ) → List (List ℤ) → Type 0
 SpellSets parts [] = parts ≡ []
 SpellSets parts (set ∷ sets) = (first : List (List ℕ)) × (others : List (List ℕ)) × (parts ≡ first ++ others) × SpellsSet first set × SpellSets others sets
@@ -79,19 +79,19 @@ pub record SpellsImage (parts : List (List ℕ)) (head : ImageHead) : Type 0 whe
   pub morphism : is_name head.morphism ≡ true
   pub old : is_word head.old ≡ true
 
--- what stands behind a name in its part: nothing, or `=` and a number
+-- what follows a name in its part: nothing, or `=` and a number
 abbrev pub SpellsValue : List ℕ → Option ℤ → Type 0
-SpellsValue behind None = behind ≡ []
-SpellsValue behind (Some n) = (number : List ℕ) × (behind ≡ 61 ∷ number) × SpellsNumber number n
+SpellsValue suffix None = suffix ≡ []
+SpellsValue suffix (Some n) = (number : List ℕ) × (suffix ≡ 61 ∷ number) × SpellsNumber number n
 
--- a name, and directly behind it the value, if one is given
+-- a name, and directly after it the value, if one is given
 pub record SpellsValued (part : List ℕ) (valued : ValuedName) : Type 0 where
-  pub behind : List ℕ
-  pub part_is : part ≡ valued.name ++ behind
+  pub suffix : List ℕ
+  pub part_is : part ≡ valued.name ++ suffix
   pub name : is_name valued.name ≡ true
-  pub value : SpellsValue behind valued.value
+  pub value : SpellsValue suffix valued.value
 
--- such parts, one behind another
+-- such parts, one after another
 abbrev pub SpellEach : List (List ℕ) → List ValuedName → Type 0
 SpellEach [] [] = ⊤
 SpellEach [] (valued ∷ more) = ⊥

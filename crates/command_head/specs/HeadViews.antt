@@ -36,11 +36,11 @@ image_view parts = record { word = parts.word; morphism = parts.morphism; old = 
 abbrev pub valued_view : valued.ValuedName → ValuedName
 valued_view name = record { name = name.name; value = name.value }
 
--- what stands behind a name is a value, or `=` and a number that does not fit, or neither
+-- what follows a name is a value, or `=` and a number that does not fit, or neither
 abbrev pub IsReadAs : List ℕ → ValueText → Type 0
-IsReadAs behind (values.Given value) = SpellsValue behind value
-IsReadAs behind values.Long = IsLongValue behind
-IsReadAs behind values.Other = IsValueText behind → ⊥
+IsReadAs suffix (values.Given value) = SpellsValue suffix value
+IsReadAs suffix values.Long = IsLongValue suffix
+IsReadAs suffix values.Other = IsValueText suffix → ⊥
 
 abbrev pub combine_view : CombineParts → CombineHead
 combine_view parts = record { word = parts.word; automata = map valued_view parts.automata.items }
@@ -48,9 +48,9 @@ combine_view parts = record { word = parts.word; automata = map valued_view part
 abbrev pub stage_view : Stage → heads.Stage
 stage_view stages.AtWord = heads.AtWord
 stage_view stages.AtName = heads.AtName
-stage_view (stages.BehindName name) = heads.BehindName name
+stage_view (stages.AfterName name) = heads.AfterName name
 stage_view (stages.AtNumber set) = heads.AtNumber set.name set.sets set.members.keys
-stage_view (stages.BehindNumber set) = heads.BehindNumber set.name set.sets set.members.keys
-stage_view (stages.BehindSet name sets) = heads.BehindSet name sets
-stage_view (stages.BehindSystem name names) = heads.BehindSystem name names.items
+stage_view (stages.AfterNumber set) = heads.AfterNumber set.name set.sets set.members.keys
+stage_view (stages.AfterSet name sets) = heads.AfterSet name sets
+stage_view (stages.AfterSystem name names) = heads.AfterSystem name names.items
 stage_view (stages.AtEnd parts) = heads.AtEnd (head_view parts)

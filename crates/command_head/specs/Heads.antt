@@ -35,7 +35,7 @@ pub record ImageHead : Type 0 where
   pub morphism : List ℕ
   pub old : List ℕ
 
--- a name of an automaton, and the value that stands behind it, if one does
+-- a name of an automaton, and the value that follows it, if one does
 pub record ValuedName : Type 0 where
   pub name : List ℕ
   pub value : Option ℤ
@@ -51,48 +51,48 @@ pub data Stage : Type 0 where
   AtWord : Stage
   -- before the name
   AtName : Stage
-  -- behind the name
-  BehindName : List ℕ → Stage
+  -- after the name
+  AfterName : List ℕ → Stage
   -- in a set, before a number: the name, the sets before, and the members so far
   AtNumber : List ℕ → List (List ℤ) → List ℤ → Stage
-  -- in a set, behind a number
-  BehindNumber : List ℕ → List (List ℤ) → List ℤ → Stage
-  -- behind a set
-  BehindSet : List ℕ → List (List ℤ) → Stage
-  -- behind a system
-  BehindSystem : List ℕ → List (List ℕ) → Stage
-  -- behind the text in quotes
+  -- in a set, after a number
+  AfterNumber : List ℕ → List (List ℤ) → List ℤ → Stage
+  -- after a set
+  AfterSet : List ℕ → List (List ℤ) → Stage
+  -- after a system
+  AfterSystem : List ℕ → List (List ℕ) → Stage
+  -- after the text in quotes
   AtEnd : RegHead → Stage
 
 -- how many members were read of the set that is open
 abbrev pub open_count : Stage → ℕ
 open_count (AtNumber name sets members) = length members
-open_count (BehindNumber name sets members) = length members
+open_count (AfterNumber name sets members) = length members
 open_count AtWord = 0
 open_count AtName = 0
-open_count (BehindName name) = 0
-open_count (BehindSet name sets) = 0
-open_count (BehindSystem name names) = 0
+open_count (AfterName name) = 0
+open_count (AfterSet name sets) = 0
+open_count (AfterSystem name names) = 0
 open_count (AtEnd head) = 0
 
 -- a text in quotes, which ends the head
 unfoldable pub body_step : List ℕ → Alphabets → List ℕ → Result Stage Refusal
 body_step name alphabets part = if is_quoted part then Ok (AtEnd (record { name = name; alphabets = alphabets; body = unquoted part })) else Err Form
 
--- the stage behind a part
+-- the stage after a part
 unfoldable pub step : Stage → List ℕ → Result Stage Refusal
 step AtWord part = if bytes_eq part (codes "reg") then Ok AtName else Err Form
-step AtName part = if is_name part then Ok (BehindName part) else Err Form
-step (BehindName name) part =
-    if bytes_eq part (codes "{") then Ok (AtNumber name [] []) else if is_system part then Ok (BehindSystem name (part ∷ [])) else Err Form
+step AtName part = if is_name part then Ok (AfterName part) else Err Form
+step (AfterName name) part =
+    if bytes_eq part (codes "{") then Ok (AtNumber name [] []) else if is_system part then Ok (AfterSystem name (part ∷ [])) else Err Form
 step (AtNumber name sets members) part = do
   more ← with_member members part
-  Ok (BehindNumber name sets more)
-step (BehindNumber name sets members) part =
+  Ok (AfterNumber name sets more)
+step (AfterNumber name sets members) part =
     if bytes_eq part (codes ",") then Ok (AtNumber name sets members)
-    else if bytes_eq part (codes "}") then Ok (BehindSet name (sets ++ members ∷ [])) else Err Form
-step (BehindSet name sets) part = if bytes_eq part (codes "{") then Ok (AtNumber name sets []) else body_step name (Sets sets) part
-step (BehindSystem name names) part = if is_system part then Ok (BehindSystem name (names ++ part ∷ [])) else body_step name (Systems names) part
+    else if bytes_eq part (codes "}") then Ok (AfterSet name (sets ++ members ∷ [])) else Err Form
+step (AfterSet name sets) part = if bytes_eq part (codes "{") then Ok (AtNumber name sets []) else body_step name (Sets sets) part
+step (AfterSystem name names) part = if is_system part then Ok (AfterSystem name (names ++ part ∷ [])) else body_step name (Systems names) part
 step (AtEnd head) part = Err Form
 
 -- the head, where the text may end
@@ -100,11 +100,11 @@ abbrev pub ended : Stage → Result RegHead Refusal
 ended (AtEnd head) = Ok head
 ended AtWord = Err Form
 ended AtName = Err Form
-ended (BehindName name) = Err Form
+ended (AfterName name) = Err Form
 ended (AtNumber name sets members) = Err Form
-ended (BehindNumber name sets members) = Err Form
-ended (BehindSet name sets) = Err Form
-ended (BehindSystem name names) = Err Form
+ended (AfterNumber name sets members) = Err Form
+ended (AfterSet name sets) = Err Form
+ended (AfterSystem name names) = Err Form
 
 -- the head of the further parts of a text that has `whole` bytes; or the first fault and its byte
 unfoldable pub run : ℕ → Stage → List Part → Result RegHead HeadFault

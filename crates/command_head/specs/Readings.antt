@@ -8,7 +8,7 @@ pub data Refusal : Type 0 where
   Form : Refusal
   Range : Refusal
 
--- a part that is refused, told by the byte where it begins
+-- a part that is refused, determined by the byte where it begins
 abbrev pub fault_at : ℕ → Refusal → HeadFault
 fault_at at Form = Syntax at
 fault_at at Range = Number at

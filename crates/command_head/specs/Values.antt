@@ -10,28 +10,28 @@ abbrev pub value_at : ℕ → Option ℤ → ℤ
 value_at place (Some n) = n
 value_at place None = pos (suc place)
 
--- what may stand behind a name in its part, whether the number fits or not
+-- what may come after a name in its part, whether the number fits or not
 abbrev pub IsValueText : List ℕ → Type 0
-IsValueText behind = (behind ≡ []) ⊎ ((number : List ℕ) × (behind ≡ 61 ∷ number) × (is_number number ≡ true))
+IsValueText suffix = (suffix ≡ []) ⊎ ((number : List ℕ) × (suffix ≡ 61 ∷ number) × (is_number number ≡ true))
 
 -- `=` and a number that does not fit 32 bits, signed
-pub record IsLongValue (behind : List ℕ) : Type 0 where
+pub record IsLongValue (suffix : List ℕ) : Type 0 where
   pub number : List ℕ
-  pub behind_is : behind ≡ 61 ∷ number
+  pub after_is : suffix ≡ 61 ∷ number
   pub digits : is_number number ≡ true
   pub long : is_short (2 ^ 31) (number_of number) ≡ false
 
--- a name, and directly behind it a number that does not fit, which begins at this byte of the part
+-- a name, and directly after it a number that does not fit, which begins at this byte of the part
 pub record IsLongValued (part : List ℕ) (at : ℕ) : Type 0 where
   pub name : List ℕ
-  pub behind : List ℕ
-  pub part_is : part ≡ name ++ behind
+  pub suffix : List ℕ
+  pub part_is : part ≡ name ++ suffix
   pub is_named : is_name name ≡ true
-  pub value : IsLongValue behind
+  pub value : IsLongValue suffix
   pub place : length name + 1 ≡ at
 
 -- Why a part at this byte is no name with or without a value: it has another form, or its number does not fit.
 abbrev pub RefusesValued : List ℕ → ℕ → HeadFault → Type 0
-RefusesValued part at (Syntax byte) = (byte ≡ at) × ((name : List ℕ) (behind : List ℕ) → part ≡ name ++ behind → is_name name ≡ true → IsValueText behind → ⊥)
+RefusesValued part at (Syntax byte) = (byte ≡ at) × ((name : List ℕ) (suffix : List ℕ) → part ≡ name ++ suffix → is_name name ≡ true → IsValueText suffix → ⊥)
 RefusesValued part at (Number byte) = (place : ℕ) × IsLongValued part place × (byte ≡ at + place)
 RefusesValued part at Memory = ⊤

@@ -12,9 +12,9 @@ use crate::parts::is_name;
 use crate::rest::FirstPart;
 use crate::stage::name_of;
 use std::alloc::Global;
-use text_grammar::{Class, begins_with, front_len, is_number, number_of};
+use text_grammar::{Class, begins_with, is_number, number_of, prefix_len};
 
-/// What stands behind a name in its part.
+/// What follows a name in its part.
 enum ValueText {
     /// Nothing, or `=` and a number of 32 bits, signed.
     Given(Option<i32>),
@@ -24,32 +24,32 @@ enum ValueText {
     Other,
 }
 
-/// What these bytes are, which stand behind a name in its part.
-fn value_text(behind: &[u8]) -> ValueText
-    ensures { IsReadAs behind.now result }
+/// What these bytes are, which come after a name in its part.
+fn value_text(suffix: &[u8]) -> ValueText
+    ensures { IsReadAs suffix.now result }
 {
-    if behind.is_empty() {
+    if suffix.is_empty() {
         return ValueText::Given(None);
     }
-    if !begins_with(b'=', behind) || !is_number(&behind[1..]) {
+    if !begins_with(b'=', suffix) || !is_number(&suffix[1..]) {
         return ValueText::Other;
     }
-    match number_of(&behind[1..]) {
+    match number_of(&suffix[1..]) {
         Some(number) => ValueText::Given(Some(number)),
         None => ValueText::Long,
     }
 }
 
-/// The automaton that a part has to be: a name, alone or with `=` and a number behind it.
+/// The automaton that a part has to be: a name, alone or with `=` and a number after it.
 fn valued_name(alloc: Global, part: &FirstPart<'_>) -> Result<ValuedName, HeadFault>
     requires { part.now.at + length part.now.bytes.now < 2 ^ 64 }
     ensures { MatchResult result (λ valued. SpellsValued part.now.bytes.now (valued_view valued)) (RefusesValued part.now.bytes.now part.now.at) }
 {
-    let (name, behind) = part.bytes.split_at(front_len(Class::NameByte, part.bytes));
+    let (name, suffix) = part.bytes.split_at(prefix_len(Class::NameByte, part.bytes));
     if !is_name(name) {
         return Err(HeadFault::Syntax(part.at));
     }
-    match value_text(behind) {
+    match value_text(suffix) {
         ValueText::Given(value) => Ok(ValuedName {
             name: name_of(alloc, name)?,
             value,
@@ -59,7 +59,7 @@ fn valued_name(alloc: Global, part: &FirstPart<'_>) -> Result<ValuedName, HeadFa
     }
 }
 
-/// The parts of `combine WORD NAME[=V] ..`, with one automaton or more. Blanks stand between the parts, and none inside
+/// The parts of `combine WORD NAME[=V] ..`, with one automaton or more. Blanks are between the parts, and none inside
 /// `NAME=V`. The text is shorter than 2^32 bytes.
 ///
 /// # Errors
@@ -71,8 +71,8 @@ pub fn combine_parts(alloc: Global, text: &[u8]) -> Result<CombineParts, HeadFau
     // Each place of the list, counted from 1, is a number of 32 bits, signed.
     ensures few { IfOk result (λ parts. length parts.automata.items < 2 ^ 31) }
 {
-    let behind = after_word(b"combine", text)?;
-    let first = behind.first_part();
+    let suffix = after_word(b"combine", text)?;
+    let first = suffix.first_part();
     let word = word_in(&first)?;
     let mut rest = first.rest;
     let mut automata = Vec::new(alloc);

@@ -18,7 +18,7 @@ pub enum Alphabets {
 pub struct NamedParts<'a> {
     /// The name.
     pub name: Name,
-    /// What stands in the quotes.
+    /// What is in the quotes.
     pub body: &'a [u8],
 }
 
@@ -29,7 +29,7 @@ pub struct RegParts<'a> {
     pub name: Name,
     /// A set or a system for each track.
     pub alphabets: Alphabets,
-    /// The expression: what stands in the quotes.
+    /// The expression: what is in the quotes.
     pub body: &'a [u8],
 }
 
@@ -58,12 +58,12 @@ pub struct ImageParts {
 pub struct ValuedName {
     /// The name.
     pub name: Name,
-    /// The value behind `=`, where one is given.
+    /// The value after `=`, where one is given.
     pub value: Option<i32>,
 }
 
 impl ValuedName {
-    /// The value of the automaton, which stands at this place of its list, counted from 0: the one that is given, or the
+    /// The value of the automaton, which is at this place of its list, counted from 0: the one that is given, or the
     /// place counted from 1.
     pub fn value_at(&self, place: usize) -> i32
         requires { place + 1 < 2 ^ 31 }

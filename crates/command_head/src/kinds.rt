@@ -2,24 +2,24 @@
 ghost use Rattle.std.specs.Prelude.{◌≡◌, ◌≢◌, ◌-◌, [], length, true, false, MatchResult};
 ghost use Rattle.command_head.specs.declared.fault.HeadFault.TheVariants.{Syntax};
 ghost use Rattle.text_grammar.specs.declared.class.Class.TheVariants.{Blank};
-ghost use Rattle.text_grammar.specs.Fronts.{begins_in};
-ghost use Rattle.command_head.specs.Parts.{first_word_of, behind_blanks, behind_word, is_name as is_name_part, is_word as is_word_part, is_quoted as is_quoted_part, unquoted as inside_quotes};
+ghost use Rattle.text_grammar.specs.Prefixes.{begins_in};
+ghost use Rattle.command_head.specs.Parts.{first_word_of, after_blanks, after_word as after_the_word, is_name as is_name_part, is_word as is_word_part, is_quoted as is_quoted_part, unquoted as inside_quotes};
 
 use crate::bytes::place;
 use crate::fault::HeadFault;
 use crate::parts::{is_name, is_quoted, is_word, unquoted};
 use crate::rest::{FirstPart, Rest, rest_of};
-use text_grammar::{Class, front_len};
+use text_grammar::{Class, prefix_len};
 
 /// What is left behind the first word of a text, which has to be this one.
 pub(crate) fn after_word<'a>(word: &[u8], text: &'a [u8]) -> Result<Rest<'a>, HeadFault>
     ensures { MatchResult result
-        (λ rest. (first_word_of text.now ≡ word.now) × (rest.whole ≡ length text.now) × (rest.blank ≡ begins_in Blank (behind_word text.now)) × (rest.bytes.now ≡ behind_blanks (behind_word text.now)))
+        (λ rest. (first_word_of text.now ≡ word.now) × (rest.whole ≡ length text.now) × (rest.blank ≡ begins_in Blank (after_the_word text.now)) × (rest.bytes.now ≡ after_blanks (after_the_word text.now)))
         (λ fault. (first_word_of text.now ≢ word.now) × (fault ≡ Syntax 0)) }
 {
-    let (first, behind) = text.split_at(front_len(Class::Word, text));
+    let (first, suffix) = text.split_at(prefix_len(Class::Word, text));
     if first == word {
-        Ok(rest_of(text.len(), behind))
+        Ok(rest_of(text.len(), suffix))
     } else {
         Err(HeadFault::Syntax(0))
     }
@@ -49,7 +49,7 @@ pub(crate) fn word_in<'a>(part: &FirstPart<'a>) -> Result<&'a [u8], HeadFault>
     }
 }
 
-/// What stands in the quotes of a part, which has to be a text in quotes.
+/// What is in the quotes of a part, which has to be a text in quotes.
 pub(crate) fn body_in<'a>(part: &FirstPart<'a>) -> Result<&'a [u8], HeadFault>
     ensures { MatchResult result (λ body. (body.now ≡ inside_quotes part.now.bytes.now) × (is_quoted_part part.now.bytes.now ≡ true))
         (λ fault. (is_quoted_part part.now.bytes.now ≡ false) × (fault ≡ Syntax part.now.at)) }

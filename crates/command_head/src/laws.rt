@@ -4,19 +4,19 @@ ghost use Rattle.command_head.specs.Parts.{is_name};
 ghost use Rattle.command_head.specs.Grammar.{ReadsGrammar, SpellsReg, SpellsNamed, SpellsPromote, SpellsImage, SpellsCombine, ArePartsOfTexts};
 ghost use Rattle.command_head.specs.Breaks.{BreaksGrammar, HasOneHead};
 
-/// Reading a text gives the parts of a `reg` exactly where the grammar spells these parts so.
+/// Reading a text gives the parts of a `reg` if and only if the grammar spells these parts so.
 pub fn reads_grammar()
     ensures { ReadsGrammar }
 {}
 
-/// A fault is at the first part with which no head of a `reg` goes on; or at the text's length, where its parts
-/// begin a head and are none. It is `Number` exactly where a number may stand there, and one stands there that does
-/// not fit 32 bits, signed.
+/// A fault is at the first part with which no head of a `reg` goes on; or at the text's length, where its parts begin a
+/// head and are none. It is `Number` if and only if a number may be there, and one is there that does not fit 32 bits,
+/// signed.
 pub fn breaks_the_grammar()
     ensures { BreaksGrammar }
 {}
 
-/// A text has one head or one fault by a grammar, beside want of memory.
+/// A text has one head or one fault by a grammar, apart from out of memory.
 pub fn one_head()
     ensures reg { HasOneHead SpellsReg }
     ensures named { (word : List ℕ) → HasOneHead (SpellsNamed word) }

@@ -11,12 +11,12 @@ use crate::kinds::{after_word, at_end, body_in, name_in};
 use crate::stage::name_of;
 use std::alloc::Global;
 
-/// The parts of `WORD NAME "TEXT"`, for a word of the form of a name. Blanks may stand between the parts, and one stands
+/// The parts of `WORD NAME "TEXT"`, for a word of the form of a name. Blanks may be between the parts, and one comes
 /// before the name.
 ///
 /// # Errors
 /// `Syntax` gives the first byte of the first part that does not go on so, or the text's length where it ends too
-/// early; `Number` is never given, since no number may stand in such a head.
+/// early; `Number` is never given, since no number may be in such a head.
 pub fn named_parts<'a>(
     alloc: Global,
     word: &[u8],

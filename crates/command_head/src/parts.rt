@@ -1,19 +1,19 @@
 ghost use Rattle.std.specs.Prelude.{◌≡◌, ◌<◌, ◌≤◌, length, true};
 ghost use Rattle.command_head.specs.Parts.{begins_with_value as value_first, begins_with_ending as ending_first, ending_len as len_of_ending, quoted_len as len_of_quoted, part_len as len_of_part, is_name as is_name_part, is_word as is_word_part, is_quoted as is_quoted_part, unquoted as inside_quotes};
 
-use text_grammar::{Class, all_in, begins_in, begins_with, front_len, number_len, unsigned};
+use text_grammar::{Class, all_in, begins_in, begins_with, number_len, prefix_len, unsigned};
 
 /// The greatest length of a name.
 const LONGEST_NAME: usize = 64;
 
-/// Whether `=` and a number stand first.
+/// Whether `=` and a number come first.
 fn begins_with_value(bytes: &[u8]) -> bool
     ensures { result ≡ value_first bytes.now }
 {
     begins_with(b'=', bytes) && begins_in(Class::Digit, unsigned(&bytes[1..]))
 }
 
-/// Whether `.txt` stands first.
+/// Whether `.txt` comes first.
 fn begins_with_ending(bytes: &[u8]) -> bool
     ensures { result ≡ ending_first bytes.now }
 {
@@ -23,7 +23,7 @@ fn begins_with_ending(bytes: &[u8]) -> bool
     }
 }
 
-/// How many of the bytes behind a name are of the same part: `NAME=V` and `NAME.txt` are one.
+/// How many of the bytes after a name are of the same part: `NAME=V` and `NAME.txt` are one.
 fn ending_len(bytes: &[u8]) -> usize
     ensures len { result ≡ len_of_ending bytes.now }
     ensures within { result ≤ length bytes.now }
@@ -42,10 +42,10 @@ fn quoted_len(bytes: &[u8]) -> usize
     requires { 0 < length bytes.now }
     ensures { result ≡ len_of_quoted bytes.now }
 {
-    (front_len(Class::Unquoted, &bytes[1..]) + 2).min(bytes.len())
+    (prefix_len(Class::Unquoted, &bytes[1..]) + 2).min(bytes.len())
 }
 
-/// How long the part is that stands first.
+/// How long the part is that comes first.
 #[tactic(auto, unfolding(crate::specs::Parts::part_len))]
 pub(crate) fn part_len(bytes: &[u8]) -> usize
     requires { 0 < length bytes.now }
@@ -53,7 +53,7 @@ pub(crate) fn part_len(bytes: &[u8]) -> usize
     ensures within { result ≤ length bytes.now }
 {
     if begins_in(Class::Letter, bytes) {
-        let len = front_len(Class::NameByte, bytes);
+        let len = prefix_len(Class::NameByte, bytes);
         len + ending_len(&bytes[len..])
     } else if begins_in(Class::Digit, unsigned(bytes)) {
         number_len(bytes)
@@ -87,15 +87,15 @@ pub(crate) fn is_quoted(part: &[u8]) -> bool
         return false;
     }
     let text = &part[1..];
-    let behind = &text[front_len(Class::Unquoted, text)..];
-    behind == b"\"".as_slice()
+    let suffix = &text[prefix_len(Class::Unquoted, text)..];
+    suffix == b"\"".as_slice()
 }
 
-/// What stands in the quotes of a part.
+/// What is in the quotes of a part.
 pub(crate) fn unquoted(part: &[u8]) -> &[u8]
     requires { is_quoted_part part.now ≡ true }
     ensures { result.now ≡ inside_quotes part.now }
 {
     let text = &part[1..];
-    &text[..front_len(Class::Unquoted, text)]
+    &text[..prefix_len(Class::Unquoted, text)]
 }

@@ -38,17 +38,17 @@ pub(crate) enum Stage<'a> {
     AtWord,
     /// Before the name.
     AtName,
-    /// Behind the name.
-    BehindName(Name),
+    /// After the name.
+    AfterName(Name),
     /// In a set, before a number.
     AtNumber(OpenSet),
-    /// In a set, behind a number.
-    BehindNumber(OpenSet),
-    /// Behind a set.
-    BehindSet(Name, Sets),
-    /// Behind a system.
-    BehindSystem(Name, Vec<Name>),
-    /// Behind the text in quotes.
+    /// In a set, after a number.
+    AfterNumber(OpenSet),
+    /// After a set.
+    AfterSet(Name, Sets),
+    /// After a system.
+    AfterSystem(Name, Vec<Name>),
+    /// After the text in quotes.
     AtEnd(RegParts<'a>),
 }
 
@@ -79,7 +79,7 @@ fn at_name<'a>(alloc: Global, at: usize, part: &[u8]) -> Result<Stage<'a>, HeadF
     ensures { Reads stage_view result (placed at (step_of heads.AtName part.now)) }
 {
     if is_name(part) {
-        Ok(Stage::BehindName(name_of(alloc, part)?))
+        Ok(Stage::AfterName(name_of(alloc, part)?))
     } else {
         Err(HeadFault::Syntax(at))
     }
@@ -108,21 +108,16 @@ fn with_system(alloc: Global, systems: Vec<Name>, part: &[u8]) -> Result<Vec<Nam
     Ok(systems)
 }
 
-/// Behind the name: a brace or a system.
+/// After the name: a brace or a system.
 #[tactic(auto, unfolding(crate::specs::Heads::step))]
-fn behind_name<'a>(
-    alloc: Global,
-    at: usize,
-    name: Name,
-    part: &[u8],
-) -> Result<Stage<'a>, HeadFault>
-    ensures { Reads stage_view result (placed at (step_of (heads.BehindName name) part.now)) }
+fn after_name<'a>(alloc: Global, at: usize, name: Name, part: &[u8]) -> Result<Stage<'a>, HeadFault>
+    ensures { Reads stage_view result (placed at (step_of (heads.AfterName name) part.now)) }
 {
     if part == b"{".as_slice() {
         Ok(Stage::AtNumber(opened(alloc, name, Sets::new(alloc))))
     } else if is_system(part) {
         let systems = with_system(alloc, Vec::new(alloc), part)?;
-        Ok(Stage::BehindSystem(name, systems))
+        Ok(Stage::AfterSystem(name, systems))
     } else {
         Err(HeadFault::Syntax(at))
     }
@@ -154,7 +149,7 @@ fn at_number<'a>(at: usize, set: OpenSet, part: &[u8]) -> Result<Stage<'a>, Head
 {
     let mut set = set;
     put_member(at, &mut set.members, part)?;
-    Ok(Stage::BehindNumber(set))
+    Ok(Stage::AfterNumber(set))
 }
 
 /// The members in ascending order.
@@ -165,7 +160,7 @@ fn numbers_of(alloc: Global, members: BTreeSet<i32>) -> Result<Vec<i32>, HeadFau
     Ok(members.iter().copied().collect(alloc)?)
 }
 
-/// The sets, and one with these members behind them.
+/// The sets, and one with these members after them.
 fn with_set(alloc: Global, sets: Sets, members: BTreeSet<i32>) -> Result<Sets, HeadFault>
     requires { length members.keys < 2 ^ 32 }
     ensures { MatchResult result (λ more. more ≡ sets ++ members.keys ∷ []) (λ fault. fault ≡ Memory) }
@@ -176,16 +171,16 @@ fn with_set(alloc: Global, sets: Sets, members: BTreeSet<i32>) -> Result<Sets, H
     Ok(sets)
 }
 
-/// In a set, behind a number: a comma or a brace.
+/// In a set, after a number: a comma or a brace.
 #[tactic(auto, unfolding(crate::specs::Heads::step))]
-fn behind_number<'a>(
+fn after_number<'a>(
     alloc: Global,
     at: usize,
     set: OpenSet,
     part: &[u8],
 ) -> Result<Stage<'a>, HeadFault>
     requires { length set.members.keys < 2 ^ 32 }
-    ensures { Reads stage_view result (placed at (step_of (heads.BehindNumber set.name set.sets set.members.keys) part.now)) }
+    ensures { Reads stage_view result (placed at (step_of (heads.AfterNumber set.name set.sets set.members.keys) part.now)) }
 {
     if part == b",".as_slice() {
         return Ok(Stage::AtNumber(set));
@@ -199,7 +194,7 @@ fn behind_number<'a>(
         members,
     } = set;
     let sets = with_set(alloc, sets, members)?;
-    Ok(Stage::BehindSet(name, sets))
+    Ok(Stage::AfterSet(name, sets))
 }
 
 /// The text in quotes, which ends the head.
@@ -223,16 +218,16 @@ fn at_body<'a>(
     }))
 }
 
-/// Behind a set: a further one, or the text in quotes.
+/// After a set: a further one, or the text in quotes.
 #[tactic(auto, unfolding(crate::specs::Heads::step))]
-fn behind_set<'a>(
+fn after_set<'a>(
     alloc: Global,
     at: usize,
     name: Name,
     sets: Sets,
     part: &'a [u8],
 ) -> Result<Stage<'a>, HeadFault>
-    ensures { Reads stage_view result (placed at (step_of (heads.BehindSet name sets) part.now)) }
+    ensures { Reads stage_view result (placed at (step_of (heads.AfterSet name sets) part.now)) }
 {
     if part == b"{".as_slice() {
         Ok(Stage::AtNumber(opened(alloc, name, sets)))
@@ -241,27 +236,27 @@ fn behind_set<'a>(
     }
 }
 
-/// Behind a system: a further one, or the text in quotes.
+/// After a system: a further one, or the text in quotes.
 #[tactic(auto, unfolding(crate::specs::Heads::step))]
-fn behind_system<'a>(
+fn after_system<'a>(
     alloc: Global,
     at: usize,
     name: Name,
     systems: Vec<Name>,
     part: &'a [u8],
 ) -> Result<Stage<'a>, HeadFault>
-    ensures { Reads stage_view result (placed at (step_of (heads.BehindSystem name systems.items) part.now)) }
+    ensures { Reads stage_view result (placed at (step_of (heads.AfterSystem name systems.items) part.now)) }
 {
     if is_system(part) {
         let systems = with_system(alloc, systems, part)?;
-        Ok(Stage::BehindSystem(name, systems))
+        Ok(Stage::AfterSystem(name, systems))
     } else {
         at_body(at, name, Alphabets::Systems(systems), part)
     }
 }
 
 impl<'a> Stage<'a> {
-    /// The stage behind a part that begins at the byte `at`.
+    /// The stage after a part that begins at the byte `at`.
     #[tactic(auto, unfolding(crate::specs::Heads::step))]
     pub(crate) fn step(
         self,
@@ -275,11 +270,11 @@ impl<'a> Stage<'a> {
         match self {
             Stage::AtWord => at_word(at, part),
             Stage::AtName => at_name(alloc, at, part),
-            Stage::BehindName(name) => behind_name(alloc, at, name, part),
+            Stage::AfterName(name) => after_name(alloc, at, name, part),
             Stage::AtNumber(set) => at_number(at, set, part),
-            Stage::BehindNumber(set) => behind_number(alloc, at, set, part),
-            Stage::BehindSet(name, sets) => behind_set(alloc, at, name, sets, part),
-            Stage::BehindSystem(name, systems) => behind_system(alloc, at, name, systems, part),
+            Stage::AfterNumber(set) => after_number(alloc, at, set, part),
+            Stage::AfterSet(name, sets) => after_set(alloc, at, name, sets, part),
+            Stage::AfterSystem(name, systems) => after_system(alloc, at, name, systems, part),
             Stage::AtEnd(_) => Err(HeadFault::Syntax(at)),
         }
     }

@@ -9,11 +9,11 @@ use crate::kinds::{after_word, at_end, name_in, word_in};
 use crate::stage::name_of;
 use std::alloc::Global;
 
-/// The parts of `promote WORD NAME`. Blanks stand between the parts.
+/// The parts of `promote WORD NAME`. Blanks are between the parts.
 ///
 /// # Errors
 /// `Syntax` gives the first byte of the first part that does not go on so, or the text's length where it ends too
-/// early; `Number` is never given, since no number may stand in such a head.
+/// early; `Number` is never given, since no number may be in such a head.
 pub fn promote_parts(alloc: Global, text: &[u8]) -> Result<PromoteParts, HeadFault>
     ensures { HasHead SpellsPromote promote_view text.now result }
 {
@@ -29,11 +29,11 @@ pub fn promote_parts(alloc: Global, text: &[u8]) -> Result<PromoteParts, HeadFau
     })
 }
 
-/// The parts of `image WORD NAME WORD`. Blanks stand between the parts.
+/// The parts of `image WORD NAME WORD`. Blanks are between the parts.
 ///
 /// # Errors
 /// `Syntax` gives the first byte of the first part that does not go on so, or the text's length where it ends too
-/// early; `Number` is never given, since no number may stand in such a head.
+/// early; `Number` is never given, since no number may be in such a head.
 pub fn image_parts(alloc: Global, text: &[u8]) -> Result<ImageParts, HeadFault>
     ensures { HasHead SpellsImage image_view text.now result }
 {

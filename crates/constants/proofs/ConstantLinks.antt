@@ -13,12 +13,12 @@ use Rattle.constants.specs.Constants.{IsConstantOf, ConstantAlike}
 use Rattle.constants.proofs.ConstantKinds.{constant_apart}
 
 -- an automaton with the language of the paddings of a number's word holds of the number alone
-pub constant_is : (way : Direction) (s : System) (n : ℕ) (r : List ℕ) (d e : Automaton) → IsSystem s → IsRep s.digits s.test n r → d.sizes ≡ s.digits ∷ []
-    → ((w : List ℕ) → IsTrue (accepts_of d w) ↔ (without_zeros (in_order way w) ≡ r)) → e.sizes ≡ d.sizes → SameLanguage d e → IsConstantOf way s n e
-constant_is way s n r d e is rep sizes paddings tracks same = relation_kept way (s ∷ []) (λ ns. ns ≡ n ∷ []) d e (constant_holds way s n r d is rep sizes paddings) tracks same
+pub constant_is : (direction : Direction) (s : System) (n : ℕ) (r : List ℕ) (d e : Automaton) → IsSystem s → IsRep s.digits s.test n r → d.sizes ≡ s.digits ∷ []
+    → ((w : List ℕ) → IsTrue (accepts_of d w) ↔ (without_zeros (in_order direction w) ≡ r)) → e.sizes ≡ d.sizes → SameLanguage d e → IsConstantOf direction s n e
+constant_is direction s n r d e is rep sizes paddings tracks same = relation_kept direction (s ∷ []) (λ ns. ns ≡ n ∷ []) d e (constant_holds direction s n r d is rep sizes paddings) tracks same
 
--- each number tells two kinds of words apart
-pub two_apart : (way : Direction) (s : System) (n limit : ℕ) → IsSystem s → limit < 2 → HasApart (ConstantAlike way s n) s.digits (limit + 1)
-two_apart way s n limit is few =
+-- each number distinguishes two kinds of words
+pub two_apart : (direction : Direction) (s : System) (n limit : ℕ) → IsSystem s → limit < 2 → HasApart (ConstantAlike direction s n) s.digits (limit + 1)
+two_apart direction s n limit is few =
     let word = rep_exists s.digits s.test n is in
-    constant_apart way s n word.0 is word.1 (limit + 1) (omega (arith, few))
+    constant_apart direction s n word.0 is word.1 (limit + 1) (omega (arith, few))

@@ -11,46 +11,46 @@ use Rattle.digit_tuple.proofs.TruthLemmas.{same_tests}
 use Rattle.minimise.specs.Canonical.{IsCanonical}
 use Rattle.minimise.proofs.ApartLemmas.{canonical_apart}
 use Rattle.numeration.specs.Systems.{System, IsNumeral}
-use Rattle.numeration.specs.Spelling.{Spells}
+use Rattle.numeration.specs.Representation.{Represents}
 use Rattle.numeration.proofs.ConstantLemmas.{one_track}
 use Rattle.constants.specs.Constants.{IsConstantOf, ConstantAlike}
 use Rattle.constants.specs.ConstantWidth.{ConstantAlikeIsEquivalence, OneConstantWidth, ConstantWidthExcludes}
 
 pub IsEquivalence-constant : ConstantAlikeIsEquivalence
-IsEquivalence-constant way s n = record {
+IsEquivalence-constant direction s n = record {
   reflexive = λ w u over. ((λ is. is), (λ is. is));
   symmetric = λ w v one u over. let both = one u over in (both.1, both.0);
   transitive = λ u v w one two x over. let first = one x over in let second = two x over in ((λ is. second.0 (first.0 is)), (λ is. first.1 (second.1 is)));
 }
 
 pub one_constant_width : OneConstantWidth
-one_constant_width way s n = HasWidth-unique (ConstantAlike way s n) s.digits (IsEquivalence-constant way s n)
+one_constant_width direction s n = HasWidth-unique (ConstantAlike direction s n) s.digits (IsEquivalence-constant direction s n)
 
 pub constant_width_excludes : ConstantWidthExcludes
-constant_width_excludes way s n = HasWidth-excludes (ConstantAlike way s n) s.digits (IsEquivalence-constant way s n)
+constant_width_excludes direction s n = HasWidth-excludes (ConstantAlike direction s n) s.digits (IsEquivalence-constant direction s n)
 
-module _ (way : Direction) (s : System) (n : ℕ) (d : Automaton) (holds : IsConstantOf way s n d) where
+module _ (direction : Direction) (s : System) (n : ℕ) (d : Automaton) (holds : IsConstantOf direction s n d) where
   letters_are : letters_of d ≡ s.digits
   letters_are = ap product holds.sizes ∙ mul-one s.digits
 
   -- a word is accepted where it is a numeral of the number
-  accepts_numerals : (w : List ℕ) → IsWord (letters_of d) w → IsTrue (accepts_of d w) ↔ IsNumeral s (in_order way w) n
+  accepts_numerals : (w : List ℕ) → IsWord (letters_of d) w → IsTrue (accepts_of d w) ↔ IsNumeral s (in_order direction w) n
   accepts_numerals w over = (there, back)
     where
-      both : IsTrue (accepts_of d w) ↔ ((ns : List ℕ) × Spells (s ∷ []) (in_order way w) ns × (ns ≡ n ∷ []))
+      both : IsTrue (accepts_of d w) ↔ ((ns : List ℕ) × Represents (s ∷ []) (in_order direction w) ns × (ns ≡ n ∷ []))
       both = holds.accepts w (subst (λ (ns : List ℕ). IsWord (product ns) w) holds.sizes over)
 
-      there : IsTrue (accepts_of d w) → IsNumeral s (in_order way w) n
+      there : IsTrue (accepts_of d w) → IsNumeral s (in_order direction w) n
       there accepted =
           let found = both.0 accepted in
-          let spelled : Spells (s ∷ []) (in_order way w) (n ∷ []) = subst (Spells (s ∷ []) (in_order way w)) found.2 found.1 in
-          subst (λ (v : List ℕ). IsNumeral s v n) (one_track (in_order way w)) spelled.0
+          let represented : Represents (s ∷ []) (in_order direction w) (n ∷ []) = subst (Represents (s ∷ []) (in_order direction w)) found.2 found.1 in
+          subst (λ (v : List ℕ). IsNumeral s v n) (one_track (in_order direction w)) represented.0
 
-      back : IsNumeral s (in_order way w) n → IsTrue (accepts_of d w)
-      back numeral = both.1 (n ∷ [], (subst (λ (v : List ℕ). IsNumeral s v n) (sym (one_track (in_order way w))) numeral, tt), refl)
+      back : IsNumeral s (in_order direction w) n → IsTrue (accepts_of d w)
+      back numeral = both.1 (n ∷ [], (subst (λ (v : List ℕ). IsNumeral s v n) (sym (one_track (in_order direction w))) numeral, tt), refl)
 
   -- words that are alike are both accepted or both refused
-  accepts_alike : (w v u : List ℕ) → IsWord (letters_of d) w → IsWord (letters_of d) v → IsWord (letters_of d) u → ConstantAlike way s n w v → accepts_of d (w ++ u) ≡ accepts_of d (v ++ u)
+  accepts_alike : (w v u : List ℕ) → IsWord (letters_of d) w → IsWord (letters_of d) v → IsWord (letters_of d) u → ConstantAlike direction s n w v → accepts_of d (w ++ u) ≡ accepts_of d (v ++ u)
   accepts_alike w v u one two more alike =
       let first = accepts_numerals (w ++ u) (IsWord-append (letters_of d) w u one more) in
       let second = accepts_numerals (v ++ u) (IsWord-append (letters_of d) v u two more) in
@@ -58,7 +58,7 @@ module _ (way : Direction) (s : System) (n : ℕ) (d : Automaton) (holds : IsCon
       same_tests (accepts_of d (w ++ u)) (accepts_of d (v ++ u)) (λ a. second.1 (middle.0 (first.0 a)), λ a. first.1 (middle.1 (second.0 a)))
 
   -- so a canonical automaton of the number has no more states than the width
-  pub constant_size : (k : ℕ) → IsCanonical d → HasWidth (ConstantAlike way s n) s.digits k → states_of d ≤ k
+  pub constant_size : (k : ℕ) → IsCanonical d → HasWidth (ConstantAlike direction s n) s.digits k → states_of d ≤ k
   constant_size k canonical width =
-      HasApart-within (ConstantAlike way s n) s.digits (IsEquivalence-constant way s n) (states_of d) k
-      (subst (λ m. HasApart (ConstantAlike way s n) m (states_of d)) letters_are (canonical_apart d canonical (ConstantAlike way s n) accepts_alike)) width
+      HasApart-within (ConstantAlike direction s n) s.digits (IsEquivalence-constant direction s n) (states_of d) k
+      (subst (λ m. HasApart (ConstantAlike direction s n) m (states_of d)) letters_are (canonical_apart d canonical (ConstantAlike direction s n) accepts_alike)) width

@@ -2,9 +2,9 @@
 use Rattle.std.proofs.Common.{◌≡◌, ℕ, suc, ◌+◌, ◌<◌, Bool, false, cond, nat_eq, List, [], ◌∷◌, reverse, get_or, Option, None, Some, refl, ap, sym, ◌∙◌, count_by}
 use Rattle.std.specs.List.{All, sum_by}
 use Rattle.std.specs.Option.{option_map_or, option_and_then, IfSome}
-use Rattle.digit_tuple.specs.declared.edges.Edge.{Edge}
+use Rattle.digit_tuple.specs.declared.transitions.Transition.{Transition}
 use Rattle.digit_tuple.specs.declared.direction.Direction.TheVariants.{Msd, Lsd}
-use Rattle.digit_tuple.specs.Deterministic.{Automaton, IsTable, IsRow, accepts_from, edges_of, letters_of, run_of, states_of, step_of}
+use Rattle.digit_tuple.specs.Deterministic.{Automaton, IsTable, IsRow, accepts_from, transitions_of, letters_of, run_of, states_of, step_of}
 use Rattle.digit_tuple.proofs.DfaLemmas.{row_at}
 use Rattle.digit_tuple.proofs.PaddingLemmas.{reverse-cons}
 use Rattle.digit_tuple.proofs.WordLemmas.{run_of-append}
@@ -12,10 +12,10 @@ use Rattle.minimise.proofs.CanonicalLemmas.{run_within}
 use Rattle.numeration.specs.Words.{words}
 use Rattle.numeration.proofs.CountLemmas.{sum_below, sum_below-same, count_by-words, count_by-none}
 use Rattle.constants.specs.WordCounts.{capped, leads_to, words_at, AreCounts}
-use Rattle.constants.proofs.SumLemmas.{sum_below-swap, sum-edges, count-apart}
+use Rattle.constants.proofs.SumLemmas.{sum_below-swap, sum-transitions, count-apart}
 use Rattle.constants.proofs.CappedLemmas.{capped-again, capped-add, capped-sum_by, capped-cond}
 
-row_is : (a : Automaton) (q : ℕ) → IsTable (letters_of a) a.states → q < states_of a → IsRow (letters_of a) (states_of a) (edges_of a q)
+row_is : (a : Automaton) (q : ℕ) → IsTable (letters_of a) a.states → q < states_of a → IsRow (letters_of a) (states_of a) (transitions_of a q)
 row_is a q table within = row_at a q table within
 
 -- a word leads to a state of the automaton, or nowhere
@@ -36,15 +36,15 @@ words_from-suc a n q =
     by None = count_by-none (letters_of a) n (λ u. false) (λ u long. refl)
     by (Some p) = refl
 
--- the sum of the counts where the edges of a state lead
+-- the sum of the counts where the transitions of a state lead
 pub counts_from-suc : (a : Automaton) (n q : ℕ) (row : List ℕ) → IsTable (letters_of a) a.states → q < states_of a → AreCounts Msd a n row
-    → capped (sum_by (λ e. get_or row e.target 0) (edges_of a q)) ≡ capped (words_at Msd a (suc n) q)
+    → capped (sum_by (λ e. get_or row e.target 0) (transitions_of a q)) ≡ capped (words_at Msd a (suc n) q)
 counts_from-suc a n q row table within are =
-    let is : IsRow (letters_of a) (states_of a) (edges_of a q) = row_is a q table within in
-    let same : All (λ e. capped (get_or row e.target 0) ≡ capped (words_at Msd a n e.target)) (edges_of a q) =
+    let is : IsRow (letters_of a) (states_of a) (transitions_of a q) = row_is a q table within in
+    let same : All (λ e. capped (get_or row e.target 0) ≡ capped (words_at Msd a n e.target)) (transitions_of a q) =
     λ k e inside. ap capped (are.counts _ (is.in_range k e inside).1) ∙ capped-again (words_at Msd a n _) in
-    capped-sum_by (λ (e : Edge). get_or row e.target 0) (λ (e : Edge). words_at Msd a n e.target) (edges_of a q) same
-    ∙ ap capped (sum-edges (λ p. words_at Msd a n p) (letters_of a) (edges_of a q) is.ascending (λ k e inside. (is.in_range k e inside).0) ∙ sym (words_from-suc a n q))
+    capped-sum_by (λ (e : Transition). get_or row e.target 0) (λ (e : Transition). words_at Msd a n e.target) (transitions_of a q) same
+    ∙ ap capped (sum-transitions (λ p. words_at Msd a n p) (letters_of a) (transitions_of a q) is.ascending (λ k e inside. (is.in_range k e inside).0) ∙ sym (words_from-suc a n q))
 
 -- a digit more, read last
 leads-push : (a : Automaton) (b p : ℕ) (u : List ℕ)
@@ -62,9 +62,9 @@ leads-push a b p u =
     by None = refl
     by (Some q) = last (step_of a q b)
 
--- the count that the edges of a state bring to another
+-- the count that the transitions of a state bring to another
 abbrev pub brought : Automaton → ℕ → ℕ → ℕ → ℕ
-brought a n p q = sum_by (λ e. cond {A = ℕ} (nat_eq e.target p) (words_at Lsd a n q) 0) (edges_of a q)
+brought a n p q = sum_by (λ e. cond {A = ℕ} (nat_eq e.target p) (words_at Lsd a n q) 0) (transitions_of a q)
 
 -- words that lead to a state, by their last digits
 pub words_into-suc : (a : Automaton) (n p : ℕ) → IsTable (letters_of a) a.states → words_at Lsd a (suc n) p ≡ sum_below (λ q. brought a n p q) (states_of a)
@@ -93,17 +93,17 @@ words_into-suc a n p table = led ∙ each ∙ swapped ∙ gathered
 
     along : (q : ℕ) → q < states_of a → sum_below (λ b. cond {A = ℕ} (moves b q) (words_at Lsd a n q) 0) d ≡ brought a n p q
     along q within =
-        let is : IsRow d (states_of a) (edges_of a q) = row_is a q table within in
+        let is : IsRow d (states_of a) (transitions_of a q) = row_is a q table within in
         sum_below-same (λ b. cond {A = ℕ} (moves b q) (words_at Lsd a n q) 0) (λ b. option_map_or (λ t. cond {A = ℕ} (nat_eq t p) (words_at Lsd a n q) 0) (step_of a q b) 0) d (λ b below. by (words_at Lsd a n q) (step_of a q b))
-        ∙ sym (sum-edges (λ t. cond {A = ℕ} (nat_eq t p) (words_at Lsd a n q) 0) d (edges_of a q) is.ascending (λ k e inside. (is.in_range k e inside).0))
+        ∙ sym (sum-transitions (λ t. cond {A = ℕ} (nat_eq t p) (words_at Lsd a n q) 0) d (transitions_of a q) is.ascending (λ k e inside. (is.in_range k e inside).0))
 
     gathered : sum_below (λ q. sum_below (λ b. cond {A = ℕ} (moves b q) (words_at Lsd a n q) 0) d) (states_of a) ≡ sum_below (λ q. brought a n p q) (states_of a)
     gathered = sum_below-same (λ q. sum_below (λ b. cond {A = ℕ} (moves b q) (words_at Lsd a n q) 0) d) (λ q. brought a n p q) (states_of a) along
 
--- what the edges of one more state bring, by a capped count
+-- what the transitions of one more state bring, by a capped count
 pub brought-more : (a : Automaton) (n p q count before : ℕ) → count ≡ capped (words_at Lsd a n q)
-    → capped (before + sum_by (λ e. cond {A = ℕ} (nat_eq e.target p) count 0) (edges_of a q)) ≡ capped (before + brought a n p q)
+    → capped (before + sum_by (λ e. cond {A = ℕ} (nat_eq e.target p) count 0) (transitions_of a q)) ≡ capped (before + brought a n p q)
 brought-more a n p q count before is =
-    capped-add before (sum_by (λ e. cond {A = ℕ} (nat_eq e.target p) count 0) (edges_of a q)) before (brought a n p q) refl
-    (capped-sum_by (λ (e : Edge). cond {A = ℕ} (nat_eq e.target p) count 0) (λ (e : Edge). cond {A = ℕ} (nat_eq e.target p) (words_at Lsd a n q) 0) (edges_of a q)
+    capped-add before (sum_by (λ e. cond {A = ℕ} (nat_eq e.target p) count 0) (transitions_of a q)) before (brought a n p q) refl
+    (capped-sum_by (λ (e : Transition). cond {A = ℕ} (nat_eq e.target p) count 0) (λ (e : Transition). cond {A = ℕ} (nat_eq e.target p) (words_at Lsd a n q) 0) (transitions_of a q)
     (λ k e inside. capped-cond (nat_eq _ p) count (words_at Lsd a n q) (ap capped is ∙ capped-again (words_at Lsd a n q))))

@@ -2,7 +2,7 @@ pub mod SumLemmas
 pub mod CappedLemmas
 pub mod CountSteps
 pub mod RowLemmas
-pub mod FrontLemmas
+pub mod PrefixLemmas
 pub mod PlaceLemmas
 pub mod ConstantWords
 pub mod WordPathLemmas

@@ -31,7 +31,7 @@ below-suc d test w n a =
     count_by-append (onward test w) (led (words d n) a) _
     ∙ ap (λ k. continuations_below d test w n a + k) (count_by-map (onward test w) (λ u. a ∷ u) (words d n) ∙ ap (λ (t : List ℕ → Bool). count_by t (words d n)) (sym (joined test w a)))
 
--- a word that may be the front of the one at the place
+-- a word that may be the prefix of the one at the place
 pub record IsPart (d : ℕ) (test : List ℕ → Bool) (place : ℕ) (w : List ℕ) (n rest : ℕ) : Type 0 where
   pub over : IsWord d w
   pub within : rest < continuations d test w n
@@ -111,38 +111,38 @@ longer-rep d test number longest language few =
     by w less placed (inr short) = absurd (let most : size d test (length w) ≤ number = few (length w) short in omega (arith, less, placed, most))
 
 -- the automaton of a system's language has its digits and its test
-language-digits : (s : System) (way : Direction) (a : Automaton) → IsLanguageOf way s a → letters_of a ≡ s.digits
-language-digits s way a language = ap product language.sizes ∙ mul-one s.digits
+language-digits : (s : System) (direction : Direction) (a : Automaton) → IsLanguageOf direction s a → letters_of a ≡ s.digits
+language-digits s direction a language = ap product language.sizes ∙ mul-one s.digits
 
-language-test : (s : System) (way : Direction) (a : Automaton) → IsLanguageOf way s a → read way a ≡ s.test
-language-test s way a language = λ i w. (let same : read way a w ≡ s.test w = language.accepts (in_order way w) ∙ ap s.test (in_order-twice way w) in same) i
+language-test : (s : System) (direction : Direction) (a : Automaton) → IsLanguageOf direction s a → read direction a ≡ s.test
+language-test s direction a language = λ i w. (let same : read direction a w ≡ s.test w = language.accepts (in_order direction w) ∙ ap s.test (in_order-twice direction w) in same) i
 
 -- the word at the number's place, for a system
-pub system-rep : (s : System) (way : Direction) (a : Automaton) (number n : ℕ) (w : List ℕ) → IsSystem s → IsLanguageOf way s a
-    → IsAtPlace (letters_of a) (read way a) n number w → ((m : ℕ) → m < n → continuations (letters_of a) (read way a) [] m ≤ number)
+pub system-rep : (s : System) (direction : Direction) (a : Automaton) (number n : ℕ) (w : List ℕ) → IsSystem s → IsLanguageOf direction s a
+    → IsAtPlace (letters_of a) (read direction a) n number w → ((m : ℕ) → m < n → continuations (letters_of a) (read direction a) [] m ≤ number)
     → IsRep s.digits s.test number w
-system-rep s way a number n w laws language at least =
+system-rep s direction a number n w laws language at least =
     place-rep s.digits s.test number n w laws
     (subst (λ d. IsAtPlace d s.test n number w) digits (subst (λ (t : List ℕ → Bool). IsAtPlace (letters_of a) t n number w) test at))
     (subst (λ d. (m : ℕ) → m < n → continuations d s.test [] m ≤ number) digits
     (subst (λ (t : List ℕ → Bool). (m : ℕ) → m < n → continuations (letters_of a) t [] m ≤ number) test least))
   where
     digits : letters_of a ≡ s.digits
-    digits = language-digits s way a language
+    digits = language-digits s direction a language
 
-    test : read way a ≡ s.test
-    test = language-test s way a language
+    test : read direction a ≡ s.test
+    test = language-test s direction a language
 
-pub system-longer : (s : System) (way : Direction) (a : Automaton) (number longest : ℕ) → IsSystem s → IsLanguageOf way s a
-    → ((m : ℕ) → m ≤ longest → continuations (letters_of a) (read way a) [] m ≤ number)
+pub system-longer : (s : System) (direction : Direction) (a : Automaton) (number longest : ℕ) → IsSystem s → IsLanguageOf direction s a
+    → ((m : ℕ) → m ≤ longest → continuations (letters_of a) (read direction a) [] m ≤ number)
     → (w : List ℕ) × IsRep s.digits s.test number w × (longest < length w)
-system-longer s way a number longest laws language few =
+system-longer s direction a number longest laws language few =
     longer-rep s.digits s.test number longest laws
     (subst (λ d. (m : ℕ) → m ≤ longest → continuations d s.test [] m ≤ number) digits
     (subst (λ (t : List ℕ → Bool). (m : ℕ) → m ≤ longest → continuations (letters_of a) t [] m ≤ number) test few))
   where
     digits : letters_of a ≡ s.digits
-    digits = language-digits s way a language
+    digits = language-digits s direction a language
 
-    test : read way a ≡ s.test
-    test = language-test s way a language
+    test : read direction a ≡ s.test
+    test = language-test s direction a language

@@ -17,10 +17,10 @@ entries-push f d xs k x long before here q within = by (cases_lt q k)
     by (inl less) = get_or_append_left xs (x ∷ []) d q (omega (arith, less, long)) ∙ before q less
     by (inr last) = let same : k ≡ q = omega (arith, last, within) in get_or_push xs x d q (long ∙ same) ∙ here ∙ ap f same
 
-get-front : {X : Type 0} (xs : List X) (y : X) (i : ℕ) (x : X) → slice_get xs i ≡ Some x → slice_get (xs ++ y ∷ []) i ≡ Some x
-get-front [] y i x is = absurd (none-some x is)
-get-front (z ∷ xs) y zero x is = is
-get-front (z ∷ xs) y (suc i) x is = get-front xs y i x is
+get-prefix : {X : Type 0} (xs : List X) (y : X) (i : ℕ) (x : X) → slice_get xs i ≡ Some x → slice_get (xs ++ y ∷ []) i ≡ Some x
+get-prefix [] y i x is = absurd (none-some x is)
+get-prefix (z ∷ xs) y zero x is = is
+get-prefix (z ∷ xs) y (suc i) x is = get-prefix xs y i x is
 
 get-last : {X : Type 0} (xs : List X) (y : X) → slice_get (xs ++ y ∷ []) (length xs) ≡ Some y
 get-last [] y = refl
@@ -37,17 +37,17 @@ get-push (z ∷ xs) y (suc i) x is = by (get-push xs y i x is)
     by (inr last) = inr (ap suc last.0, last.1)
 
 -- a row more
-pub rows-push : (way : Direction) (a : Automaton) (rows : List (Vec ℕ Global)) (row : Vec ℕ Global) → AreRows way a rows → AreCounts way a (length rows) row.items
-    → AreRows way a (rows ++ row ∷ [])
-rows-push way a rows row are last n r is = by (get-push rows row n r is)
+pub rows-push : (direction : Direction) (a : Automaton) (rows : List (Vec ℕ Global)) (row : Vec ℕ Global) → AreRows direction a rows → AreCounts direction a (length rows) row.items
+    → AreRows direction a (rows ++ row ∷ [])
+rows-push direction a rows row are last n r is = by (get-push rows row n r is)
   where
-    by : (slice_get rows n ≡ Some r) ⊎ ((n ≡ length rows) × (row ≡ r)) → AreCounts way a n r.items
+    by : (slice_get rows n ≡ Some r) ⊎ ((n ≡ length rows) × (row ≡ r)) → AreCounts direction a n r.items
     by (inl early) = are n r early
-    by (inr here) = subst (λ (v : Vec ℕ Global). AreCounts way a n v.items) here.1 (subst (λ k. AreCounts way a k row.items) (sym here.0) last)
+    by (inr here) = subst (λ (v : Vec ℕ Global). AreCounts direction a n v.items) here.1 (subst (λ k. AreCounts direction a k row.items) (sym here.0) last)
 
 -- all rows but the last, and that
-pub rows-front : (way : Direction) (a : Automaton) (rows : List (Vec ℕ Global)) (row : Vec ℕ Global) → AreRows way a (rows ++ row ∷ []) → AreRows way a rows
-rows-front way a rows row are n r is = are n r (get-front rows row n r is)
+pub rows-prefix : (direction : Direction) (a : Automaton) (rows : List (Vec ℕ Global)) (row : Vec ℕ Global) → AreRows direction a (rows ++ row ∷ []) → AreRows direction a rows
+rows-prefix direction a rows row are n r is = are n r (get-prefix rows row n r is)
 
-pub rows-last : (way : Direction) (a : Automaton) (rows : List (Vec ℕ Global)) (row : Vec ℕ Global) → AreRows way a (rows ++ row ∷ []) → AreCounts way a (length rows) row.items
-rows-last way a rows row are = are (length rows) row (get-last rows row)
+pub rows-last : (direction : Direction) (a : Automaton) (rows : List (Vec ℕ Global)) (row : Vec ℕ Global) → AreRows direction a (rows ++ row ∷ []) → AreCounts direction a (length rows) row.items
+rows-last direction a rows row are = are (length rows) row (get-last rows row)

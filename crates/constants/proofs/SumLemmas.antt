@@ -1,13 +1,13 @@
--- Sums over the numbers below a bound, over the edges of a state, and counts by where words lead.
+-- Sums over the numbers below a bound, over the transitions of a state, and counts by where words lead.
 use Rattle.std.proofs.Common.{◌≡◌, ◌≢◌, ℕ, zero, suc, ◌+◌, ◌<◌, Bool, true, false, cond, nat_eq, List, [], ◌∷◌, Option, None, Some, ◌⊎◌, inl, inr, refl, ap, sym, ◌∙◌, arith, count_by}
 use Rattle.std.specs.List.{All, AllPairs, sum_by}
 use Rattle.std.specs.Option.{option_map_or, IfSome}
 use Rattle.std.proofs.lemmas.Bool.{cases_eq, eq-eqb, ne_eqb}
 use Rattle.std.proofs.lemmas.List.Sums.{sum_by-cons}
-use Rattle.digit_tuple.specs.declared.edges.Edge.{Edge}
+use Rattle.digit_tuple.specs.declared.transitions.Transition.{Transition}
 use Rattle.digit_tuple.specs.Deterministic.{IsByEarlier, target_by}
 use Rattle.digit_tuple.proofs.DfaLemmas.{target_by-other, target_by-first}
-use Rattle.minimise.proofs.EdgeLemmas.{rest_pairs, target_by-early}
+use Rattle.minimise.proofs.TransitionLemmas.{rest_pairs, target_by-early}
 use Rattle.numeration.proofs.CountLemmas.{sum_below, sum_below-same, sum_below-stops, count_by-cons}
 
 pub sum_below-none : (f : ℕ → ℕ) (n : ℕ) → ((k : ℕ) → k < n → f k ≡ 0) → sum_below f n ≡ 0
@@ -37,11 +37,11 @@ sum_below-one f p n within none =
     let before : sum_below f p ≡ 0 = sum_below-none f p (λ k below. none k (λ same. omega (arith, below, same))) in
     omega (arith, stops, before)
 
--- a sum over the edges of a state is one over the letters
-pub sum-edges : (f : ℕ → ℕ) (d : ℕ) (es : List Edge) → AllPairs IsByEarlier es → All (λ e. e.letter < d) es
+-- a sum over the transitions of a state is one over the letters
+pub sum-transitions : (f : ℕ → ℕ) (d : ℕ) (es : List Transition) → AllPairs IsByEarlier es → All (λ e. e.letter < d) es
     → sum_by (λ e. f e.target) es ≡ sum_below (λ b. option_map_or f (target_by es b) 0) d
-sum-edges f d [] up small = sym (sum_below-none (λ b. 0) d (λ b below. refl))
-sum-edges f d (e ∷ es) up small = whole (sum-edges f d es (rest_pairs e es up) (λ k x within. small (suc k) x (omega arith)))
+sum-transitions f d [] up small = sym (sum_below-none (λ b. 0) d (λ b below. refl))
+sum-transitions f d (e ∷ es) up small = whole (sum-transitions f d es (rest_pairs e es up) (λ k x within. small (suc k) x (omega arith)))
   where
     first : ℕ → ℕ
     first b = cond {A = ℕ} (nat_eq e.letter b) (f e.target) 0
@@ -61,7 +61,7 @@ sum-edges f d (e ∷ es) up small = whole (sum-edges f d es (rest_pairs e es up)
         omega (arith, there, none)
 
     head : sum_by (λ x. f x.target) (e ∷ es) ≡ f e.target + sum_by (λ x. f x.target) es
-    head = sum_by-cons (λ (x : Edge). f x.target) e es
+    head = sum_by-cons (λ (x : Transition). f x.target) e es
 
     split : sum_below (λ b. option_map_or f (target_by (e ∷ es) b) 0) d ≡ sum_below (λ b. first b + others b) d
     split = sum_below-same (λ b. option_map_or f (target_by (e ∷ es) b) 0) (λ b. first b + others b) d (λ b below. by b (cases_eq b e.letter))

@@ -7,7 +7,7 @@ use Rattle.digit_tuple.specs.declared.direction.Direction.{Direction}
 use Rattle.digit_tuple.specs.declared.direction.Direction.TheVariants.{Msd, Lsd}
 use Rattle.digit_tuple.proofs.PaddingLemmas.{length-in_order}
 use Rattle.numeration.specs.Words.{is_plain}
-use Rattle.constants.specs.WordPaths.{IsPathTo, IsPaddingZero, IsPaddingPath, padding_front}
+use Rattle.constants.specs.WordPaths.{IsPathTo, IsPaddingZero, IsPaddingPath, padding_prefix}
 use Rattle.digit_tuple.proofs.AddedStates.{states_of-added, accepting_of-kept, accepting_of-new, step_of-added}
 
 -- a state more, to which the word's next letter leads
@@ -46,25 +46,25 @@ path_next word i q b e d path is at set =
     (path_more word i b d path (subst (λ (a : Automaton). IsSet a d i (get_or word i 0) (suc i)) (is ∙ ap (λ n. with_state b (nat_eq n (length word))) one) here))
 
 -- the first letter that is read is no padding zero
-other_letter : (way : Direction) (r : List ℕ) (q : ℕ) → IsTrue (is_plain r) → q < length r → ¬ IsPaddingZero way r q (get_or (in_order way r) q 0)
+other_letter : (direction : Direction) (r : List ℕ) (q : ℕ) → IsTrue (is_plain r) → q < length r → ¬ IsPaddingZero direction r q (get_or (in_order direction r) q 0)
 other_letter Msd [] q plain few padding = absurd (omega (arith, few))
 other_letter Msd (zero ∷ r) q plain few padding = absurd (false≢true plain)
 other_letter Msd (suc a ∷ r) q plain few padding = absurd (let e : get_or (suc a ∷ r) 0 0 ≡ 0 = subst (λ p. get_or (suc a ∷ r) p 0 ≡ 0) padding.0 padding.1 in omega (arith, e))
 other_letter Lsd r q plain few padding = absurd (omega (arith, few, padding.0))
 
 -- the whole path, with padding zeros
-pub padding_path : (way : Direction) (r v : List ℕ) (q long : ℕ) (b d : Automaton) → IsTrue (is_plain r) → v ≡ in_order way r → long ≡ length v
-    → IsPathTo v (length v) b → q ≡ padding_front way long → IsSet b d q 0 q → IsPaddingPath way r d
-padding_path way r v q long b d plain is count path at set =
-    whole (subst (λ u. IsPathTo u (length u) b) is path) (at ∙ ap (padding_front way) (count ∙ ap length is ∙ same))
+pub padding_path : (direction : Direction) (r v : List ℕ) (q long : ℕ) (b d : Automaton) → IsTrue (is_plain r) → v ≡ in_order direction r → long ≡ length v
+    → IsPathTo v (length v) b → q ≡ padding_prefix direction long → IsSet b d q 0 q → IsPaddingPath direction r d
+padding_path direction r v q long b d plain is count path at set =
+    whole (subst (λ u. IsPathTo u (length u) b) is path) (at ∙ ap (padding_prefix direction) (count ∙ ap length is ∙ same))
   where
-    same : length (in_order way r) ≡ length r
-    same = length-in_order way r
+    same : length (in_order direction r) ≡ length r
+    same = length-in_order direction r
 
-    whole : IsPathTo (in_order way r) (length (in_order way r)) b → q ≡ padding_front way (length r) → IsPaddingPath way r d
-    whole fronts here = record {
-      accepting = λ p few. set.accepting p ∙ fronts.accepting p (omega (arith, few, same)) ∙ ap (nat_eq p) same;
-      along = λ p few. set.elsewhere p (get_or (in_order way r) p 0) (λ there. other_letter way r p plain few (there.0 ∙ here, there.1)) ∙ fronts.along p (omega (arith, few, same));
+    whole : IsPathTo (in_order direction r) (length (in_order direction r)) b → q ≡ padding_prefix direction (length r) → IsPaddingPath direction r d
+    whole prefixes here = record {
+      accepting = λ p few. set.accepting p ∙ prefixes.accepting p (omega (arith, few, same)) ∙ ap (nat_eq p) same;
+      along = λ p few. set.elsewhere p (get_or (in_order direction r) p 0) (λ there. other_letter direction r p plain few (there.0 ∙ here, there.1)) ∙ prefixes.along p (omega (arith, few, same));
       stays = subst (λ p. step_of d p 0 ≡ Some p) here set.there;
-      stops = λ p letter next padding. set.elsewhere p letter (λ there. padding (there.0 ∙ here, there.1)) ∙ fronts.stops p letter (λ goes. next (omega (arith, goes.0, same), goes.1));
+      stops = λ p letter next padding. set.elsewhere p letter (λ there. padding (there.0 ∙ here, there.1)) ∙ prefixes.stops p letter (λ goes. next (omega (arith, goes.0, same), goes.1));
     }

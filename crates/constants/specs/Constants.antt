@@ -1,4 +1,4 @@
--- The automaton of one number, and the kinds of words that it tells apart.
+-- The automaton of one number, and the kinds of words that it distinguishes.
 use Rattle.std.specs.Prelude.{◌≡◌, ℕ, List, [], ◌∷◌, ◌++◌, ◌↔◌}
 use Rattle.digit_tuple.specs.Letters.{IsWord}
 use Rattle.digit_tuple.specs.Paddings.{in_order}
@@ -7,10 +7,10 @@ use Rattle.digit_tuple.specs.declared.direction.Direction.{Direction}
 use Rattle.numeration.specs.Systems.{System, IsNumeral}
 use Rattle.numeration.specs.Relations.{HoldsOf}
 
--- the automaton accepts the spellings of the number alone
+-- the automaton accepts the representations of the number alone
 abbrev pub IsConstantOf : Direction → System → ℕ → Automaton → Type 0
-IsConstantOf way s n d = HoldsOf way (s ∷ []) (λ ns. ns ≡ n ∷ []) d
+IsConstantOf direction s n d = HoldsOf direction (s ∷ []) (λ ns. ns ≡ n ∷ []) d
 
 -- what follows the one word and makes it a numeral of the number follows the other
 abbrev pub ConstantAlike : Direction → System → ℕ → List ℕ → List ℕ → Type 0
-ConstantAlike way s n w v = (u : List ℕ) → IsWord s.digits u → IsNumeral s (in_order way (w ++ u)) n ↔ IsNumeral s (in_order way (v ++ u)) n
+ConstantAlike direction s n w v = (u : List ℕ) → IsWord s.digits u → IsNumeral s (in_order direction (w ++ u)) n ↔ IsNumeral s (in_order direction (v ++ u)) n

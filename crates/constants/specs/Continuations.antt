@@ -8,7 +8,7 @@ use Rattle.numeration.specs.Words.{led, words}
 
 -- the language of an automaton, its words read from the most significant digit on
 abbrev pub read : Direction → Automaton → List ℕ → Bool
-read way a w = accepts_of a (in_order way w)
+read direction a w = accepts_of a (in_order direction w)
 
 -- how many words of a length there are with which a word goes on to one of the language
 abbrev pub continuations : ℕ → (List ℕ → Bool) → List ℕ → ℕ → ℕ

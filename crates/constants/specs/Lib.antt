@@ -1,6 +1,6 @@
 pub mod Continuations
 pub mod WordCounts
-pub mod Fronts
+pub mod Prefixes
 pub mod Choices
 pub mod Places
 pub mod Constants

@@ -4,7 +4,7 @@ use Rattle.std.specs.List.{count_by}
 use Rattle.digit_tuple.specs.Letters.{IsWord}
 use Rattle.numeration.specs.Words.{words, is_less}
 
--- the word of the language of a length before which so many of that length stand
+-- the word of the language of a length before which so many of that length are
 pub record IsAtPlace (d : ℕ) (test : List ℕ → Bool) (n place : ℕ) (w : List ℕ) : Type 0 where
   pub over : IsWord d w
   pub long : length w ≡ n

@@ -16,12 +16,12 @@ use digit_tuple::stepped::Stepped;
 use digit_tuple::steps::Steps;
 use std::alloc::Global;
 
-/// The canonical automaton of the spellings of one number, by the step `const` as the next one. The
-/// language, the width and the cost are those of `constant`.
+/// The canonical automaton of the representations of one number, by the step `const` as the next one. The language, the
+/// width and the cost are those of `constant`.
 ///
 /// # Errors
-/// `States` exactly where the width passes the limit, and `Letters` never. The steps are as before then,
-/// also where memory is wanting.
+/// `States` if and only if the width passes the limit, and `Letters` never. The steps are as before then, also where
+/// memory is wanting.
 pub fn constant_step(
     alloc: Global,
     language: &Dfa,

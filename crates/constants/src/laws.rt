@@ -2,7 +2,7 @@
 
 ghost use Rattle.constants.specs.ConstantWidth.{ConstantAlikeIsEquivalence, OneConstantWidth, ConstantWidthExcludes};
 
-/// Words that the spellings of a number do not tell apart are of one kind: they are alike as equals are.
+/// Words that the representations of a number do not distinguish are of one kind: they are alike as equals are.
 pub fn kinds_are_classes()
     ensures { ConstantAlikeIsEquivalence }
 {}

@@ -1,11 +1,11 @@
-//! Single numbers of a numeration system: their words, and the automata of their spellings.
+//! Single numbers of a numeration system: their words, and the automata of their representations.
 #![tactic(auto)]
 
 /// How many words of a length there are at each state of an automaton.
 mod word_counts;
 
 /// What the most significant digits of a word lead to.
-mod front;
+mod prefix;
 
 /// The word that stands for a number.
 pub mod representation;

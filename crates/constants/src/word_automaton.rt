@@ -5,7 +5,7 @@ ghost use Rattle.digit_tuple.specs.Deterministic.{accepts_of};
 ghost use Rattle.digit_tuple.specs.Letters.{IsWord, product};
 ghost use Rattle.digit_tuple.specs.Paddings.{in_order, without_zeros};
 ghost use Rattle.numeration.specs.Words.{is_plain};
-ghost use Rattle.constants.specs.WordPaths.{IsPathTo, IsPaddingPath, padding_front};
+ghost use Rattle.constants.specs.WordPaths.{IsPathTo, IsPaddingPath, padding_prefix};
 
 use digit_tuple::alphabet::Alphabet;
 use digit_tuple::dfa::Dfa;
@@ -14,9 +14,9 @@ use digit_tuple::direction::Direction;
 use digit_tuple::faults::OutOfMemory;
 use std::alloc::Global;
 
-/// The automaton of the paddings of a word, which has its most significant digit first, and no zero
-/// there. A state stands for each front of the word as the direction reads it. OutOfMemory comes too
-/// where 2^32 - 1 states are not enough.
+/// The automaton of the paddings of a word, which has its most significant digit first, and no zero there. A state
+/// stands for each prefix of the word as the direction reads it. OutOfMemory comes too where 2^32 - 1 states are not
+/// enough.
 pub fn paddings_of(
     alloc: Global,
     alphabet: Alphabet,
@@ -56,9 +56,9 @@ fn in_reading_order(
     }
 }
 
-// The front of a word of this length at which its padding zeros stand.
+// The prefix of a word of this length at which its padding zeros are.
 fn padding_state(direction: Direction, length: u32) -> u32
-    ensures { result ≡ padding_front direction length }
+    ensures { result ≡ padding_prefix direction length }
 {
     match direction {
         Direction::Msd => 0,
@@ -66,7 +66,7 @@ fn padding_state(direction: Direction, length: u32) -> u32
     }
 }
 
-// A state for each front of the word, from which its next letter leads to the next one.
+// A state for each prefix of the word, from which its next letter leads to the next one.
 fn path_of(alloc: Global, alphabet: Alphabet, letters: &[u32]) -> Result<DfaBuilder, OutOfMemory>
     requires letters { IsWord (product alphabet) letters.now }
     ensures sizes { IfOk result (λ builder. builder.sizes ≡ alphabet) }

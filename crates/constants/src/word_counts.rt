@@ -1,5 +1,5 @@
-//! How many words of a length there are at each state of an automaton: those that lead from it to
-//! acceptance where the most significant digit stands first, else those that lead to it.
+//! How many words of a length there are at each state of an automaton: those that lead from it to acceptance where the
+//! most significant digit comes first, else those that lead to it.
 
 ghost use Rattle.std.specs.Prelude.{◌≡◌, ℕ, suc, ◌+◌, ◌<◌, length, cond, nat_eq, slice_index_or, IfOk};
 ghost use Rattle.std.specs.List.{All, sum_by};
@@ -9,8 +9,8 @@ ghost use Rattle.constants.specs.WordCounts.{capped, words_at, AreCounts};
 
 use digit_tuple::dfa::Dfa;
 use digit_tuple::direction::Direction;
-use digit_tuple::edges::Edge;
 use digit_tuple::faults::OutOfMemory;
+use digit_tuple::transitions::Transition;
 use std::alloc::Global;
 
 /// The counts of the states for words of no digit.
@@ -64,22 +64,22 @@ fn counts_from(alloc: Global, language: &Dfa, row: &[u128]) -> Result<Vec<u128>,
     ensures { IfOk result (λ next. (n : ℕ) → AreCounts Msd language.now n row.now → AreCounts Msd language.now (suc n) next.items) }
 {
     let mut next = Vec::new(alloc);
-    let mut edges = Vec::new(alloc);
+    let mut transitions = Vec::new(alloc);
     for state in 0..language.states() {
-        language.edges_into(state, &mut edges)?;
-        next.push(sum_along(&edges, row))?;
+        language.transitions_into(state, &mut transitions)?;
+        next.push(sum_along(&transitions, row))?;
     }
     Ok(next)
 }
 
-// The sum of the counts where the edges lead.
-fn sum_along(edges: &[Edge], row: &[u128]) -> u128
-    requires { All (λ edge. edge.target < length row.now) edges.now }
-    ensures { result ≡ capped (sum_by (λ edge. slice_index_or row.now edge.target 0) edges.now) }
+// The sum of the counts where the transitions lead.
+fn sum_along(transitions: &[Transition], row: &[u128]) -> u128
+    requires { All (λ transition. transition.target < length row.now) transitions.now }
+    ensures { result ≡ capped (sum_by (λ transition. slice_index_or row.now transition.target 0) transitions.now) }
 {
     let mut sum: u128 = 0;
-    for edge in edges {
-        sum = sum.saturating_add(row[edge.target as usize]);
+    for transition in transitions {
+        sum = sum.saturating_add(row[transition.target as usize]);
     }
     sum
 }
@@ -90,22 +90,22 @@ fn counts_into(alloc: Global, language: &Dfa, row: &[u128]) -> Result<Vec<u128>,
     ensures { IfOk result (λ next. (n : ℕ) → AreCounts Lsd language.now n row.now → AreCounts Lsd language.now (suc n) next.items) }
 {
     let mut next: Vec<u128> = vec![in alloc; 0; row.len()]?;
-    let mut edges = Vec::new(alloc);
+    let mut transitions = Vec::new(alloc);
     for state in 0..language.states() {
-        language.edges_into(state, &mut edges)?;
-        add_along(&mut next, &edges, row[state as usize]);
+        language.transitions_into(state, &mut transitions)?;
+        add_along(&mut next, &transitions, row[state as usize]);
     }
     Ok(next)
 }
 
-// Adds the count where each edge leads.
-fn add_along(next: &mut [u128], edges: &[Edge], count: u128)
-    requires { All (λ edge. edge.target < length next.old) edges.now }
+// Adds the count where each transition leads.
+fn add_along(next: &mut [u128], transitions: &[Transition], count: u128)
+    requires { All (λ transition. transition.target < length next.old) transitions.now }
     ensures { (state before : ℕ) → state < length next.old → slice_index_or next.old state 0 ≡ capped before
-        → slice_index_or next.new state 0 ≡ capped (before + sum_by (λ edge. cond (nat_eq edge.target state) count 0) edges.now) }
+        → slice_index_or next.new state 0 ≡ capped (before + sum_by (λ transition. cond (nat_eq transition.target state) count 0) transitions.now) }
 {
-    for edge in edges {
-        let target = edge.target as usize;
+    for transition in transitions {
+        let target = transition.target as usize;
         next[target] = next[target].saturating_add(count);
     }
 }

@@ -8,15 +8,15 @@ use Rattle.definitions.specs.Trees.{File, Regex, Formula, Fixed, Image, Combine,
 use Rattle.definitions.specs.Texts.{HasTextIn, HasTextAt, Stores}
 use Rattle.definitions.specs.Laws.{CustomTextsAreFiles}
 
--- what stands as a text of a user's system is a file, of these bytes
+-- what is as a text of a user's system is a file, of these bytes
 entry_text : (custom : Custom) (entry : Entry) (text : List ℕ) → HasTextIn custom Bases entry text → bytes_of (tree_of entry) ≡ Some text
 entry_text custom (Bytes bytes) text has = ap Some (sym has.1)
 entry_text custom (Defined (File bytes)) text has = ap Some (sym has.1)
 entry_text custom (Defined (Regex tracks e)) text has = absurd (has.0.1 refl)
 entry_text custom (Defined (Formula variables formula bindings)) text has = absurd (has.0.1 refl)
 entry_text custom (Defined (Fixed rules)) text has = absurd (let no : Bases ≡ Words = has.0 in cc)
-entry_text custom (Defined (Image way system rules tree)) text has = absurd (let no : Bases ≡ Words = has.0 in cc)
-entry_text custom (Defined (Combine way named parts)) text has = absurd (let no : Bases ≡ Words = has.0 in cc)
+entry_text custom (Defined (Image direction system rules tree)) text has = absurd (let no : Bases ≡ Words = has.0 in cc)
+entry_text custom (Defined (Combine direction named parts)) text has = absurd (let no : Bases ≡ Words = has.0 in cc)
 
 entry_there : (custom : Custom) (entry : Option Entry) (text : Option (List ℕ)) → HasTextAt custom Bases entry text → option_and_then (λ e. bytes_of (tree_of e)) entry ≡ text
 entry_there custom None None has = refl

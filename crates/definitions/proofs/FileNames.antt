@@ -56,7 +56,7 @@ kind_stands (Base k) is = record {
 kind_stands Fibonacci is = record { some = omega arith; few = omega arith; passes = refl }
 
 -- a name of a system is one in a file
-name_stands : (way : Direction) (kind : SystemKind) → IsSystemKind kind → is_system (system_name way kind) ≡ true
+name_stands : (direction : Direction) (kind : SystemKind) → IsSystemKind kind → is_system (system_name direction kind) ≡ true
 unfolding is_system
 name_stands Msd kind is =
     let part = kind_stands kind is in
@@ -75,68 +75,68 @@ kind_digits (Base k) is = record { some = omega (arith, is.least); small = omega
 kind_digits Fibonacci is = record { some = omega arith; small = omega arith }
 
 -- a system that a name means has as many digits as a file's track may have
-pub named_digits : (custom : Custom) (name : List ℕ) (way : Direction) (s : System) → IsSystemNamed custom name way s → IsDigitCount s.digits
-named_digits custom name way s (inl (kind, built, is)) =
+pub named_digits : (custom : Custom) (name : List ℕ) (direction : Direction) (s : System) → IsSystemNamed custom name direction s → IsDigitCount s.digits
+named_digits custom name direction s (inl (kind, built, is)) =
     let digits : s.digits ≡ digit_count kind = ap (λ (r : System). r.digits) is ∙ digits_by_kind kind in
     subst IsDigitCount (sym digits) (kind_digits kind built.0)
-named_digits custom name way s (inr user) = user_digits custom name way s user
+named_digits custom name direction s (inr user) = user_digits custom name direction s user
 
 -- and is such a track
-named_track : (custom : Custom) (way : Direction) (s : NamedSystem) → IsSystemNamed custom s.name way s.system → IsSystemTrack (track_of s)
-named_track custom way s (inl (kind, built, is)) =
+named_track : (custom : Custom) (direction : Direction) (s : NamedSystem) → IsSystemNamed custom s.name direction s.system → IsSystemTrack (track_of s)
+named_track custom direction s (inl (kind, built, is)) =
     let digits : s.system.digits ≡ digit_count kind = ap (λ (r : System). r.digits) is ∙ digits_by_kind kind in
     record {
-      name = ap is_system built.1 ∙ name_stands way kind built.0;
-      count = named_digits custom s.name way s.system (inl (kind, built, is));
-      within = omega (arith, digits, digit_limit-built way kind s.name built);
+      name = ap is_system built.1 ∙ name_stands direction kind built.0;
+      count = named_digits custom s.name direction s.system (inl (kind, built, is));
+      within = omega (arith, digits, digit_limit-built direction kind s.name built);
     }
-named_track custom way s (inr user) =
-    let count : IsDigitCount s.system.digits = named_digits custom s.name way s.system (inr user) in
+named_track custom direction s (inr user) =
+    let count : IsDigitCount s.system.digits = named_digits custom s.name direction s.system (inr user) in
     record {
-      name = users_name_passes s.name (way, user.part, user.is_name);
+      name = users_name_passes s.name (direction, user.part, user.is_name);
       count = count;
-      within = omega (arith, count.small, users_digit_limit s.name (way, user.part, user.is_name));
+      within = omega (arith, count.small, users_digit_limit s.name (direction, user.part, user.is_name));
     }
 
-named_tracks : (custom : Custom) (way : Direction) (named : List NamedSystem) → AreNamed custom way named → AllByRecursion IsSystemTrack (header_tracks named)
-named_tracks custom way [] are = tt
-named_tracks custom way (s ∷ named) are = (named_track custom way s are.0, named_tracks custom way named are.1)
+named_tracks : (custom : Custom) (direction : Direction) (named : List NamedSystem) → AreNamed custom direction named → AllByRecursion IsSystemTrack (header_tracks named)
+named_tracks custom direction [] are = tt
+named_tracks custom direction (s ∷ named) are = (named_track custom direction s are.0, named_tracks custom direction named are.1)
 
--- the first byte of a name tells the direction
+-- the first byte of a name determines the direction
 abbrev pub first_byte : Direction → ℕ
 first_byte Msd = 109
 first_byte Lsd = 108
 
-built_in_front : (way : Direction) (kind : SystemKind) → slice_index (system_name way kind) 0 ≡ first_byte way
-built_in_front Msd kind = refl
-built_in_front Lsd kind = refl
+built_in_prefix : (direction : Direction) (kind : SystemKind) → slice_index (system_name direction kind) 0 ≡ first_byte direction
+built_in_prefix Msd kind = refl
+built_in_prefix Lsd kind = refl
 
-user_front : (way : Direction) (part : List ℕ) → slice_index (user_name way part) 0 ≡ first_byte way
-user_front Msd part = refl
-user_front Lsd part = refl
+user_prefix : (direction : Direction) (part : List ℕ) → slice_index (user_name direction part) 0 ≡ first_byte direction
+user_prefix Msd part = refl
+user_prefix Lsd part = refl
 
-pub named_front : (custom : Custom) (name : List ℕ) (way : Direction) (s : System) → IsSystemNamed custom name way s → slice_index name 0 ≡ first_byte way
-named_front custom name way s (inl (kind, built, is)) = ap (λ (n : List ℕ). slice_index n 0) built.1 ∙ built_in_front way kind
-named_front custom name way s (inr user) = ap (λ (n : List ℕ). slice_index n 0) user.is_name.1 ∙ user_front way user.part
+pub named_prefix : (custom : Custom) (name : List ℕ) (direction : Direction) (s : System) → IsSystemNamed custom name direction s → slice_index name 0 ≡ first_byte direction
+named_prefix custom name direction s (inl (kind, built, is)) = ap (λ (n : List ℕ). slice_index n 0) built.1 ∙ built_in_prefix direction kind
+named_prefix custom name direction s (inr user) = ap (λ (n : List ℕ). slice_index n 0) user.is_name.1 ∙ user_prefix direction user.part
 
-one_front : (way : Direction) → eqb (first_byte way) (first_byte way) ≡ true
-one_front Msd = refl
-one_front Lsd = refl
+one_prefix : (direction : Direction) → eqb (first_byte direction) (first_byte direction) ≡ true
+one_prefix Msd = refl
+one_prefix Lsd = refl
 
-names_direct : (custom : Custom) (way : Direction) (s r : NamedSystem) → IsSystemNamed custom s.name way s.system → IsSystemNamed custom r.name way r.system → directs_as s.name r.name ≡ true
-names_direct custom way s r one two = (λ i. eqb (named_front custom r.name way r.system two i) (named_front custom s.name way s.system one i)) ∙ one_front way
+names_direct : (custom : Custom) (direction : Direction) (s r : NamedSystem) → IsSystemNamed custom s.name direction s.system → IsSystemNamed custom r.name direction r.system → directs_as s.name r.name ≡ true
+names_direct custom direction s r one two = (λ i. eqb (named_prefix custom r.name direction r.system two i) (named_prefix custom s.name direction s.system one i)) ∙ one_prefix direction
 
-all_direct : (custom : Custom) (way : Direction) (s : NamedSystem) (named : List NamedSystem) → IsSystemNamed custom s.name way s.system → AreNamed custom way named → list_all (directs_as s.name) (lists.names_of (header_tracks named)) ≡ true
-all_direct custom way s [] is are = refl
-all_direct custom way s (r ∷ named) is are =
-    ap (λ (b : Bool). b && list_all (directs_as s.name) (lists.names_of (header_tracks named))) (names_direct custom way s r is are.0) ∙ all_direct custom way s named is are.1
+all_direct : (custom : Custom) (direction : Direction) (s : NamedSystem) (named : List NamedSystem) → IsSystemNamed custom s.name direction s.system → AreNamed custom direction named → list_all (directs_as s.name) (lists.names_of (header_tracks named)) ≡ true
+all_direct custom direction s [] is are = refl
+all_direct custom direction s (r ∷ named) is are =
+    ap (λ (b : Bool). b && list_all (directs_as s.name) (lists.names_of (header_tracks named))) (names_direct custom direction s r is are.0) ∙ all_direct custom direction s named is are.1
 
 -- systems that names mean are tracks that a file may have
-pub file_systems : (custom : Custom) (way : Direction) (named : List NamedSystem) → 0 < length named → AreNamed custom way named → AreTrackSystems (header_tracks named)
-file_systems custom way [] some are = absurd (omega (arith, some))
-file_systems custom way (s ∷ named) some are = record {
-  each = All-from_recursion IsSystemTrack (header_tracks (s ∷ named)) (named_tracks custom way (s ∷ named) are);
-  alike = rw (all_direct custom way s named are.0 are.1) refl;
+pub file_systems : (custom : Custom) (direction : Direction) (named : List NamedSystem) → 0 < length named → AreNamed custom direction named → AreTrackSystems (header_tracks named)
+file_systems custom direction [] some are = absurd (omega (arith, some))
+file_systems custom direction (s ∷ named) some are = record {
+  each = All-from_recursion IsSystemTrack (header_tracks (s ∷ named)) (named_tracks custom direction (s ∷ named) are);
+  alike = rw (all_direct custom direction s named are.0 are.1) refl;
 }
 
 -- and the tracks have the names

@@ -18,8 +18,8 @@ use Rattle.automaton_steps.proofs.OneOutcomes.{pad_outcome, read_outcome, valid_
 use Rattle.dfa_reading.specs.Headers.{Header, Truth, Systems, Sets}
 use Rattle.dfa_reading.specs.Listed.{Listed}
 use Rattle.num_system.specs.Sealed.{SystemValue}
-use Rattle.numeration.specs.Spelling.{sizes_of}
-use Rattle.num_system.specs.Tracks.{languages_of, systems_of, way_of}
+use Rattle.numeration.specs.Representation.{sizes_of}
+use Rattle.num_system.specs.Tracks.{languages_of, systems_of, direction_of}
 use Rattle.number_relations.specs.Readings.{AreReadingSteps, IsPaddedReading, PassesAtPad, PassesAtValid, PassesReading}
 use Rattle.number_relations.specs.Relations.{RelationValue, named_of}
 use Rattle.number_relations.proofs.RelationLemmas.{one_relation}
@@ -45,28 +45,28 @@ one_branching systems listed n m one other =
     one.table other.table
 
 -- the steps read and pad
-module _ (limit : ℕ) (way : Direction) (listed : Branching) (a b : IsPaddedReading limit way listed) where
+module _ (limit : ℕ) (direction : Direction) (listed : Branching) (a b : IsPaddedReading limit direction listed) where
   pub one_read : a.read ≡ b.read
   one_read = (read_outcome limit listed).result a.read b.read a.first b.first a.read_step b.read_step
 
   pub one_first : a.first ≡ b.first
   one_first = (read_outcome limit listed).line a.read b.read a.first b.first a.read_step b.read_step
 
-  also_pad : IsPadStep limit way a.read b.closed b.second
-  also_pad = subst (λ (d : Automaton). IsPadStep limit way d b.closed b.second) (sym one_read) b.pad_step
+  also_pad : IsPadStep limit direction a.read b.closed b.second
+  also_pad = subst (λ (d : Automaton). IsPadStep limit direction d b.closed b.second) (sym one_read) b.pad_step
 
   pub one_closed : a.closed ≡ b.closed
-  one_closed = (pad_outcome limit way a.read).result a.closed b.closed a.second b.second a.pad_step also_pad
+  one_closed = (pad_outcome limit direction a.read).result a.closed b.closed a.second b.second a.pad_step also_pad
 
   pub one_second : a.second ≡ b.second
-  one_second = (pad_outcome limit way a.read).line a.closed b.closed a.second b.second a.pad_step also_pad
+  one_second = (pad_outcome limit direction a.read).line a.closed b.closed a.second b.second a.pad_step also_pad
 
 -- all steps of a reading make one relation, with the same lines
 module _ (limit : ℕ) (systems : List SystemValue) (listed : Branching) (r s : RelationValue) (lines others : List StepLine) (one : AreReadingSteps limit systems listed r lines)
     (other : AreReadingSteps limit systems listed s others) where
   also_valid : IsValidStep limit (languages_of systems) (numbered one.before.closed) (named_of s) other.third
   also_valid =
-      subst (λ (d : Automaton). IsValidStep limit (languages_of systems) (numbered d) (named_of s) other.third) (sym (one_closed limit (way_of systems) listed one.before other.before)) other.valid_step
+      subst (λ (d : Automaton). IsValidStep limit (languages_of systems) (numbered d) (named_of s) other.third) (sym (one_closed limit (direction_of systems) listed one.before other.before)) other.valid_step
 
   pub one_reading : r ≡ s
   one_reading =
@@ -76,31 +76,31 @@ module _ (limit : ℕ) (systems : List SystemValue) (listed : Branching) (r s : 
   pub same_lines : lines ≡ others
   same_lines =
       let third = (valid_outcome limit (languages_of systems) (numbered one.before.closed)).line (named_of r) (named_of s) one.third other.third one.valid_step also_valid in
-      let first = one_first limit (way_of systems) listed one.before other.before in
-      let second = one_second limit (way_of systems) listed one.before other.before in
+      let first = one_first limit (direction_of systems) listed one.before other.before in
+      let second = one_second limit (direction_of systems) listed one.before other.before in
       one.lines_are ∙ (λ i. first i ∷ second i ∷ third i ∷ []) ∙ sym other.lines_are
 
 -- where a reading passes the limit
 module _ (old : StepLog) (systems : List SystemValue) (listed : Branching) where
-  abbrev way : Direction
-  way = way_of systems
+  abbrev direction : Direction
+  direction = direction_of systems
 
   -- a first step that is done does not pass it
   read_done : (read : Automaton) (first : StepLine) → IsReadStep old.limit listed read first → ReadExceeds old.limit listed → ⊥
   read_done read first done = (read_outcome old.limit listed).no_states read first done
 
   -- nor does a second one
-  pad_done : (before : IsPaddedReading old.limit way listed) (read : Automaton) (first : StepLine) → IsReadStep old.limit listed read first → PadExceeds old.limit way read → ⊥
+  pad_done : (before : IsPaddedReading old.limit direction listed) (read : Automaton) (first : StepLine) → IsReadStep old.limit listed read first → PadExceeds old.limit direction read → ⊥
   pad_done before read first done exceeds =
       let same : before.read ≡ read = (read_outcome old.limit listed).result before.read read before.first first before.read_step done in
-      (pad_outcome old.limit way before.read).no_states before.closed before.second before.pad_step (subst (λ (d : Automaton). PadExceeds old.limit way d) (sym same) exceeds)
+      (pad_outcome old.limit direction before.read).no_states before.closed before.second before.pad_step (subst (λ (d : Automaton). PadExceeds old.limit direction d) (sym same) exceeds)
 
   at_read : (fault : StepFault) → fault ≢ faults.Memory → IsRefusedBy old ⊥ (ReadExceeds old.limit listed) fault → (fault ≡ faults.States (length old.lines + 1)) × ReadExceeds old.limit listed
   at_read fault other refused = refused_states old (ReadExceeds old.limit listed) fault refused other
 
-  at_pad : (fault : StepFault) → fault ≢ faults.Memory → (passes : PassesAtPad old way listed fault) → (fault ≡ faults.States (length old.lines + 2)) × PadExceeds old.limit way passes.read
+  at_pad : (fault : StepFault) → fault ≢ faults.Memory → (passes : PassesAtPad old direction listed fault) → (fault ≡ faults.States (length old.lines + 2)) × PadExceeds old.limit direction passes.read
   at_pad fault other passes =
-      let told = refused_states (with_line old passes.first) (PadExceeds old.limit way passes.read) fault passes.refused other in
+      let told = refused_states (with_line old passes.first) (PadExceeds old.limit direction passes.read) fault passes.refused other in
       let next : length (old.lines ++ passes.first ∷ []) + 1 ≡ length old.lines + 2 = omega (arith, length_push old.lines passes.first) in
       (told.0 ∙ ap faults.States next, told.1)
 
@@ -128,7 +128,7 @@ module _ (old : StepLog) (systems : List SystemValue) (listed : Branching) where
   not_passing r lines fault apart steps (inl one) = read_done steps.before.read steps.before.first steps.before.read_step (at_read fault apart one).1
   not_passing r lines fault apart steps (inr (inl one)) = pad_done steps.before one.read one.first one.read_step (at_pad fault apart one).1
   not_passing r lines fault apart steps (inr (inr one)) =
-      let same = one_closed old.limit way listed one.before steps.before in
+      let same = one_closed old.limit direction listed one.before steps.before in
       (valid_outcome old.limit (languages_of systems) (numbered steps.before.closed)).no_states (named_of r) steps.third steps.valid_step
       (subst (λ (d : Automaton). ValidExceeds old.limit (languages_of systems) (numbered d)) same (at_valid fault apart one).1)
 

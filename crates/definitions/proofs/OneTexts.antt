@@ -22,9 +22,9 @@ use Rattle.definitions.proofs.OneWordTexts.{one_word_text, one_fixed_text}
 -- an expression over tracks has one text
 pub one_track_text : (custom : Custom) (tracks : Tracks) (e : Expression (List ℤ)) (text other : List ℕ) → IsTrackText custom tracks e text → IsTrackText custom tracks e other → text ≡ other
 one_track_text custom (OverSets sets) e text other a b = one_regex_text sets e text other a b
-one_track_text custom (OverSystems way named) e text other a b =
+one_track_text custom (OverSystems direction named) e text other a b =
     a.text_is
-    ∙ ap (λ (d : Automaton). relation_text (header_of (OverSystems way named)) d) (relation_is_one way (systems_of named) (letter_sets (OverSystems way named)) e a.automaton b.automaton a.of_relation b.of_relation)
+    ∙ ap (λ (d : Automaton). relation_text (header_of (OverSystems direction named)) d) (relation_is_one direction (systems_of named) (letter_sets (OverSystems direction named)) e a.automaton b.automaton a.of_relation b.of_relation)
     ∙ sym b.text_is
 
 module _ (custom : Custom) (bindings : Bindings) where
@@ -32,16 +32,16 @@ module _ (custom : Custom) (bindings : Bindings) where
   one_truth : (formula : trees.Formula) (truth other : Bool) → HasTruth custom bindings formula truth → HasTruth custom bindings formula other → truth ≡ other
   one_truth formula truth other a b = same_truth truth other (IsSolvedBy custom bindings [] formula []) a b
 
-  -- the first variable tells the direction, and the formula the automaton
+  -- the first variable determines the direction, and the formula the automaton
   one_solution_text : (v : Variable) (variables : List Variable) (formula : trees.Formula) (text other : List ℕ)
       → IsSolutionText custom bindings (v ∷ variables) formula text → IsSolutionText custom bindings (v ∷ variables) formula other → text ≡ other
   one_solution_text v variables formula text other a b =
       let named = named_systems (v ∷ variables) in
       let holds : List ℕ → Type 0 = IsSolvedBy custom bindings (v ∷ variables) formula in
-      let ways : a.way ≡ b.way = sym a.read.0 ∙ b.read.0 in
-      let moved : HoldsOf b.way (systems_of named) holds a.automaton = subst (λ (way : Direction). HoldsOf way (systems_of named) holds a.automaton) ways a.holds in
-      let automata : a.automaton ≡ b.automaton = one_holding b.way (systems_of named) holds a.automaton b.automaton a.canonical b.canonical moved b.holds in
-      a.text_is ∙ ((λ i. relation_text (header_of (OverSystems (ways i) named)) (automata i)) ∙ sym b.text_is)
+      let directions : a.direction ≡ b.direction = sym a.read.0 ∙ b.read.0 in
+      let moved : HoldsOf b.direction (systems_of named) holds a.automaton = subst (λ (direction : Direction). HoldsOf direction (systems_of named) holds a.automaton) directions a.holds in
+      let automata : a.automaton ≡ b.automaton = one_holding b.direction (systems_of named) holds a.automaton b.automaton a.canonical b.canonical moved b.holds in
+      a.text_is ∙ ((λ i. relation_text (header_of (OverSystems (directions i) named)) (automata i)) ∙ sym b.text_is)
 
   -- a formula has one text
   pub one_formula_text : (variables : List Variable) (formula : trees.Formula) (text other : List ℕ) → IsFormulaText custom bindings variables formula text → IsFormulaText custom bindings variables formula other → text ≡ other
@@ -63,8 +63,8 @@ one_tree_text custom (File bytes) text other a b = a ∙ sym b
 one_tree_text custom (Regex tracks e) text other a b = one_track_text custom tracks e text other a b
 one_tree_text custom (Formula variables formula bindings) text other a b = one_formula_text custom bindings variables formula text other a b
 one_tree_text custom (Fixed rules) text other a b = one_fixed_text custom rules text other a b
-one_tree_text custom (Image way system rules tree) text other a b = one_word_text custom way (system ∷ []) (λ ns letter. tree_letter custom (Image way system rules tree) ns letter) text other a b
-one_tree_text custom (Combine way named parts) text other a b = one_word_text custom way named (λ ns letter. tree_letter custom (Combine way named parts) ns letter) text other a b
+one_tree_text custom (Image direction system rules tree) text other a b = one_word_text custom direction (system ∷ []) (λ ns letter. tree_letter custom (Image direction system rules tree) ns letter) text other a b
+one_tree_text custom (Combine direction named parts) text other a b = one_word_text custom direction named (λ ns letter. tree_letter custom (Combine direction named parts) ns letter) text other a b
 
 -- an entry has one text
 pub one_text_of : OneText

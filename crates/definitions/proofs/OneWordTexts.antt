@@ -8,7 +8,7 @@ use Rattle.digit_tuple.specs.declared.direction.Direction.TheVariants.{Msd}
 use Rattle.dfa_text.specs.RelationText.{word_text}
 use Rattle.morph_words.proofs.UniformLemmas.{one_length}
 use Rattle.morph_words.specs.Rules.{Rules}
-use Rattle.numeration.specs.Spelling.{letters_in}
+use Rattle.numeration.specs.Representation.{letters_in}
 use Rattle.word_output.specs.LetterFunctions.{LetterFunctionValue, SameLetterFunction, letter_after, outputs_of}
 use Rattle.word_output.proofs.LetterEquality.{letter_functions}
 use Rattle.word_output.proofs.OptionLemmas.{same_option}
@@ -19,8 +19,8 @@ use Rattle.definitions.specs.WordTexts.{IsWordText, msd_base}
 use Rattle.definitions.specs.Texts.{IsFixedText}
 use Rattle.system_files.specs.SystemFiles.{Custom}
 
-module _ (custom : Custom) (way : Direction) (named : List NamedSystem) (HasLetter : List ℕ → ℤ → Type 0) (text other : List ℕ) (a : IsWordText custom way named HasLetter text) (b : IsWordText custom way named HasLetter other) where
-  -- both functions give each word the letters of the places that it spells
+module _ (custom : Custom) (direction : Direction) (named : List NamedSystem) (HasLetter : List ℕ → ℤ → Type 0) (text other : List ℕ) (a : IsWordText custom direction named HasLetter text) (b : IsWordText custom direction named HasLetter other) where
+  -- both functions give each word the letters of the places that it represents
   same_letters : SameLetterFunction a.function b.function
   same_letters w over =
       let inside : IsWord (letters_in (systems_of named)) w = subst (λ (sizes : List ℕ). IsWord (product sizes) w) a.sizes over in
@@ -35,7 +35,7 @@ module _ (custom : Custom) (way : Direction) (named : List NamedSystem) (HasLett
 
   -- so the text of a word is one
   pub one_word_text : text ≡ other
-  one_word_text = a.text_is ∙ ap (λ (f : LetterFunctionValue). word_text (header_of (OverSystems way named)) f.automaton (outputs_of f)) one_function ∙ sym b.text_is
+  one_word_text = a.text_is ∙ ap (λ (f : LetterFunctionValue). word_text (header_of (OverSystems direction named)) f.automaton (outputs_of f)) one_function ∙ sym b.text_is
 
 -- and that of a fixed point, whose base is one
 pub one_fixed_text : (custom : Custom) (rules : Rules) (text other : List ℕ) → IsFixedText custom rules text → IsFixedText custom rules other → text ≡ other

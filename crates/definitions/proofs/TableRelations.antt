@@ -7,11 +7,11 @@ use Rattle.digit_tuple.specs.declared.steps.StepLine.{StepLine}
 use Rattle.dfa_reading.specs.Headers.{Header, Truth, Systems, Sets}
 use Rattle.dfa_reading.specs.Listed.{Listed}
 use Rattle.num_system.specs.Sealed.{SystemValue, system_of, IsSealed}
-use Rattle.numeration.specs.Spelling.{sizes_of}
+use Rattle.numeration.specs.Representation.{sizes_of}
 use Rattle.number_relations.specs.Comparisons.{IsTruth}
-use Rattle.num_system.specs.Tracks.{systems_of, way_of}
+use Rattle.num_system.specs.Tracks.{systems_of, direction_of}
 use Rattle.number_relations.specs.Relations.{IsRelation, RelationHolds, RelationValue}
-use Rattle.num_system.proofs.HoldLemmas.{spelled_count}
+use Rattle.num_system.proofs.HoldLemmas.{represented_count}
 use Rattle.number_relations.proofs.ReadingLemmas.{reading_holds, reading_is}
 use Rattle.definitions.specs.TableSteps.{AreForTracks, AreStepsBelow, AreSystemTableSteps, HoldsBelowOver}
 use Rattle.definitions.specs.TableLaws.{TablesHold}
@@ -23,7 +23,7 @@ no_numbers (n ∷ ns) none = absurd (omega (arith, none))
 
 -- a relation holds of as many numbers as it has systems
 relation_count : (r : RelationValue) (ns : List ℕ) → RelationHolds r ns → length ns ≡ length r.systems
-relation_count r ns (word, over, spells, accepted) = spelled_count (systems_of r.systems) (in_order (way_of r.systems) word) ns spells ∙ length-map r.systems system_of
+relation_count r ns (word, over, represents, accepted) = represented_count (systems_of r.systems) (in_order (direction_of r.systems) word) ns represents ∙ length-map r.systems system_of
 
 -- a sentence holds of no numbers, where it is true
 truth_holds : (value : Bool) (r : RelationValue) → IsTruth value r → (ns : List ℕ) → RelationHolds r ns ↔ (IsTrue value × (ns ≡ []))
@@ -42,11 +42,11 @@ module _ (limit : ℕ) (systems : List SystemValue) (listed : Listed) (r : Relat
   table_holds_over : (names : List (List ℕ)) → AreForTracks (Systems names) systems → AreSystemTableSteps limit systems listed r lines → (ns : List ℕ)
       → RelationHolds r ns ↔ HoldsBelowOver (Systems names) systems listed ns
   table_holds_over names tracks steps ns =
-      let words = listed_words (way_of systems) (systems_of systems) listed steps.branching steps.over.is_branching ns in
+      let words = listed_words (direction_of systems) (systems_of systems) listed steps.branching steps.over.is_branching ns in
       let sizes : steps.branching.sizes ≡ sizes_of (systems_of systems) = steps.over.is_branching.sizes_are in
       let holds = reading_holds limit systems steps.branching r lines sealed tracks.1 sizes steps.steps ns in (
         λ relation. words.0 ((holds (relation_count r ns relation ∙ ap length steps.steps.systems_are)).0 relation),
-        λ has. (holds (spelled_count (systems_of systems) (in_order (way_of systems) has.word) ns has.spells ∙ length-map systems system_of)).1 (words.1 has),
+        λ has. (holds (represented_count (systems_of systems) (in_order (direction_of systems) has.word) ns has.represents ∙ length-map systems system_of)).1 (words.1 has),
       )
 
   below_is : (header : Header) → AreForTracks header systems → AreStepsBelow header limit systems listed r lines → IsRelation r × (r.systems ≡ systems)

@@ -4,7 +4,7 @@ use Rattle.std.proofs.lemmas.List.{length-map}
 use Rattle.dfa_reading.specs.Branching.{AreGiven, sizes_in}
 use Rattle.dfa_reading.specs.Headers.{Header, Truth, Systems, Sets}
 use Rattle.num_system.specs.Sealed.{SystemValue, system_of}
-use Rattle.numeration.specs.Spelling.{sizes_of}
+use Rattle.numeration.specs.Representation.{sizes_of}
 use Rattle.numeration.specs.Systems.{System}
 use Rattle.num_system.specs.Tracks.{systems_of}
 use Rattle.definitions.specs.TableSteps.{AreForTracks}

@@ -13,10 +13,10 @@ use Rattle.digit_tuple.proofs.SystemLemmas.{length-digit_set}
 use Rattle.wal_outside.specs.declared.folder.Folder.TheVariants.{Automata, Words}
 use Rattle.formula_parse.specs.Trees as trees
 use Rattle.numeration.specs.Systems.{System}
-use Rattle.numeration.specs.Spelling as spelling
-use Rattle.numeration.specs.Spelling.{letters_in}
+use Rattle.numeration.specs.Representation as representation
+use Rattle.numeration.specs.Representation.{letters_in}
 use Rattle.numeration.specs.Relations.{HoldsOf}
-use Rattle.num_system.proofs.HoldLemmas.{one_tuple, spelled_count, spelling_of}
+use Rattle.num_system.proofs.HoldLemmas.{one_tuple, represented_count, representation_of}
 use Rattle.regex_build.specs.Expression.{Expression}
 use Rattle.reg_steps.specs.Relations.{HasMatch}
 use Rattle.dfa_reading.specs.Branching.{IsLetterOfDigits}
@@ -36,15 +36,15 @@ use Rattle.definitions.specs.Named.{AreNamed}
 use Rattle.definitions.specs.Files.{HasListedWord, HoldsUnder, ListedHolds, FileHolds}
 use Rattle.definitions.specs.TreeMeanings.{RegexHolds, tree_holds}
 use Rattle.definitions.specs.FormulaTexts.{IsSolvedBy, named_systems, IsSolutionText, IsSentenceText, truth_text, IsFormulaText}
-use Rattle.definitions.specs.Texts.{IsRegexText, IsSpelledText, IsTrackText}
+use Rattle.definitions.specs.Texts.{IsRegexText, IsRepresentedText, IsTrackText}
 use Rattle.definitions.specs.Laws.{TextsMeanTheirTrees}
-use Rattle.definitions.proofs.NameLemmas.{named_are_systems, same_list, same_way}
+use Rattle.definitions.proofs.NameLemmas.{named_are_systems, same_list, same_direction}
 use Rattle.definitions.proofs.FileNames.{file_systems, track_names}
 
--- over the digits of systems stand as many digits as the systems have
-pub system_sizes : (way : Direction) (named : List NamedSystem) → sizes_of (letter_sets (OverSystems way named)) ≡ spelling.sizes_of (systems_of named)
-system_sizes way [] = refl
-system_sizes way (s ∷ named) = ap (λ (n : ℕ). n ∷ sizes_of (letter_sets (OverSystems way named))) (length-digit_set s.system.digits) ∙ ap (λ (ns : List ℕ). s.system.digits ∷ ns) (system_sizes way named)
+-- over the digits of systems are as many digits as the systems have
+pub system_sizes : (direction : Direction) (named : List NamedSystem) → sizes_of (letter_sets (OverSystems direction named)) ≡ representation.sizes_of (systems_of named)
+system_sizes direction [] = refl
+system_sizes direction (s ∷ named) = ap (λ (n : ℕ). n ∷ sizes_of (letter_sets (OverSystems direction named))) (length-digit_set s.system.digits) ∙ ap (λ (ns : List ℕ). s.system.digits ∷ ns) (system_sizes direction named)
 
 -- a file that lists something holds of what this holds of
 file_holds : (custom : Custom) (text : List ℕ) (listed : Listed) → relation_of text ≡ Ok listed → (ns : List ℕ) → FileHolds custom text ns ↔ ListedHolds custom listed ns
@@ -55,17 +55,17 @@ file_holds custom text listed read ns = (there, λ h. (listed, read, h))
         let same : other ≡ listed = let e : Ok other ≡ Ok listed = sym also ∙ read in cc in
         subst (λ (l : Listed). ListedHolds custom l ns) same h
 
-module _ (custom : Custom) (way : Direction) (named : List NamedSystem) (some : 0 < length named) (are : AreNamed custom way named) where
+module _ (custom : Custom) (direction : Direction) (named : List NamedSystem) (some : 0 < length named) (are : AreNamed custom direction named) where
   -- under the names of systems it holds over the systems
-  under_names : (listed : Listed) (ns : List ℕ) → HoldsUnder custom (names_of named) listed ns → HasListedWord way (systems_of named) listed ns
+  under_names : (listed : Listed) (ns : List ℕ) → HoldsUnder custom (names_of named) listed ns → HasListedWord direction (systems_of named) listed ns
   under_names listed ns h =
-      let same : named ≡ h.named = same_list custom way h.way named h.named are h.are h.names_are in
-      let ways : way ≡ h.way = same_way custom way h.way named h.named some are h.are h.names_are in
-      subst (λ (x : List NamedSystem). HasListedWord way (systems_of x) listed ns) (sym same) (subst (λ (x : Direction). HasListedWord x (systems_of h.named) listed ns) (sym ways) h.word)
+      let same : named ≡ h.named = same_list custom direction h.direction named h.named are h.are h.names_are in
+      let directions : direction ≡ h.direction = same_direction custom direction h.direction named h.named some are h.are h.names_are in
+      subst (λ (x : List NamedSystem). HasListedWord direction (systems_of x) listed ns) (sym same) (subst (λ (x : Direction). HasListedWord x (systems_of h.named) listed ns) (sym directions) h.word)
 
-  module _ (holds : List ℕ → Type 0) (d : Automaton) (table : IsTable (letters_of d) d.states) (relates : HoldsOf way (systems_of named) holds d) where
+  module _ (holds : List ℕ → Type 0) (d : Automaton) (table : IsTable (letters_of d) d.states) (relates : HoldsOf direction (systems_of named) holds d) where
     abbrev header : Header
-    header = header_of (OverSystems way named)
+    header = header_of (OverSystems direction named)
 
     abbrev listed : Listed
     listed = automaton_listed header d
@@ -79,34 +79,34 @@ module _ (custom : Custom) (way : Direction) (named : List NamedSystem) (some : 
     count_of : length ss ≡ length named
     count_of = length-map named (λ (s : NamedSystem). s.system)
 
-    -- a spelling of the numbers is listed where the automaton holds of them
-    word_holds : (ns : List ℕ) → HasListedWord way ss listed ns → (length ns ≡ length named) × holds ns
+    -- a representation of the numbers is listed where the automaton holds of them
+    word_holds : (ns : List ℕ) → HasListedWord direction ss listed ns → (length ns ≡ length named) × holds ns
     word_holds ns h =
         let letters : AllZip (IsLetterOfDigits d.sizes) h.tuples h.word = subst (λ (sizes : List ℕ). AllZip (IsLetterOfDigits sizes) h.tuples h.word) (sym relates.sizes) h.letters in
         let accepts : ListedAccepts d.sizes listed h.tuples = subst (λ (sizes : List ℕ). ListedAccepts sizes listed h.tuples) (sym relates.sizes) h.accepts in
-        let over : IsWord (letters_in ss) h.word = word_of_tuples (spelling.sizes_of ss) h.tuples h.word h.letters in
+        let over : IsWord (letters_in ss) h.word = word_of_tuples (representation.sizes_of ss) h.tuples h.word h.letters in
         let found = (relates.accepts h.word over).0 ((accepts_listed header d table h.tuples h.word letters).0 accepts) in
-        (spelled_count ss (in_order way h.word) ns h.spells ∙ count_of, subst holds (one_tuple ss (in_order way h.word) found.0 ns found.1 h.spells) found.2)
+        (represented_count ss (in_order direction h.word) ns h.represents ∙ count_of, subst holds (one_tuple ss (in_order direction h.word) found.0 ns found.1 h.represents) found.2)
 
-    listed_word : (ns : List ℕ) → length ns ≡ length named → holds ns → HasListedWord way ss listed ns
+    listed_word : (ns : List ℕ) → length ns ≡ length named → holds ns → HasListedWord direction ss listed ns
     listed_word ns count held =
-        let found = spelling_of way ss ns (named_are_systems custom way named are) (count ∙ sym count_of) in
-        let tuples = tuples_of (spelling.sizes_of ss) found.0 found.1 in
+        let found = representation_of direction ss ns (named_are_systems custom direction named are) (count ∙ sym count_of) in
+        let tuples = tuples_of (representation.sizes_of ss) found.0 found.1 in
         let letters : AllZip (IsLetterOfDigits d.sizes) tuples.0 found.0 = subst (λ (sizes : List ℕ). AllZip (IsLetterOfDigits sizes) tuples.0 found.0) (sym relates.sizes) tuples.1 in
         let accepts : ListedAccepts d.sizes listed tuples.0 = (accepts_listed header d table tuples.0 found.0 letters).1 ((relates.accepts found.0 found.1).1 (ns, found.2, held)) in
         record {
           tuples = tuples.0;
           word = found.0;
           letters = tuples.1;
-          spells = found.2;
+          represents = found.2;
           accepts = subst (λ (sizes : List ℕ). ListedAccepts sizes listed tuples.0) relates.sizes accepts;
         }
 
     text_read : relation_of printed ≡ Ok listed
-    text_read = text_lists header d (record { tracks = file_systems custom way named some are; sizes = relates.sizes ∙ sym (system_sizes way named); table = table })
+    text_read = text_lists header d (record { tracks = file_systems custom direction named some are; sizes = relates.sizes ∙ sym (system_sizes direction named); table = table })
 
     -- the text of an automaton holds of the numbers of which the automaton holds
-    pub automaton_text_holds : (ns : List ℕ) → FileHolds custom (relation_text (header_of (OverSystems way named)) d) ns ↔ ((length ns ≡ length named) × holds ns)
+    pub automaton_text_holds : (ns : List ℕ) → FileHolds custom (relation_text (header_of (OverSystems direction named)) d) ns ↔ ((length ns ≡ length named) × holds ns)
     automaton_text_holds ns = (there, back)
       where
         below : FileHolds custom printed ns ↔ ListedHolds custom listed ns
@@ -117,7 +117,7 @@ module _ (custom : Custom) (way : Direction) (named : List NamedSystem) (some : 
 
         back : (length ns ≡ length named) × holds ns → FileHolds custom printed ns
         back (count, held) =
-            let here : HoldsUnder custom (names_of named) listed ns = record { way = way; named = named; names_are = refl; are = are; word = listed_word ns count held } in
+            let here : HoldsUnder custom (names_of named) listed ns = record { direction = direction; named = named; names_are = refl; are = are; word = listed_word ns count held } in
             below.1 (subst (λ (names : List (List ℕ)). HoldsUnder custom names listed ns) (sym (track_names named)) here)
 
 -- over sets a text holds of no numbers
@@ -126,20 +126,20 @@ sets_text_holds custom sets e text is ns =
     let under : IsAutomatonUnder (headers.Sets sets) is.automaton = record { tracks = is.tracks; sizes = is.of_regex.sizes; table = is.of_regex.canonical.table } in
     file_holds custom text (automaton_listed (headers.Sets sets) is.automaton) (ap relation_of is.text_is ∙ text_lists (headers.Sets sets) is.automaton under) ns
 
--- over systems of the numbers of which a spelling matches
-spelled_text_holds : (custom : Custom) (way : Direction) (named : List NamedSystem) (e : Expression (List ℤ)) (text : List ℕ) → IsSpelledText custom way named e text → (ns : List ℕ)
-    → FileHolds custom text ns ↔ HasMatch way (systems_of named) (letter_sets (OverSystems way named)) e ns
-spelled_text_holds custom way named e text is ns =
+-- over systems of the numbers of which a representation matches
+represented_text_holds : (custom : Custom) (direction : Direction) (named : List NamedSystem) (e : Expression (List ℤ)) (text : List ℕ) → IsRepresentedText custom direction named e text → (ns : List ℕ)
+    → FileHolds custom text ns ↔ HasMatch direction (systems_of named) (letter_sets (OverSystems direction named)) e ns
+represented_text_holds custom direction named e text is ns =
     let ss = systems_of named in
-    let match : List ℕ → Type 0 = HasMatch way ss (letter_sets (OverSystems way named)) e in
-    let relates : HoldsOf way ss match is.automaton = record { sizes = is.of_relation.sizes; accepts = is.of_relation.language } in
-    let both = automaton_text_holds custom way named is.some is.are match is.automaton is.of_relation.canonical.table relates ns in
-    let count : match ns → length ns ≡ length named = λ m. spelled_count ss (in_order way m.word) ns m.spells ∙ length-map named (λ (s : NamedSystem). s.system) in
+    let match : List ℕ → Type 0 = HasMatch direction ss (letter_sets (OverSystems direction named)) e in
+    let relates : HoldsOf direction ss match is.automaton = record { sizes = is.of_relation.sizes; accepts = is.of_relation.language } in
+    let both = automaton_text_holds custom direction named is.some is.are match is.automaton is.of_relation.canonical.table relates ns in
+    let count : match ns → length ns ≡ length named = λ m. represented_count ss (in_order direction m.word) ns m.represents ∙ length-map named (λ (s : NamedSystem). s.system) in
     rw is.text_is (λ h. (both.0 h).1, λ m. both.1 (count m, m))
 
 track_text_holds : (custom : Custom) (tracks : Tracks) (e : Expression (List ℤ)) (text : List ℕ) → IsTrackText custom tracks e text → (ns : List ℕ) → FileHolds custom text ns ↔ RegexHolds tracks e ns
 track_text_holds custom (OverSets sets) e text is ns = sets_text_holds custom sets e text is ns
-track_text_holds custom (OverSystems way named) e text is ns = spelled_text_holds custom way named e text is ns
+track_text_holds custom (OverSystems direction named) e text is ns = represented_text_holds custom direction named e text is ns
 
 -- what the text of a truth lists
 truth_read : (truth : Bool) → relation_of (truth_text truth) ≡ Ok (record { header = Truth truth; outputs = []; lines = [] })
@@ -163,14 +163,14 @@ module _ (custom : Custom) (bindings : Bindings) (formula : trees.Formula) where
   solution_text_holds variables text some is ns =
       let named = named_systems variables in
       let count : length named ≡ length variables = length-map variables (λ (v : Variable). v.system) in
-      let both = automaton_text_holds custom is.way named (omega (arith, some, count)) is.named (IsSolvedBy custom bindings variables formula) is.automaton is.canonical.table is.holds ns in
+      let both = automaton_text_holds custom is.direction named (omega (arith, some, count)) is.named (IsSolvedBy custom bindings variables formula) is.automaton is.canonical.table is.holds ns in
       rw is.text_is (λ h. let held = both.0 h in (held.0 ∙ count, held.1), λ h. both.1 (h.0 ∙ sym count, h.1))
 
   formula_text_holds : (variables : List Variable) (text : List ℕ) → IsFormulaText custom bindings variables formula text → (ns : List ℕ) → FileHolds custom text ns ↔ tree_holds custom (Formula variables formula bindings) ns
   formula_text_holds [] text is ns = sentence_text_holds text is ns
   formula_text_holds (v ∷ variables) text is ns = solution_text_holds (v ∷ variables) text (omega arith) is ns
 
--- words do not stand among automata
+-- words are not among automata
 not_among : {P : Type 0} → Automata ≡ Words → P
 not_among same = absurd (cc)
 
@@ -179,5 +179,5 @@ text_means custom (File bytes) text may is ns = (λ h. subst (λ (file : List �
 text_means custom (Regex tracks e) text may is ns = track_text_holds custom tracks e text is ns
 text_means custom (Formula variables formula bindings) text may is ns = formula_text_holds custom bindings formula variables text is ns
 text_means custom (Fixed rules) text may is ns = not_among may
-text_means custom (Image way system rules tree) text may is ns = not_among may
-text_means custom (Combine way named parts) text may is ns = not_among may
+text_means custom (Image direction system rules tree) text may is ns = not_among may
+text_means custom (Combine direction named parts) text may is ns = not_among may

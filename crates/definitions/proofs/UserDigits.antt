@@ -143,8 +143,8 @@ language_digits text listed (suc last) lists header =
     omega (arith, below)
 
 -- and so a user's system
-pub user_digits : (custom : Custom) (name : List ℕ) (way : Direction) (s : System) → IsUserSystem custom name way s → IsDigitCount s.digits
-user_digits custom name way s user =
+pub user_digits : (custom : Custom) (name : List ℕ) (direction : Direction) (s : System) → IsUserSystem custom name direction s → IsDigitCount s.digits
+user_digits custom name direction s user =
     let language = user.found.language in
     let more : 1 < s.digits = two_digits s.digits s.test user.defined.system in
     let few : user.files.digits ≤ 2 ^ 31 = language_digits language.text user.files.language user.files.digits language.lists language.header in

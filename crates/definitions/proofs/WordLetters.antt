@@ -9,7 +9,7 @@ use Rattle.dfa_reading.proofs.ReadWords.{word_files_list_words}
 use Rattle.numeration.specs.Systems.{System}
 use Rattle.num_system.specs.Sealed.{SystemValue, system_of}
 use Rattle.num_system.specs.Tracks as tracks
-use Rattle.num_system.specs.Tracks.{way_of}
+use Rattle.num_system.specs.Tracks.{direction_of}
 use Rattle.word_output.specs.Laws.{WordsHaveListedLetters}
 use Rattle.word_output.specs.WordReadings.{HasListedLetterAt}
 use Rattle.word_output.specs.Words.{HasLetter}
@@ -18,7 +18,7 @@ use Rattle.definitions.specs.Tracks.{NamedSystem, systems_of}
 use Rattle.definitions.specs.WordFiles.{HasLetterUnder, HasLetterBelow, ListedLetter, FileLetter}
 use Rattle.definitions.specs.WordLaws.{FilesAreWords, NamesMean, WordsHaveFileLetters}
 use Rattle.definitions.proofs.FileTables.{word_has_states}
-use Rattle.definitions.proofs.NameLemmas.{same_list, same_way}
+use Rattle.definitions.proofs.NameLemmas.{same_list, same_direction}
 
 -- what a word's file lists is a word with a state
 pub file_is_word : FilesAreWords
@@ -34,13 +34,13 @@ file_letter custom text listed ns letter reads (other, also, has) =
 
 module _ (custom : Custom) (names : List (List ℕ)) (systems : List SystemValue) (mean : NamesMean custom names systems) (listed : Listed) (ns : List ℕ) (letter : ℤ) where
   -- over the systems that names mean a letter is listed under the names
-  under_names : HasListedLetterAt (way_of systems) (tracks.systems_of systems) listed ns letter → HasLetterUnder custom names listed ns letter
+  under_names : HasListedLetterAt (direction_of systems) (tracks.systems_of systems) listed ns letter → HasLetterUnder custom names listed ns letter
   under_names at = record {
-    way = way_of systems;
+    direction = direction_of systems;
     named = mean.named;
     names_are = mean.names_are;
     are = mean.are;
-    letter_is = subst (λ (ss : List System). HasListedLetterAt (way_of systems) ss listed ns letter) (sym mean.systems_are) at;
+    letter_is = subst (λ (ss : List System). HasListedLetterAt (direction_of systems) ss listed ns letter) (sym mean.systems_are) at;
   }
 
   some_named : 0 < length systems → 0 < length mean.named
@@ -48,20 +48,20 @@ module _ (custom : Custom) (names : List (List ℕ)) (systems : List SystemValue
       omega (arith, some, sym (length-map mean.named (λ (s : NamedSystem). s.system)) ∙ ap (λ (ss : List System). length ss) mean.systems_are ∙ length-map systems system_of)
 
   -- and the other way round
-  over_systems : 0 < length systems → HasLetterUnder custom names listed ns letter → HasListedLetterAt (way_of systems) (tracks.systems_of systems) listed ns letter
+  over_systems : 0 < length systems → HasLetterUnder custom names listed ns letter → HasListedLetterAt (direction_of systems) (tracks.systems_of systems) listed ns letter
   over_systems some under =
       let together = sym mean.names_are ∙ under.names_are in
-      let same : mean.named ≡ under.named = same_list custom (way_of systems) under.way mean.named under.named mean.are under.are together in
-      let ways : way_of systems ≡ under.way = same_way custom (way_of systems) under.way mean.named under.named (some_named some) mean.are under.are together in
+      let same : mean.named ≡ under.named = same_list custom (direction_of systems) under.direction mean.named under.named mean.are under.are together in
+      let directions : direction_of systems ≡ under.direction = same_direction custom (direction_of systems) under.direction mean.named under.named (some_named some) mean.are under.are together in
       let systems_are : systems_of under.named ≡ tracks.systems_of systems = ap systems_of (sym same) ∙ mean.systems_are in
-      subst (λ (way : Direction). HasListedLetterAt way (tracks.systems_of systems) listed ns letter) (sym ways)
-      (subst (λ (ss : List System). HasListedLetterAt under.way ss listed ns letter) systems_are under.letter_is)
+      subst (λ (direction : Direction). HasListedLetterAt direction (tracks.systems_of systems) listed ns letter) (sym directions)
+      (subst (λ (ss : List System). HasListedLetterAt under.direction ss listed ns letter) systems_are under.letter_is)
 
 -- so a word that is read has the letters of the file
 pub file_letters : WordsHaveListedLetters → WordsHaveFileLetters
 file_letters have custom text listed names limit v lines reads header mean is steps ns letter = (there, back)
   where
-    both : HasLetter v ns letter ↔ HasListedLetterAt (way_of v.systems) (tracks.systems_of v.systems) listed ns letter
+    both : HasLetter v ns letter ↔ HasListedLetterAt (direction_of v.systems) (tracks.systems_of v.systems) listed ns letter
     both = have limit listed v lines (word_files_list_words text listed reads) is steps ns letter
 
     there : HasLetter v ns letter → FileLetter custom text ns letter

@@ -22,10 +22,10 @@ use Rattle.dfa_text.proofs.ListedPaths.{runs_listed}
 use Rattle.dfa_text.proofs.PrintedWords.{text_lists_word}
 use Rattle.minimise.specs.Classes.{class_of}
 use Rattle.minimise.proofs.RunLemmas.{run_within}
-use Rattle.num_system.proofs.HoldLemmas.{spelled_count, spelling_of}
-use Rattle.numeration.specs.Spelling.{Spells, letters_in, sizes_of}
+use Rattle.num_system.proofs.HoldLemmas.{represented_count, representation_of}
+use Rattle.numeration.specs.Representation.{Represents, letters_in, sizes_of}
 use Rattle.numeration.specs.Systems.{AreSystems, System}
-use Rattle.numeration.proofs.SpellLemmas.{spells-without_zeros}
+use Rattle.numeration.proofs.RepresentLemmas.{represents-without_zeros}
 use Rattle.word_output.specs.LetterFunctions.{LetterFunctionValue, IsLetterFunction, letter_after, letter_in, outputs_of}
 use Rattle.word_output.specs.WordReadings.{HasListedLetterAt}
 use Rattle.word_output.proofs.LetterFunctionLemmas.{letter_in-class}
@@ -35,7 +35,7 @@ use Rattle.definitions.specs.Tracks.{NamedSystem, OverSystems, names_of, systems
 use Rattle.definitions.specs.WordFiles.{HasLetterUnder, ListedLetter, FileLetter}
 use Rattle.definitions.specs.WordTexts.{IsWordText}
 use Rattle.definitions.proofs.FileNames.{file_systems, track_names}
-use Rattle.definitions.proofs.NameLemmas.{named_are_systems, same_list, same_way}
+use Rattle.definitions.proofs.NameLemmas.{named_are_systems, same_list, same_direction}
 use Rattle.definitions.proofs.TextMeanings.{system_sizes}
 use Rattle.definitions.proofs.WordLetters.{file_letter}
 
@@ -71,12 +71,12 @@ module _ (f : LetterFunctionValue) (is : IsLetterFunction f) where
       by None none = absurd (none-some letter none)
       by (Some q) some = (q, refl)
 
-module _ (custom : Custom) (way : Direction) (named : List NamedSystem) (HasLetter : List ℕ → ℤ → Type 0) (text : List ℕ) (is : IsWordText custom way named HasLetter text) where
+module _ (custom : Custom) (direction : Direction) (named : List NamedSystem) (HasLetter : List ℕ → ℤ → Type 0) (text : List ℕ) (is : IsWordText custom direction named HasLetter text) where
   abbrev d : Automaton
   d = is.function.automaton
 
   abbrev header : Header
-  header = header_of (OverSystems way named)
+  header = header_of (OverSystems direction named)
 
   abbrev listed : Listed
   listed = word_listed header d (outputs_of is.function)
@@ -94,46 +94,46 @@ module _ (custom : Custom) (way : Direction) (named : List NamedSystem) (HasLett
   text_read : word_of text ≡ Ok listed
   text_read =
       ap word_of is.text_is
-      ∙ text_lists_word (header_tracks named) d (outputs_of is.function) (record { tracks = file_systems custom way named is.some is.are; sizes = is.sizes ∙ sym (system_sizes way named); table = table })
+      ∙ text_lists_word (header_tracks named) d (outputs_of is.function) (record { tracks = file_systems custom direction named is.some is.are; sizes = is.sizes ∙ sym (system_sizes direction named); table = table })
       (outputs_fit is.function is.canonical is.fits)
 
   -- under the names of systems a letter is listed over the systems
-  over_systems : (ns : List ℕ) (letter : ℤ) → HasLetterUnder custom (names_of named) listed ns letter → HasListedLetterAt way ss listed ns letter
+  over_systems : (ns : List ℕ) (letter : ℤ) → HasLetterUnder custom (names_of named) listed ns letter → HasListedLetterAt direction ss listed ns letter
   over_systems ns letter h =
-      let same : named ≡ h.named = same_list custom way h.way named h.named is.are h.are h.names_are in
-      let ways : way ≡ h.way = same_way custom way h.way named h.named is.some is.are h.are h.names_are in
-      subst (λ (x : List NamedSystem). HasListedLetterAt way (systems_of x) listed ns letter) (sym same) (subst (λ (x : Direction). HasListedLetterAt x (systems_of h.named) listed ns letter) (sym ways) h.letter_is)
+      let same : named ≡ h.named = same_list custom direction h.direction named h.named is.are h.are h.names_are in
+      let directions : direction ≡ h.direction = same_direction custom direction h.direction named h.named is.some is.are h.are h.names_are in
+      subst (λ (x : List NamedSystem). HasListedLetterAt direction (systems_of x) listed ns letter) (sym same) (subst (λ (x : Direction). HasListedLetterAt x (systems_of h.named) listed ns letter) (sym directions) h.letter_is)
 
   moved : (tuples : List (List ℕ)) (w : List ℕ) (q : ℕ) → AllZip (IsLetterOfDigits (sizes_of ss)) tuples w → MovesAlong (sizes_of ss) listed 0 tuples q ↔ (run_of d 0 w ≡ Some q)
   moved tuples w q letters = subst (λ (sizes : List ℕ). AllZip (IsLetterOfDigits sizes) tuples w → MovesAlong sizes listed 0 tuples q ↔ (run_of d 0 w ≡ Some q)) is.sizes (runs_listed header d table (outputs_of is.function) tuples w q) letters
 
   -- what is listed at a place is the letter of the place
-  letter_from_listed : (ns : List ℕ) (letter : ℤ) → HasListedLetterAt way ss listed ns letter → HasLetter ns letter
+  letter_from_listed : (ns : List ℕ) (letter : ℤ) → HasListedLetterAt direction ss listed ns letter → HasLetter ns letter
   letter_from_listed ns letter h =
       let over : IsWord (letters_in ss) h.word = word_of_tuples (sizes_of ss) h.tuples h.word h.letters in
-      let own = is.everywhere ns (spelled_count ss (in_order way h.word) ns h.spells ∙ count_of) in
+      let own = is.everywhere ns (represented_count ss (in_order direction h.word) ns h.represents ∙ count_of) in
       let q : ℕ = h.letter_is.0 in
       let leads : run_of d 0 h.word ≡ Some q = (moved h.tuples h.word q h.letters).0 h.letter_is.1 in
-      let output : get_or (outputs_of is.function) q (pos 0) ≡ own.0 = led_output is.function is.canonical h.word q own.0 leads ((is.letters h.word over own.0).1 (ns, h.spells, own.1)) in
+      let output : get_or (outputs_of is.function) q (pos 0) ≡ own.0 = led_output is.function is.canonical h.word q own.0 leads ((is.letters h.word over own.0).1 (ns, h.represents, own.1)) in
       subst (λ (z : ℤ). HasLetter ns z) (sym output ∙ h.letter_is.2) own.1
 
-  -- and the letter of a place is listed at its spelling without leading zeros
-  listed_from_letter : (ns : List ℕ) (letter : ℤ) → length ns ≡ length named → HasLetter ns letter → HasListedLetterAt way ss listed ns letter
+  -- and the letter of a place is listed at its representation without leading zeros
+  listed_from_letter : (ns : List ℕ) (letter : ℤ) → length ns ≡ length named → HasLetter ns letter → HasListedLetterAt direction ss listed ns letter
   listed_from_letter ns letter count has =
-      let systems : AreSystems ss = named_are_systems custom way named is.are in
-      let found = spelling_of way ss ns systems (count ∙ sym count_of) in
-      let w : List ℕ = strip way found.0 in
-      let over : IsWord (letters_in ss) w = IsWord-stripped way (letters_in ss) found.0 found.1 in
-      let spells : Spells ss (in_order way w) ns = subst (λ (v : List ℕ). Spells ss v ns) (sym (in_order-strip way found.0)) ((spells-without_zeros ss (in_order way found.0) ns systems).0 found.2) in
+      let systems : AreSystems ss = named_are_systems custom direction named is.are in
+      let found = representation_of direction ss ns systems (count ∙ sym count_of) in
+      let w : List ℕ = strip direction found.0 in
+      let over : IsWord (letters_in ss) w = IsWord-stripped direction (letters_in ss) found.0 found.1 in
+      let represents : Represents ss (in_order direction w) ns = subst (λ (v : List ℕ). Represents ss v ns) (sym (in_order-strip direction found.0)) ((represents-without_zeros ss (in_order direction found.0) ns systems).0 found.2) in
       let tuples = tuples_of (sizes_of ss) w over in
-      let after : letter_after is.function w ≡ Some letter = (is.letters w over letter).1 (ns, spells, has) in
+      let after : letter_after is.function w ≡ Some letter = (is.letters w over letter).1 (ns, represents, has) in
       let state = led_state is.function is.canonical w letter after in
       record {
         tuples = tuples.0;
         word = w;
         letters = tuples.1;
-        spells = spells;
-        shortest = strip-twice way found.0;
+        represents = represents;
+        shortest = strip-twice direction found.0;
         letter_is = (state.0, (moved tuples.0 w state.0 tuples.1).1 state.1, led_output is.function is.canonical w state.0 letter state.1 after);
       }
 
@@ -148,5 +148,5 @@ module _ (custom : Custom) (way : Direction) (named : List NamedSystem) (HasLett
 
       back : HasLetter ns letter → FileLetter custom text ns letter
       back has =
-          let here : HasLetterUnder custom (names_of named) listed ns letter = record { way = way; named = named; names_are = refl; are = is.are; letter_is = listed_from_letter ns letter (long ns letter has) has } in
+          let here : HasLetterUnder custom (names_of named) listed ns letter = record { direction = direction; named = named; names_are = refl; are = is.are; letter_is = listed_from_letter ns letter (long ns letter has) has } in
           (listed, text_read, subst (λ (names : List (List ℕ)). HasLetterUnder custom names listed ns letter) (sym (track_names named)) here)

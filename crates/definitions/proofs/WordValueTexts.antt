@@ -16,14 +16,14 @@ use Rattle.morph_words.specs.ImageLetters.{IsImageLetter}
 use Rattle.morph_words.specs.Rules.{Rules}
 use Rattle.num_system.specs.Sealed.{SystemValue, system_of}
 use Rattle.num_system.specs.Tracks as tracks
-use Rattle.num_system.specs.Tracks.{way_of}
-use Rattle.num_system.proofs.HoldLemmas.{spelled_count}
-use Rattle.numeration.specs.Spelling.{Spells, letters_in, sizes_of}
+use Rattle.num_system.specs.Tracks.{direction_of}
+use Rattle.num_system.proofs.HoldLemmas.{represented_count}
+use Rattle.numeration.specs.Representation.{Represents, letters_in, sizes_of}
 use Rattle.numeration.specs.Systems.{System}
 use Rattle.system_names.specs.Names.{system_name}
 use Rattle.system_names.specs.declared.system_kind.SystemKind.TheVariants.{Base}
 use Rattle.word_output.specs.LetterFunctions.{letter_after, outputs_of}
-use Rattle.word_output.specs.Words.{HasLetter, IsWordValue, SpellsPlace, WordValue}
+use Rattle.word_output.specs.Words.{HasLetter, IsWordValue, RepresentsPlace, WordValue}
 use Rattle.word_output.proofs.PlaceLaws.{letter_of_place, place_of_letter, some_letter}
 use Rattle.system_files.specs.SystemFiles.{Custom}
 use Rattle.definitions.specs.Tracks.{NamedSystem, OverSystems, systems_of, header_of}
@@ -34,56 +34,56 @@ use Rattle.definitions.specs.WordTexts.{IsWordText, msd_base}
 use Rattle.definitions.specs.Texts.{IsFixedText, HasTreeText}
 
 -- the names mean the systems of the word, read in its direction, and its letters are numbers of 32 bits
-pub record IsWordNamed (custom : Custom) (way : Direction) (named : List NamedSystem) (v : WordValue) : Type 0 where
+pub record IsWordNamed (custom : Custom) (read_direction : Direction) (named : List NamedSystem) (v : WordValue) : Type 0 where
   pub word : IsWordValue v
   pub fits : All (λ letter. FitsSigned w32 letter) v.function.letters
-  pub are : AreNamed custom way named
-  pub direction : way_of v.systems ≡ way
+  pub are : AreNamed custom read_direction named
+  pub direction : direction_of v.systems ≡ read_direction
   pub systems_are : systems_of named ≡ tracks.systems_of v.systems
 
 -- the text that lists a word under the names of its systems
 abbrev pub text_of_word : Direction → List NamedSystem → WordValue → List ℕ
-text_of_word way named v = word_text (header_of (OverSystems way named)) v.function.automaton (outputs_of v.function)
+text_of_word read_direction named v = word_text (header_of (OverSystems read_direction named)) v.function.automaton (outputs_of v.function)
 
 -- over as many systems as numbers the word has the letters that are said
 abbrev pub HasLettersOf : WordValue → List NamedSystem → (List ℕ → ℤ → Type 0) → Type 0
 HasLettersOf v named HasIt = (ns : List ℕ) (letter : ℤ) → length ns ≡ length named → HasLetter v ns letter ↔ HasIt ns letter
 
-module _ (custom : Custom) (way : Direction) (named : List NamedSystem) (v : WordValue) (is : IsWordNamed custom way named v) (HasIt : List ℕ → ℤ → Type 0) (says : HasLettersOf v named HasIt) where
+module _ (custom : Custom) (read_direction : Direction) (named : List NamedSystem) (v : WordValue) (is : IsWordNamed custom read_direction named v) (HasIt : List ℕ → ℤ → Type 0) (says : HasLettersOf v named HasIt) where
   count : length named ≡ length v.systems
   count = sym (length-map named (λ (s : NamedSystem). s.system)) ∙ ap (λ (ss : List System). length ss) is.systems_are ∙ length-map v.systems system_of
 
-  spelled_long : (w ns : List ℕ) → Spells (systems_of named) (in_order way w) ns → length ns ≡ length named
-  spelled_long w ns spells = spelled_count (systems_of named) (in_order way w) ns spells ∙ length-map named (λ (s : NamedSystem). s.system)
+  represented_long : (w ns : List ℕ) → Represents (systems_of named) (in_order read_direction w) ns → length ns ≡ length named
+  represented_long w ns represents = represented_count (systems_of named) (in_order read_direction w) ns represents ∙ length-map named (λ (s : NamedSystem). s.system)
 
-  -- what is spelled over the systems of the names is spelled over those of the word
+  -- what is represented over the systems of the names is represented over those of the word
   over_word : (w : List ℕ) → IsWord (letters_in (systems_of named)) w → IsWord (letters_in (tracks.systems_of v.systems)) w
   over_word w over = subst (λ (ss : List System). IsWord (letters_in ss) w) is.systems_are over
 
-  to_place : (w ns : List ℕ) → IsWord (letters_in (systems_of named)) w → Spells (systems_of named) (in_order way w) ns → SpellsPlace v.systems ns w
-  to_place w ns over spells = record {
+  to_place : (w ns : List ℕ) → IsWord (letters_in (systems_of named)) w → Represents (systems_of named) (in_order read_direction w) ns → RepresentsPlace v.systems ns w
+  to_place w ns over represents = record {
     over = over_word w over;
-    spells = subst (λ (x : Direction). Spells (tracks.systems_of v.systems) (in_order x w) ns) (sym is.direction) (subst (λ (ss : List System). Spells ss (in_order way w) ns) is.systems_are spells);
+    represents = subst (λ (x : Direction). Represents (tracks.systems_of v.systems) (in_order x w) ns) (sym is.direction) (subst (λ (ss : List System). Represents ss (in_order read_direction w) ns) is.systems_are represents);
   }
 
-  from_place : (w ns : List ℕ) → SpellsPlace v.systems ns w → Spells (systems_of named) (in_order way w) ns
+  from_place : (w ns : List ℕ) → RepresentsPlace v.systems ns w → Represents (systems_of named) (in_order read_direction w) ns
   from_place w ns place =
-      subst (λ (ss : List System). Spells ss (in_order way w) ns) (sym is.systems_are) (subst (λ (x : Direction). Spells (tracks.systems_of v.systems) (in_order x w) ns) is.direction place.spells)
+      subst (λ (ss : List System). Represents ss (in_order read_direction w) ns) (sym is.systems_are) (subst (λ (x : Direction). Represents (tracks.systems_of v.systems) (in_order x w) ns) is.direction place.represents)
 
-  place_letter : (w : List ℕ) (letter : ℤ) → IsWord (letters_in (systems_of named)) w → letter_after v.function w ≡ Some letter → (ns : List ℕ) × Spells (systems_of named) (in_order way w) ns × HasIt ns letter
+  place_letter : (w : List ℕ) (letter : ℤ) → IsWord (letters_in (systems_of named)) w → letter_after v.function w ≡ Some letter → (ns : List ℕ) × Represents (systems_of named) (in_order read_direction w) ns × HasIt ns letter
   place_letter w letter over has =
       let found = place_of_letter v w letter is.word (over_word w over) has in
-      let spells = from_place w found.0 found.1 in
-      (found.0, spells, (says found.0 letter (spelled_long w found.0 spells)).0 found.2)
+      let represents = from_place w found.0 found.1 in
+      (found.0, represents, (says found.0 letter (represented_long w found.0 represents)).0 found.2)
 
-  letter_there : (w : List ℕ) (letter : ℤ) → IsWord (letters_in (systems_of named)) w → (ns : List ℕ) × Spells (systems_of named) (in_order way w) ns × HasIt ns letter → letter_after v.function w ≡ Some letter
-  letter_there w letter over (ns, spells, has) = letter_of_place v ns w letter is.word (to_place w ns over spells) ((says ns letter (spelled_long w ns spells)).1 has)
+  letter_there : (w : List ℕ) (letter : ℤ) → IsWord (letters_in (systems_of named)) w → (ns : List ℕ) × Represents (systems_of named) (in_order read_direction w) ns × HasIt ns letter → letter_after v.function w ≡ Some letter
+  letter_there w letter over (ns, represents, has) = letter_of_place v ns w letter is.word (to_place w ns over represents) ((says ns letter (represented_long w ns represents)).1 has)
 
   letter_everywhere : (ns : List ℕ) → length ns ≡ length named → (letter : ℤ) × HasIt ns letter
   letter_everywhere ns long = let own = some_letter v ns is.word (long ∙ count) in (own.0, (says ns own.0 long).0 own.1)
 
   -- the text of a word is the text of what has its letters
-  pub word_value_text : IsWordText custom way named HasIt (text_of_word way named v)
+  pub word_value_text : IsWordText custom read_direction named HasIt (text_of_word read_direction named v)
   word_value_text = record {
     some = omega (arith, is.word.some, count);
     are = is.are;
@@ -123,7 +123,7 @@ at_numbers v system Has says ns letter long = (there, back)
 pub record IsWordOfFixed (rules : Rules) (k : ℕ) (word : WordValue) : Type 0 where
   pub word_is : IsWordValue word
   pub system : tracks.systems_of word.systems ≡ base k ∷ []
-  pub direction : way_of word.systems ≡ Msd
+  pub direction : direction_of word.systems ≡ Msd
   pub letters : (place : ℕ) (letter : ℤ) → HasLetter word (place ∷ []) letter ↔ IsLetterAt rules place letter
 
 -- the text of a word that is the fixed point
@@ -138,19 +138,19 @@ fixed_word_text custom rules k word has fixed fits =
     }
 
 -- the text of a word that is the image of the word of a definition
-pub image_word_text : (custom : Custom) (way : Direction) (system : NamedSystem) (rules : Rules) (tree : Tree) (v : WordValue) → IsWordNamed custom way (system ∷ []) v
-    → ((n : ℕ) (letter : ℤ) → HasLetter v (n ∷ []) letter ↔ IsImageLetter rules (λ m of_word. tree_letter custom tree (m ∷ []) of_word) n letter) → HasTreeText custom (Image way system rules tree) (text_of_word way (system ∷ []) v)
-image_word_text custom way system rules tree v is says =
-    word_value_text custom way (system ∷ []) v is (λ ns letter. tree_letter custom (Image way system rules tree) ns letter)
+pub image_word_text : (custom : Custom) (read_direction : Direction) (system : NamedSystem) (rules : Rules) (tree : Tree) (v : WordValue) → IsWordNamed custom read_direction (system ∷ []) v
+    → ((n : ℕ) (letter : ℤ) → HasLetter v (n ∷ []) letter ↔ IsImageLetter rules (λ m of_word. tree_letter custom tree (m ∷ []) of_word) n letter) → HasTreeText custom (Image read_direction system rules tree) (text_of_word read_direction (system ∷ []) v)
+image_word_text custom read_direction system rules tree v is says =
+    word_value_text custom read_direction (system ∷ []) v is (λ ns letter. tree_letter custom (Image read_direction system rules tree) ns letter)
     (at_numbers v system (λ n letter. IsImageLetter rules (λ m of_word. tree_letter custom tree (m ∷ []) of_word) n letter) says)
 
 -- the text of a word that definitions in a list make together
-pub combined_word_text : (custom : Custom) (way : Direction) (named : List NamedSystem) (parts : Parts) (v : WordValue) → IsWordNamed custom way named v
-    → HasLettersOf v named (λ ns letter. first_letter custom parts ns letter) → HasTreeText custom (Combine way named parts) (text_of_word way named v)
-combined_word_text custom way named parts v is says =
-    word_value_text custom way named v is (λ ns letter. tree_letter custom (Combine way named parts) ns letter)
+pub combined_word_text : (custom : Custom) (read_direction : Direction) (named : List NamedSystem) (parts : Parts) (v : WordValue) → IsWordNamed custom read_direction named v
+    → HasLettersOf v named (λ ns letter. first_letter custom parts ns letter) → HasTreeText custom (Combine read_direction named parts) (text_of_word read_direction named v)
+combined_word_text custom read_direction named parts v is says =
+    word_value_text custom read_direction named v is (λ ns letter. tree_letter custom (Combine read_direction named parts) ns letter)
     (λ ns letter long. (λ has. (long, (says ns letter long).0 has), λ has. (says ns letter long).1 has.1))
 
 -- images are those of the same word where the letters are the same
 pub same_image : (rules : Rules) (P Q : ℕ → ℤ → Type 0) → ((n : ℕ) (letter : ℤ) → P n letter → Q n letter) → (place : ℕ) (letter : ℤ) → IsImageLetter rules P place letter → IsImageLetter rules Q place letter
-same_image rules P Q same place letter is = record { front = is.front; letters = λ n within. same n _ (is.letters n within); letter_is = is.letter_is }
+same_image rules P Q same place letter is = record { prefix = is.prefix; letters = λ n within. same n _ (is.letters n within); letter_is = is.letter_is }

@@ -22,16 +22,16 @@ IsSolvedBy custom bindings variables formula ns = Holds (meanings_in custom bind
 abbrev pub named_systems : List Variable → List NamedSystem
 named_systems variables = map (λ (v : Variable). v.system) variables
 
--- The text of a formula with free variables: that of the canonical automaton which accepts exactly the words that spell numbers for which
--- the formula is true. The systems of all variables are those that their names mean, read in one direction.
+-- The text of a formula with free variables: that of the canonical automaton which accepts exactly the words that represent numbers for
+-- which the formula is true. The systems of all variables are those that their names mean, read in one direction.
 pub record IsSolutionText (custom : Custom) (bindings : Bindings) (variables : List Variable) (formula : trees.Formula) (text : List ℕ) : Type 0 where
-  pub way : Direction
-  pub read : AllByRecursion (λ (v : Variable). v.way ≡ way) variables
-  pub named : AreNamed custom way (named_systems variables)
+  pub direction : Direction
+  pub read : AllByRecursion (λ (v : Variable). v.direction ≡ direction) variables
+  pub named : AreNamed custom direction (named_systems variables)
   pub automaton : Automaton
   pub canonical : IsCanonical automaton
-  pub holds : HoldsOf way (systems_of (named_systems variables)) (IsSolvedBy custom bindings variables formula) automaton
-  pub text_is : text ≡ relation_text (header_of (OverSystems way (named_systems variables))) automaton
+  pub holds : HoldsOf direction (systems_of (named_systems variables)) (IsSolvedBy custom bindings variables formula) automaton
+  pub text_is : text ≡ relation_text (header_of (OverSystems direction (named_systems variables))) automaton
 
 -- whether a sentence is true
 abbrev pub HasTruth : Custom → Bindings → trees.Formula → Bool → Type 0

@@ -16,11 +16,11 @@ use Rattle.definitions.specs.Texts.{HasTreeText, HasText, Stores}
 abbrev pub OneText : Type 0
 OneText = (custom : Custom) (entry : Entry) (text other : List ℕ) → HasText custom entry text → HasText custom entry other → text ≡ other
 
--- the text of a definition that may stand among automata, read as a file, holds of the numbers of which the definition holds
+-- the text of a definition that may be among automata, read as a file, holds of the numbers of which the definition holds
 abbrev pub TextsMeanTheirTrees : Type 0
 TextsMeanTheirTrees = (custom : Custom) (tree : Tree) (text : List ℕ) → MayStandIn Automata tree → HasTreeText custom tree text → (ns : List ℕ) → FileHolds custom text ns ↔ tree_holds custom tree ns
 
--- the text of a definition that may stand among words, read as a word's file, has the letters of the definition
+-- the text of a definition that may be among words, read as a word's file, has the letters of the definition
 abbrev pub WordTextsMeanTheirTrees : Type 0
 WordTextsMeanTheirTrees = (custom : Custom) (tree : Tree) (text : List ℕ) → MayStandIn Words tree → HasTreeText custom tree text → (ns : List ℕ) (letter : ℤ) → FileLetter custom text ns letter ↔ tree_letter custom tree ns letter
 

@@ -19,19 +19,19 @@ built_in_system Fibonacci = fibonacci
 
 -- the name is that of a system that is built in
 abbrev pub IsBuiltInSystem : List ℕ → Direction → System → Type 0
-IsBuiltInSystem name way s = (kind : SystemKind) × IsBuiltIn way kind name × (s ≡ built_in_system kind)
+IsBuiltInSystem name direction s = (kind : SystemKind) × IsBuiltIn direction kind name × (s ≡ built_in_system kind)
 
 -- The name means this system, read in this direction: one that is built in, or the one that the files of a user define.
 abbrev pub IsSystemNamed : Custom → List ℕ → Direction → System → Type 0
-IsSystemNamed custom name way s = IsBuiltInSystem name way s ⊎ IsUserSystem custom name way s
+IsSystemNamed custom name direction s = IsBuiltInSystem name direction s ⊎ IsUserSystem custom name direction s
 
 -- the name means a system that is read in this direction
 abbrev pub IsOf : Custom → Direction → List ℕ → Type 0
-IsOf custom way name = (s : System) × IsSystemNamed custom name way s
+IsOf custom direction name = (s : System) × IsSystemNamed custom name direction s
 
 -- the name means a system
 abbrev pub IsKnown : Custom → List ℕ → Type 0
-IsKnown custom name = (way : Direction) × IsOf custom way name
+IsKnown custom name = (direction : Direction) × IsOf custom direction name
 
 abbrev pub AreKnown : Custom → List (List ℕ) → Type 0
 AreKnown custom names = AllByRecursion (IsKnown custom) names
@@ -43,4 +43,4 @@ IsFirstWithout P (name ∷ names) first = ((¬ P name) × (first ≡ name)) ⊎ 
 
 -- each name means the system beside it, read in this direction
 abbrev pub AreNamed : Custom → Direction → List NamedSystem → Type 0
-AreNamed custom way named = AllByRecursion (λ (s : NamedSystem). IsSystemNamed custom s.name way s.system) named
+AreNamed custom direction named = AllByRecursion (λ (s : NamedSystem). IsSystemNamed custom s.name direction s.system) named

@@ -11,10 +11,10 @@ use Rattle.dfa_reading.specs.Branching.{IsBranching}
 use Rattle.dfa_reading.specs.Headers.{Header, Truth, Systems, Sets, has_states}
 use Rattle.dfa_reading.specs.Listed.{Listed}
 use Rattle.num_system.specs.Sealed.{SystemValue}
-use Rattle.numeration.specs.Spelling.{sizes_of}
+use Rattle.numeration.specs.Representation.{sizes_of}
 use Rattle.number_relations.specs.Comparisons.{IsTruth}
 use Rattle.number_relations.specs.Readings.{AreReadingSteps, PassesReading}
-use Rattle.num_system.specs.Tracks.{HaveOneWay, systems_of, way_of}
+use Rattle.num_system.specs.Tracks.{ShareDirection, systems_of, direction_of}
 use Rattle.number_relations.specs.Relations.{RelationValue}
 use Rattle.definitions.specs.Files.{HasListedWord}
 
@@ -25,7 +25,7 @@ IsTable listed = has_states listed.header ≡ true → 0 < length listed.outputs
 -- systems of one direction, one for each track of a header; sets are no systems
 abbrev pub AreForTracks : Header → List SystemValue → Type 0
 AreForTracks (Truth value) systems = systems ≡ []
-AreForTracks (Systems names) systems = (length systems ≡ length names) × HaveOneWay systems
+AreForTracks (Systems names) systems = (length systems ≡ length names) × ShareDirection systems
 AreForTracks (Sets sets) systems = ⊥
 
 -- the branching automaton of what is listed, over the systems
@@ -77,7 +77,7 @@ DoesTable old systems listed result new = MatchResult result (λ r. IsTableDone 
 -- what is listed holds of the numbers over these systems
 abbrev pub HoldsBelowOver : Header → List SystemValue → Listed → List ℕ → Type 0
 HoldsBelowOver (Truth value) systems listed ns = IsTrue value × (ns ≡ [])
-HoldsBelowOver (Systems names) systems listed ns = HasListedWord (way_of systems) (systems_of systems) listed ns
+HoldsBelowOver (Systems names) systems listed ns = HasListedWord (direction_of systems) (systems_of systems) listed ns
 HoldsBelowOver (Sets sets) systems listed ns = ⊥
 
 abbrev pub ListedHoldsOver : List SystemValue → Listed → List ℕ → Type 0

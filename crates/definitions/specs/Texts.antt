@@ -33,19 +33,19 @@ pub record IsRegexText (sets : List (List ℤ)) (expression : Expression (List �
   pub of_regex : IsRegexAutomaton sets expression automaton
   pub text_is : text ≡ relation_text (headers.Sets sets) automaton
 
--- The text of an expression over systems: that of the canonical automaton of the spellings of the tuples of numbers of which some spelling
--- matches. The systems are those that their names mean.
-pub record IsSpelledText (custom : Custom) (way : Direction) (named : List NamedSystem) (expression : Expression (List ℤ)) (text : List ℕ) : Type 0 where
+-- The text of an expression over systems: that of the canonical automaton of the representations of the tuples of numbers of which some
+-- representation matches. The systems are those that their names mean.
+pub record IsRepresentedText (custom : Custom) (direction : Direction) (named : List NamedSystem) (expression : Expression (List ℤ)) (text : List ℕ) : Type 0 where
   pub some : 0 < length named
-  pub are : AreNamed custom way named
+  pub are : AreNamed custom direction named
   pub automaton : Automaton
-  pub of_relation : IsRelation way (systems_of named) (letter_sets (OverSystems way named)) expression automaton
-  pub text_is : text ≡ relation_text (header_of (OverSystems way named)) automaton
+  pub of_relation : IsRelation direction (systems_of named) (letter_sets (OverSystems direction named)) expression automaton
+  pub text_is : text ≡ relation_text (header_of (OverSystems direction named)) automaton
 
 -- the text of an expression over tracks
 abbrev pub IsTrackText : Custom → Tracks → Expression (List ℤ) → List ℕ → Type 0
 IsTrackText custom (OverSets sets) expression text = IsRegexText sets expression text
-IsTrackText custom (OverSystems way named) expression text = IsSpelledText custom way named expression text
+IsTrackText custom (OverSystems direction named) expression text = IsRepresentedText custom direction named expression text
 
 -- the text of a fixed point, which is in the base that is the length of all images
 pub record IsFixedText (custom : Custom) (rules : Rules) (text : List ℕ) : Type 0 where
@@ -59,15 +59,15 @@ HasTreeText custom (File bytes) text = text ≡ bytes
 HasTreeText custom (Regex tracks expression) text = IsTrackText custom tracks expression text
 HasTreeText custom (Formula variables formula bindings) text = IsFormulaText custom bindings variables formula text
 HasTreeText custom (Fixed rules) text = IsFixedText custom rules text
-HasTreeText custom (Image way system rules tree) text = IsWordText custom way (system ∷ []) (λ ns letter. tree_letter custom (Image way system rules tree) ns letter) text
-HasTreeText custom (Combine way named parts) text = IsWordText custom way named (λ ns letter. tree_letter custom (Combine way named parts) ns letter) text
+HasTreeText custom (Image direction system rules tree) text = IsWordText custom direction (system ∷ []) (λ ns letter. tree_letter custom (Image direction system rules tree) ns letter) text
+HasTreeText custom (Combine direction named parts) text = IsWordText custom direction named (λ ns letter. tree_letter custom (Combine direction named parts) ns letter) text
 
 -- the text of an entry
 abbrev pub HasText : Custom → Entry → List ℕ → Type 0
 HasText custom (Bytes bytes) text = text ≡ bytes
 HasText custom (Defined tree) text = HasTreeText custom tree text
 
--- the text of an entry that may stand in the folder
+-- the text of an entry that may be in the folder
 abbrev pub HasTextIn : Custom → Folder → Entry → List ℕ → Type 0
 HasTextIn custom folder entry text = MayStandIn folder (tree_of entry) × HasText custom entry text
 

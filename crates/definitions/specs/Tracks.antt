@@ -34,9 +34,9 @@ header_tracks named = map track_of named
 -- the set of letters, or of digits, on each track
 abbrev pub letter_sets : Tracks → List (List ℤ)
 letter_sets (OverSets sets) = sets
-letter_sets (OverSystems way named) = digit_sets (header_tracks named)
+letter_sets (OverSystems direction named) = digit_sets (header_tracks named)
 
 -- the header that says so
 abbrev pub header_of : Tracks → Header
 header_of (OverSets sets) = headers.Sets sets
-header_of (OverSystems way named) = headers.Systems (header_tracks named)
+header_of (OverSystems direction named) = headers.Systems (header_tracks named)

@@ -21,10 +21,10 @@ assigned [] ns = λ name. 0
 assigned (v ∷ variables) [] = λ name. 0
 assigned (v ∷ variables) (n ∷ ns) = with_value v.name n (assigned variables ns)
 
--- some spelling of the numbers matches the expression; over sets there are no numbers
+-- some representation of the numbers matches the expression; over sets there are no numbers
 abbrev pub RegexHolds : Tracks → Expression (List ℤ) → List ℕ → Type 0
 RegexHolds (OverSets sets) expression ns = ⊥
-RegexHolds (OverSystems way named) expression ns = HasMatch way (systems_of named) (letter_sets (OverSystems way named)) expression ns
+RegexHolds (OverSystems direction named) expression ns = HasMatch direction (systems_of named) (letter_sets (OverSystems direction named)) expression ns
 
 -- the place is one number, of which this holds
 abbrev pub AtNumber : (ℕ → Type 0) → List ℕ → Type 0
@@ -36,15 +36,15 @@ chosen true P Q = P
 chosen false P Q = Q
 
 abbrev mutual
-  -- a file holds as it lists; an expression of the numbers of which a spelling matches; a formula of those for which it is true, one for
-  -- each free variable; a word holds of none
+  -- a file holds as it lists; an expression of the numbers of which a representation matches; a formula of those for which it is true, one
+  -- for each free variable; a word holds of none
   pub tree_holds : Custom → Tree → List ℕ → Type 0
   tree_holds custom (File bytes) ns = FileHolds custom bytes ns
   tree_holds custom (Regex tracks expression) ns = RegexHolds tracks expression ns
   tree_holds custom (Formula variables formula bindings) ns = (length ns ≡ length variables) × Holds (record { holds_of = λ name ms. bound_holds custom bindings Automata name ms; has_letter = λ name ms letter. bound_letter custom bindings Words name ms letter }) formula (assigned variables ns)
   tree_holds custom (Fixed rules) ns = ⊥
-  tree_holds custom (Image way system rules tree) ns = ⊥
-  tree_holds custom (Combine way named parts) ns = ⊥
+  tree_holds custom (Image direction system rules tree) ns = ⊥
+  tree_holds custom (Combine direction named parts) ns = ⊥
 
   -- what a name is bound to holds of the numbers
   pub bound_holds : Custom → Bindings → Folder → List ℕ → List ℕ → Type 0
@@ -59,8 +59,8 @@ abbrev mutual
   tree_letter custom (Regex tracks expression) ns letter = ⊥
   tree_letter custom (Formula variables formula bindings) ns letter = ⊥
   tree_letter custom (Fixed rules) ns letter = AtNumber (λ n. IsLetterAt rules n letter) ns
-  tree_letter custom (Image way system rules tree) ns letter = AtNumber (λ n. IsImageLetter rules (λ m of_word. tree_letter custom tree (m ∷ []) of_word) n letter) ns
-  tree_letter custom (Combine way named parts) ns letter = (length ns ≡ length named) × first_letter custom parts ns letter
+  tree_letter custom (Image direction system rules tree) ns letter = AtNumber (λ n. IsImageLetter rules (λ m of_word. tree_letter custom tree (m ∷ []) of_word) n letter) ns
+  tree_letter custom (Combine direction named parts) ns letter = (length ns ≡ length named) × first_letter custom parts ns letter
 
   -- the letter of the first definition that holds of the numbers, and 0 where none holds
   pub first_letter : Custom → Parts → List ℕ → ℤ → Type 0

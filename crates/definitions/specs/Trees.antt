@@ -1,4 +1,4 @@
--- Definitions that commands make, and the ledger of what stands under each name.
+-- Definitions that commands make, and the ledger of what is under each name.
 use Rattle.std.specs.Prelude.{◌≡◌, ◌≢◌, ℕ, ℤ, List, Option, None, Some, option_and_then, ⊤, if◌then◌else◌}
 use Rattle.std.specs.List.{fold}
 use Rattle.std.specs.Option.{option_map}
@@ -17,7 +17,7 @@ use Rattle.definitions.specs.Tracks.{NamedSystem, Tracks}
 -- a free variable of a formula, and the system of its numbers, read in a direction
 pub record Variable : Type 0 where
   pub name : List ℕ
-  pub way : Direction
+  pub direction : Direction
   pub system : NamedSystem
 
 mutual
@@ -42,17 +42,17 @@ mutual
     unbound : Bindings
     bound : Bindings → Folder → List ℕ → Tree → Bindings
 
--- A definition may stand in the folder. An expression and a formula are neither words nor files of a user's system, and stand elsewhere;
--- and a definition of a word stands among words.
+-- A definition may be in the folder. An expression and a formula are neither words nor files of a user's system, and are elsewhere; and a
+-- definition of a word is among words.
 abbrev pub MayStandIn : Folder → Tree → Type 0
 MayStandIn folder (File bytes) = ⊤
 MayStandIn folder (Regex tracks expression) = (folder ≢ Words) × (folder ≢ Bases)
 MayStandIn folder (Formula variables formula bindings) = (folder ≢ Words) × (folder ≢ Bases)
 MayStandIn folder (Fixed rules) = folder ≡ Words
-MayStandIn folder (Image way system rules tree) = folder ≡ Words
-MayStandIn folder (Combine way named parts) = folder ≡ Words
+MayStandIn folder (Image direction system rules tree) = folder ≡ Words
+MayStandIn folder (Combine direction named parts) = folder ≡ Words
 
--- what stands under a name: bytes, or a definition
+-- what is under a name: bytes, or a definition
 pub data Entry : Type 0 where
   Bytes : List ℕ → Entry
   Defined : Tree → Entry
@@ -75,8 +75,8 @@ bytes_of (File bytes) = Some bytes
 bytes_of (Regex tracks expression) = None
 bytes_of (Formula variables formula bindings) = None
 bytes_of (Fixed rules) = None
-bytes_of (Image way system rules tree) = None
-bytes_of (Combine way named parts) = None
+bytes_of (Image direction system rules tree) = None
+bytes_of (Combine direction named parts) = None
 
 -- the definition of an entry
 abbrev pub tree_of : Entry → Tree
@@ -92,16 +92,16 @@ abbrev pub with_entry : Bindings → Folder → List ℕ → Option Entry → Bi
 with_entry bindings folder name None = bindings
 with_entry bindings folder name (Some entry) = bound bindings folder name (tree_of entry)
 
--- a file that a formula names, bound to what stands there
+-- a file that a formula names, bound to what is there
 abbrev pub with_file : Ledger → Bindings → formula_file.File → Bindings
 with_file ledger bindings (Automaton name) = with_entry bindings Automata name (ledger Automata name)
 with_file ledger bindings (Word name) = with_entry bindings Words name (ledger Words name)
 
--- the definitions for which the files of a formula stand now
+-- the definitions for which the files of a formula are now
 abbrev pub bindings_of : Ledger → List formula_file.File → Bindings
 bindings_of ledger files = fold (with_file ledger) unbound files
 
--- the definitions of automata in a list, with these letters; a name under which nothing stands adds none
+-- the definitions of automata in a list, with these letters; a name under which nothing is adds none
 abbrev pub with_part : Option Entry → ℤ → Parts → Parts
 with_part None letter parts = parts
 with_part (Some entry) letter parts = part (tree_of entry) letter parts

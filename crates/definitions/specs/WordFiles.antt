@@ -11,13 +11,13 @@ use Rattle.definitions.specs.Named.{AreNamed}
 
 -- over the systems of these names, which have one direction, this letter is listed at the place
 pub record HasLetterUnder (custom : Custom) (names : List (List ℕ)) (listed : Listed) (ns : List ℕ) (letter : ℤ) : Type 0 where
-  pub way : Direction
+  pub direction : Direction
   pub named : List NamedSystem
   pub names_are : names ≡ names_of named
-  pub are : AreNamed custom way named
-  pub letter_is : HasListedLetterAt way (systems_of named) listed ns letter
+  pub are : AreNamed custom direction named
+  pub letter_is : HasListedLetterAt direction (systems_of named) listed ns letter
 
--- a word's tracks stand over systems; below another header there is no letter
+-- a word's tracks are over systems; below another header there is no letter
 abbrev pub HasLetterBelow : Custom → Header → Listed → List ℕ → ℤ → Type 0
 HasLetterBelow custom (Truth value) listed ns letter = ⊥
 HasLetterBelow custom (Systems names) listed ns letter = HasLetterUnder custom names listed ns letter

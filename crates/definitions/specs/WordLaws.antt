@@ -6,7 +6,7 @@ use Rattle.dfa_reading.specs.Listed.{Listed}
 use Rattle.dfa_reading.specs.WordFiles.{word_of, IsWordListed}
 use Rattle.num_system.specs.Sealed.{SystemValue}
 use Rattle.num_system.specs.Tracks as tracks
-use Rattle.num_system.specs.Tracks.{way_of}
+use Rattle.num_system.specs.Tracks.{direction_of}
 use Rattle.word_output.specs.Words.{WordValue, IsWordValue, HasLetter}
 use Rattle.word_output.specs.WordReadings.{AreWordSteps}
 use Rattle.definitions.specs.Tracks.{NamedSystem, names_of, systems_of}
@@ -26,7 +26,7 @@ FilesAreWords = (text : List ℕ) (listed : Listed) → word_of text ≡ Ok list
 pub record NamesMean (custom : Custom) (names : List (List ℕ)) (systems : List SystemValue) : Type 0 where
   pub named : List NamedSystem
   pub names_are : names ≡ names_of named
-  pub are : AreNamed custom (way_of systems) named
+  pub are : AreNamed custom (direction_of systems) named
   pub systems_are : systems_of named ≡ tracks.systems_of systems
 
 -- a word that is read of a file, over the systems that the names of its header mean, has at each place the letter of the file

@@ -1,4 +1,4 @@
--- The texts of words: the automaton that gives each spelling of a place its letter.
+-- The texts of words: the automaton that gives each representation of a place its letter.
 use Rattle.std.specs.Prelude.{◌≡◌, ◌↔◌, ℕ, ◌<◌, ℤ, FitsSigned, List, length, Some}
 use Rattle.std.specs.Int.{w32}
 use Rattle.std.specs.List.{All}
@@ -8,7 +8,7 @@ use Rattle.digit_tuple.specs.declared.direction.Direction.{Direction}
 use Rattle.digit_tuple.specs.declared.direction.Direction.TheVariants.{Msd}
 use Rattle.base_k.specs.Positional.{base}
 use Rattle.dfa_text.specs.RelationText.{word_text}
-use Rattle.numeration.specs.Spelling.{Spells, letters_in, sizes_of}
+use Rattle.numeration.specs.Representation.{Represents, letters_in, sizes_of}
 use Rattle.system_names.specs.Names.{system_name}
 use Rattle.system_names.specs.declared.system_kind.SystemKind.TheVariants.{Base}
 use Rattle.word_output.specs.LetterFunctions.{LetterFunctionValue, IsLetterFunction, letter_after, outputs_of}
@@ -20,15 +20,16 @@ use Rattle.definitions.specs.Named.{AreNamed}
 abbrev pub msd_base : ℕ → NamedSystem
 msd_base k = record { name = system_name Msd (Base k); system = base k }
 
--- The text of a word with these letters, over systems that are those that their names mean. Each tuple of numbers has a letter. It is the text
--- of the one canonical automaton that gives each spelling of numbers their letter, and no letter to any other word. Letters are numbers of 32 bits.
-pub record IsWordText (custom : Custom) (way : Direction) (named : List NamedSystem) (HasLetter : List ℕ → ℤ → Type 0) (text : List ℕ) : Type 0 where
+-- The text of a word with these letters, over systems that are those that their names mean. Each tuple of numbers has a letter. It is the text of
+-- the one canonical automaton that gives each representation of numbers their letter, and no letter to any other word. Letters are numbers of 32
+-- bits.
+pub record IsWordText (custom : Custom) (direction : Direction) (named : List NamedSystem) (HasLetter : List ℕ → ℤ → Type 0) (text : List ℕ) : Type 0 where
   pub some : 0 < length named
-  pub are : AreNamed custom way named
+  pub are : AreNamed custom direction named
   pub everywhere : (ns : List ℕ) → length ns ≡ length named → (letter : ℤ) × HasLetter ns letter
   pub function : LetterFunctionValue
   pub canonical : IsLetterFunction function
   pub fits : All (λ letter. FitsSigned w32 letter) function.letters
   pub sizes : function.automaton.sizes ≡ sizes_of (systems_of named)
-  pub letters : (w : List ℕ) → IsWord (letters_in (systems_of named)) w → (letter : ℤ) → (letter_after function w ≡ Some letter) ↔ ((ns : List ℕ) × Spells (systems_of named) (in_order way w) ns × HasLetter ns letter)
-  pub text_is : text ≡ word_text (header_of (OverSystems way named)) function.automaton (outputs_of function)
+  pub letters : (w : List ℕ) → IsWord (letters_in (systems_of named)) w → (letter : ℤ) → (letter_after function w ≡ Some letter) ↔ ((ns : List ℕ) × Represents (systems_of named) (in_order direction w) ns × HasLetter ns letter)
+  pub text_is : text ≡ word_text (header_of (OverSystems direction named)) function.automaton (outputs_of function)

@@ -7,12 +7,12 @@ pub fn one_text()
     ensures { OneText }
 {}
 
-/// The text of a definition that may stand among automata, read as a file, holds of the numbers of which the definition holds.
+/// The text of a definition that may be among automata, read as a file, holds of the numbers of which the definition holds.
 pub fn texts_mean_their_trees()
     ensures { TextsMeanTheirTrees }
 {}
 
-/// The text of a definition that may stand among words, read as a word's file, has the letters of the definition.
+/// The text of a definition that may be among words, read as a word's file, has the letters of the definition.
 pub fn word_texts_mean_their_trees()
     ensures { WordTextsMeanTheirTrees }
 {}

@@ -4,7 +4,7 @@ ghost use Rattle.std.specs.Prelude.{◌≡◌, ◌<◌, length, map, IfOk, Match
 ghost use Rattle.std.specs.Rc.{rc_value};
 ghost use Rattle.digit_tuple.specs.Letters.{IsTooLarge};
 ghost use Rattle.digit_tuple.specs.StepResults.{IsRefusedBy};
-ghost use Rattle.numeration.specs.Spelling.{sizes_of};
+ghost use Rattle.numeration.specs.Representation.{sizes_of};
 ghost use Rattle.num_system.specs.Tracks.{systems_of};
 ghost use Rattle.definitions.specs.TableSteps.{IsTable, AreForTracks, IsTableOver, DoesTable};
 ghost use Rattle.definitions.specs.TableLaws.{TablesHold, TablesHaveOneOutcome, FilesAreTables};
@@ -27,8 +27,8 @@ use std::rc::Rc;
 /// the branching automaton of the table.
 ///
 /// # Errors
-/// `Letters` with the number of the step `read` exactly where the tracks are too many or have too many letters, and `States`
-/// exactly at the first step that passes the limit.
+/// `Letters` with the number of the step `read` if and only if the tracks are too many or have too many letters, and
+/// `States` exactly at the first step that passes the limit.
 pub fn table_relation(
     alloc: Global,
     listed: &Listed,

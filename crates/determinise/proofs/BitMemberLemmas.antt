@@ -76,7 +76,7 @@ AddsMembers-all old first word rest new none adding = record { members = λ q. (
     back q (inl was) = (adding.members q).1 (inl was)
     back q (inr one) = (adding.members q).1 (inr (one.0, one.1, ap (λ n. bit_at n one.0) none ∙ bit_at-zero one.0, one.2))
 
--- the members that stand in the first words, in order
+-- the members that are in the first words, in order
 pub record AreMembersBelow (words : List ℕ) (place : ℕ) (list : List ℕ) : Type 0 where
   pub members : (q : ℕ) → Contains list q ↔ ((q < place * 32) × HasMember words q)
   pub ascending : AllPairs (λ p q. p < q) list

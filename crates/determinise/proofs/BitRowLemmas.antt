@@ -12,7 +12,7 @@ use Rattle.std.proofs.Math.Nat.{pow-suc}
 use Rattle.std.proofs.lemmas.Nat.{and_le_l, pow_pos, div-mul-add, mod-mul-add, div-add-mod', mod_below, div_below, mul-add-lt}
 use Rattle.std.proofs.lemmas.Nat.Bits.{bit_at_and, bit_at-lt, bit_at-zero, bit_at_above, bit_at_cat_low, bit_at_cat_high, bit_at_clear_same, bit_at_clear_other, bit_at_ones_above, bit_at-pow_same, bit_at-pow_other, same_from_bits_below}
 use mir.Syntax.{w32}
-use Rattle.digit_tuple.specs.declared.edges.Edge.{Edge}
+use Rattle.digit_tuple.specs.declared.transitions.Transition.{Transition}
 use Rattle.determinise.specs.BitRows.{word_of}
 use Rattle.determinise.specs.declared.bit_words.BitWord.{BitWord}
 use Rattle.determinise.specs.Bits.{HasBit, HasMember, RowHas, AreSet, AreRowsSet, AreGathered, AreUnited, row_at, rows_in}
@@ -95,7 +95,7 @@ below_32 n k small is = by (cases_lt k 32)
     by (inl low) = low
     by (inr high) = absurd (omega (arith, is, bit_at_above n 32 k small high))
 
--- a member stands in one of the words
+-- a member is in one of the words
 pub member_below : (set : List ℕ) (count q : ℕ) → length set ≤ count → HasMember set q → q < count * 32
 member_below set count q whole has =
     let within = HasBit-within set (q / 32) (q % 32) has in
@@ -160,7 +160,6 @@ abbrev pub MembersHave : List (List BitWord) → List ℕ → ℕ → ℕ → �
 MembersHave rows set count place bit = (q : ℕ) × (q < count * 32) × HasMember set q × RowHas (row_at rows q) place bit
 
 module _ (rows : List (List BitWord)) (set : List ℕ) where
-
   pub MembersHave-more : (words new : List ℕ) (count : ℕ) → get_or set count 0 < 2 ^ 32 → ((place bit : ℕ) → HasBit words place bit ↔ MembersHave rows set count place bit)
       → AreRowsSet words rows (count * 32) (get_or set count 0) new → (place bit : ℕ) → HasBit new place bit ↔ MembersHave rows set (count + 1) place bit
   MembersHave-more words new count small are one place bit = ((λ has. forth ((one place bit).0 has)), (λ there. back there (cases_lt there.0 (count * 32))))
@@ -212,13 +211,13 @@ rows_push rows row f k count are last q small = by (cases_eq q k)
     by (inr other) = let below : q < length (rows_in rows) = omega (arith, size, small, other) in
         ap (λ rs. row_at rs q) pushed ∙ get_or_append_left (rows_in rows) (row.items ∷ []) [] q below ∙ are q (omega (arith, small, other))
 
--- the words of edges by letters of the alphabet
-pub words_within : (letters states width : ℕ) (edges : List Edge) → states ≤ 32 * width → All (λ edge. (edge.letter < letters) × (edge.target < states)) edges → All (λ word. word.place < letters * width) (map (word_of width) edges)
-words_within letters states width edges wide inside =
-    All-map (λ (word : BitWord). word.place < letters * width) (word_of width) edges
+-- the words of transitions by letters of the alphabet
+pub words_within : (letters states width : ℕ) (transitions : List Transition) → states ≤ 32 * width → All (λ transition. (transition.letter < letters) × (transition.target < states)) transitions → All (λ word. word.place < letters * width) (map (word_of width) transitions)
+words_within letters states width transitions wide inside =
+    All-map (λ (word : BitWord). word.place < letters * width) (word_of width) transitions
     (λ k d within. let one = inside k d within in
-    let column : (get_or edges k d).target / 32 < width = div_below (get_or edges k d).target 32 width (omega arith) (omega (arith, one.1, wide)) in
-    omega (arith, mul-add-lt (get_or edges k d).letter width ((get_or edges k d).target / 32) letters one.0 column))
+    let column : (get_or transitions k d).target / 32 < width = div_below (get_or transitions k d).target 32 width (omega arith) (omega (arith, one.1, wide)) in
+    omega (arith, mul-add-lt (get_or transitions k d).letter width ((get_or transitions k d).target / 32) letters one.0 column))
 
 -- the rows of one more member of a list
 pub AreGathered-more : (rows : List (List BitWord)) (set : List ℕ) (k : ℕ) (words new : List ℕ) → k < length set → AreGathered rows (take k set) words → AreSet words (row_at rows (get_or set k 0)) new → AreGathered rows (take (k + 1) set) new

@@ -18,7 +18,7 @@ use Rattle.determinise.specs.SubsetLaws.{All-range, AllPairs-range}
 use Rattle.determinise.proofs.BitLemmas.{HasBit-or, HasBit-replicate, HasBit-within}
 use Rattle.determinise.proofs.SubsetLemmas.{Contains-range}
 
--- the bit of a number stands at the place
+-- the bit of a number is at the place
 abbrev pub StandsAt : ℕ → ℕ → ℕ → Type 0
 StandsAt number place bit = (number / 32 ≡ place) × (number % 32 ≡ bit)
 

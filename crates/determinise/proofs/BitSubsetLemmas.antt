@@ -7,10 +7,10 @@ use Rattle.std.proofs.lemmas.List.Edits.{get_or-between, length-between}
 use Rattle.std.proofs.lemmas.List.Kept.{AllPairs-filter}
 use Rattle.std.proofs.lemmas.List.Elements.{All-contains, All-filter, All-weaker}
 use Rattle.std.proofs.lemmas.Nat.{div_below, row_fits, same_from_place}
-use Rattle.digit_tuple.specs.declared.edges.Edge.{Edge}
-use Rattle.digit_tuple.specs.Automaton.{Branching, IsBranchTable, Leads, accepting_of, edges_of, letters_of, states_of}
+use Rattle.digit_tuple.specs.declared.transitions.Transition.{Transition}
+use Rattle.digit_tuple.specs.Automaton.{Branching, IsBranchTable, Leads, accepting_of, transitions_of, letters_of, states_of}
 use Rattle.digit_tuple.specs.Groups.{some_set}
-use Rattle.digit_tuple.specs.Keys.{KeyEdge, AreKeyEdges, part_of, some_nonzero}
+use Rattle.digit_tuple.specs.Keys.{KeyTransition, AreKeyTransitions, part_of, some_nonzero}
 use Rattle.digit_tuple.proofs.MemberLemmas.{Contains-map, Contains-from_map, Contains-filter, Contains-from_filter, list_any-contains, contains_from_list_any}
 use Rattle.digit_tuple.proofs.TableLemmas.{Leads-in_range}
 use Rattle.determinise.specs.declared.bit_words.BitWord.{BitWord}
@@ -28,18 +28,18 @@ use Rattle.determinise.proofs.SubsetLemmas.{Contains-range, targets_of-iff}
 pub wide_enough : (states : ℕ) → states ≤ 32 * words_of states
 wide_enough states = omega arith
 
--- the bits of a row of edges are those of their targets
-pub RowHas-edges : (width : ℕ) (edges : List Edge) (place bit : ℕ)
-    → RowHas (map (word_of width) edges) place bit ↔ ((edge : Edge) × Contains edges edge × (edge.letter * width + edge.target / 32 ≡ place) × (edge.target % 32 ≡ bit))
-RowHas-edges width edges place bit = (forth, back)
+-- the bits of a row of transitions are those of their targets
+pub RowHas-transitions : (width : ℕ) (transitions : List Transition) (place bit : ℕ)
+    → RowHas (map (word_of width) transitions) place bit ↔ ((transition : Transition) × Contains transitions transition × (transition.letter * width + transition.target / 32 ≡ place) × (transition.target % 32 ≡ bit))
+RowHas-transitions width transitions place bit = (forth, back)
   where
-    forth : RowHas (map (word_of width) edges) place bit → (edge : Edge) × Contains edges edge × (edge.letter * width + edge.target / 32 ≡ place) × (edge.target % 32 ≡ bit)
+    forth : RowHas (map (word_of width) transitions) place bit → (transition : Transition) × Contains transitions transition × (transition.letter * width + transition.target / 32 ≡ place) × (transition.target % 32 ≡ bit)
     forth there =
-        let from = Contains-from_map (word_of width) edges there.0 there.1 in
+        let from = Contains-from_map (word_of width) transitions there.0 there.1 in
         (from.0, from.1, ap (λ (w : BitWord). w.place) from.2 ∙ there.2, (only_bit (from.0.target % 32) bit).0 (ap (λ (w : BitWord). bit_at w.bits bit) from.2 ∙ there.3))
 
-    back : (edge : Edge) × Contains edges edge × (edge.letter * width + edge.target / 32 ≡ place) × (edge.target % 32 ≡ bit) → RowHas (map (word_of width) edges) place bit
-    back there = (word_of width there.0, Contains-map (word_of width) edges there.0 there.1, there.2, (only_bit (there.0.target % 32) bit).1 there.3)
+    back : (transition : Transition) × Contains transitions transition × (transition.letter * width + transition.target / 32 ≡ place) × (transition.target % 32 ≡ bit) → RowHas (map (word_of width) transitions) place bit
+    back there = (word_of width there.0, Contains-map (word_of width) transitions there.0 there.1, there.2, (only_bit (there.0.target % 32) bit).1 there.3)
 
 -- the bits of a letter's part
 module _ (words : List ℕ) (letters width letter : ℕ) (room : length words ≡ letters * width) (small : letter < letters) where
@@ -81,7 +81,7 @@ module _ (n : Branching) (table : IsBranchTable (letters_of n) n.states) where
         (λ there. (united place bit).1 (there.0, (HasMember-bits_of (words_of (states_of n)) set inside there.0).1 there.1, there.2)),
       )
 
-  module _ (rows : List (List BitWord)) (are : (q : ℕ) → q < states_of n → row_at rows q ≡ map (word_of (words_of (states_of n))) (edges_of n q))
+  module _ (rows : List (List BitWord)) (are : (q : ℕ) → q < states_of n → row_at rows q ≡ map (word_of (words_of (states_of n))) (transitions_of n q))
       (set : List ℕ) (is : IsStateSet n set) (words : List ℕ) (room : length words ≡ letters_of n * words_of (states_of n)) (gathered : AreGathered rows set words) where
     -- the part of a letter has the bits of the states that it leads to
     pub part_of-targets : (a : ℕ) → a < letters_of n → part_of words (words_of (states_of n)) a ≡ state_bits n (targets_of n set a)
@@ -95,12 +95,12 @@ module _ (n : Branching) (table : IsBranchTable (letters_of n) n.states) where
             let there = (gathered (a * w + place) bit).0 both.1 in
             let member : Contains set there.0 = there.1 in
             let within : there.0 < states_of n = All-contains (λ q. q < states_of n) set there.0 is.in_range member in
-            let edge = (RowHas-edges w (edges_of n there.0) (a * w + place) bit).0 (subst (λ row. RowHas row (a * w + place) bit) (are there.0 within) there.2) in
-            let target = Leads-in_range n there.0 edge.0.letter edge.0.target table edge.1 in
-            let column : edge.0.target / 32 < w = div_below edge.0.target 32 w (omega arith) (omega (arith, target.1, wide_enough (states_of n))) in
-            let same = same_from_place edge.0.letter (edge.0.target / 32) a place w column both.0 edge.2 in
+            let transition = (RowHas-transitions w (transitions_of n there.0) (a * w + place) bit).0 (subst (λ row. RowHas row (a * w + place) bit) (are there.0 within) there.2) in
+            let target = Leads-in_range n there.0 transition.0.letter transition.0.target table transition.1 in
+            let column : transition.0.target / 32 < w = div_below transition.0.target 32 w (omega arith) (omega (arith, target.1, wide_enough (states_of n))) in
+            let same = same_from_place transition.0.letter (transition.0.target / 32) a place w column both.0 transition.2 in
             (HasBit-bits_of w (targets_of n set a) (small_set (targets_of n set a) (targets_in_range set a)) place bit).1
-            (edge.0.target, (targets_of-iff n table set a edge.0.target).1 (there.0, member, subst (λ l. Leads n there.0 l edge.0.target) same.0 edge.1), (same.1, edge.3))
+            (transition.0.target, (targets_of-iff n table set a transition.0.target).1 (there.0, member, subst (λ l. Leads n there.0 l transition.0.target) same.0 transition.1), (same.1, transition.3))
 
         back : (place bit : ℕ) → (x : ℕ) × Contains (targets_of n set a) x × StandsAt x place bit → HasBit (part_of words (words_of (states_of n)) a) place bit
         back place bit there =
@@ -109,14 +109,14 @@ module _ (n : Branching) (table : IsBranchTable (letters_of n) n.states) where
             let within : from.0 < states_of n = All-contains (λ q. q < states_of n) set from.0 is.in_range from.1 in
             let target = Leads-in_range n from.0 a there.0 table from.2 in
             let column : there.0 / 32 < w = div_below there.0 32 w (omega arith) (omega (arith, target.1, wide_enough (states_of n))) in
-            let edge : Edge = record { letter = a; target = there.0 } in
-            let row = (RowHas-edges w (edges_of n from.0) (a * w + place) bit).1 (edge, from.2, ap (λ p. a * w + p) there.2.0, there.2.1) in
+            let transition : Transition = record { letter = a; target = there.0 } in
+            let row = (RowHas-transitions w (transitions_of n from.0) (a * w + place) bit).1 (transition, from.2, ap (λ p. a * w + p) there.2.0, there.2.1) in
             (HasBit-part_of words (letters_of n) w a room small place bit).1
             (subst (λ p. p < w) there.2.0 column, (gathered (a * w + place) bit).1 (from.0, from.1, subst (λ row. RowHas row (a * w + place) bit) (sym (are from.0 within)) row))
 
-    -- the parts of the letters are the edges from the set
-    pub AreKeyEdges-parts : (edges : List KeyEdge) → AreKeyEdges (letters_of n) (λ letter. some_nonzero (part_of words (words_of (states_of n)) letter)) edges → AreKeyEdges (letters_of n) (bits_after n (state_bits n set)) edges
-    AreKeyEdges-parts edges parts = record {
+    -- the parts of the letters are the transitions from the set
+    pub AreKeyTransitions-parts : (transitions : List KeyTransition) → AreKeyTransitions (letters_of n) (λ letter. some_nonzero (part_of words (words_of (states_of n)) letter)) transitions → AreKeyTransitions (letters_of n) (bits_after n (state_bits n set)) transitions
+    AreKeyTransitions-parts transitions parts = record {
       in_range = parts.in_range;
       ascending = parts.ascending;
       lead = λ a small. parts.lead a small ∙ ap some_nonzero (part_of-targets a small)
@@ -124,9 +124,9 @@ module _ (n : Branching) (table : IsBranchTable (letters_of n) n.states) where
           ∙ ap (λ s. option_map (state_bits n) (set_after n s a)) (sym (states_in-bits set is));
     }
 
-    -- their members are the edges from the set as lists
-    pub AreKeyEdges-lists : (edges : List KeyEdge) → AreKeyEdges (letters_of n) (λ letter. some_set (members_in (part_of words (words_of (states_of n)) letter))) edges → AreKeyEdges (letters_of n) (set_after n set) edges
-    AreKeyEdges-lists edges parts = record {
+    -- their members are the transitions from the set as lists
+    pub AreKeyTransitions-lists : (transitions : List KeyTransition) → AreKeyTransitions (letters_of n) (λ letter. some_set (members_in (part_of words (words_of (states_of n)) letter))) transitions → AreKeyTransitions (letters_of n) (set_after n set) transitions
+    AreKeyTransitions-lists transitions parts = record {
       in_range = parts.in_range;
       ascending = parts.ascending;
       lead = λ a small. parts.lead a small ∙ ap (λ ws. some_set (members_in ws)) (part_of-targets a small) ∙ ap some_set (listed (targets_of n set a) (targets_in_range set a) (AllPairs-filter (λ p q. p < q) (leads_to n set a) (range_with_len 0 (states_of n)) (AllPairs-range (states_of n))));
@@ -167,25 +167,25 @@ module _ (n : Branching) (table : IsBranchTable (letters_of n) n.states) where
 pub few_words : (states : ℕ) → states ≤ 512 → words_of states ≤ 16
 few_words states few = omega arith
 
--- what the rows write for a set are the edges from it
-pub AreKeyEdges-rows : (n : Branching) (table : IsBranchTable (letters_of n) n.states) (r : BitRows) → AreBitRows n r → (key : List ℕ) → IsStateBits n key
+-- what the rows write for a set are the transitions from it
+pub AreKeyTransitions-rows : (n : Branching) (table : IsBranchTable (letters_of n) n.states) (r : BitRows) → AreBitRows n r → (key : List ℕ) → IsStateBits n key
     → (rows : List (List BitWord)) → rows ≡ rows_in r.rows.items → (words : List ℕ) → length words ≡ r.letters * r.width → AreUnited rows key words
-    → (edges : List KeyEdge) → AreKeyEdges r.letters (λ letter. some_nonzero (part_of words r.width letter)) edges → AreKeyEdges (letters_of n) (bits_after n key) edges
-AreKeyEdges-rows n table r are key is rows same words size united edges parts =
-    subst (λ k. AreKeyEdges (letters_of n) (bits_after n k) edges) (sym is.bits)
-    (AreKeyEdges-parts n table rows (λ q within. ap (λ rs. row_at rs q) same ∙ are.rows q within) is.set is.is_set words
+    → (transitions : List KeyTransition) → AreKeyTransitions r.letters (λ letter. some_nonzero (part_of words r.width letter)) transitions → AreKeyTransitions (letters_of n) (bits_after n key) transitions
+AreKeyTransitions-rows n table r are key is rows same words size united transitions parts =
+    subst (λ k. AreKeyTransitions (letters_of n) (bits_after n k) transitions) (sym is.bits)
+    (AreKeyTransitions-parts n table rows (λ q within. ap (λ rs. row_at rs q) same ∙ are.rows q within) is.set is.is_set words
     (size ∙ ap (λ l. l * r.width) are.letters ∙ ap (λ w. letters_of n * w) are.width)
-    (AreGathered-united n table rows is.set is.is_set words (subst (λ k. AreUnited rows k words) is.bits united)) edges
-    (subst (λ w. AreKeyEdges (letters_of n) (λ letter. some_nonzero (part_of words w letter)) edges) are.width
-    (subst (λ l. AreKeyEdges l (λ letter. some_nonzero (part_of words r.width letter)) edges) are.letters parts)))
+    (AreGathered-united n table rows is.set is.is_set words (subst (λ k. AreUnited rows k words) is.bits united)) transitions
+    (subst (λ w. AreKeyTransitions (letters_of n) (λ letter. some_nonzero (part_of words w letter)) transitions) are.width
+    (subst (λ l. AreKeyTransitions l (λ letter. some_nonzero (part_of words r.width letter)) transitions) are.letters parts)))
 
--- what the rows write for a list are the edges from it
-pub AreKeyEdges-row_lists : (n : Branching) (r : BitRows) → AreBitRows n r → (set : List ℕ) → IsStateSet n set
+-- what the rows write for a list are the transitions from it
+pub AreKeyTransitions-row_lists : (n : Branching) (r : BitRows) → AreBitRows n r → (set : List ℕ) → IsStateSet n set
     → (rows : List (List BitWord)) → rows ≡ rows_in r.rows.items → (words items : List ℕ) → words ≡ items → length items ≡ r.letters * r.width → AreGathered rows set items
-    → (edges : List KeyEdge) → AreKeyEdges r.letters (λ letter. some_set (members_in (part_of words r.width letter))) edges → AreKeyEdges (letters_of n) (set_after n set) edges
-AreKeyEdges-row_lists n r are set is rows same words items read size gathered edges lists =
-    AreKeyEdges-lists n are.table rows (λ q within. ap (λ rs. row_at rs q) same ∙ are.rows q within) set is words
+    → (transitions : List KeyTransition) → AreKeyTransitions r.letters (λ letter. some_set (members_in (part_of words r.width letter))) transitions → AreKeyTransitions (letters_of n) (set_after n set) transitions
+AreKeyTransitions-row_lists n r are set is rows same words items read size gathered transitions lists =
+    AreKeyTransitions-lists n are.table rows (λ q within. ap (λ rs. row_at rs q) same ∙ are.rows q within) set is words
     (ap length read ∙ size ∙ ap (λ l. l * r.width) are.letters ∙ ap (λ w. letters_of n * w) are.width)
-    (subst (λ ws. AreGathered rows set ws) (sym read) gathered) edges
-    (subst (λ w. AreKeyEdges (letters_of n) (λ letter. some_set (members_in (part_of words w letter))) edges) are.width
-    (subst (λ l. AreKeyEdges l (λ letter. some_set (members_in (part_of words r.width letter))) edges) are.letters lists))
+    (subst (λ ws. AreGathered rows set ws) (sym read) gathered) transitions
+    (subst (λ w. AreKeyTransitions (letters_of n) (λ letter. some_set (members_in (part_of words w letter))) transitions) are.width
+    (subst (λ l. AreKeyTransitions l (λ letter. some_set (members_in (part_of words r.width letter))) transitions) are.letters lists))

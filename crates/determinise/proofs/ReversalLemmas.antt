@@ -148,7 +148,7 @@ accepts_of-none t table accepting w = accepts_from-run t 0 w ∙ by (run_of t 0 
     by None within same = refl
     by (Some r) within same = none r (within r refl) (accepting_of t r) refl
 
--- accepting states are a set of the turned automaton's
+-- accepting states are a set of the reversed automaton's
 pub IsStateSet-accepting : (t : Automaton) (n : Branching) → IsReversal t n → (first : List ℕ) → AreAccepting t first → 0 < length first → IsStateSet n first
 IsStateSet-accepting t n turned first accepting some = record {
   some = some;

@@ -8,11 +8,11 @@ use Rattle.std.proofs.lemmas.List.{get_or-map, length-map}
 use Rattle.std.proofs.lemmas.List.Elements.{filter_passes}
 use Rattle.std.proofs.lemmas.List.Kept.{AllPairs-filter}
 use Rattle.std.proofs.lemmas.List.FromFn.{length-range_with_len, get_or-range_with_len}
-use Rattle.digit_tuple.specs.declared.edges.Edge.{Edge}
-use Rattle.digit_tuple.specs.Automaton.{Branching, IsBranchTable, IsBefore, Leads, Path, Accepts, edges_of, states_of, letters_of, accepting_of}
+use Rattle.digit_tuple.specs.declared.transitions.Transition.{Transition}
+use Rattle.digit_tuple.specs.Automaton.{Branching, IsBranchTable, IsBefore, Leads, Path, Accepts, transitions_of, states_of, letters_of, accepting_of}
 use Rattle.digit_tuple.specs.Letters.{IsWord}
 use Rattle.digit_tuple.proofs.TableLemmas.{Leads-in_range}
-use Rattle.digit_tuple.specs.Keys.{KeyEdge, AreKeyEdges, key_run, key_accepts, LeadAlike}
+use Rattle.digit_tuple.specs.Keys.{KeyTransition, AreKeyTransitions, key_run, key_accepts, LeadAlike}
 use Rattle.digit_tuple.proofs.KeyLemmas.{key_accepts-run, key_run-keeps}
 use Rattle.digit_tuple.specs.Groups.{some_set, targets_by, AreGroups}
 use Rattle.determinise.specs.Subsets.{leads_to, targets_of, set_after, has_accepting, IsStateSet, Alike}
@@ -26,16 +26,16 @@ both_true false y is = absurd (true≢false (sym is))
 pub Contains-range : (n q : ℕ) → q < n → Contains (range_with_len 0 n) q
 Contains-range n q within = (q, omega (arith, length-range_with_len 0 n), get_or-range_with_len 0 n q q within ∙ omega arith)
 
--- the targets of edges in order by one letter are in order
-AllPairs-targets : (es : List Edge) (a : ℕ) → AllPairs IsBefore es → All (λ e. e.letter ≡ a) es → AllPairs (λ p q. p < q) (map (λ e. e.target) es)
+-- the targets of transitions in order by one letter are in order
+AllPairs-targets : (es : List Transition) (a : ℕ) → AllPairs IsBefore es → All (λ e. e.letter ≡ a) es → AllPairs (λ p q. p < q) (map (λ e. e.target) es)
 AllPairs-targets es a ascending same i j d before within =
-    let z : Edge = record { letter = 0; target = 0 } in
-    let size = length-map es (λ (e : Edge). e.target) in
-    let one = get_or-map (λ (e : Edge). e.target) es i z d (omega arith) in
-    let two = get_or-map (λ (e : Edge). e.target) es j z d (omega arith) in
+    let z : Transition = record { letter = 0; target = 0 } in
+    let size = length-map es (λ (e : Transition). e.target) in
+    let one = get_or-map (λ (e : Transition). e.target) es i z d (omega arith) in
+    let two = get_or-map (λ (e : Transition). e.target) es j z d (omega arith) in
     below (get_or es i z) (get_or es j z) one two (same i z (omega arith)) (same j z (omega arith)) (ascending i j z before (omega arith))
   where
-    below : (e f : Edge) {x y : ℕ} → x ≡ e.target → y ≡ f.target → e.letter ≡ a → f.letter ≡ a → IsBefore e f → x < y
+    below : (e f : Transition) {x y : ℕ} → x ≡ e.target → y ≡ f.target → e.letter ≡ a → f.letter ≡ a → IsBefore e f → x < y
     below e f one two is too (inl less) = absurd (omega (arith, is, too))
     below e f one two is too (inr later) = omega (arith, one, two, later.1)
 
@@ -46,16 +46,16 @@ module _ (n : Branching) (table : IsBranchTable (letters_of n) n.states) where
     where
       forth : leads_to n set a q ≡ true → (p : ℕ) × Contains set p × Leads n p a q
       forth is =
-          let p = contains_from_list_any (λ p. list_any (λ (edge : Edge). (edge.letter == a) && (edge.target == q)) (edges_of n p)) set is in
-          let e = contains_from_list_any (λ (edge : Edge). (edge.letter == a) && (edge.target == q)) (edges_of n p.0) p.2 in
+          let p = contains_from_list_any (λ p. list_any (λ (transition : Transition). (transition.letter == a) && (transition.target == q)) (transitions_of n p)) set is in
+          let e = contains_from_list_any (λ (transition : Transition). (transition.letter == a) && (transition.target == q)) (transitions_of n p.0) p.2 in
           let both = both_true (e.0.letter == a) (e.0.target == q) e.2 in
-          let same : e.0 ≡ (let f : Edge = record { letter = a; target = q } in f) =
-          ap (λ (x : ℕ). let f : Edge = record { letter = x; target = e.0.target } in f) (eqb-true e.0.letter a both.0) ∙ ap (λ (x : ℕ). let f : Edge = record { letter = a; target = x } in f) (eqb-true e.0.target q both.1) in
-          (p.0, p.1, subst (Contains (edges_of n p.0)) same e.1)
+          let same : e.0 ≡ (let f : Transition = record { letter = a; target = q } in f) =
+          ap (λ (x : ℕ). let f : Transition = record { letter = x; target = e.0.target } in f) (eqb-true e.0.letter a both.0) ∙ ap (λ (x : ℕ). let f : Transition = record { letter = a; target = x } in f) (eqb-true e.0.target q both.1) in
+          (p.0, p.1, subst (Contains (transitions_of n p.0)) same e.1)
 
       back : (p : ℕ) × Contains set p × Leads n p a q → leads_to n set a q ≡ true
-      back found = list_any-contains (λ p. list_any (λ (edge : Edge). (edge.letter == a) && (edge.target == q)) (edges_of n p)) set found.0 found.1
-          (list_any-contains (λ (edge : Edge). (edge.letter == a) && (edge.target == q)) (edges_of n found.0) (record { letter = a; target = q }) found.2
+      back found = list_any-contains (λ p. list_any (λ (transition : Transition). (transition.letter == a) && (transition.target == q)) (transitions_of n p)) set found.0 found.1
+          (list_any-contains (λ (transition : Transition). (transition.letter == a) && (transition.target == q)) (transitions_of n found.0) (record { letter = a; target = q }) found.2
           (ap (λ b. b && (q == q)) (eq-eqb a a refl) ∙ eq-eqb q q refl))
 
   -- a target is a state that the letter leads to
@@ -65,34 +65,34 @@ module _ (n : Branching) (table : IsBranchTable (letters_of n) n.states) where
     (λ found. Contains-filter (leads_to n set a) (range_with_len 0 (states_of n)) q (Contains-range (states_of n) q (Leads-in_range n found.0 a q table found.2).1) ((leads_to-iff set a q).1 found)),
   )
 
-  module _ (set : List ℕ) (edges : List Edge) (ascending : AllPairs IsBefore edges)
-      (members : (edge : Edge) → Contains edges edge ↔ ((p : ℕ) × Contains set p × Contains (edges_of n p) edge)) where
-    -- the targets of the set's edges by a letter
-    pub targets_by-set : (a : ℕ) → targets_by edges a ≡ targets_of n set a
-    targets_by-set a = same_ascending (targets_by edges a) (targets_of n set a)
-        (AllPairs-targets (filter (λ e. e.letter == a) edges) a (AllPairs-filter IsBefore (λ (e : Edge). e.letter == a) edges ascending)
-        (λ k d within. eqb-true (get_or (filter (λ (e : Edge). e.letter == a) edges) k d).letter a (filter_passes (λ (e : Edge). e.letter == a) edges k d within)))
+  module _ (set : List ℕ) (transitions : List Transition) (ascending : AllPairs IsBefore transitions)
+      (members : (transition : Transition) → Contains transitions transition ↔ ((p : ℕ) × Contains set p × Contains (transitions_of n p) transition)) where
+    -- the targets of the set's transitions by a letter
+    pub targets_by-set : (a : ℕ) → targets_by transitions a ≡ targets_of n set a
+    targets_by-set a = same_ascending (targets_by transitions a) (targets_of n set a)
+        (AllPairs-targets (filter (λ e. e.letter == a) transitions) a (AllPairs-filter IsBefore (λ (e : Transition). e.letter == a) transitions ascending)
+        (λ k d within. eqb-true (get_or (filter (λ (e : Transition). e.letter == a) transitions) k d).letter a (filter_passes (λ (e : Transition). e.letter == a) transitions k d within)))
         (AllPairs-filter (λ p q. p < q) (leads_to n set a) (range_with_len 0 (states_of n)) (AllPairs-range (states_of n))) forth back
       where
-        forth : (q : ℕ) → Contains (targets_by edges a) q → Contains (targets_of n set a) q
+        forth : (q : ℕ) → Contains (targets_by transitions a) q → Contains (targets_of n set a) q
         forth q there =
-            let found = Contains-from_map (λ (e : Edge). e.target) (filter (λ (e : Edge). e.letter == a) edges) q there in
-            let both = Contains-from_filter (λ (e : Edge). e.letter == a) edges found.0 found.1 in
+            let found = Contains-from_map (λ (e : Transition). e.target) (filter (λ (e : Transition). e.letter == a) transitions) q there in
+            let both = Contains-from_filter (λ (e : Transition). e.letter == a) transitions found.0 found.1 in
             let from = (members found.0).0 both.0 in
-            let same : found.0 ≡ (let f : Edge = record { letter = a; target = q } in f) =
-            ap (λ (x : ℕ). let f : Edge = record { letter = x; target = found.0.target } in f) (eqb-true found.0.letter a both.1) ∙ ap (λ (x : ℕ). let f : Edge = record { letter = a; target = x } in f) found.2 in
-            (targets_of-iff set a q).1 (from.0, from.1, subst (Contains (edges_of n from.0)) same from.2)
+            let same : found.0 ≡ (let f : Transition = record { letter = a; target = q } in f) =
+            ap (λ (x : ℕ). let f : Transition = record { letter = x; target = found.0.target } in f) (eqb-true found.0.letter a both.1) ∙ ap (λ (x : ℕ). let f : Transition = record { letter = a; target = x } in f) found.2 in
+            (targets_of-iff set a q).1 (from.0, from.1, subst (Contains (transitions_of n from.0)) same from.2)
 
-        back : (q : ℕ) → Contains (targets_of n set a) q → Contains (targets_by edges a) q
+        back : (q : ℕ) → Contains (targets_of n set a) q → Contains (targets_by transitions a) q
         back q there =
             let found = (targets_of-iff set a q).0 there in
-            let edge : Edge = record { letter = a; target = q } in
-            Contains-map (λ (e : Edge). e.target) (filter (λ (e : Edge). e.letter == a) edges) edge
-            (Contains-filter (λ (e : Edge). e.letter == a) edges edge ((members edge).1 (found.0, found.1, found.2)) (eq-eqb a a refl))
+            let transition : Transition = record { letter = a; target = q } in
+            Contains-map (λ (e : Transition). e.target) (filter (λ (e : Transition). e.letter == a) transitions) transition
+            (Contains-filter (λ (e : Transition). e.letter == a) transitions transition ((members transition).1 (found.0, found.1, found.2)) (eq-eqb a a refl))
 
-    -- the groups of the set's edges are the edges from the set
-    pub AreKeyEdges-groups : (key_edges : List KeyEdge) → AreGroups edges key_edges → AreKeyEdges (letters_of n) (set_after n set) key_edges
-    AreKeyEdges-groups key_edges groups = record {
+    -- the groups of the set's transitions are the transitions from the set
+    pub AreKeyTransitions-groups : (key_transitions : List KeyTransition) → AreGroups transitions key_transitions → AreKeyTransitions (letters_of n) (set_after n set) key_transitions
+    AreKeyTransitions-groups key_transitions groups = record {
       in_range = λ k d within. let one = groups.letters k d within in
           let from = (members one.0).0 one.1 in
           omega (arith, (Leads-in_range n from.0 one.0.letter one.0.target table from.2).0, one.2);
@@ -100,18 +100,18 @@ module _ (n : Branching) (table : IsBranchTable (letters_of n) n.states) where
       lead = λ a small. groups.keys a ∙ ap some_set (targets_by-set a);
     }
 
-  -- the edges of a set of one state
-  pub AreKeyEdges-one : (set : List ℕ) (edges : List Edge) (key_edges : List KeyEdge) → length set ≡ 1 → edges ≡ edges_of n (slice_index set 0) → AllPairs IsBefore edges → AreGroups edges key_edges → AreKeyEdges (letters_of n) (set_after n set) key_edges
-  AreKeyEdges-one [] edges key_edges one are ascending groups = absurd (omega arith)
-  AreKeyEdges-one (q ∷ r ∷ set) edges key_edges one are ascending groups = absurd (omega arith)
-  AreKeyEdges-one (q ∷ []) edges key_edges one are ascending groups =
-      AreKeyEdges-groups (q ∷ []) (edges_of n q) (subst (AllPairs IsBefore) are ascending) members key_edges (subst (λ es. AreGroups es key_edges) are groups)
+  -- the transitions of a set of one state
+  pub AreKeyTransitions-one : (set : List ℕ) (transitions : List Transition) (key_transitions : List KeyTransition) → length set ≡ 1 → transitions ≡ transitions_of n (slice_index set 0) → AllPairs IsBefore transitions → AreGroups transitions key_transitions → AreKeyTransitions (letters_of n) (set_after n set) key_transitions
+  AreKeyTransitions-one [] transitions key_transitions one are ascending groups = absurd (omega arith)
+  AreKeyTransitions-one (q ∷ r ∷ set) transitions key_transitions one are ascending groups = absurd (omega arith)
+  AreKeyTransitions-one (q ∷ []) transitions key_transitions one are ascending groups =
+      AreKeyTransitions-groups (q ∷ []) (transitions_of n q) (subst (AllPairs IsBefore) are ascending) members key_transitions (subst (λ es. AreGroups es key_transitions) are groups)
     where
-      members : (edge : Edge) → Contains (edges_of n q) edge ↔ ((p : ℕ) × Contains (q ∷ []) p × Contains (edges_of n p) edge)
-      members edge = ((λ there. (q, Contains-head q [], there)), (λ found. only found.0 found.2 (Contains-cases q [] found.0 found.1)))
+      members : (transition : Transition) → Contains (transitions_of n q) transition ↔ ((p : ℕ) × Contains (q ∷ []) p × Contains (transitions_of n p) transition)
+      members transition = ((λ there. (q, Contains-head q [], there)), (λ found. only found.0 found.2 (Contains-cases q [] found.0 found.1)))
         where
-          only : (p : ℕ) → Contains (edges_of n p) edge → (q ≡ p) ⊎ Contains [] p → Contains (edges_of n q) edge
-          only p there (inl same) = subst (λ r. Contains (edges_of n r) edge) (sym same) there
+          only : (p : ℕ) → Contains (transitions_of n p) transition → (q ≡ p) ⊎ Contains [] p → Contains (transitions_of n q) transition
+          only p there (inl same) = subst (λ r. Contains (transitions_of n r) transition) (sym same) there
           only p there (inr none) = absurd (Contains-none p none)
 
   -- the states of the set that a word leads to, where no set is the empty one

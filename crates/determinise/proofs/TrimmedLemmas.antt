@@ -2,39 +2,39 @@
 use Rattle.std.proofs.Common.{◌≡◌, ◌==◌, ℕ, Bool, true, false, if◌then◌else◌, List, [], ◌∷◌, map, length, Option, None, Some, refl, ap, arith}
 use Rattle.std.specs.Option.{option_map, option_map_or}
 use Rattle.std.proofs.lemmas.List.{get_or-map, length-map}
-use Rattle.digit_tuple.specs.declared.edges.Edge.{Edge}
+use Rattle.digit_tuple.specs.declared.transitions.Transition.{Transition}
 use Rattle.digit_tuple.specs.Deterministic.{Automaton, IsRow, target_by, step_of, accepts_from}
-use Rattle.digit_tuple.specs.Keys.{KeyEdge, AreKeyEdges, key_by, key_accepts}
+use Rattle.digit_tuple.specs.Keys.{KeyTransition, AreKeyTransitions, key_by, key_accepts}
 use Rattle.determinise.specs.Trimmed.{state_after, state_accepts}
 
--- the key edge that an edge stands for
-abbrev pub key_edge_of : Edge → KeyEdge
-key_edge_of e = record { letter = e.letter; key = e.target ∷ [] }
+-- the key transition that a transition stands for
+abbrev pub key_transition_of : Transition → KeyTransition
+key_transition_of e = record { letter = e.letter; key = e.target ∷ [] }
 
-key_by-edges : (es : List Edge) (a : ℕ) → key_by (map key_edge_of es) a ≡ option_map (λ q. q ∷ []) (target_by es a)
-key_by-edges [] a = refl
-key_by-edges (e ∷ es) a = by (e.letter == a) (key_by-edges es a)
+key_by-transitions : (es : List Transition) (a : ℕ) → key_by (map key_transition_of es) a ≡ option_map (λ q. q ∷ []) (target_by es a)
+key_by-transitions [] a = refl
+key_by-transitions (e ∷ es) a = by (e.letter == a) (key_by-transitions es a)
   where
-    by : (b : Bool) → key_by (map key_edge_of es) a ≡ option_map (λ q. q ∷ []) (target_by es a)
-        → (if b then Some (e.target ∷ []) else key_by (map key_edge_of es) a) ≡ option_map (λ q. q ∷ []) (if b then Some e.target else target_by es a)
+    by : (b : Bool) → key_by (map key_transition_of es) a ≡ option_map (λ q. q ∷ []) (target_by es a)
+        → (if b then Some (e.target ∷ []) else key_by (map key_transition_of es) a) ≡ option_map (λ q. q ∷ []) (if b then Some e.target else target_by es a)
     by true rest = refl
     by false rest = rest
 
-pub AreKeyEdges-edges : (letters states : ℕ) (es : List Edge) → IsRow letters states es → AreKeyEdges letters (λ a. option_map (λ q. q ∷ []) (target_by es a)) (map key_edge_of es)
-AreKeyEdges-edges letters states es row = record {
-  in_range = λ k d within. let e = get_or-map key_edge_of es k z d (omega (arith, size)) in omega (arith, ap (λ (s : KeyEdge). s.letter) e, (row.in_range k z (omega (arith, size))).0);
+pub AreKeyTransitions-transitions : (letters states : ℕ) (es : List Transition) → IsRow letters states es → AreKeyTransitions letters (λ a. option_map (λ q. q ∷ []) (target_by es a)) (map key_transition_of es)
+AreKeyTransitions-transitions letters states es row = record {
+  in_range = λ k d within. let e = get_or-map key_transition_of es k z d (omega (arith, size)) in omega (arith, ap (λ (s : KeyTransition). s.letter) e, (row.in_range k z (omega (arith, size))).0);
   ascending = λ i j d before within.
-      let e = get_or-map key_edge_of es i z d (omega (arith, size)) in
-      let f = get_or-map key_edge_of es j z d (omega (arith, size)) in
+      let e = get_or-map key_transition_of es i z d (omega (arith, size)) in
+      let f = get_or-map key_transition_of es j z d (omega (arith, size)) in
       let less = row.ascending i j z before (omega (arith, size)) in
-      omega (arith, less, ap (λ (s : KeyEdge). s.letter) e, ap (λ (s : KeyEdge). s.letter) f);
-  lead = λ a small. key_by-edges es a;
+      omega (arith, less, ap (λ (s : KeyTransition). s.letter) e, ap (λ (s : KeyTransition). s.letter) f);
+  lead = λ a small. key_by-transitions es a;
 }
   where
-    size : length (map key_edge_of es) ≡ length es
-    size = length-map es key_edge_of
+    size : length (map key_transition_of es) ≡ length es
+    size = length-map es key_transition_of
 
-    z : Edge
+    z : Transition
     z = record { letter = 0; target = 0 }
 
 -- the keys accept what the automaton does

@@ -2,7 +2,7 @@
 use Rattle.std.specs.Prelude.{◌==◌, ◌&&◌, ℕ, ◌<◌, Bool, List, length, Option, ◌↔◌, filter}
 use Rattle.std.specs.List.{All, AllPairs, list_any, range_with_len}
 use Rattle.digit_tuple.specs.Groups.{some_set}
-use Rattle.digit_tuple.specs.Automaton.{Branching, Path, edges_of, states_of, accepting_of}
+use Rattle.digit_tuple.specs.Automaton.{Branching, Path, transitions_of, states_of, accepting_of}
 
 -- the two words lead to the same states
 abbrev pub Alike : Branching → List ℕ → List ℕ → Type 0
@@ -10,7 +10,7 @@ Alike n w v = (q : ℕ) → Path n 0 w q ↔ Path n 0 v q
 
 -- whether the letter leads from a state of the set to q
 abbrev pub leads_to : Branching → List ℕ → ℕ → ℕ → Bool
-leads_to n set letter q = list_any (λ p. list_any (λ edge. (edge.letter == letter) && (edge.target == q)) (edges_of n p)) set
+leads_to n set letter q = list_any (λ p. list_any (λ transition. (transition.letter == letter) && (transition.target == q)) (transitions_of n p)) set
 
 -- the states that the letter leads to from the set, in order
 abbrev pub targets_of : Branching → List ℕ → ℕ → List ℕ

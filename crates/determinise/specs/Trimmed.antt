@@ -6,7 +6,7 @@ use Rattle.std.proofs.Common.{arith}
 use Rattle.digit_tuple.specs.Deterministic.{Automaton, IsTable, states_of, letters_of, accepting_of, step_of}
 use Rattle.digit_tuple.proofs.DfaLemmas.{row_at, target_by-in_range}
 
--- the state that stands alone
+-- the state that is alone
 abbrev pub state_in_key : List ℕ → ℕ
 state_in_key key = slice_index key 0
 

@@ -3,26 +3,26 @@
 ghost use Rattle.std.specs.Prelude.{◌≡◌, ◌+◌, ◌*◌, ◌<◌, ◌≤◌, ◌^◌, ◌++◌, [], length, OnOk};
 ghost use Rattle.std.specs.List.{All, AllPairs};
 ghost use Rattle.digit_tuple.specs.Groups.{some_set};
-ghost use Rattle.digit_tuple.specs.Keys.{AreKeyEdges, edges_to, part_of};
+ghost use Rattle.digit_tuple.specs.Keys.{AreKeyTransitions, transitions_to, part_of};
 ghost use Rattle.determinise.specs.Bits.{AddsMembers, members_in};
 ghost use Rattle.determinise.specs.NumberSets.{AreAtPlaces};
 
 use digit_tuple::faults::OutOfMemory;
-use digit_tuple::key_edges::KeyEdges;
+use digit_tuple::key_transitions::KeyTransitions;
 use std::alloc::Global;
 
-/// Adds for each letter with a bit among its words an edge to the numbers whose bits are set.
+/// Adds for each letter with a bit among its words a transition to the numbers whose bits are set.
 pub fn push_member_letters(
     alloc: Global,
     words: &[u32],
     letters: u32,
     width: u32,
-    out: &mut KeyEdges,
+    out: &mut KeyTransitions,
 ) -> Result<(), OutOfMemory>
     requires room { length words.now ≡ letters * width }
     requires few { width ≤ 2 ^ 26 }
     requires empty { out.old ≡ [] }
-    ensures { OnOk result (AreKeyEdges letters (λ letter. some_set (members_in (part_of words.now width letter))) out.new) }
+    ensures { OnOk result (AreKeyTransitions letters (λ letter. some_set (members_in (part_of words.now width letter))) out.new) }
 {
     let mut members = Vec::new(alloc);
     for letter in 0..letters {
@@ -34,9 +34,9 @@ pub fn push_member_letters(
     Ok(())
 }
 
-// Adds an edge to the list, unless it is empty.
-fn push_list(letter: u32, list: &[u32], out: &mut KeyEdges) -> Result<(), OutOfMemory>
-    ensures { OnOk result (out.new ≡ out.old ++ edges_to letter (some_set list.now)) }
+// Adds a transition to the list, unless it is empty.
+fn push_list(letter: u32, list: &[u32], out: &mut KeyTransitions) -> Result<(), OutOfMemory>
+    ensures { OnOk result (out.new ≡ out.old ++ transitions_to letter (some_set list.now)) }
 {
     if !list.is_empty() {
         out.push(letter, list)?;

@@ -1,4 +1,4 @@
-//! The edges of a nondeterministic automaton as rows of bits.
+//! The transitions of a nondeterministic automaton as rows of bits.
 
 ghost use Rattle.std.specs.Prelude.{◌≡◌, ℕ, ◌+◌, ◌*◌, ◌/◌, ◌<◌, ◌≤◌, ◌^◌, [], length, IfOk, OnOk, IsTrue, map, filter};
 ghost use Rattle.std.specs.Int.{bit_at};
@@ -8,16 +8,16 @@ ghost use Rattle.determinise.specs.Bits.{HasMember, rows_in, AreRowsSet, AreGath
 ghost use Rattle.determinise.specs.BitRows.{AreBitRows, HasFewWords, word_of, words_of};
 
 use crate::bit_words::{BitWord, bits_of, set_row};
-use digit_tuple::edges::Edge;
 use digit_tuple::faults::OutOfMemory;
 use digit_tuple::nfa::Nfa;
+use digit_tuple::transitions::Transition;
 use std::alloc::Global;
 
 /// The most words that sets of states as bits, one for each letter, take together.
 pub const MOST_WORDS: u32 = 32768;
 
-/// The edges of each state as a row of bits: for each letter in turn so many words, whose bits say
-/// which states it leads to. Words without a bit are left out. Beside them the accepting states as bits.
+/// The transitions of each state as a row of bits: for each letter in turn so many words, whose bits say which states
+/// it leads to. Words without a bit are left out. Beside them the accepting states as bits.
 #[derive(Drop)]
 pub struct BitRows {
     pub letters: u32,
@@ -27,7 +27,7 @@ pub struct BitRows {
 }
 
 impl BitRows {
-    /// The edges of an automaton.
+    /// The transitions of an automaton.
     pub fn of(alloc: Global, nfa: &Nfa) -> Result<BitRows, OutOfMemory>
         requires { HasFewWords nfa.now }
         ensures { IfOk result (AreBitRows nfa.now) }
@@ -36,7 +36,7 @@ impl BitRows {
         let width = words_for(nfa.states());
         let mut rows = Vec::with_capacity(alloc, nfa.states() as usize)?;
         for state in 0..nfa.states() {
-            rows.push(row_of(alloc, nfa.edges(state), width)?)?;
+            rows.push(row_of(alloc, nfa.transitions(state), width)?)?;
         }
         let accepting = bits_of(alloc, width as usize, &accepting_states(alloc, nfa)?)?;
         Ok(BitRows {
@@ -57,21 +57,21 @@ pub fn has_few_words(nfa: &Nfa) -> bool
     states <= 32 * MOST_WORDS && nfa.alphabet().letters() * words_for(states) <= MOST_WORDS
 }
 
-/// Whether there is an edge for each 128 words of sets as bits, one for each state and letter, so that walking
-/// these words costs no more than the edges do.
+/// Whether there is a transition for each 128 words of sets as bits, one for each state and letter, so that walking
+/// these words costs no more than the transitions do.
 pub fn is_dense(nfa: &Nfa) -> bool
     requires { HasFewWords nfa.now }
 {
     let states = nfa.states();
     let words = nfa.alphabet().letters() * words_for(states);
-    has_edges(nfa, states as usize * words as usize / 128)
+    has_transitions(nfa, states as usize * words as usize / 128)
 }
 
-// Whether there are so many edges.
-fn has_edges(nfa: &Nfa, count: usize) -> bool {
+// Whether there are so many transitions.
+fn has_transitions(nfa: &Nfa, count: usize) -> bool {
     let mut left = count;
     for state in 0..nfa.states() {
-        left = left.saturating_sub(nfa.edges(state).len());
+        left = left.saturating_sub(nfa.transitions(state).len());
     }
     left == 0
 }
@@ -84,16 +84,20 @@ fn words_for(states: u32) -> u32
     (states + 31) / 32
 }
 
-// The edges as a row of bits.
-fn row_of(alloc: Global, edges: &[Edge], width: u32) -> Result<Vec<BitWord>, OutOfMemory>
-    requires { All (λ edge. edge.letter * width + edge.target / 32 < 2 ^ 32) edges.now }
-    ensures { IfOk result (λ row. row.items ≡ map (word_of width) edges.now) }
+// The transitions as a row of bits.
+fn row_of(
+    alloc: Global,
+    transitions: &[Transition],
+    width: u32,
+) -> Result<Vec<BitWord>, OutOfMemory>
+    requires { All (λ transition. transition.letter * width + transition.target / 32 < 2 ^ 32) transitions.now }
+    ensures { IfOk result (λ row. row.items ≡ map (word_of width) transitions.now) }
 {
     let mut row = Vec::new(alloc);
-    for edge in edges {
+    for transition in transitions {
         row.push(BitWord {
-            place: edge.letter * width + edge.target / 32,
-            bits: 1 << (edge.target % 32),
+            place: transition.letter * width + transition.target / 32,
+            bits: 1 << (transition.target % 32),
         })?;
     }
     Ok(row)

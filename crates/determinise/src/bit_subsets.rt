@@ -10,8 +10,8 @@ ghost use Rattle.determinise.specs.Subsets.{IsStateSet};
 use crate::bit_rows::{BitRows, unite};
 use crate::bit_words::{bits_of, meet};
 use digit_tuple::faults::OutOfMemory;
-use digit_tuple::key_edges::KeyEdges;
 use digit_tuple::key_graph::KeyGraph;
+use digit_tuple::key_transitions::KeyTransitions;
 use digit_tuple::nfa::Nfa;
 use std::alloc::Global;
 
@@ -48,7 +48,12 @@ impl KeyGraph for BitSubsets<'_> {
         bits_of(alloc, self.rows.width as usize, self.first)
     }
 
-    fn edges(&self, alloc: Global, key: &[u32], out: &mut KeyEdges) -> Result<(), OutOfMemory> {
+    fn transitions(
+        &self,
+        alloc: Global,
+        key: &[u32],
+        out: &mut KeyTransitions,
+    ) -> Result<(), OutOfMemory> {
         let rows = self.rows;
         let room = rows.letters as usize * rows.width as usize;
         let mut words = out.take_spare(alloc);

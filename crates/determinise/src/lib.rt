@@ -7,7 +7,7 @@ pub mod subsets;
 /// Sets of numbers as bits.
 pub mod bit_words;
 
-/// Edges as rows of bits.
+/// Transitions as rows of bits.
 pub mod bit_rows;
 
 /// The numbers whose bits are set.
@@ -16,13 +16,13 @@ pub mod bit_members;
 /// Numbers put in order by their bits.
 pub mod number_set;
 
-/// Edges put in order by their letters and targets.
-pub mod edge_order;
+/// Transitions put in order by their letters and targets.
+pub mod transition_order;
 
 /// The sets of states that words lead to, as bits.
 pub mod bit_subsets;
 
-/// The sets of states that words lead to, as lists, with edges from rows of bits.
+/// The sets of states that words lead to, as lists, with transitions from rows of bits.
 pub mod row_subsets;
 
 /// The exploration of sets of states.

@@ -19,10 +19,10 @@ use digit_tuple::reversed::reversed;
 use digit_tuple::stepped::Stepped;
 use std::alloc::Global;
 
-/// A deterministic automaton that accepts the reversed words. The width is the number of residuals
-/// of its language, the empty one among them where it occurs: two words are alike after which the
-/// same words are accepted. No state is listed for the empty residual, unless nothing is accepted.
-/// `States` comes exactly where the width passes the limit, and `Letters` never.
+/// A deterministic automaton that accepts the reversed words. The width is the number of residuals of its language, the
+/// empty one among them where it occurs: two words are alike after which the same words are accepted. No state is
+/// listed for the empty residual, unless nothing is accepted. `States` comes if and only if the width passes the limit,
+/// and `Letters` never.
 pub fn reverse(alloc: Global, d: &Dfa, limit: u32) -> Result<Stepped<Dfa>, OpFault>
     ensures sizes { IfOk result (λ stepped. stepped.result.sizes ≡ d.now.sizes) }
     ensures table { IfOk result (λ stepped. IsTable (letters_of stepped.result) stepped.result.states) }

@@ -1,4 +1,4 @@
-//! The sets of states that words lead to, as lists, with edges from rows of bits.
+//! The sets of states that words lead to, as lists, with transitions from rows of bits.
 
 ghost use Rattle.digit_tuple.specs.Automaton.{letters_of};
 ghost use Rattle.determinise.specs.BitRows.{AreBitRows};
@@ -9,17 +9,16 @@ use crate::bit_members::push_member_letters;
 use crate::bit_rows::{BitRows, gather, row_words};
 use crate::subsets::Subsets;
 use digit_tuple::faults::OutOfMemory;
-use digit_tuple::key_edges::KeyEdges;
 use digit_tuple::key_graph::KeyGraph;
+use digit_tuple::key_transitions::KeyTransitions;
 use digit_tuple::nfa::Nfa;
 use std::alloc::Global;
 
-// For so many words of bits that have to be looked at, an edge may as well be gathered by its letter.
-const WORDS_FOR_AN_EDGE: usize = 8;
+// For so many words of bits that have to be looked at, a transition may as well be gathered by its letter.
+const WORDS_FOR_AN_TRANSITION: usize = 8;
 
-/// The sets of states that words lead to from the states of a first set, each as the list of its
-/// states in order. The edges from a set are gathered as bits of all letters together, unless they are
-/// few. The empty set is no key.
+/// The sets of states that words lead to from the states of a first set, each as the list of its states in order. The
+/// transitions from a set are gathered as bits of all letters together, unless they are few. The empty set is no key.
 #[derive(Clone, Copy)]
 pub struct RowSubsets<'a> {
     pub nfa: &'a Nfa,
@@ -48,15 +47,20 @@ impl KeyGraph for RowSubsets<'_> {
         Ok(Vec::from_slice(alloc, self.first)?)
     }
 
-    fn edges(&self, alloc: Global, key: &[u32], out: &mut KeyEdges) -> Result<(), OutOfMemory> {
+    fn transitions(
+        &self,
+        alloc: Global,
+        key: &[u32],
+        out: &mut KeyTransitions,
+    ) -> Result<(), OutOfMemory> {
         let rows = self.rows;
         let room = rows.letters as usize * rows.width as usize;
-        if room / WORDS_FOR_AN_EDGE > row_words(&rows.rows, key) {
+        if room / WORDS_FOR_AN_TRANSITION > row_words(&rows.rows, key) {
             let subsets = Subsets {
                 nfa: self.nfa,
                 first: self.first,
             };
-            return subsets.edges(alloc, key, out);
+            return subsets.transitions(alloc, key, out);
         }
         let mut words = out.take_spare(alloc);
         gather(&rows.rows, room, key, &mut words)?;

@@ -16,11 +16,10 @@ use digit_tuple::nfa::Nfa;
 use digit_tuple::stepped::Stepped;
 use std::alloc::Global;
 
-/// A deterministic automaton with the language of the nondeterministic one. Its states are the sets
-/// of states that words lead to, in the order of the first words that lead to them, but the empty
-/// set is not listed: a letter that leads to it has no edge. The width is the number of sets that
-/// words lead to, the empty one among them where a word leads to it. `States` comes exactly where
-/// the width passes the limit, and `Letters` never.
+/// A deterministic automaton with the language of the nondeterministic one. Its states are the sets of states that
+/// words lead to, in the order of the first words that lead to them, but the empty set is not listed: a letter that
+/// leads to it has no transition. The width is the number of sets that words lead to, the empty one among them where a
+/// word leads to it. `States` comes if and only if the width passes the limit, and `Letters` never.
 pub fn determinise(alloc: Global, n: &Nfa, limit: u32) -> Result<Stepped<Dfa>, OpFault>
     ensures sizes { IfOk result (λ stepped. stepped.result.sizes ≡ n.now.sizes) }
     ensures table { IfOk result (λ stepped. IsTable (product n.now.sizes) stepped.result.states) }

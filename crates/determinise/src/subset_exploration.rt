@@ -24,14 +24,14 @@ use digit_tuple::nfa::Nfa;
 use digit_tuple::stepped::Stepped;
 use std::alloc::Global;
 
-/// The automaton whose states are the sets of states that words lead to from a first set, numbered in
-/// the order of the first words that lead to them, but the empty set is not listed. The width is the
-/// number of kinds of words, where two are alike that lead to one set, or both to none. `States` comes
-/// exactly where the width passes the limit, and `Letters` never.
+/// The automaton whose states are the sets of states that words lead to from a first set, numbered in the order of the
+/// first words that lead to them, but the empty set is not listed. The width is the number of kinds of words, where two
+/// are alike that lead to one set, or both to none. `States` comes if and only if the width passes the limit, and
+/// `Letters` never.
 ///
-/// Keys are sets as bits where there are at most 512 states with many edges, and else lists of states. The
-/// edges from a key are gathered as bits, one set for each letter, where these take at most 32,768 words
-/// together, and from a list only where these words are not many more than its members' edges; else they are
+/// Keys are sets as bits where there are at most 512 states with many transitions, and else lists of states. The
+/// transitions from a key are gathered as bits, one set for each letter, where these take at most 32,768 words
+/// together, and from a list only where these words are not many more than its members' transitions; else they are
 /// gathered letter by letter.
 pub fn explore_subsets(
     alloc: Global,

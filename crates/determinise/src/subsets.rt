@@ -2,19 +2,19 @@
 
 ghost use Rattle.std.specs.Prelude.{◌≡◌, ℕ, ◌<◌, ◌↔◌, [], ◌∷◌, IfOk};
 ghost use Rattle.std.specs.List.{All, AllPairs, Contains};
-ghost use Rattle.digit_tuple.specs.Automaton.{IsBranchTable, IsBefore, letters_of, states_of, edges_of};
-ghost use Rattle.digit_tuple.specs.declared.edges.Edge.{Edge};
+ghost use Rattle.digit_tuple.specs.Automaton.{IsBranchTable, IsBefore, letters_of, states_of, transitions_of};
+ghost use Rattle.digit_tuple.specs.declared.transitions.Transition.{Transition};
 ghost use Rattle.determinise.specs.Subsets.{IsStateSet, set_after, has_accepting};
 ghost use Rattle.determinise.specs.SubsetLaws.{after_is_state_set};
 
-use crate::edge_order::in_order;
+use crate::transition_order::in_order;
 use digit_tuple::blanks::Blanks;
-use digit_tuple::edges::Edge;
 use digit_tuple::faults::OutOfMemory;
 use digit_tuple::groups::group_into;
-use digit_tuple::key_edges::KeyEdges;
 use digit_tuple::key_graph::KeyGraph;
+use digit_tuple::key_transitions::KeyTransitions;
 use digit_tuple::nfa::Nfa;
+use digit_tuple::transitions::Transition;
 use std::alloc::Global;
 
 /// The sets of states that words lead to from the states of a first set, each as the list of its
@@ -46,14 +46,19 @@ impl KeyGraph for Subsets<'_> {
         Ok(Vec::from_slice(alloc, self.first)?)
     }
 
-    fn edges(&self, alloc: Global, key: &[u32], out: &mut KeyEdges) -> Result<(), OutOfMemory> {
+    fn transitions(
+        &self,
+        alloc: Global,
+        key: &[u32],
+        out: &mut KeyTransitions,
+    ) -> Result<(), OutOfMemory> {
         if key.len() == 1 {
-            return group_into(self.nfa.edges(key[0]), out);
+            return group_into(self.nfa.transitions(key[0]), out);
         }
         let mut blanks = out.take_blanks(alloc);
-        let edges = edges_from(alloc, self.nfa, key, &mut blanks)?;
+        let transitions = transitions_from(alloc, self.nfa, key, &mut blanks)?;
         out.give_blanks(blanks);
-        group_into(&edges, out)
+        group_into(&transitions, out)
     }
 
     fn is_accepting(&self, key: &[u32]) -> bool {
@@ -61,24 +66,24 @@ impl KeyGraph for Subsets<'_> {
     }
 }
 
-// The edges from the states, in order, none twice.
-fn edges_from(
+// The transitions from the states, in order, none twice.
+fn transitions_from(
     alloc: Global,
     nfa: &Nfa,
     set: &[u32],
     blanks: &mut Blanks,
-) -> Result<Vec<Edge>, OutOfMemory>
+) -> Result<Vec<Transition>, OutOfMemory>
     requires { All (λ q. q < states_of nfa.now) set.now }
-    ensures ascending { IfOk result (λ edges. AllPairs IsBefore edges.items) }
-    ensures members { IfOk result (λ edges. (edge : Edge) → Contains edges.items edge ↔ ((p : ℕ) × Contains set.now p × Contains (edges_of nfa.now p) edge)) }
+    ensures ascending { IfOk result (λ transitions. AllPairs IsBefore transitions.items) }
+    ensures members { IfOk result (λ transitions. (transition : Transition) → Contains transitions.items transition ↔ ((p : ℕ) × Contains set.now p × Contains (transitions_of nfa.now p) transition)) }
 {
-    let mut edges = Vec::new(alloc);
+    let mut transitions = Vec::new(alloc);
     for state in set {
-        edges.extend_from_slice(nfa.edges(*state))?;
+        transitions.extend_from_slice(nfa.transitions(*state))?;
     }
     in_order(
         alloc,
-        &edges,
+        &transitions,
         nfa.alphabet().letters(),
         nfa.states(),
         blanks,

@@ -9,8 +9,8 @@ ghost use Rattle.determinise.specs.Trimmed.{IsStateKey, state_after, state_accep
 use digit_tuple::dfa::Dfa;
 use digit_tuple::exploration::explore;
 use digit_tuple::faults::OutOfMemory;
-use digit_tuple::key_edges::KeyEdges;
 use digit_tuple::key_graph::KeyGraph;
+use digit_tuple::key_transitions::KeyTransitions;
 use std::alloc::Global;
 
 /// The states that words lead to, each alone.
@@ -40,11 +40,16 @@ impl KeyGraph for States<'_> {
         Ok(vec![in alloc; 0]?)
     }
 
-    fn edges(&self, alloc: Global, key: &[u32], out: &mut KeyEdges) -> Result<(), OutOfMemory> {
+    fn transitions(
+        &self,
+        alloc: Global,
+        key: &[u32],
+        out: &mut KeyTransitions,
+    ) -> Result<(), OutOfMemory> {
         let mut row = Vec::new(alloc);
-        self.dfa.edges_into(key[0], &mut row)?;
-        for edge in &row {
-            out.push(edge.letter, &[edge.target])?;
+        self.dfa.transitions_into(key[0], &mut row)?;
+        for transition in &row {
+            out.push(transition.letter, &[transition.target])?;
         }
         Ok(())
     }

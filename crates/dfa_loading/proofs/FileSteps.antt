@@ -17,7 +17,7 @@ use Rattle.dfa_loading.proofs.ReadSteps.{nothing_refused}
 use Rattle.dfa_loading.proofs.PlaceSteps.{some_files}
 use Rattle.dfa_loading.proofs.FoundSteps.{at_file}
 
--- only what stands at its place counts
+-- only what is at its place counts
 pub listed_moved : (found more : Files) (file : File) (table : Loaded) → at_file more file ≡ at_file found file → IsListedBy found file table → IsListedBy more file table
 listed_moved found more file table same listed = record { text = listed.text; there = same ∙ listed.there; short = listed.short; lists = listed.lists }
 
@@ -46,9 +46,9 @@ pub listed_more : (found : Files) (named : List File) (tables : List Loaded) (fi
 listed_more found [] [] file table are listed = (listed, tt)
 listed_more found [] (first ∷ tables) file table are listed = absurd are
 listed_more found (first ∷ named) [] file table are listed = absurd are
-listed_more found (first ∷ named) (front ∷ tables) file table are listed = (are.0, listed_more found named tables file table are.1 listed)
+listed_more found (first ∷ named) (prefix ∷ tables) file table are listed = (are.0, listed_more found named tables file table are.1 listed)
 
--- a refusal behind files that list tables is the first
+-- a refusal after files that list tables is the first
 refuses_first : (found : Files) (named : List File) (tables : List Loaded) (file : File) (rest : List File) (fault : LoadFault) → AreListedBy found named tables → Refuses found file fault → FirstRefuses found (named ++ file ∷ rest) fault
 refuses_first found [] [] file rest fault are refuses = inl refuses
 refuses_first found [] (table ∷ tables) file rest fault are refuses = absurd are

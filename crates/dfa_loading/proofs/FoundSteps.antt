@@ -10,18 +10,18 @@ use Rattle.formula_resolve.specs.declared.file.File.{File}
 use Rattle.formula_resolve.specs.declared.file.File.TheVariants.{Automaton, Word}
 use Rattle.dfa_loading.specs.Places.{place_of}
 
--- what stands at the place of a file
+-- what is at the place of a file
 abbrev pub at_file : Files → File → Option (List ℕ)
 at_file files file = files (place_of file).0 (place_of file).1
 
 abbrev is_under : File → Folder → List ℕ → Bool
 is_under file folder at = same_file folder at (place_of file).0 (place_of file).1
 
--- files with what stands in others under the name of one file
+-- files with what is in others under the name of one file
 abbrev with_file : Files → Files → File → Files
 with_file found there file = λ folder name. if is_under file folder name then there folder name else found folder name
 
--- files that have one file as others have it, and are else as they were; the told ones, where files are told
+-- files that have one file as others have it, and are else as they were; the reported ones, where files are reported
 pub record IsMore (told : Option Files) (found there : Files) (file : File) (more : Files) : Type 0 where
   pub told_is : IfSome told (λ files. more ≡ files)
   pub new_is : at_file more file ≡ at_file there file

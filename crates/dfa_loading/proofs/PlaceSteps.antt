@@ -1,4 +1,4 @@
--- What one read of a store tells of a file.
+-- What one read of a store reports of a file.
 use Rattle.std.proofs.Common.{◌≡◌, ℕ, ◌+◌, ◌<◌, ◌≤◌, true, List, length, replicate, Option, None, Some, Result, Ok, Err, refl, arith}
 use Rattle.std.specs.Option.{IfSome}
 use Rattle.std.specs.Result.{MatchResult}
@@ -19,7 +19,7 @@ use Rattle.formula_resolve.specs.declared.file.File.{File}
 use Rattle.dfa_loading.specs.Places.{place_of, IsReadAt, ListsAs, IsNotListed, IsListedBy, Fails, IsLoadedFile, HasRead}
 use Rattle.dfa_loading.proofs.ReadSteps.{quiet_read}
 
--- the files that are told, or else some that have this everywhere
+-- the files that are reported, or else some that have this everywhere
 abbrev pub files_by : Option Files → Option (List ℕ) → Files
 files_by None there = λ folder name. there
 files_by (Some files) there = files
@@ -32,7 +32,7 @@ there_by : (told : Option Files) (there : Option (List ℕ)) (file : File) → I
 there_by None there file is = refl
 there_by (Some files) there file is = is
 
--- some files, where the store tells its files by these
+-- some files, where the store reports its files by these
 pub some_files : (told : Option Files) → (found : Files) × IfSome told (λ files. found ≡ files)
 some_files told = (files_by told None, told_by told None)
 
@@ -71,13 +71,13 @@ found_there old new file text (Err faults.Memory) finds short files counts faile
     at_place old new file (Some text) (Err faults.Memory) (found_so old.files file text finds) (λ found there. tt) (quiet_read old new (Err faults.Memory) files counts failed)
 
 module _ (file : File) (folder : Folder) (name : List ℕ) (at : IsReadAt file folder name) where
-  -- nothing stands there
+  -- nothing is there
   pub absent_there : (old new : StoreView) (into : List ℕ) → Finds old.files (place_of file).0 (place_of file).1 answers.Absent into → new.files ≡ old.files → new.faults ≡ old.faults → new.failed ≡ old.failed
       → IsLoadedFile file old (Err (faults.Unknown folder name)) new
   absent_there old new into finds files counts failed =
       at_place old new file None (Err (faults.Unknown folder name)) finds (λ found there. (at, there)) (quiet_read old new (Err (faults.Unknown folder name)) files counts failed)
 
-  -- a text stands there that is too long
+  -- a text is there that is too long
   pub long_there : (old new : StoreView) (into : List ℕ) → Finds old.files (place_of file).0 (place_of file).1 answers.TooLong into → new.files ≡ old.files → new.faults ≡ old.faults → new.failed ≡ old.failed
       → IsLoadedFile file old (Err (faults.File folder name TooLong)) new
   long_there old new into finds files counts failed =

@@ -12,7 +12,7 @@ use Rattle.dfa_loading.specs.declared.fault.LoadFault.TheVariants as faults
 use Rattle.dfa_loading.specs.declared.loaded.Loaded.{Loaded}
 use Rattle.dfa_loading.specs.Places.{IsListedBy, IsReadAt, Refuses, HasRead, AreTold}
 
--- each file lists what stands beside it
+-- each file lists what is beside it
 abbrev pub AreListedBy : Files → List File → List Loaded → Type 0
 AreListedBy files named tables = AllZip (IsListedBy files) named tables
 
@@ -33,7 +33,7 @@ FirstFails files named faults.Memory = ⊤
 FirstFails files named (faults.Unknown folder name) = FirstRefuses files named (faults.Unknown folder name)
 FirstFails files named (faults.File folder name flaw) = FirstRefuses files named (faults.File folder name flaw)
 
--- All files were loaded, or the first that was not says why; by some files, which are the store's where it tells them.
+-- All files were loaded, or the first that was not says why; by some files, which are the store's where it reports them.
 pub record IsLoaded (named : List File) (old : StoreView) (result : Result (Vec Loaded Global) LoadFault) (new : StoreView) : Type 0 where
   pub found : Files
   pub told : AreTold old found

@@ -19,7 +19,7 @@ use Rattle.dfa_loading.specs.declared.fault.LoadFault.{LoadFault}
 use Rattle.dfa_loading.specs.declared.fault.LoadFault.TheVariants as faults
 use Rattle.dfa_loading.specs.declared.loaded.Loaded.{Loaded}
 
--- where a file stands: an automaton's among automata, a word's among words
+-- where a file is: an automaton's among automata, a word's among words
 abbrev pub place_of : File → Place
 place_of (Automaton name) = (Automata, name)
 place_of (Word name) = (Words, name)
@@ -57,14 +57,14 @@ pub record IsListedBy (files : Files) (file : File) (loaded : Loaded) : Type 0 w
   pub short : length text ≤ TEXT_LIMIT
   pub lists : ListsAs file text loaded
 
--- nothing stands at the file's place, or a text with a flaw
+-- nothing is at the file's place, or a text with a flaw
 abbrev pub Refuses : Files → File → LoadFault → Type 0
 Refuses files file (faults.Unknown folder name) = IsReadAt file folder name × (files (place_of file).0 (place_of file).1 ≡ None)
 Refuses files file (faults.File folder name flaw) = IsReadAt file folder name × ((text : List ℕ) × (files (place_of file).0 (place_of file).1 ≡ Some text) × HasFlaw file text flaw)
 Refuses files file (faults.Store folder name) = ⊥
 Refuses files file faults.Memory = ⊥
 
--- why the file is not loaded: by what stands there, or because the store failed, or for want of memory
+-- why the file is not loaded: by what is there, or because the store failed, or because memory ran out
 abbrev pub Fails : Files → File → LoadFault → Type 0
 Fails files file (faults.Unknown folder name) = Refuses files file (faults.Unknown folder name)
 Fails files file (faults.File folder name flaw) = Refuses files file (faults.File folder name flaw)
@@ -84,11 +84,11 @@ pub record HasRead {X : Type 0} (old : StoreView) (result : Result X LoadFault) 
   pub later : old.faults ≤ new.faults
   pub cause : MatchResult result (λ _. new.failed ≡ old.failed) (λ fault. IsCausedBy fault old new)
 
--- files that are the store's, where these are told
+-- files that are the store's, where these are reported
 abbrev pub AreTold : StoreView → Files → Type 0
 AreTold store found = IfSome store.files (λ files. found ≡ files)
 
--- the file was loaded, or not, by some files, which are the store's where it tells them
+-- the file was loaded, or not, by some files, which are the store's where it reports them
 pub record IsLoadedFile (file : File) (old : StoreView) (result : Result Loaded LoadFault) (new : StoreView) : Type 0 where
   pub found : Files
   pub told : AreTold old found

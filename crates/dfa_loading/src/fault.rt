@@ -20,9 +20,9 @@ pub enum FileFlaw {
 /// Why files are not loaded.
 #[derive(Drop)]
 pub enum LoadFault {
-    /// Nothing stands under this name in this folder.
+    /// Nothing is under this name in this folder.
     Unknown(Folder, Name),
-    /// The text that stands there lists no table.
+    /// The text that is there lists no table.
     File(Folder, Name, FileFlaw),
     /// The store failed there.
     Store(Folder, Name),

@@ -1,7 +1,7 @@
 //! The automata and the words that a formula names, loaded from a store.
 //!
 //! `load` reads the files one after another, each once, and gives what each lists, or the first fault: a name under which
-//! nothing stands in the folder of its kind, a text that is too long, the first line that breaks the format, or a call of the
+//! nothing is in the folder of its kind, a text that is too long, the first line that breaks the format, or a call of the
 //! store that failed (`specs/Loading.antt`; one file, `specs/Places.antt`). `headers_of` gives what the loaded files are over,
 //! as the resolution of a formula takes it.
 #![tactic(auto)]
@@ -9,7 +9,7 @@
 /// Why files are not loaded.
 mod fault;
 
-/// Where files stand.
+/// Where files are.
 mod place;
 
 /// What a file lists, beside the file.

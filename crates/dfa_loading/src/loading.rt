@@ -16,7 +16,7 @@ use wal_outside::Store;
 /// file. What is not read is let go.
 ///
 /// # Errors
-/// The fault of the first file that is not loaded: `Unknown` where nothing stands under its name in the folder of its kind;
+/// The fault of the first file that is not loaded: `Unknown` where nothing is under its name in the folder of its kind;
 /// `File` where the text is too long or breaks the format; `Store` where the store failed; or `Memory`. No text is changed.
 pub fn load<T: Store>(
     alloc: Global,

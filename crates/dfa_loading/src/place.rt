@@ -1,4 +1,4 @@
-//! Where the files that a formula names stand.
+//! Where the files that a formula names are.
 
 ghost use Rattle.std.specs.Prelude.{◌≡◌, IfOk};
 ghost use Rattle.dfa_loading.specs.Places.{place_of};
@@ -9,7 +9,7 @@ use formula_resolve::File;
 use std::alloc::Global;
 use wal_outside::Folder;
 
-/// The folder in which a file stands.
+/// The folder in which a file is.
 pub(crate) fn folder_of(file: &File) -> Folder
     ensures { result ≡ (place_of file.now).0 }
 {

@@ -4,7 +4,7 @@ use Rattle.std.proofs.lemmas.List.{drop_more}
 use Rattle.std.specs.List.{AllByRecursion}
 use Rattle.std.specs.Prelude.{option_map}
 use Rattle.dfa_reading.specs.Lines.{◌>>=◌, each_of}
-use Rattle.dfa_reading.proofs.ReadHeaders.{with_front, with_front-more}
+use Rattle.dfa_reading.proofs.ReadHeaders.{with_prefix, with_prefix-more}
 
 -- what a step gives comes of what was there
 pub bind_some : {A B : Type 0} (o : Option A) (f : A → Option B) (y : B) → (o >>= f) ≡ Some y → (x : A) × (o ≡ Some x) × (f x ≡ Some y)
@@ -31,14 +31,14 @@ each_of-first {B = B} f x xs y h = ap (λ o. o >>= (λ z. each_of f xs >>= (λ z
     by None = refl
     by (Some ys) = refl
 
-pub each_more : {A B : Type 0} (f : A → Option B) (xs : List A) (i : ℕ) (d : A) (y : B) (done : List B) (total : Option (List B)) → i < length xs → f (get_or xs i d) ≡ Some y → with_front done (each_of f (drop i xs)) ≡ total → with_front (done ++ y ∷ []) (each_of f (drop (i + 1) xs)) ≡ total
+pub each_more : {A B : Type 0} (f : A → Option B) (xs : List A) (i : ℕ) (d : A) (y : B) (done : List B) (total : Option (List B)) → i < length xs → f (get_or xs i d) ≡ Some y → with_prefix done (each_of f (drop i xs)) ≡ total → with_prefix (done ++ y ∷ []) (each_of f (drop (i + 1) xs)) ≡ total
 each_more f xs i d y done total lt is h =
-    sym (with_front-more done y (each_of f (drop (i + 1) xs)))
-    ∙ sym (ap (λ l. with_front done (each_of f l)) (drop_more xs i d lt) ∙ ap (with_front done) (each_of-first f (get_or xs i d) (drop (i + 1) xs) y is)) ∙ h
+    sym (with_prefix-more done y (each_of f (drop (i + 1) xs)))
+    ∙ sym (ap (λ l. with_prefix done (each_of f l)) (drop_more xs i d lt) ∙ ap (with_prefix done) (each_of-first f (get_or xs i d) (drop (i + 1) xs) y is)) ∙ h
 
-pub each_fails : {A B : Type 0} (f : A → Option B) (xs : List A) (i : ℕ) (d : A) (done : List B) (total : Option (List B)) → i < length xs → f (get_or xs i d) ≡ None → with_front done (each_of f (drop i xs)) ≡ total → None ≡ total
+pub each_fails : {A B : Type 0} (f : A → Option B) (xs : List A) (i : ℕ) (d : A) (done : List B) (total : Option (List B)) → i < length xs → f (get_or xs i d) ≡ None → with_prefix done (each_of f (drop i xs)) ≡ total → None ≡ total
 each_fails f xs i d done total lt is h =
-    sym (ap (λ l. with_front done (each_of f l)) (drop_more xs i d lt) ∙ ap (λ o. with_front done (o >>= (λ z. each_of f (drop (i + 1) xs) >>= (λ zs. Some (z ∷ zs))))) is) ∙ h
+    sym (ap (λ l. with_prefix done (each_of f l)) (drop_more xs i d lt) ∙ ap (λ o. with_prefix done (o >>= (λ z. each_of f (drop (i + 1) xs) >>= (λ zs. Some (z ∷ zs))))) is) ∙ h
 
 -- what holds of each that a function gives
 pub each_holds : {A B : Type 0} (f : A → Option B) (P : B → Type 0) → ((x : A) (y : B) → f x ≡ Some y → P y) → (xs : List A) (ys : List B) → each_of f xs ≡ Some ys → AllByRecursion P ys

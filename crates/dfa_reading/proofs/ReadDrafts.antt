@@ -21,12 +21,12 @@ line_after-more : (line : List ℕ) (lines : List (List ℕ)) → 0 < length lin
 line_after-more line [] h = absurd (omega arith)
 line_after-more line (next ∷ lines) h = refl
 
-pub read_line : (add : ℕ → Draft → List ℕ → Option Draft) (at : ℕ) (draft next : Draft) (rest line behind : List ℕ) (total : Result Draft ℕ) → lines_of rest ≡ line ∷ lines_of behind → add at draft line ≡ Some next → add_lines_by add at draft (lines_of rest) ≡ total → add_lines_by add (at + 1) next (lines_of behind) ≡ total
-read_line add at draft next rest line behind total lines added h = sym (add_lines_by-step add at draft next line (lines_of behind) added) ∙ ap (add_lines_by add at draft) (sym lines) ∙ h
+pub read_line : (add : ℕ → Draft → List ℕ → Option Draft) (at : ℕ) (draft next : Draft) (rest line suffix : List ℕ) (total : Result Draft ℕ) → lines_of rest ≡ line ∷ lines_of suffix → add at draft line ≡ Some next → add_lines_by add at draft (lines_of rest) ≡ total → add_lines_by add (at + 1) next (lines_of suffix) ≡ total
+read_line add at draft next rest line suffix total lines added h = sym (add_lines_by-step add at draft next line (lines_of suffix) added) ∙ ap (add_lines_by add at draft) (sym lines) ∙ h
 
-pub count_line : (at total : ℕ) (rest line behind : List ℕ) → lines_of rest ≡ line ∷ lines_of behind → at + line_after (lines_of rest) ≡ total → at + 1 + line_after (lines_of behind) ≡ total
-count_line at total rest line behind lines h =
-    let more : line_after (lines_of rest) ≡ line_after (lines_of behind) + 1 = ap line_after lines ∙ line_after-more line (lines_of behind) (split_some is_line_end behind) in
+pub count_line : (at total : ℕ) (rest line suffix : List ℕ) → lines_of rest ≡ line ∷ lines_of suffix → at + line_after (lines_of rest) ≡ total → at + 1 + line_after (lines_of suffix) ≡ total
+count_line at total rest line suffix lines h =
+    let more : line_after (lines_of rest) ≡ line_after (lines_of suffix) + 1 = ap line_after lines ∙ line_after-more line (lines_of suffix) (split_some is_line_end suffix) in
     omega arith
 
 -- lines before those that were placed

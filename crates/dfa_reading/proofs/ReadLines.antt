@@ -4,23 +4,23 @@ use Rattle.std.specs.List.{slice_split, onto_first, filter, prefix_len}
 use Rattle.std.proofs.lemmas.Bool.{eq-eqb, ne_eqb}
 use Rattle.std.proofs.Math.Bool.{and-false}
 use Rattle.text_grammar.specs.Bytes.{is_blank}
-use Rattle.text_grammar.specs.Fronts.{front_len}
+use Rattle.text_grammar.specs.Prefixes.{prefix_len as len_of_prefix}
 use Rattle.text_grammar.specs.declared.class.Class.TheVariants.{Blank}
 use Rattle.dfa_reading.specs.Lines.{has_bytes, parts_of, arrow_at}
 use Rattle.dfa_reading.proofs.Splits.{parts_of-append}
 
 -- a text before the first of two
-abbrev pub behind : List ℕ → Option (List ℕ × List ℕ) → Option (List ℕ × List ℕ)
-behind xs None = None
-behind xs (Some p) = Some (xs ++ p.0, p.1)
+abbrev pub suffix : List ℕ → Option (List ℕ × List ℕ) → Option (List ℕ × List ℕ)
+suffix xs None = None
+suffix xs (Some p) = Some (xs ++ p.0, p.1)
 
 short_no_arrow : (bytes : List ℕ) → length bytes ≤ 1 → arrow_at bytes ≡ None
 short_no_arrow [] h = refl
 short_no_arrow (b ∷ []) h = rw (and-false (eqb b 45)) refl
 short_no_arrow (b ∷ c ∷ bytes) h = absurd (omega arith)
 
-pub arrow_nowhere : (line front rest : List ℕ) → length rest ≤ 1 → behind front (arrow_at rest) ≡ arrow_at line → None ≡ arrow_at line
-arrow_nowhere line front rest h found = ap (behind front) (sym (short_no_arrow rest h)) ∙ found
+pub arrow_nowhere : (line prefix rest : List ℕ) → length rest ≤ 1 → suffix prefix (arrow_at rest) ≡ arrow_at line → None ≡ arrow_at line
+arrow_nowhere line prefix rest h found = ap (suffix prefix) (sym (short_no_arrow rest h)) ∙ found
 
 -- a text is split at the first mark
 pub split_first : (mark i : ℕ) (bytes : List ℕ) → i < length bytes → ((k : ℕ) → k < i → get_or bytes k 0 ≡ mark → ⊥) → get_or bytes i 0 ≡ mark → slice_split (λ b. eqb b mark) bytes ≡ take i bytes ∷ slice_split (λ b. eqb b mark) (drop (i + 1) bytes)
@@ -39,17 +39,17 @@ split_nowhere mark (suc n) (b ∷ bytes) h before = rw (ne_eqb b mark (before 0 
 blank_first : (b : ℕ) (line : List ℕ) → is_blank b ≡ true → parts_of (b ∷ line) ≡ parts_of line
 blank_first b line h = parts_of-append [] b line h
 
-pub parts_behind_blanks : (line : List ℕ) → parts_of line ≡ parts_of (drop (front_len Blank line) line)
-parts_behind_blanks [] = refl
-parts_behind_blanks (b ∷ line) =
-    let P : Bool → Type 0 = λ t. is_blank b ≡ t → parts_of (b ∷ line) ≡ parts_of (drop (cond t (suc (front_len Blank line)) 0) (b ∷ line)) in
-    elim (is_blank b) as P [ true ↦ λ h. blank_first b line h ∙ parts_behind_blanks line | false ↦ λ h. refl ] refl
+pub parts_after_blanks : (line : List ℕ) → parts_of line ≡ parts_of (drop (len_of_prefix Blank line) line)
+parts_after_blanks [] = refl
+parts_after_blanks (b ∷ line) =
+    let P : Bool → Type 0 = λ t. is_blank b ≡ t → parts_of (b ∷ line) ≡ parts_of (drop (cond t (suc (len_of_prefix Blank line)) 0) (b ∷ line)) in
+    elim (is_blank b) as P [ true ↦ λ h. blank_first b line h ∙ parts_after_blanks line | false ↦ λ h. refl ] refl
 
-pub front_stops : (line : List ℕ) → 0 < length (drop (front_len Blank line) line) → is_blank (get_or (drop (front_len Blank line) line) 0 0) ≡ false
-front_stops [] h = absurd (omega arith)
-front_stops (b ∷ line) h =
-    let P : Bool → Type 0 = λ t. is_blank b ≡ t → 0 < length (drop (cond t (suc (front_len Blank line)) 0) (b ∷ line)) → is_blank (get_or (drop (cond t (suc (front_len Blank line)) 0) (b ∷ line)) 0 0) ≡ false in
-    elim (is_blank b) as P [ true ↦ λ e k. front_stops line k | false ↦ λ e k. e ] refl h
+pub prefix_stops : (line : List ℕ) → 0 < length (drop (len_of_prefix Blank line) line) → is_blank (get_or (drop (len_of_prefix Blank line) line) 0 0) ≡ false
+prefix_stops [] h = absurd (omega arith)
+prefix_stops (b ∷ line) h =
+    let P : Bool → Type 0 = λ t. is_blank b ≡ t → 0 < length (drop (cond t (suc (len_of_prefix Blank line)) 0) (b ∷ line)) → is_blank (get_or (drop (cond t (suc (len_of_prefix Blank line)) 0) (b ∷ line)) 0 0) ≡ false in
+    elim (is_blank b) as P [ true ↦ λ e k. prefix_stops line k | false ↦ λ e k. e ] refl h
 
 -- the first part, up to a blank
 abbrev word_len : List ℕ → ℕ
@@ -84,15 +84,15 @@ keeps_word (b ∷ bytes) zero pieces h k = absurd (omega arith)
 keeps_word (b ∷ bytes) (suc n) pieces h k = refl
 
 -- the first part of a line, and the parts of the rest
-pub first_part_is : (line begun part rest : List ℕ) (n m : ℕ) → n ≡ front_len Blank line → begun ≡ drop n line → 0 < length begun → m ≡ prefix_len (λ b. not (is_blank b)) begun → part ≡ take m begun → rest ≡ drop m begun → (parts_of line ≡ part ∷ parts_of rest) × (0 < m)
-first_part_is line begun part rest n m front at some word part_is rest_is =
-    let same : begun ≡ drop (front_len Blank line) line = at ∙ ap (λ k. drop k line) front in
-    let first : is_blank (get_or begun 0 0) ≡ false = subst (λ (bs : List ℕ). 0 < length bs → is_blank (get_or bs 0 0) ≡ false) (sym same) (front_stops line) some in
+pub first_part_is : (line begun part rest : List ℕ) (n m : ℕ) → n ≡ len_of_prefix Blank line → begun ≡ drop n line → 0 < length begun → m ≡ prefix_len (λ b. not (is_blank b)) begun → part ≡ take m begun → rest ≡ drop m begun → (parts_of line ≡ part ∷ parts_of rest) × (0 < m)
+first_part_is line begun part rest n m prefix at some word part_is rest_is =
+    let same : begun ≡ drop (len_of_prefix Blank line) line = at ∙ ap (λ k. drop k line) prefix in
+    let first : is_blank (get_or begun 0 0) ≡ false = subst (λ (bs : List ℕ). 0 < length bs → is_blank (get_or bs 0 0) ≡ false) (sym same) (prefix_stops line) some in
     let long : 0 < prefix_len (λ b. not (is_blank b)) begun = word_some begun some first in
     let parts : parts_of begun ≡ take (word_len begun) begun ∷ parts_of (drop (word_len begun) begun) =
     ap (filter has_bytes) (split_word begun) ∙ keeps_word begun (word_len begun) (pieces_after (drop (word_len begun) begun)) long some ∙ ap (λ t. take (word_len begun) begun ∷ t) (parts_after_word begun) in
-    (parts_behind_blanks line ∙ ap parts_of (sym same) ∙ parts ∙ ap (λ k. take k begun ∷ parts_of (drop k begun)) (sym word) ∙ ap (λ p. p ∷ parts_of (drop m begun)) (sym part_is) ∙ ap (λ r. part ∷ parts_of r) (sym rest_is), omega arith)
+    (parts_after_blanks line ∙ ap parts_of (sym same) ∙ parts ∙ ap (λ k. take k begun ∷ parts_of (drop k begun)) (sym word) ∙ ap (λ p. p ∷ parts_of (drop m begun)) (sym part_is) ∙ ap (λ r. part ∷ parts_of r) (sym rest_is), omega arith)
 
-pub no_part_is : (line begun : List ℕ) (n : ℕ) → n ≡ front_len Blank line → begun ≡ drop n line → length begun ≡ 0 → parts_of line ≡ []
-no_part_is line [] n front at none = parts_behind_blanks line ∙ ap parts_of (ap (λ k. drop k line) (sym front) ∙ sym at)
-no_part_is line (b ∷ begun) n front at none = absurd (omega arith)
+pub no_part_is : (line begun : List ℕ) (n : ℕ) → n ≡ len_of_prefix Blank line → begun ≡ drop n line → length begun ≡ 0 → parts_of line ≡ []
+no_part_is line [] n prefix at none = parts_after_blanks line ∙ ap parts_of (ap (λ k. drop k line) (sym prefix) ∙ sym at)
+no_part_is line (b ∷ begun) n prefix at none = absurd (omega arith)

@@ -143,7 +143,7 @@ word_kept at draft next line h =
     let same : added.0 ≡ next = let e : Some added.0 ≡ Some next = kept.1 in cc in
     (added.1 ∙ ap Some same, subst (λ d. is_word d ≡ true) same kept.0)
 
--- what was read is the front of a word's file, and its header is that of a line
+-- what was read is the prefix of a word's file, and its header is that of a line
 pub record IsWordDraft (draft : Draft) : Type 0 where
   pub word : is_word draft ≡ true
   pub headed : IsHeaded draft

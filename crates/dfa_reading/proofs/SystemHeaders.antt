@@ -39,7 +39,7 @@ same_set-refl : (set : List ℤ) → is_same_set set set ≡ true
 same_set-refl [] = refl
 same_set-refl (m ∷ set) = rw ((Decides-int_eq m m).1 refl, same_set-refl set) refl
 
--- the line of a header that stands keeps it
+-- the line of a header that is keeps it
 header_stays : (at : ℕ) (draft next : Draft) (line : List ℕ) (header : Header) → add_line at draft line ≡ Some next → draft.header ≡ Some header → next.header ≡ Some header
 header_stays at draft next line header h there =
     line_cases (λ n. n.header ≡ Some header) at draft next line h there (λ other none. let e : None ≡ Some header = sym none ∙ there in absurd (cc)) (λ n output. there) (λ digits targets. there)

@@ -50,7 +50,7 @@ ascii_system part h =
     low part (subst (λ (l : List ℕ). AllByRecursion (λ b. b < 128) l) (take-append-drop 4 part) all)
 
 -- a name that passes the test of a base is built in
-named_base : (name : List ℕ) (k : ℕ) → k ≤ 40 → is_base_name name k ≡ true → (way : Direction) × IsBuiltIn way (Base k) name
+named_base : (name : List ℕ) (k : ℕ) → k ≤ 40 → is_base_name name k ≡ true → (direction : Direction) × IsBuiltIn direction (Base k) name
 named_base name k most h =
     let p = and_parts (nat_le 2 k) (bytes_eq name (system_name Msd (Base k)) || bytes_eq name (system_name Lsd (Base k))) h in
     let base : IsBase k = record { least = leb-true 2 k p.0; most = most } in
@@ -62,7 +62,7 @@ or_true true = refl
 or_true false = refl
 
 -- and the name of a base passes it
-passes_base : (way : Direction) (k : ℕ) (name : List ℕ) → IsBuiltIn way (Base k) name → is_base_name name k ≡ true
+passes_base : (direction : Direction) (k : ℕ) (name : List ℕ) → IsBuiltIn direction (Base k) name → is_base_name name k ≡ true
 passes_base Msd k name (is, named) =
     let least : nat_le 2 k ≡ true = grind (arith, tests, is.least) in
     rw (least, (bytes_eq-Decides name (system_name Msd (Base k))).1 named) refl
@@ -71,36 +71,36 @@ passes_base Lsd k name (is, named) =
     rw (least, (bytes_eq-Decides name (system_name Lsd (Base k))).1 named) (or_true (bytes_eq name (system_name Msd (Base k))))
 
 -- a name that passes the test of the Fibonacci system is built in, and its names pass it
-named_fibonacci : (name : List ℕ) → is_fibonacci_name name ≡ true → (way : Direction) × IsBuiltIn way Fibonacci name
+named_fibonacci : (name : List ℕ) → is_fibonacci_name name ≡ true → (direction : Direction) × IsBuiltIn direction Fibonacci name
 named_fibonacci name h =
     ⊎_elim (λ e. (Msd, (tt, (bytes_eq-Decides name (system_name Msd Fibonacci)).0 e))) (λ e. (Lsd, (tt, (bytes_eq-Decides name (system_name Lsd Fibonacci)).0 e)))
     (or_cases (bytes_eq name (system_name Msd Fibonacci)) (bytes_eq name (system_name Lsd Fibonacci)) h)
 
-passes_fibonacci : (way : Direction) (name : List ℕ) → IsBuiltIn way Fibonacci name → is_fibonacci_name name ≡ true
+passes_fibonacci : (direction : Direction) (name : List ℕ) → IsBuiltIn direction Fibonacci name → is_fibonacci_name name ≡ true
 passes_fibonacci Msd name is = rw ((bytes_eq-Decides name (system_name Msd Fibonacci)).1 is.1) refl
 passes_fibonacci Lsd name is = rw ((bytes_eq-Decides name (system_name Lsd Fibonacci)).1 is.1) (or_true (bytes_eq name (system_name Msd Fibonacci)))
 
 at_or_below : (k n : ℕ) → k ≤ suc n → (k ≡ suc n → ⊥) → k ≤ n
 at_or_below k n most other = elim (cases_lt n k) [ inl more ↦ absurd (other (omega arith)) | inr less ↦ less ]
 
-limit_here : (way : Direction) (k n : ℕ) (name : List ℕ) → IsBuiltIn way (Base k) name → n ≤ 40 → k ≤ n → limit_up_to name n ≡ k
-limit_here way k zero name is most within = let least : 2 ≤ k = is.0.least in absurd (omega arith)
-limit_here way k (suc n) name is most within = by (is_base_name name (suc n)) refl (λ less. limit_here way k n name is (omega arith) less)
+limit_here : (direction : Direction) (k n : ℕ) (name : List ℕ) → IsBuiltIn direction (Base k) name → n ≤ 40 → k ≤ n → limit_up_to name n ≡ k
+limit_here direction k zero name is most within = let least : 2 ≤ k = is.0.least in absurd (omega arith)
+limit_here direction k (suc n) name is most within = by (is_base_name name (suc n)) refl (λ less. limit_here direction k n name is (omega arith) less)
   where
     by : (b : Bool) → is_base_name name (suc n) ≡ b → (k ≤ n → limit_up_to name n ≡ k) → cond b (suc n) (limit_up_to name n) ≡ k
-    by true passes rest = let found = named_base name (suc n) most passes in sym (ap digit_count (one_system way found.0 (Base k) (Base (suc n)) name is found.1).1)
-    by false fails rest = rest (at_or_below k n within (λ same. true≢false (sym (passes_base way k name is) ∙ ap (is_base_name name) same ∙ fails)))
+    by true passes rest = let found = named_base name (suc n) most passes in sym (ap digit_count (one_system direction found.0 (Base k) (Base (suc n)) name is found.1).1)
+    by false fails rest = rest (at_or_below k n within (λ same. true≢false (sym (passes_base direction k name is) ∙ ap (is_base_name name) same ∙ fails)))
 
 abbrev is_base : SystemKind → Bool
 is_base (Base k) = true
 is_base Fibonacci = false
 
-limit_fibonacci : (way : Direction) (n : ℕ) (name : List ℕ) → IsBuiltIn way Fibonacci name → n ≤ 40 → limit_up_to name n ≡ 2
-limit_fibonacci way zero name is most = ap (λ (b : Bool). cond b 2 (2 ^ 32)) (passes_fibonacci way name is)
-limit_fibonacci way (suc n) name is most = by (is_base_name name (suc n)) refl (limit_fibonacci way n name is (omega arith))
+limit_fibonacci : (direction : Direction) (n : ℕ) (name : List ℕ) → IsBuiltIn direction Fibonacci name → n ≤ 40 → limit_up_to name n ≡ 2
+limit_fibonacci direction zero name is most = ap (λ (b : Bool). cond b 2 (2 ^ 32)) (passes_fibonacci direction name is)
+limit_fibonacci direction (suc n) name is most = by (is_base_name name (suc n)) refl (limit_fibonacci direction n name is (omega arith))
   where
     by : (b : Bool) → is_base_name name (suc n) ≡ b → limit_up_to name n ≡ 2 → cond b (suc n) (limit_up_to name n) ≡ 2
-    by true passes rest = let found = named_base name (suc n) most passes in absurd (true≢false (sym (ap is_base (one_system way found.0 Fibonacci (Base (suc n)) name is found.1).1)))
+    by true passes rest = let found = named_base name (suc n) most passes in absurd (true≢false (sym (ap is_base (one_system direction found.0 Fibonacci (Base (suc n)) name is found.1).1)))
     by false fails rest = rest
 
 limit_other : (n : ℕ) (name : List ℕ) → ¬ IsBuiltInName name → n ≤ 40 → limit_up_to name n ≡ 2 ^ 32
@@ -116,10 +116,10 @@ limit_other (suc n) name none most = by (is_base_name name (suc n)) refl (limit_
     by false fails rest = rest
 
 -- the limit of a system that is built in is its number of digits
-pub digit_limit-built : (way : Direction) (kind : SystemKind) (name : List ℕ) → IsBuiltIn way kind name → digit_limit name ≡ digit_count kind
+pub digit_limit-built : (direction : Direction) (kind : SystemKind) (name : List ℕ) → IsBuiltIn direction kind name → digit_limit name ≡ digit_count kind
 unfolding digit_limit
-digit_limit-built way (Base k) name is = limit_here way k 40 name is (omega arith) is.0.most
-digit_limit-built way Fibonacci name is = limit_fibonacci way 40 name is (omega arith)
+digit_limit-built direction (Base k) name is = limit_here direction k 40 name is (omega arith) is.0.most
+digit_limit-built direction Fibonacci name is = limit_fibonacci direction 40 name is (omega arith)
 
 -- and that of another system 2^32
 pub digit_limit-other : (name : List ℕ) → ¬ IsBuiltInName name → digit_limit name ≡ 2 ^ 32
@@ -142,7 +142,7 @@ pub limit_small : (name : List ℕ) → digit_limit name ≤ 2 ^ 32
 unfolding digit_limit
 limit_small name = limit_most 40 name (omega arith)
 
--- bytes that no letter and no digit is stand in no name but for `_`
+-- bytes that no letter and no digit is are in no name but for `_`
 module _ (p : ℕ → Bool) (spared : (b : ℕ) → is_alphanumeric b ≡ true → p b ≡ false) (underscore : p 95 ≡ false) where
   alphanumeric_avoids : (bytes : List ℕ) → list_all is_alphanumeric bytes ≡ true → AllByRecursion (λ b. p b ≡ false) bytes
   alphanumeric_avoids [] h = tt

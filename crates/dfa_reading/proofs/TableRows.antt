@@ -5,7 +5,7 @@ use Rattle.std.specs.Option.{option_and_then}
 use Rattle.std.proofs.lemmas.Bool.{cases_order}
 use Rattle.std.proofs.lemmas.List.{length-map, get_or-map, get_or_past}
 use Rattle.std.proofs.lemmas.List.Elements.{All-get_or, All-from_get_or, All-contains_itself}
-use Rattle.digit_tuple.specs.declared.edges.Edge.{Edge}
+use Rattle.digit_tuple.specs.declared.transitions.Transition.{Transition}
 use Rattle.digit_tuple.specs.Automaton.{Branch, IsBefore, no_branch}
 use Rattle.digit_tuple.specs.Automaton as branching
 use Rattle.digit_tuple.specs.Deterministic.{Automaton, State, no_state, target_by, step_of, run_of, IsByEarlier, IsRow, IsTable}
@@ -16,63 +16,63 @@ use Rattle.digit_tuple.proofs.MemberLemmas.{Contains-none}
 use Rattle.digit_tuple.proofs.ReversedLemmas.{target_by-contains, contains_from_target_by}
 use Rattle.dfa_reading.specs.Branching.{IsLetterOfDigits}
 use Rattle.dfa_reading.specs.BranchRows.{AreRowsOf, state_of_row, states_of_rows}
-use Rattle.dfa_reading.specs.LineLetters.{edge_to}
+use Rattle.dfa_reading.specs.LineLetters.{transition_to}
 use Rattle.dfa_reading.specs.Listed.{Listed, Moves, MovesAlong}
 use Rattle.dfa_reading.specs.ListedTable.{IsTableOf, TableMovesAlong}
 use Rattle.dfa_reading.specs.WordFiles.{IsFunctional}
 use Rattle.dfa_reading.proofs.Letters.{takes_digits}
 use Rattle.dfa_reading.proofs.Options.{bind_some}
-use Rattle.dfa_reading.proofs.Rows.{rows-size, edge_moves, moves_edge, IsBranchTable-rows}
+use Rattle.dfa_reading.proofs.Rows.{rows-size, transition_moves, moves_transition, IsBranchTable-rows}
 
--- the tuple of a transition is one of digits, so its letter tells it
+-- the tuple of a transition is one of digits, so its letter determines it
 same_tuple : (sizes : List ℕ) (listed : Listed) (p q r : ℕ) (t u : List ℕ) → Moves sizes listed p t q → Moves sizes listed p u r → code_of sizes t ≡ code_of sizes u → t ≡ u
 same_tuple sizes listed p q r t u (line, among, from, takes, to) (other, among', from', takes', to') codes =
     code_of-injective sizes t u (takes_digits sizes line.digits t takes) (takes_digits sizes other.digits u takes') codes
 
-edges_of_row : (rows : List Branch) (p : ℕ) → (get_or (states_of_rows rows) p no_state).edges ≡ (branch_at rows p).edges
-edges_of_row [] p = refl
-edges_of_row (row ∷ rows) zero = refl
-edges_of_row (row ∷ rows) (suc p) = edges_of_row rows p
+transitions_of_row : (rows : List Branch) (p : ℕ) → (get_or (states_of_rows rows) p no_state).transitions ≡ (branch_at rows p).transitions
+transitions_of_row [] p = refl
+transitions_of_row (row ∷ rows) zero = refl
+transitions_of_row (row ∷ rows) (suc p) = transitions_of_row rows p
 
 module _ (sizes : List ℕ) (listed : Listed) (rows : List Branch) (are : AreRowsOf sizes listed rows) (functional : IsFunctional sizes listed) where
-  -- no two edges of a state are by one letter
-  one_target : (p letter q r : ℕ) → Contains (branch_at rows p).edges (edge_to q letter) → Contains (branch_at rows p).edges (edge_to r letter) → q ≡ r
+  -- no two transitions of a state are by one letter
+  one_target : (p letter q r : ℕ) → Contains (branch_at rows p).transitions (transition_to q letter) → Contains (branch_at rows p).transitions (transition_to r letter) → q ≡ r
   one_target p letter q r one two =
-      let (t, moves, code) = edge_moves sizes listed rows are p letter q one in
-      let (u, moves', code') = edge_moves sizes listed rows are p letter r two in
+      let (t, moves, code) = transition_moves sizes listed rows are p letter q one in
+      let (u, moves', code') = transition_moves sizes listed rows are p letter r two in
       functional p t q r moves (subst (λ (v : List ℕ). Moves sizes listed p v r) (sym (same_tuple sizes listed p q r t u moves moves' (sym code ∙ code'))) moves')
 
-  by_letter : (p : ℕ) → p < length rows → AllPairs IsByEarlier (branch_at rows p).edges
+  by_letter : (p : ℕ) → p < length rows → AllPairs IsByEarlier (branch_at rows p).transitions
   by_letter p within i j d before low =
-      let edges = (branch_at rows p).edges in
-      let e = get_or edges i d in
-      let f = get_or edges j d in
+      let transitions = (branch_at rows p).transitions in
+      let e = get_or transitions i d in
+      let f = get_or transitions j d in
       elim (are.ordered.ascending p within i j d before low) [
         | inl less ↦ less
         | inr same ↦ (
-            let one : Contains edges e = All-contains_itself edges i d (omega arith) in
-            let two : Contains edges f = All-contains_itself edges j d low in
-            let is : e.target ≡ f.target = one_target p f.letter e.target f.target (subst (λ (l : ℕ). Contains edges (edge_to e.target l)) same.0 one) two in
+            let one : Contains transitions e = All-contains_itself transitions i d (omega arith) in
+            let two : Contains transitions f = All-contains_itself transitions j d low in
+            let is : e.target ≡ f.target = one_target p f.letter e.target f.target (subst (λ (l : ℕ). Contains transitions (transition_to e.target l)) same.0 one) two in
             absurd (omega (arith, is, same.1)))
       ]
 
-  -- a letter leads where an edge by it does
-  contained : (p letter q : ℕ) → Contains (branch_at rows p).edges (edge_to q letter) → target_by (branch_at rows p).edges letter ≡ Some q
+  -- a letter leads where a transition by it does
+  contained : (p letter q : ℕ) → Contains (branch_at rows p).transitions (transition_to q letter) → target_by (branch_at rows p).transitions letter ≡ Some q
   contained p letter q there = by (cases_order p (length rows))
     where
-      past : length rows ≤ p → target_by (branch_at rows p).edges letter ≡ Some q
-      past high = absurd (Contains-none (edge_to q letter) (subst (λ (b : Branch). Contains b.edges (edge_to q letter)) (get_or_past rows p no_branch high) there))
+      past : length rows ≤ p → target_by (branch_at rows p).transitions letter ≡ Some q
+      past high = absurd (Contains-none (transition_to q letter) (subst (λ (b : Branch). Contains b.transitions (transition_to q letter)) (get_or_past rows p no_branch high) there))
 
-      by : (p ≡ length rows) ⊎ ((p < length rows) ⊎ (length rows < p)) → target_by (branch_at rows p).edges letter ≡ Some q
+      by : (p ≡ length rows) ⊎ ((p < length rows) ⊎ (length rows < p)) → target_by (branch_at rows p).transitions letter ≡ Some q
       by (inl is) = past (omega (arith, is))
-      by (inr (inl less)) = target_by-contains (branch_at rows p).edges letter q (by_letter p less) there
+      by (inr (inl less)) = target_by-contains (branch_at rows p).transitions letter q (by_letter p less) there
       by (inr (inr more)) = past (omega (arith, more))
 
   leads : (p letter q : ℕ) → step_of (record { sizes = sizes; states = states_of_rows rows }) p letter ≡ Some q → (tuple : List ℕ) × Moves sizes listed p tuple q × (letter ≡ code_of sizes tuple)
-  leads p letter q h = edge_moves sizes listed rows are p letter q (contains_from_target_by (branch_at rows p).edges letter q (sym (ap (λ (es : List Edge). target_by es letter) (edges_of_row rows p)) ∙ h))
+  leads p letter q h = transition_moves sizes listed rows are p letter q (contains_from_target_by (branch_at rows p).transitions letter q (sym (ap (λ (es : List Transition). target_by es letter) (transitions_of_row rows p)) ∙ h))
 
   led : (p letter q : ℕ) → (tuple : List ℕ) × Moves sizes listed p tuple q × (letter ≡ code_of sizes tuple) → step_of (record { sizes = sizes; states = states_of_rows rows }) p letter ≡ Some q
-  led p letter q (tuple, moves, code) = ap (λ (es : List Edge). target_by es letter) (edges_of_row rows p) ∙ contained p letter q (moves_edge sizes listed rows are p letter q tuple moves code)
+  led p letter q (tuple, moves, code) = ap (λ (es : List Transition). target_by es letter) (transitions_of_row rows p) ∙ contained p letter q (moves_transition sizes listed rows are p letter q tuple moves code)
 
   pub IsTableOf-rows : IsTableOf sizes listed (record { sizes = sizes; states = states_of_rows rows })
   IsTableOf-rows = record {
@@ -90,15 +90,15 @@ module _ (sizes : List ℕ) (listed : Listed) (rows : List Branch) (are : AreRow
         initial = omega (arith, size, table_is.initial);
         part = record {
           small = omega (arith, size, table_is.small);
-          rows = All-from_get_or (λ (s : State). IsRow (product sizes) (length (states_of_rows rows)) s.edges) (states_of_rows rows) no_state
-              (λ p within. subst (λ (es : List Edge). IsRow (product sizes) (length (states_of_rows rows)) es) (sym (edges_of_row rows p)) (row p (omega (arith, within, size))));
+          rows = All-from_get_or (λ (s : State). IsRow (product sizes) (length (states_of_rows rows)) s.transitions) (states_of_rows rows) no_state
+              (λ p within. subst (λ (es : List Transition). IsRow (product sizes) (length (states_of_rows rows)) es) (sym (transitions_of_row rows p)) (row p (omega (arith, within, size))));
         };
       }
     where
-      row : (p : ℕ) → p < length rows → IsRow (product sizes) (length (states_of_rows rows)) (branch_at rows p).edges
+      row : (p : ℕ) → p < length rows → IsRow (product sizes) (length (states_of_rows rows)) (branch_at rows p).transitions
       row p within = record {
-        in_range = subst (λ (n : ℕ). All (λ edge. (edge.letter < product sizes) × (edge.target < n)) (branch_at rows p).edges) (sym (length-map rows state_of_row))
-            (All-get_or (λ (b : Branch). branching.IsRow (product sizes) (length rows) b.edges) rows p no_branch within (IsBranchTable-rows sizes listed rows are some).rows).in_range;
+        in_range = subst (λ (n : ℕ). All (λ transition. (transition.letter < product sizes) × (transition.target < n)) (branch_at rows p).transitions) (sym (length-map rows state_of_row))
+            (All-get_or (λ (b : Branch). branching.IsRow (product sizes) (length rows) b.transitions) rows p no_branch within (IsBranchTable-rows sizes listed rows are some).rows).in_range;
         ascending = by_letter p within;
       }
 

@@ -16,7 +16,7 @@ use Rattle.dfa_reading.specs.Transitions.{Transition, with_transition, targets_o
 use Rattle.dfa_reading.proofs.ConflictLemmas.{both_hold}
 use Rattle.dfa_reading.proofs.StarTableLemmas.{same_digits-Decides, targets_at-insert}
 
--- where stars stand alike, the digits on the tracks that both have are the same exactly where a tuple is shared
+-- where stars are alike, the digits on the tracks that both have are the same if and only if a tuple is shared
 kept_alike : (d p t q : Option ℕ) → share_digit d t ≡ true → alike d p ≡ true → alike t q ≡ true → kept_digit d q ≡ kept_digit t p
 kept_alike None None None None share one two = refl
 kept_alike None None (Some t) (Some q) share one two = refl
@@ -68,7 +68,7 @@ shared_masked (d ∷ digits) (p ∷ pattern) (t ∷ others) (q ∷ other_pattern
     let ones = and_parts (alike d p) (same_stars digits pattern) one in
     both_hold (share_digit d t) (share_tuple digits others) (shared_kept d p t q ones.0 parts.0) (shared_masked digits pattern others other_pattern ones.1 parts.1)
 
--- stars stand where they stand
+-- stars are where they are
 pub same_stars-self : (digits : List (Option ℕ)) → same_stars digits digits ≡ true
 same_stars-self [] = refl
 same_stars-self (None ∷ digits) = same_stars-self digits
@@ -86,7 +86,7 @@ IsTableOf-push list table t is digits =
     by true h = ap (λ o. Some (joined o t.1)) (ap (targets_at table.entries) (sym ((same_digits-Decides digits (masked t.0 table.pattern)).0 h)) ∙ is digits)
     by false h = is digits
 
--- a table tells whether there is another target
+-- a table says whether there is another target
 joined_differs : (found : Option Targets) (q target : ℕ) → differs_from (Some (joined found q)) target ≡ (differs_from found target || not (eqb q target))
 joined_differs None q target = refl
 joined_differs (Some (One only)) q target = by (eqb only q) refl
@@ -139,7 +139,7 @@ any_same p xs q ys there back = by (list_any p xs) (list_any q ys) there back
     by false true h k = k refl
     by false false h k = refl
 
--- by the tables a transition leads elsewhere exactly where it does not agree with the others
+-- by the tables a transition leads elsewhere if and only if it does not agree with the others
 module _ (list : List Transition) (tables : List StarTable) (digits : List (Option ℕ)) (target own : ℕ) (are : AreIndexed list tables) (is : IsOwnTable digits tables own) where
   own_targets : (key : List (Option ℕ)) → differs_from (targets_at (get_or tables own no_table).entries key) target ≡ list_any (has_other (get_or tables own no_table).pattern key target) list
   own_targets key =
@@ -209,19 +209,19 @@ pub IsOwnTable-found : (digits : List (Option ℕ)) (tables : List StarTable) (p
 IsOwnTable-found digits tables place h = let found = position-Some (λ (table : StarTable). same_stars digits table.pattern) tables place no_table h in record { within = found.0; stars = found.1 }
 
 -- a list whose first elements are changed, with one more
-pub set_front : {X : Type 0} (f : X → X) (xs : List X) (i : ℕ) (d y : X) → i < length xs → y ≡ f (get_or xs i d) → set (map f (take i xs) ++ drop i xs) i y ≡ map f (take (i + 1) xs) ++ drop (i + 1) xs
-set_front f [] i d y within is = absurd (omega arith)
-set_front f (x ∷ xs) zero d y within is = ap (λ z. z ∷ xs) is
-set_front f (x ∷ xs) (suc i) d y within is = ap (λ zs. f x ∷ zs) (set_front f xs i d y (omega arith) is) ∙ let e : suc i + 1 ≡ suc (i + 1) = omega arith in rw e refl
+pub set_prefix : {X : Type 0} (f : X → X) (xs : List X) (i : ℕ) (d y : X) → i < length xs → y ≡ f (get_or xs i d) → set (map f (take i xs) ++ drop i xs) i y ≡ map f (take (i + 1) xs) ++ drop (i + 1) xs
+set_prefix f [] i d y within is = absurd (omega arith)
+set_prefix f (x ∷ xs) zero d y within is = ap (λ z. z ∷ xs) is
+set_prefix f (x ∷ xs) (suc i) d y within is = ap (λ zs. f x ∷ zs) (set_prefix f xs i d y (omega arith) is) ∙ let e : suc i + 1 ≡ suc (i + 1) = omega arith in rw e refl
 
-pub get_or-front : {X : Type 0} (f : X → X) (xs : List X) (i : ℕ) (d : X) → get_or (map f (take i xs) ++ drop i xs) i d ≡ get_or xs i d
-get_or-front f [] zero d = refl
-get_or-front f [] (suc i) d = refl
-get_or-front f (x ∷ xs) zero d = refl
-get_or-front f (x ∷ xs) (suc i) d = get_or-front f xs i d
+pub get_or-prefix : {X : Type 0} (f : X → X) (xs : List X) (i : ℕ) (d : X) → get_or (map f (take i xs) ++ drop i xs) i d ≡ get_or xs i d
+get_or-prefix f [] zero d = refl
+get_or-prefix f [] (suc i) d = refl
+get_or-prefix f (x ∷ xs) zero d = refl
+get_or-prefix f (x ∷ xs) (suc i) d = get_or-prefix f xs i d
 
-pub length-front : {X : Type 0} (f : X → X) (xs : List X) (i : ℕ) → length (map f (take i xs) ++ drop i xs) ≡ length xs
-length-front f [] zero = refl
-length-front f [] (suc i) = refl
-length-front f (x ∷ xs) zero = refl
-length-front f (x ∷ xs) (suc i) = ap suc (length-front f xs i)
+pub length-prefix : {X : Type 0} (f : X → X) (xs : List X) (i : ℕ) → length (map f (take i xs) ++ drop i xs) ≡ length xs
+length-prefix f [] zero = refl
+length-prefix f [] (suc i) = refl
+length-prefix f (x ∷ xs) zero = refl
+length-prefix f (x ∷ xs) (suc i) = ap suc (length-prefix f xs i)

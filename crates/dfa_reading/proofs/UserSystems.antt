@@ -7,7 +7,7 @@ use Rattle.digit_tuple.specs.declared.direction.Direction.{Direction}
 use Rattle.digit_tuple.specs.declared.direction.Direction.TheVariants.{Msd, Lsd}
 use Rattle.system_names.specs.UserNames.{is_word_of_letters, IsUserPart, IsUsersName, user_name}
 use Rattle.system_names.specs.Names.{direction_part}
-use Rattle.system_names.proofs.UserSystems.{user_front, user_rest, none_is_built_in}
+use Rattle.system_names.proofs.UserSystems.{user_prefix, user_rest, none_is_built_in}
 use Rattle.text_grammar.specs.Systems.{is_direction, is_system}
 use Rattle.dfa_reading.specs.Systems.{digit_limit}
 use Rattle.dfa_reading.proofs.SystemNames.{digit_limit-other}
@@ -25,27 +25,27 @@ all_letters (b ∷ part) h =
     both_hold (is_alphanumeric b) (list_all is_alphanumeric part) (rw parts.0 refl) parts.1
 
 -- so the name has the form of a system's
-name_length : (way : Direction) (part : List ℕ) → length (user_name way part) ≡ length part + 4
+name_length : (direction : Direction) (part : List ℕ) → length (user_name direction part) ≡ length part + 4
 name_length Msd part = omega arith
 name_length Lsd part = omega arith
 
-directs : (way : Direction) → is_direction (direction_part way) ≡ true
+directs : (direction : Direction) → is_direction (direction_part direction) ≡ true
 directs Msd = refl
 directs Lsd = refl
 
-user_name_passes : (way : Direction) (part : List ℕ) → IsUserPart part → is_system (user_name way part) ≡ true
+user_name_passes : (direction : Direction) (part : List ℕ) → IsUserPart part → is_system (user_name direction part) ≡ true
 unfolding is_system
-user_name_passes way part is =
-    let name = user_name way part in
-    let long : 5 ≤ length name = omega (arith, some_letter part is.letters, name_length way part) in
-    let short : length name ≤ 62 = omega (arith, is.short, name_length way part) in
+user_name_passes direction part is =
+    let name = user_name direction part in
+    let long : 5 ≤ length name = omega (arith, some_letter part is.letters, name_length direction part) in
+    let short : length name ≤ 62 = omega (arith, is.short, name_length direction part) in
     both_hold (nat_le 5 (length name)) (nat_le (length name) 62 && (is_direction (take 4 name) && list_all is_alphanumeric (drop 4 name))) (le-leb 5 (length name) long)
     (both_hold (nat_le (length name) 62) (is_direction (take 4 name) && list_all is_alphanumeric (drop 4 name)) (le-leb (length name) 62 short)
-    (both_hold (is_direction (take 4 name)) (list_all is_alphanumeric (drop 4 name)) (ap is_direction (user_front way part) ∙ directs way) (ap (list_all is_alphanumeric) (user_rest way part) ∙ all_letters part is.letters)))
+    (both_hold (is_direction (take 4 name)) (list_all is_alphanumeric (drop 4 name)) (ap is_direction (user_prefix direction part) ∙ directs direction) (ap (list_all is_alphanumeric) (user_rest direction part) ∙ all_letters part is.letters)))
 
 -- a header's format takes the name of a user's system
 pub users_name_passes : (name : List ℕ) → IsUsersName name → is_system name ≡ true
-users_name_passes name (way, part, (is, named)) = subst (λ (n : List ℕ). is_system n ≡ true) (sym named) (user_name_passes way part is)
+users_name_passes name (direction, part, (is, named)) = subst (λ (n : List ℕ). is_system n ≡ true) (sym named) (user_name_passes direction part is)
 
 -- and any digit of 32 bits on its tracks
 pub users_digit_limit : (name : List ℕ) → IsUsersName name → digit_limit name ≡ 2 ^ 32

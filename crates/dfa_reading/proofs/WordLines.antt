@@ -1,4 +1,4 @@
--- Lines are without conflict exactly where the transitions from each state that share a tuple have one target.
+-- Lines are without conflict if and only if the transitions from each state that share a tuple have one target.
 use Rattle.std.proofs.Common.{◌≡◌, ℕ, ◌<◌, Bool, true, false, cond, not, ◌&&◌, eqb, List, [], ◌∷◌, ◌++◌, Option, None, Some, ◌⊎◌, inl, inr, refl, sym, ap, ◌∙◌, subst, true≢false, arith, append_assoc}
 use Rattle.std.specs.List.{Contains, AllByRecursion, list_all, list_any, filter}
 use Rattle.std.proofs.lemmas.Bool.{and_parts, eqb-true, eq-eqb}
@@ -92,7 +92,7 @@ AreClear-push list digits target clear agree a b one two share = by (Contains-ei
         sym (agrees_target list digits target b agree k (ap (λ ds. share_tuple ds b.0) (ap (λ (t : Transition). t.0) is) ∙ share) ∙ ap (λ (t : Transition). t.1) is)
     by (inr h) (inr k) = ap (λ (t : Transition). t.1) (sym (last a h) ∙ last b k)
 
--- transitions to each target agree exactly where all are clear
+-- transitions to each target agree if and only if all are clear
 pub clear_from_agree : (list : List Transition) (digits : List (Option ℕ)) (targets : List ℕ) → AreClear list → agree_all list digits targets ≡ true → AreClear (list ++ to_each digits targets)
 clear_from_agree list digits [] clear h = subst AreClear (sym (append-nil list)) clear
 clear_from_agree list digits (t ∷ targets) clear h =
@@ -200,7 +200,7 @@ transitions_from-other state lines line apart =
     ∙ ap (λ b. transitions_from state lines ++ transitions_of (cond b (line ∷ []) [])) apart
     ∙ append-nil (transitions_from state lines)
 
--- one line more is without conflict exactly where its transitions agree with those of its state
+-- one line more is without conflict if and only if its transitions agree with those of its state
 pub without_conflict-push : (lines : List (ℕ × ListedLine)) (line : ℕ × ListedLine) → are_without_conflict lines ≡ true
     → are_without_conflict (lines ++ line ∷ []) ≡ agree_all (transitions_from line.1.state lines) line.1.digits line.1.targets
 without_conflict-push lines line clear =

@@ -5,32 +5,32 @@ use Rattle.std.specs.Ordering.{int_eq}
 use Rattle.digit_tuple.specs.Automaton.{Branch, IsBefore}
 use Rattle.digit_tuple.specs.Deterministic.{State}
 use Rattle.digit_tuple.specs.Reversed.{branch_at, SameBranch}
-use Rattle.digit_tuple.specs.declared.edges.Edge.{Edge}
+use Rattle.digit_tuple.specs.declared.transitions.Transition.{Transition}
 use Rattle.dfa_reading.specs.Listed.{ListedLine, Listed, IsListedLine}
-use Rattle.dfa_reading.specs.LineLetters.{edges_of_line}
+use Rattle.dfa_reading.specs.LineLetters.{transitions_of_line}
 
--- a state with an output, without edges
+-- a state with an output, without transitions
 abbrev pub bare_row : ℤ → Branch
-bare_row output = record { accepting = not (int_eq output (pos 0)); edges = [] }
+bare_row output = record { accepting = not (int_eq output (pos 0)); transitions = [] }
 
--- a state with further edges
-abbrev pub with_edges : Branch → List Edge → Branch
-with_edges row edges = record { accepting = row.accepting; edges = row.edges ++ edges }
+-- a state with further transitions
+abbrev pub with_transitions : Branch → List Transition → Branch
+with_transitions row transitions = record { accepting = row.accepting; transitions = row.transitions ++ transitions }
 
--- rows with the edges of a line
+-- rows with the transitions of a line
 abbrev pub with_line : List ℕ → List Branch → ListedLine → List Branch
-with_line sizes rows line = slice_set rows line.state (with_edges (branch_at rows line.state) (edges_of_line sizes line))
+with_line sizes rows line = slice_set rows line.state (with_transitions (branch_at rows line.state) (transitions_of_line sizes line))
 
 -- and of lines, one after another
 abbrev pub rows_after : List ℕ → List Branch → List ListedLine → List Branch
 rows_after sizes rows [] = rows
 rows_after sizes rows (line ∷ lines) = rows_after sizes (with_line sizes rows line) lines
 
--- the rows have the same edges, and those of the first rows are in order, each once
+-- the rows have the same transitions, and those of the first rows are in order, each once
 pub record AreInOrder (old new : List Branch) (count : ℕ) : Type 0 where
   pub size : length new ≡ length old
   pub same : (q : ℕ) → SameBranch (branch_at old q) (branch_at new q)
-  pub ascending : (q : ℕ) → q < count → AllPairs IsBefore (branch_at new q).edges
+  pub ascending : (q : ℕ) → q < count → AllPairs IsBefore (branch_at new q).transitions
 
 -- the rows are those of the listed states, in order
 pub record AreRowsOf (sizes : List ℕ) (listed : Listed) (rows : List Branch) : Type 0 where
@@ -38,9 +38,9 @@ pub record AreRowsOf (sizes : List ℕ) (listed : Listed) (rows : List Branch) :
   pub small : length listed.outputs < 2 ^ 32
   pub lines : All (IsListedLine (length sizes) (length listed.outputs)) listed.lines
 
--- the state with the edges of a row, which accepts
+-- the state with the transitions of a row, which accepts
 abbrev pub state_of_row : Branch → State
-state_of_row row = record { accepting = true; edges = row.edges }
+state_of_row row = record { accepting = true; transitions = row.transitions }
 
 abbrev pub states_of_rows : List Branch → List State
 states_of_rows rows = map state_of_row rows

@@ -32,6 +32,6 @@ pub record IsLetterOfDigits (sizes tuple : List ℕ) (letter : ℕ) : Type 0 whe
   pub fit : AreDigits sizes tuple
   pub letter_is : letter ≡ code_of sizes tuple
 
--- it accepts the word of the letters of some tuples exactly where the file accepts the word of tuples
+-- it accepts the word of the letters of some tuples if and only if the file accepts the word of tuples
 abbrev pub BranchingAcceptsListed : Type 0
 BranchingAcceptsListed = (sizes : List ℕ) (listed : Listed) (n : Branching) → IsBranching sizes listed n → (word : List (List ℕ)) (letters : List ℕ) → AllZip (IsLetterOfDigits sizes) word letters → Accepts n letters ↔ ListedAccepts sizes listed word

@@ -19,7 +19,7 @@ share_tuple _ _ = false
 abbrev pub TakesTuple : List (Option ℕ) → List ℕ → Type 0
 TakesTuple digits tuple = AllZip TakesDigit digits tuple
 
--- two lists of digits share a tuple exactly where both take one
+-- two lists of digits share a tuple if and only if both take one
 abbrev pub SharedTuplesAreTaken : Type 0
 SharedTuplesAreTaken = (digits others : List (Option ℕ)) → (share_tuple digits others ≡ true) ↔ ((tuple : List ℕ) × TakesTuple digits tuple × TakesTuple others tuple)
 

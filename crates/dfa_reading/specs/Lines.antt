@@ -3,8 +3,7 @@ use Rattle.std.specs.Prelude.{ℕ, ◌+◌, ◌==◌, Bool, true, false, ◌&&�
 use Rattle.std.specs.List.{slice_split, filter}
 use Rattle.text_grammar.specs.Bytes.{is_blank, is_line_end}
 
--- The lines of a text. A CR before a line's end is a blank at the end of the line. After a line end that is the last
--- byte stands an empty line.
+-- The lines of a text. A CR before a line's end is a blank at the end of the line. After a line end that is the last byte is an empty line.
 abbrev pub lines_of : List ℕ → List (List ℕ)
 lines_of text = slice_split is_line_end text
 
@@ -39,7 +38,7 @@ abbrev pub before_both : ℕ → Option (List ℕ × List ℕ) → Option (List 
 before_both b None = None
 before_both b (Some p) = Some (b ∷ p.0, p.1)
 
--- what stands before the first `->` of a line, and after it
+-- what comes before the first `->` of a line, and after it
 abbrev pub arrow_at : List ℕ → Option (List ℕ × List ℕ)
 arrow_at [] = None
 arrow_at (b ∷ bytes) = if b == 45 && (slice_index bytes 0 == 62) then Some ([], drop 1 bytes) else before_both b (arrow_at bytes)

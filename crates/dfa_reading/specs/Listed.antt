@@ -3,8 +3,8 @@ use Rattle.std.specs.Prelude.{◌≡◌, ◌≢◌, ℕ, ◌<◌, ℤ, pos, List
 use Rattle.std.specs.List.{All, Contains}
 use Rattle.dfa_reading.specs.Headers.{Header, digits_in}
 
--- Transitions from a state, by one digit on each track, to each of some states. `None` is `*`, a member of a set stands by its
--- place in the set, and a state by its place among the states.
+-- Transitions from a state, by one digit on each track, to each of some states. `None` is `*`, a member of a set is given by its place in
+-- the set, and a state by its place among the states.
 pub record ListedLine : Type 0 where
   pub state : ℕ
   pub digits : List (Option ℕ)
@@ -44,7 +44,7 @@ output_of listed q = slice_index_or listed.outputs q (pos 0)
 abbrev pub IsAccepting : Listed → ℕ → Type 0
 IsAccepting listed q = output_of listed q ≢ pos 0
 
--- some path from the first state spells the word and ends in an accepting state
+-- some path from the initial state spells the word and ends in an accepting state
 abbrev pub ListedAccepts : List ℕ → Listed → List (List ℕ) → Type 0
 ListedAccepts sizes listed word = (q : ℕ) × MovesAlong sizes listed 0 word q × IsAccepting listed q
 

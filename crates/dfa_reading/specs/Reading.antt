@@ -31,12 +31,12 @@ with_state draft n output = record draft { numbers = draft.numbers ++ n ∷ []; 
 abbrev pub with_line : ℕ → Draft → List (Option ℕ) → List ℕ → Draft
 with_line at draft digits targets = record draft { lines = draft.lines ++ (at, record { state = length draft.outputs - 1; digits = digits; targets = targets }) ∷ [] }
 
--- a state's number is new, and before transitions stands a state
+-- a state's number is new, and before transitions is a state
 abbrev pub add_entry : ℕ → Draft → Entry → Option Draft
 add_entry at draft (State n output) = if has_number draft.numbers n then None else Some (with_state draft n output)
 add_entry at draft (Line digits targets) = if length draft.outputs == 0 then None else Some (with_line at draft digits targets)
 
--- below `true` and `false` stands nothing, and below another header an entry
+-- below `true` and `false` is nothing, and below another header an entry
 abbrev pub add_below : ℕ → Draft → List ℕ → Header → Option Draft
 add_below at draft line header = if has_states header then entry_of (digits_in header) line >>= add_entry at draft else None
 
@@ -102,7 +102,7 @@ pub record IsDraftLine (tracks states : ℕ) (line : ℕ × ListedLine) : Type 0
   pub state : line.1.state < states
   pub digits : length line.1.digits ≡ tracks
 
--- each state has a number and an output, and before the header stands no line
+-- each state has a number and an output, and before the header is no line
 pub record IsDraft (draft : Draft) : Type 0 where
   pub numbers : length draft.numbers ≡ length draft.outputs
   pub lines : AllByRecursion (IsDraftLine (tracks_in draft.header) (length draft.outputs)) draft.lines

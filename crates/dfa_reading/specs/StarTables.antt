@@ -28,7 +28,7 @@ alike None (Some other) = false
 alike (Some digit) None = false
 alike (Some digit) (Some other) = true
 
--- `*` stands on the same tracks
+-- `*` is on the same tracks
 abbrev pub same_stars : List (Option ℕ) → List (Option ℕ) → Bool
 same_stars digits pattern = pointwise alike digits pattern
 

@@ -11,7 +11,7 @@ use Rattle.dfa_reading.specs.Lines.{◌>>=◌, parts_of, each_of}
 abbrev pub system_of : List ℕ → Option (List ℕ)
 system_of part = if is_system part then Some part else None
 
--- the first byte of a system's name tells its direction
+-- the first byte of a system's name determines its direction
 abbrev pub directs_as : List ℕ → List ℕ → Bool
 directs_as name other = slice_index other 0 == slice_index name 0
 

@@ -22,7 +22,7 @@ transitions_of lines = flat_map (λ line. to_each line.1.digits line.1.targets) 
 abbrev pub transitions_from : ℕ → List (ℕ × ListedLine) → List Transition
 transitions_from state lines = transitions_of (filter (is_of_state state) lines)
 
--- what was read is the front of a word's file, and the transitions are those from the last state
+-- what was read is the prefix of a word's file, and the transitions are those from the last state
 pub record IsReading (draft : Draft) (list : List Transition) (tables : List StarTable) : Type 0 where
   pub draft_is : IsDraft draft
   pub word : is_word draft ≡ true

@@ -16,7 +16,7 @@ abbrev pub are_of_systems : Option Header → Bool
 are_of_systems None = true
 are_of_systems (Some header) = is_of_systems header
 
--- what was read may be the front of a word's file
+-- what was read may be the prefix of a word's file
 abbrev pub is_word : Draft → Bool
 is_word draft = are_of_systems draft.header && are_without_conflict draft.lines
 

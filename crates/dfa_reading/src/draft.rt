@@ -141,7 +141,7 @@ impl LineReader for Draft {
 
     ghost adds = { λ _. add_line };
 
-    ghost is_front = { λ d. IsDraft (draft_view d) };
+    ghost is_prefix = { λ d. IsDraft (draft_view d) };
 
     fn add_line(&mut self, alloc: Global, at: u64, line: &[u8]) -> Result<bool, OutOfMemory> {
         Draft::add_line(self, alloc, at, line)

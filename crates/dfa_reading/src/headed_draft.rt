@@ -50,7 +50,7 @@ impl LineReader for HeadedDraft {
 
     ghost adds = { λ d. add_headed_line (may_head d.part) };
 
-    ghost is_front = { IsHeadedReader };
+    ghost is_prefix = { IsHeadedReader };
 
     fn add_line(&mut self, alloc: Global, at: u64, line: &[u8]) -> Result<bool, OutOfMemory> {
         let headed = self.draft.header.is_some();

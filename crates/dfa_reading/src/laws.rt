@@ -6,13 +6,13 @@ ghost use Rattle.dfa_reading.specs.WordFiles.{WordFilesListWords};
 ghost use Rattle.dfa_reading.specs.ListedTable.{TableMovesAlong};
 ghost use Rattle.dfa_reading.specs.SystemFiles.{LanguageFilesListLanguages, AdderFilesListAdders};
 
-/// The branching automaton of what a file lists accepts the word of the letters of some tuples exactly where the file accepts the
-/// word of tuples.
+/// The branching automaton of what a file lists accepts the word of the letters of some tuples if and only if the file accepts
+/// the word of tuples.
 pub fn branching_accepts_listed()
     ensures { BranchingAcceptsListed }
 {}
 
-/// Two lists of digits, of which any may be `*`, share a tuple exactly where there is a tuple that both take.
+/// Two lists of digits, of which any may be `*`, share a tuple if and only if there is a tuple that both take.
 pub fn shared_tuples_are_taken()
     ensures { SharedTuplesAreTaken }
 {}

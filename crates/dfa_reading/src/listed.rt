@@ -3,8 +3,8 @@
 use crate::header::FileHeader;
 use std::marker::Model;
 
-/// Transitions from a state, by one digit on each track, to each of some states. None is `*`, a member of a set stands by its
-/// place in the set, and a state by its place among the states.
+/// Transitions from a state, by one digit on each track, to each of some states. None is `*`, a member of a set is given by
+/// its place in the set, and a state by its place among the states.
 #[derive(Drop)]
 pub struct ListedLine {
     pub state: usize,

@@ -14,20 +14,20 @@ ghost use Rattle.dfa_reading.specs.WordFiles.{IsFunctional};
 use crate::branching::{alphabet, rows};
 use crate::listed::Listed;
 use digit_tuple::dfa::{Dfa, DfaState};
-use digit_tuple::edges::NfaState;
 use digit_tuple::faults::{OpFault, OutOfMemory};
+use digit_tuple::transitions::NfaState;
 use std::alloc::Global;
 
 impl Listed {
     /// The deterministic automaton with the listed states in their order, each accepting, over the letters of the tracks, where a
     /// tuple leads from a state to one state at most, as `read_word` sees to. `digits` gives how many digits each system of the
     /// header has; for a header of sets it is not read. `*` is each digit of its track, and a line with a digit outside its track
-    /// is in no edge. There is a state, so the file is not `true` or `false`. The time is in proportion to the edges, but for
-    /// sorting them.
+    /// is in no transition. There is a state, so the file is not `true` or `false`. The time is in proportion to the transitions,
+    /// but for sorting them.
     ///
     /// # Errors
-    /// `Letters` comes exactly where there are more than 16 tracks or more than 65,536 letters, and `States` never. A file of
-    /// 2^32 states or more is answered by out of memory.
+    /// `Letters` comes if and only if there are more than 16 tracks or more than 65,536 letters, and `States` never. A file
+    /// of 2^32 states or more is answered by out of memory.
     pub fn table(&self, alloc: Global, digits: &[u32]) -> Result<Dfa, OpFault>
         requires states { 0 < length self.now.outputs }
         requires given { AreGiven self.now.header digits.now }
@@ -45,7 +45,7 @@ impl Listed {
     }
 }
 
-// The states with the edges of the rows.
+// The states with the transitions of the rows.
 fn states(alloc: Global, rows: Vec<NfaState>) -> Result<Vec<DfaState>, OutOfMemory>
     ensures { IfOk result (λ states. states_in states.items ≡ states_of_rows (branches_in rows.items)) }
 {
@@ -56,16 +56,16 @@ fn states(alloc: Global, rows: Vec<NfaState>) -> Result<Vec<DfaState>, OutOfMemo
     Ok(states)
 }
 
-// The state with the edges of a row.
+// The state with the transitions of a row.
 fn state(row: NfaState) -> DfaState
     ensures { state_in result ≡ state_of_row (branch_in row) }
 {
     let NfaState {
         accepting: _,
-        edges,
+        transitions,
     } = row;
     DfaState {
         accepting: true,
-        edges,
+        transitions,
     }
 }

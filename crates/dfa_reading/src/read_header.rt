@@ -18,7 +18,7 @@ use digit_tuple::letter_set::LetterSet;
 use digit_tuple::sets::Sets;
 use std::alloc::Global;
 use std::collections::BTreeSet;
-use text_grammar::{Class, front_len, is_system};
+use text_grammar::{Class, is_system, prefix_len};
 
 /// The header that a line is: `true` or `false` alone, systems of one direction, or sets.
 #[tactic(auto, unfolding(crate::specs::Headers::header_of))]
@@ -92,7 +92,7 @@ fn all_direct_as(first: &SystemName, others: &[SystemName]) -> bool
         .all(|other| first_byte(other) == first_byte(first))
 }
 
-// The first byte of a system's name, which tells its direction.
+// The first byte of a system's name, which determines its direction.
 fn first_byte(system: &SystemName) -> u8
     ensures { result ≡ slice_index system.now 0 }
 {
@@ -128,7 +128,7 @@ fn sets(alloc: Global, line: &[u8]) -> Result<Option<Sets>, OutOfMemory>
 fn open_set(alloc: Global, bytes: &[u8]) -> Result<Option<LetterSet>, OutOfMemory>
     ensures { IfOk result (λ set. set ≡ open_set_of bytes.now) }
 {
-    let begun = &bytes[front_len(Class::Blank, bytes)..];
+    let begun = &bytes[prefix_len(Class::Blank, bytes)..];
     if begun.is_empty() || begun[0] != b'{' {
         return Ok(None);
     }
@@ -181,7 +181,7 @@ fn member(bytes: &[u8]) -> Option<i32>
     }
 }
 
-// The numbers, if each stands there once.
+// The numbers, if each is there once.
 fn set_of(alloc: Global, numbers: &[i32]) -> Result<Option<BTreeSet<i32>>, OutOfMemory>
     ensures { IfOk result (λ set. option_map (λ s. s.keys) set ≡ with_members [] numbers.now) }
 {

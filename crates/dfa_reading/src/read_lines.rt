@@ -1,18 +1,18 @@
 //! Lines of a file, and the parts of a line.
 
 ghost use Rattle.std.specs.Prelude.{◌≡◌, ◌≤◌, ◌<◌, ◌∷◌, [], ◌==◌, ℕ, List, length, not, MatchOption, option_map, option_copied};
-ghost use Rattle.std.specs.List.{prefix_len, slice_split};
+ghost use Rattle.std.specs.List.{prefix_len as len_of_prefix, slice_split};
 ghost use Rattle.text_grammar.specs.Bytes.{is_blank};
 ghost use Rattle.dfa_reading.specs.Lines.{parts_of, is_passed as passed, arrow_at};
 ghost use Rattle.dfa_reading.specs.Views.{pieces_after};
 
-use text_grammar::{Class, front_len};
+use text_grammar::{Class, prefix_len};
 
-/// The first part of a line, and what stands after it.
+/// The first part of a line, and what follows it.
 pub fn next_part(line: &[u8]) -> Option<(&[u8], &[u8])>
     ensures { MatchOption result (parts_of line.now ≡ []) (λ p. (parts_of line.now ≡ p.0.now ∷ parts_of p.1.now) × (length p.1.now < length line.now)) }
 {
-    let begun = &line[front_len(Class::Blank, line)..];
+    let begun = &line[prefix_len(Class::Blank, line)..];
     if begun.is_empty() {
         return None;
     }
@@ -21,7 +21,7 @@ pub fn next_part(line: &[u8]) -> Option<(&[u8], &[u8])>
 
 // How many bytes at the front are no blanks.
 fn part_len(bytes: &[u8]) -> usize
-    ensures len { result ≡ prefix_len (λ b. not (is_blank b)) bytes.now }
+    ensures len { result ≡ len_of_prefix (λ b. not (is_blank b)) bytes.now }
     ensures within { result ≤ length bytes.now }
 {
     for (index, byte) in bytes.iter().enumerate() {
@@ -49,7 +49,7 @@ pub fn is_passed(line: &[u8]) -> bool
     }
 }
 
-/// What stands before the first byte that is `mark`, and after it; all of the bytes and nothing where there is none.
+/// What comes before the first byte that is `mark`, and after it; all of the bytes and nothing where there is none.
 pub fn cut_at(mark: u8, bytes: &[u8]) -> (&[u8], Option<&[u8]>)
     ensures pieces { slice_split (λ b. b == mark) bytes.now ≡ result.0.now ∷ pieces_after mark (option_copied result.1) }
     ensures shorter { MatchOption result.1 (length bytes.now ≡ length result.0.now) (λ rest. length rest.now < length bytes.now) }
@@ -62,7 +62,7 @@ pub fn cut_at(mark: u8, bytes: &[u8]) -> (&[u8], Option<&[u8]>)
     (bytes, None)
 }
 
-/// What stands before the first `->`, and after it.
+/// What comes before the first `->`, and after it.
 pub fn cut_arrow(line: &[u8]) -> Option<(&[u8], &[u8])>
     ensures { option_map (λ p. (p.0.now, p.1.now)) result ≡ arrow_at line.now }
 {

@@ -65,7 +65,7 @@ pub fn read_system(alloc: Global, part: SystemPart, text: &[u8]) -> Result<Liste
 fn read_lines<R: LineReader>(alloc: Global, mut reader: R, text: &[u8]) -> Result<Listed, FileFault>
     requires length { length text.now < 2 ^ 63 }
     requires nothing { R.was_read reader ≡ no_draft }
-    requires front { R.is_front reader }
+    requires prefix { R.is_prefix reader }
     ensures { Gives (λ listed. listed) result (then_read (add_lines_by (R.adds reader) 1 no_draft (lines_of text.now)) (finish (line_after (lines_of text.now)))) }
 {
     let mut rest = text;

@@ -134,7 +134,7 @@ pub fn masked(
     Ok(masked)
 }
 
-/// Whether `*` stands on the same tracks of both.
+/// Whether `*` is on the same tracks of both.
 pub fn has_stars(digits: &[Option<u32>], pattern: &[Option<u32>]) -> bool
     ensures { result ≡ same_stars digits.now pattern.now }
 {

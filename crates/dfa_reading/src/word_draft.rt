@@ -65,7 +65,7 @@ impl LineReader for WordDraft {
 
     ghost adds = { λ _. add_word_line };
 
-    ghost is_front = { IsReader };
+    ghost is_prefix = { IsReader };
 
     /// Adds a line, and says whether it has the format's form there and leads by no tuple elsewhere than the lines before it.
     #[tactic(auto, unfolding(crate::specs::WordFiles::add_word_line))]

@@ -19,12 +19,12 @@ join_more f sep out before after xs ys x n e more h step = step ∙ ap (λ t. t 
 pub pieces_more : {X A : Type 0} (f : X → List A) (out before after : List A) (xs : List X) (i : ℕ) (x d : X) → i < length xs → x ≡ get_or xs i d → before ≡ out ++ flat_map f (take i xs) → after ≡ before ++ f x → after ≡ out ++ flat_map f (take (i + 1) xs)
 pieces_more f out before after xs i x d lt e h step = step ∙ ap (λ t. t ++ f x) h ∙ flat_map_more f out (take i xs) x ∙ ap (λ ys. out ++ flat_map f ys) (ap (λ y. take i xs ++ y ∷ []) e ∙ sym (take_more xs i d lt))
 
--- a first piece, and the others with what stands between
+-- a first piece, and the others with what is between
 pub joined_all : {X A : Type 0} (f : X → List A) (sep old start out : List A) (xs others : List X) (i : ℕ) (d : X) → 0 < length xs → others ≡ drop 1 xs → start ≡ old ++ f (get_or xs 0 d) → length others ≤ i → out ≡ start ++ flat_map (λ y. sep ++ f y) (take i others) → out ≡ old ++ join_by f sep xs
 joined_all f sep old start out [] others i d some rest first done h = absurd (omega arith)
 joined_all f sep old start out (x ∷ xs) others i d some rest first done h =
     h ∙ ap (λ ys. start ++ flat_map (λ y. sep ++ f y) ys) (take_all i others done ∙ rest) ∙ ap (λ t. t ++ flat_map (λ y. sep ++ f y) xs) first ∙ append_assoc old (f x) (flat_map (λ y. sep ++ f y) xs)
 
--- the lines of two lists, one behind the other
+-- the lines of two lists, one after the other
 pub text_of_lines-append : (xs ys : List (List ℕ)) → text_of_lines (xs ++ ys) ≡ text_of_lines xs ++ text_of_lines ys
 text_of_lines-append xs ys = flat_map-append (λ line. line ++ codes "\n") xs ys

@@ -3,7 +3,7 @@ pub mod Joins
 pub mod Counting
 pub mod SystemDigits
 pub mod RelationSteps
-pub mod LineFrontLemmas
+pub mod LinePrefixLemmas
 pub mod PrintedNumbers
 pub mod PrintedParts
 pub mod PrintedHeaders

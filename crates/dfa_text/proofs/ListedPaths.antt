@@ -7,7 +7,7 @@ use Rattle.std.proofs.lemmas.List.{get_or_past}
 use Rattle.std.proofs.lemmas.List.Elements.{Contains-append_left, Contains-append_right, Contains-append_cases}
 use Rattle.std.proofs.lemmas.Option.{none-some, same_Some}
 use Rattle.std.proofs.lemmas.List.FromFn.{length-map-range_with_len, get_or-map-range_with_len}
-use Rattle.digit_tuple.specs.Deterministic.{Automaton, IsTable, letters_of, states_of, edges_of, accepting_of, step_of, run_of, accepts_from, accepts_of}
+use Rattle.digit_tuple.specs.Deterministic.{Automaton, IsTable, letters_of, states_of, transitions_of, accepting_of, step_of, run_of, accepts_from, accepts_of}
 use Rattle.digit_tuple.specs.Letters.{code_of, AreDigits}
 use Rattle.digit_tuple.specs.declared.header.Header.{Header}
 use Rattle.digit_tuple.proofs.DfaLemmas.{row_at, target_by-in_range}
@@ -121,12 +121,12 @@ module _ (header : Header) (d : Automaton) (table : IsTable (letters_of d) d.sta
       elim (option_cases (step_of d p a)) [
         | inl none ↦ absurd (let bad : false ≡ true = sym (ap (λ (o : Option ℕ). option_map_or (λ k. accepts_from d k letters) o false) none) ∙ h in cc)
         | inr (r, is) ↦
-            let inside : r < states_of d = subst (λ (o : Option ℕ). IfSome o (λ t. t < states_of d)) is (target_by-in_range (letters_of d) (states_of d) (edges_of d p) a (row_at d p table within).in_range) in
+            let inside : r < states_of d = subst (λ (o : Option ℕ). IfSome o (λ t. t < states_of d)) is (target_by-in_range (letters_of d) (states_of d) (transitions_of d p) a (row_at d p table within).in_range) in
             let rest = moves_from_accepted word letters r inside codes.1 (sym (ap (λ (o : Option ℕ). option_map_or (λ k. accepts_from d k letters) o false) is) ∙ h) in
             (rest.0, (r, move_from_step p tuple r within codes.0.fit (sym (ap (step_of d p) codes.0.letter_is) ∙ is), rest.1), rest.2)
       ]
 
-  -- it accepts a word of tuples exactly where the automaton accepts the word of their letters
+  -- it accepts a word of tuples if and only if the automaton accepts the word of their letters
   pub accepts_listed : (word : List (List ℕ)) (letters : List ℕ) → AllZip (IsLetterOfDigits d.sizes) word letters → ListedAccepts d.sizes (automaton_listed header d) word ↔ IsTrue (accepts_of d letters)
   accepts_listed word letters codes = (
     (λ h. accepted_from_moves word letters 0 h.0 codes h.1 h.2),
@@ -149,7 +149,7 @@ module _ (header : Header) (d : Automaton) (table : IsTable (letters_of d) d.sta
       elim (option_cases (step_of d p a)) [
         | inl none ↦ absurd (none-some q (sym (ap (λ (o : Option ℕ). option_and_then (λ k. run_of d k letters) o) none) ∙ h))
         | inr (r, is) ↦
-            let inside : r < states_of d = subst (λ (o : Option ℕ). IfSome o (λ t. t < states_of d)) is (target_by-in_range (letters_of d) (states_of d) (edges_of d p) a (row_at d p table within).in_range) in
+            let inside : r < states_of d = subst (λ (o : Option ℕ). IfSome o (λ t. t < states_of d)) is (target_by-in_range (letters_of d) (states_of d) (transitions_of d p) a (row_at d p table within).in_range) in
             let rest = moves_from_run outputs word letters r q inside codes.1 (sym (ap (λ (o : Option ℕ). option_and_then (λ k. run_of d k letters) o) is) ∙ h) in
             (r, move_from_step p tuple r within codes.0.fit (sym (ap (step_of d p) codes.0.letter_is) ∙ is), rest)
       ]

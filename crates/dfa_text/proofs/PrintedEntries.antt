@@ -13,7 +13,7 @@ use Rattle.dfa_reading.proofs.Splits.{parts_of-append}
 use Rattle.dfa_text.specs.Parts.{state_text}
 use Rattle.dfa_text.proofs.PrintedParts.{Avoids, Avoids-append, Spares, spares_byte, avoids_decimal, avoids_signed, IsPart, part_decimal, part_signed, parts_of-one, parts_of-joined, not_passed_part}
 
--- a target, behind a blank
+-- a target, after a blank
 abbrev pub target_text : ℕ → List ℕ
 target_text target = codes " " ++ decimal target
 

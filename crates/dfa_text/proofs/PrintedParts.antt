@@ -46,7 +46,7 @@ pub split-one : (p : ℕ → Bool) (xs : List ℕ) → Avoids p xs → slice_spl
 split-one p [] h = refl
 split-one p (x ∷ xs) h = rw (h.0, split-one p xs h.1) refl
 
--- pieces that stand behind a first one, each behind the byte at which they are split
+-- pieces that come after a first one, each after the byte at which they are split
 pub split_joined : {X : Type 0} (p : ℕ → Bool) (f : X → List ℕ) (c : ℕ) (x : X) (xs : List X) → p c ≡ true → AllByRecursion (λ y. Avoids p (f y)) (x ∷ xs) → slice_split p (join_by f (c ∷ []) (x ∷ xs)) ≡ map f (x ∷ xs)
 split_joined p f c x [] h a = ap (slice_split p) (append-nil (f x)) ∙ split-one p (f x) a.0
 split_joined p f c x (y ∷ ys) h a =
@@ -96,13 +96,13 @@ pub passed_empty : is_passed [] ≡ true
 unfolding is_passed
 passed_empty = refl
 
--- where `->` stands
+-- where `->` is
 pub no_arrow : (bytes : List ℕ) → Avoids (λ b. eqb b 62) bytes → arrow_at bytes ≡ None
 no_arrow [] h = refl
 no_arrow (b ∷ []) h = rw (and-false (eqb b 45)) refl
 no_arrow (b ∷ c ∷ bytes) h = rw (h.1.0, and-false (eqb b 45), no_arrow (c ∷ bytes) h.1) refl
 
-pub arrow_behind : (xs ys : List ℕ) → Avoids (λ b. eqb b 62) xs → arrow_at (xs ++ 45 ∷ 62 ∷ ys) ≡ Some (xs, ys)
-arrow_behind [] ys h = refl
-arrow_behind (x ∷ []) ys h = rw (and-false (eqb x 45)) refl
-arrow_behind (x ∷ y ∷ xs) ys h = rw (h.1.0, and-false (eqb x 45), arrow_behind (y ∷ xs) ys h.1) refl
+pub arrow_after : (xs ys : List ℕ) → Avoids (λ b. eqb b 62) xs → arrow_at (xs ++ 45 ∷ 62 ∷ ys) ≡ Some (xs, ys)
+arrow_after [] ys h = refl
+arrow_after (x ∷ []) ys h = rw (and-false (eqb x 45)) refl
+arrow_after (x ∷ y ∷ xs) ys h = rw (h.1.0, and-false (eqb x 45), arrow_after (y ∷ xs) ys h.1) refl

@@ -14,7 +14,7 @@ use Rattle.std.proofs.Math.Bool.{and-false}
 use mir.Val.{SFits}
 use mir.Syntax.{w32}
 use Rattle.text_grammar.specs.Bytes.{is_line_end}
-use Rattle.digit_tuple.specs.Deterministic.{Automaton, letters_of, states_of, edges_of, accepting_of, step_of}
+use Rattle.digit_tuple.specs.Deterministic.{Automaton, letters_of, states_of, transitions_of, accepting_of, step_of}
 use Rattle.digit_tuple.specs.Headers.{sets_of}
 use Rattle.digit_tuple.specs.Letters.{product, code_of, AreDigits}
 use Rattle.digit_tuple.specs.Sets.{sizes_of, members_at}
@@ -309,7 +309,7 @@ printed_under header d over = record {
   tuples = tuple;
   some = over.table.initial;
   small = over.table.part.small;
-  steps = λ q letter within. target_by-in_range (letters_of d) (states_of d) (edges_of d q) letter (row_at d q over.table within).in_range;
+  steps = λ q letter within. target_by-in_range (letters_of d) (states_of d) (transitions_of d q) letter (row_at d q over.table within).in_range;
 }
   where
     known : IsHeaderRead header

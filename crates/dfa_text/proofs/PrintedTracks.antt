@@ -17,7 +17,7 @@ use Rattle.dfa_reading.specs.Entries.{State, Line, place_in, one_digit, digit_of
 use Rattle.dfa_reading.proofs.Places.{place_some}
 use Rattle.dfa_text.specs.Parts.{state_text}
 use Rattle.dfa_text.proofs.PrintedNumbers.{number_below-decimal, integer_of-signed}
-use Rattle.dfa_text.proofs.PrintedParts.{Avoids, Avoids-append, spares_byte, avoids_signed, no_arrow, arrow_behind}
+use Rattle.dfa_text.proofs.PrintedParts.{Avoids, Avoids-append, spares_byte, avoids_signed, no_arrow, arrow_after}
 use Rattle.dfa_text.proofs.PrintedEntries.{target_text, AreNumbers, tuple_text, fits_wide, parts_of-state, state_avoids, no_star, parts_of-targets, parts_of-tuple, tuple_avoids}
 use Rattle.dfa_text.proofs.PrintedHeaders.{IsPrintable, each_of-map}
 
@@ -94,10 +94,10 @@ tuple_read : (tracks : List Digits) (m : ℤ) (ms : List ℤ) (digits : List (Op
 unfolding entry_of
 tuple_read tracks m ms digits t ts f h k =
     let lead = join_by signed_decimal (codes " ") (m ∷ ms) in
-    let behind = flat_map target_text (t ∷ ts) in
+    let suffix = flat_map target_text (t ∷ ts) in
     let clear : Avoids (λ b. eqb b 62) (lead ++ 32 ∷ []) = Avoids-append (λ b. eqb b 62) lead (32 ∷ []) (tuple_avoids (λ b. eqb b 62) (spares_byte 62 refl refl) refl m ms f) (refl, tt) in
-    ap (entry_by tracks (tuple_text (m ∷ ms) (t ∷ ts))) (ap arrow_at (sym (append_assoc lead (32 ∷ []) (45 ∷ 62 ∷ behind))) ∙ arrow_behind (lead ++ 32 ∷ []) behind clear)
-    ∙ ap (λ ps. line_of tracks ps (parts_of behind)) (parts_of-tuple m ms f)
+    ap (entry_by tracks (tuple_text (m ∷ ms) (t ∷ ts))) (ap arrow_at (sym (append_assoc lead (32 ∷ []) (45 ∷ 62 ∷ suffix))) ∙ arrow_after (lead ++ 32 ∷ []) suffix clear)
+    ∙ ap (λ ps. line_of tracks ps (parts_of suffix)) (parts_of-tuple m ms f)
     ∙ ap (λ ps. line_of tracks (map signed_decimal (m ∷ ms)) ps) (parts_of-targets t ts k)
     ∙ line_of-printed tracks (map signed_decimal (m ∷ ms)) (map decimal (t ∷ ts)) digits (t ∷ ts) h (targets_of-decimal t ts k)
 

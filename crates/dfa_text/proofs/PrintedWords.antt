@@ -99,7 +99,7 @@ text_lists_word systems d outputs over are =
     ∙ ap (λ r. then_read r (finish (line_after (text ++ [] ∷ [])))) read
     ∙ finish_printed header d outputs printed outputs_printed (line_after (text ++ [] ∷ [])) is.numbered is.lists
 
--- the text tells the outputs and where letters lead
+-- the text determines the outputs and where letters lead
 contains_number : (n i : ℕ) → i < n → Contains (range_with_len 0 n) i
 contains_number n i low = subst (Contains (range_with_len 0 n)) (get_or-range_with_len 0 n i 0 low ∙ zero_plus i) (Contains-get_or (range_with_len 0 n) i 0 (let long = length-range_with_len 0 n in omega arith))
   where

@@ -1,4 +1,4 @@
--- Texts tell languages apart.
+-- Texts distinguish languages.
 use Rattle.std.proofs.Common.{◌≡◌, ℕ, Bool, true, false, List, [], ℤ, Result, Ok, Err, refl, sym, ap, ◌∙◌, subst}
 use Rattle.digit_tuple.specs.Deterministic.{accepts_of}
 use Rattle.digit_tuple.specs.Letters.{product, IsWord}

@@ -1,6 +1,6 @@
 pub mod Parts
 pub mod RelationText
-pub mod LineFronts
+pub mod LinePrefixes
 pub mod Meaning
 pub mod RelationLaws
 pub mod Lists

@@ -1,4 +1,4 @@
--- What the text of an automaton tells of its language.
+-- What the text of an automaton says of its language.
 use Rattle.std.specs.Prelude.{◌≡◌, ◌↔◌, ℕ, ℤ, List, IsTrue}
 use Rattle.digit_tuple.specs.Deterministic.{Automaton, IsTable, letters_of, accepts_of}
 use Rattle.digit_tuple.specs.Sets.{sizes_of}
@@ -16,7 +16,7 @@ pub record IsAutomatonOver (sets : List (List ℤ)) (d : Automaton) : Type 0 whe
   pub sizes : d.sizes ≡ sizes_of sets
   pub table : IsTable (letters_of d) d.states
 
--- the text accepts a word of tuples exactly where the automaton accepts the word of their letters
+-- the text accepts a word of tuples if and only if the automaton accepts the word of their letters
 abbrev pub TextAcceptsWords : Type 0
 TextAcceptsWords = (sets : List (List ℤ)) (d : Automaton) → IsAutomatonOver sets d → (word : List (List ℤ)) (letters : List ℕ) → Codes sets word letters → FileAccepts (relation_text (Sets sets) d) word ↔ IsTrue (accepts_of d letters)
 

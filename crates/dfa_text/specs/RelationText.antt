@@ -4,7 +4,7 @@ use Rattle.std.specs.Fmt.{signed_decimal}
 use Rattle.std.specs.List.{flat_map, join_by, range_with_len}
 use Rattle.digit_tuple.specs.Deterministic.{Automaton, letters_of, states_of, accepting_of, step_of}
 use Rattle.digit_tuple.specs.Headers.{sets_of}
-use Rattle.digit_tuple.specs.declared.edges.Edge.{Edge}
+use Rattle.digit_tuple.specs.declared.transitions.Transition.{Transition}
 use Rattle.digit_tuple.specs.declared.header.Header.{Header}
 use Rattle.digit_tuple.specs.declared.header.Header.TheVariants.{Sets, Systems}
 use Rattle.digit_tuple.specs.declared.systems.SystemTrack.{SystemTrack}
@@ -32,9 +32,9 @@ abbrev pub step_lines : List ℤ → Option ℕ → List (List ℕ)
 step_lines tuple None = []
 step_lines tuple (Some target) = step_line tuple target ∷ []
 
--- the line of an edge, and its end
-abbrev pub edge_text : List (List ℤ) → Edge → List ℕ
-edge_text sets edge = step_line (tuple_of sets edge.letter) edge.target ++ codes "\n"
+-- the line of a transition, and its end
+abbrev pub transition_text : List (List ℤ) → Transition → List ℕ
+transition_text sets transition = step_line (tuple_of sets transition.letter) transition.target ++ codes "\n"
 
 -- the lines of a state's letters, in order
 abbrev pub steps_lines : List (List ℤ) → Automaton → ℕ → List (List ℕ)

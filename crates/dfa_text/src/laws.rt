@@ -3,8 +3,8 @@
 ghost use Rattle.dfa_text.specs.RelationLaws.{TextAcceptsWords, TextAcceptsOnlyCodes, EqualLanguagesHaveEqualTexts, EqualTextsHaveEqualLanguages};
 ghost use Rattle.dfa_text.specs.Lists.{TextListsAutomaton, TextListsWord, EqualTextsHaveEqualWords};
 
-/// The text of an automaton over sets, read as a file, accepts a word of tuples exactly where the automaton accepts the
-/// word of their letters, and no word of anything else.
+/// The text of an automaton over sets, read as a file, accepts a word of tuples if and only if the automaton accepts
+/// the word of their letters, and no word of anything else.
 pub fn text_accepts_as_automaton()
     ensures words { TextAcceptsWords }
     ensures only { TextAcceptsOnlyCodes }

@@ -8,7 +8,7 @@ mod header_text;
 // the text of a tuple in a line
 mod tuple_text;
 // what the lines of letters begin with, made once for each letter
-mod line_fronts;
+mod line_prefixes;
 // room for the text of an automaton
 mod text_room;
 // the text of a deterministic automaton whose states have outputs

@@ -26,12 +26,12 @@ pub fn text_room(alloc: Global, d: &Dfa, most: usize) -> Result<Vec<u8>, OutOfMe
 fn likely_length(d: &Dfa) -> usize {
     let digits = decimal_digits(d.states());
     let state = digits.saturating_add(4);
-    let edge = (d.alphabet().tracks() as usize * 2)
+    let transition = (d.alphabet().tracks() as usize * 2)
         .saturating_add(digits)
         .saturating_add(4);
     let states = (d.states() as usize).saturating_mul(state);
-    (d.edges() as usize)
-        .saturating_mul(edge)
+    (d.transitions() as usize)
+        .saturating_mul(transition)
         .saturating_add(states)
 }
 

@@ -6,14 +6,14 @@ ghost use Rattle.std.specs.Fmt.{signed_decimal};
 ghost use Rattle.digit_tuple.specs.Letters.{product, AreDigits};
 ghost use Rattle.digit_tuple.specs.Sets.{sizes_of, members_at};
 ghost use Rattle.digit_tuple.specs.Headers.{sets_of};
-ghost use Rattle.dfa_text.specs.LineFronts.{letter_front};
+ghost use Rattle.dfa_text.specs.LinePrefixes.{letter_prefix};
 
 use crate::numbers::{push_integer, push_number};
 use digit_tuple::alphabet::Alphabet;
 use digit_tuple::faults::OutOfMemory;
 use digit_tuple::header::Header;
 
-/// Appends the tuple of a letter and the arrow behind it. The places, one for each track, are for the letter's digits.
+/// Appends the tuple of a letter and the arrow after it. The places, one for each track, are for the letter's digits.
 pub fn push_front(
     out: &mut Vec<u8>,
     header: &Header,
@@ -24,7 +24,7 @@ pub fn push_front(
     requires sizes { alphabet.now ≡ sizes_of (sets_of header.now) }
     requires tracks { length places.old ≡ length alphabet.now }
     requires letter { letter < product alphabet.now }
-    ensures { OnOk result (out.new.items ≡ out.old.items ++ letter_front (sets_of header.now) letter) }
+    ensures { OnOk result (out.new.items ≡ out.old.items ++ letter_prefix (sets_of header.now) letter) }
 {
     alphabet.digits_of(letter, places);
     push_tuple(out, header, places)?;

@@ -6,20 +6,20 @@ ghost use Rattle.digit_tuple.specs.Deterministic.{states_of};
 ghost use Rattle.digit_tuple.specs.Letters.{product};
 ghost use Rattle.digit_tuple.specs.Sets.{sizes_of};
 ghost use Rattle.digit_tuple.specs.Headers.{sets_of};
-ghost use Rattle.dfa_text.specs.LineFronts.{fronts_of, target_text, fronted_text};
+ghost use Rattle.dfa_text.specs.LinePrefixes.{prefixes_of, target_text, fronted_text};
 ghost use Rattle.dfa_text.specs.Parts.{state_text, text_of_lines};
-ghost use Rattle.dfa_text.specs.RelationText.{edge_text, steps_lines, word_text};
+ghost use Rattle.dfa_text.specs.RelationText.{transition_text, steps_lines, word_text};
 
 use crate::header_text::push_header;
-use crate::line_fronts::LineFronts;
+use crate::line_prefixes::LinePrefixes;
 use crate::numbers::{push_after, push_number};
 use crate::text_room::text_room;
 use crate::tuple_text::push_front;
 use digit_tuple::alphabet::Alphabet;
 use digit_tuple::dfa::Dfa;
-use digit_tuple::edges::Edge;
 use digit_tuple::faults::OutOfMemory;
 use digit_tuple::header::Header;
+use digit_tuple::transitions::Transition;
 use std::alloc::Global;
 
 /// The text of an automaton whose tracks are those of the header, and whose states have these outputs: the header, and all states
@@ -78,10 +78,10 @@ pub fn print_word_within(
 struct Scratch {
     // A place for each track.
     places: Vec<u32>,
-    // The edges of a state.
-    row: Vec<Edge>,
+    // The transitions of a state.
+    row: Vec<Transition>,
     // What the lines of each letter begin with, where there are at least as many lines as letters.
-    fronts: Option<LineFronts>,
+    prefixes: Option<LinePrefixes>,
 }
 
 impl Scratch {
@@ -89,29 +89,29 @@ impl Scratch {
     fn new(alloc: Global, header: &Header, d: &Dfa) -> Result<Self, OutOfMemory>
         requires { d.now.sizes ≡ sizes_of (sets_of header.now) }
         ensures tracks { IfOk result (λ scratch. length scratch.places.items ≡ length d.now.sizes) }
-        ensures fronts { IfOk result (λ scratch. IfSome scratch.fronts (λ fronts. fronts ≡ fronts_of (sets_of header.now))) }
+        ensures prefixes { IfOk result (λ scratch. IfSome scratch.prefixes (λ prefixes. prefixes ≡ prefixes_of (sets_of header.now))) }
     {
         Ok(Scratch {
             places: vec![in alloc; 0; d.alphabet().tracks() as usize]?,
             row: Vec::new(alloc),
-            fronts: fronts_unless_few(alloc, header, d)?,
+            prefixes: prefixes_unless_few(alloc, header, d)?,
         })
     }
 }
 
 // What the lines of each letter begin with, or None where there are fewer lines than letters.
-fn fronts_unless_few(
+fn prefixes_unless_few(
     alloc: Global,
     header: &Header,
     d: &Dfa,
-) -> Result<Option<LineFronts>, OutOfMemory>
+) -> Result<Option<LinePrefixes>, OutOfMemory>
     requires { d.now.sizes ≡ sizes_of (sets_of header.now) }
-    ensures { IfOk result (λ made. IfSome made (λ fronts. fronts ≡ fronts_of (sets_of header.now))) }
+    ensures { IfOk result (λ made. IfSome made (λ prefixes. prefixes ≡ prefixes_of (sets_of header.now))) }
 {
-    if d.edges() < u64::from(d.alphabet().letters()) {
+    if d.transitions() < u64::from(d.alphabet().letters()) {
         return Ok(None);
     }
-    Ok(Some(LineFronts::new(alloc, header, d.alphabet())?))
+    Ok(Some(LinePrefixes::new(alloc, header, d.alphabet())?))
 }
 
 // A blank line, and the state's number and output.
@@ -136,64 +136,68 @@ fn push_lines(
     requires sizes { d.now.sizes ≡ sizes_of (sets_of header.now) }
     requires tracks { length scratch.old.places.items ≡ length d.now.sizes }
     requires state { state < states_of d.now }
-    requires fronts { IfSome scratch.old.fronts (λ fronts. fronts ≡ fronts_of (sets_of header.now)) }
+    requires prefixes { IfSome scratch.old.prefixes (λ prefixes. prefixes ≡ prefixes_of (sets_of header.now)) }
     ensures text { OnOk result (out.new.items ≡ out.old.items ++ text_of_lines (steps_lines (sets_of header.now) d.now state)) }
     ensures tracks { OnOk result (length scratch.new.places.items ≡ length d.now.sizes) }
-    ensures fronts { OnOk result (IfSome scratch.new.fronts (λ fronts. fronts ≡ fronts_of (sets_of header.now))) }
+    ensures prefixes { OnOk result (IfSome scratch.new.prefixes (λ prefixes. prefixes ≡ prefixes_of (sets_of header.now))) }
 {
-    d.edges_into(state, &mut scratch.row)?;
-    match &scratch.fronts {
-        Some(fronts) => push_fronted(out, fronts, &scratch.row),
-        None => push_edges(out, header, d.alphabet(), &mut scratch.places, &scratch.row),
+    d.transitions_into(state, &mut scratch.row)?;
+    match &scratch.prefixes {
+        Some(prefixes) => push_fronted(out, prefixes, &scratch.row),
+        None => push_transitions(out, header, d.alphabet(), &mut scratch.places, &scratch.row),
     }
 }
 
-// The lines of edges, of which these are the fronts by their letters.
-fn push_fronted(out: &mut Vec<u8>, fronts: &LineFronts, edges: &[Edge]) -> Result<(), OutOfMemory>
-    requires { All (λ edge. edge.letter < length fronts.now) edges.now }
-    ensures { OnOk result (out.new.items ≡ out.old.items ++ flat_map (fronted_text fronts.now) edges.now) }
+// The lines of transitions, of which these are the prefixes by their letters.
+fn push_fronted(
+    out: &mut Vec<u8>,
+    prefixes: &LinePrefixes,
+    transitions: &[Transition],
+) -> Result<(), OutOfMemory>
+    requires { All (λ transition. transition.letter < length prefixes.now) transitions.now }
+    ensures { OnOk result (out.new.items ≡ out.old.items ++ flat_map (fronted_text prefixes.now) transitions.now) }
 {
-    for edge in edges {
-        out.extend_from_slice(fronts.front(edge.letter))?;
-        push_target(out, edge.target)?;
+    for transition in transitions {
+        out.extend_from_slice(prefixes.prefix(transition.letter))?;
+        push_target(out, transition.target)?;
     }
     Ok(())
 }
 
-// The lines of edges.
-fn push_edges(
+// The lines of transitions.
+fn push_transitions(
     out: &mut Vec<u8>,
     header: &Header,
     alphabet: &Alphabet,
     places: &mut [u32],
-    edges: &[Edge],
+    transitions: &[Transition],
 ) -> Result<(), OutOfMemory>
     requires sizes { alphabet.now ≡ sizes_of (sets_of header.now) }
     requires tracks { length places.old ≡ length alphabet.now }
-    requires letters { All (λ edge. edge.letter < product alphabet.now) edges.now }
-    ensures { OnOk result (out.new.items ≡ out.old.items ++ flat_map (edge_text (sets_of header.now)) edges.now) }
+    requires letters { All (λ transition. transition.letter < product alphabet.now) transitions.now }
+    ensures { OnOk result (out.new.items ≡ out.old.items ++ flat_map (transition_text (sets_of header.now)) transitions.now) }
 {
-    for edge in edges {
-        push_edge(out, header, alphabet, places, edge)?;
+    for transition in transitions {
+        push_transition(out, header, alphabet, places, transition)?;
     }
     Ok(())
 }
 
-// The line of an edge.
-fn push_edge(
+// The line of a transition.
+fn push_transition(
     out: &mut Vec<u8>,
     header: &Header,
     alphabet: &Alphabet,
     places: &mut [u32],
-    edge: &Edge,
+    transition: &Transition,
 ) -> Result<(), OutOfMemory>
     requires sizes { alphabet.now ≡ sizes_of (sets_of header.now) }
     requires tracks { length places.old ≡ length alphabet.now }
-    requires letter { edge.now.letter < product alphabet.now }
-    ensures { OnOk result (out.new.items ≡ out.old.items ++ edge_text (sets_of header.now) edge.now) }
+    requires letter { transition.now.letter < product alphabet.now }
+    ensures { OnOk result (out.new.items ≡ out.old.items ++ transition_text (sets_of header.now) transition.now) }
 {
-    push_front(out, header, alphabet, places, edge.letter)?;
-    push_target(out, edge.target)
+    push_front(out, header, alphabet, places, transition.letter)?;
+    push_target(out, transition.target)
 }
 
 // Where a line leads, and its end.

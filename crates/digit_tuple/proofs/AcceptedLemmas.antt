@@ -5,8 +5,8 @@ use Rattle.std.specs.Option.{option_map_or}
 use Rattle.std.proofs.lemmas.Bool.{false≢true, cases_lt, eqb-true}
 use Rattle.std.proofs.lemmas.List.{get_or_past}
 use Rattle.digit_tuple.specs.Letters.{IsWord}
-use Rattle.digit_tuple.specs.declared.edges.Edge.{Edge}
-use Rattle.digit_tuple.specs.Deterministic.{Automaton, State, IsTable, no_state, target_by, edges_of, states_of, letters_of, step_of, accepts_from, accepts_of}
+use Rattle.digit_tuple.specs.declared.transitions.Transition.{Transition}
+use Rattle.digit_tuple.specs.Deterministic.{Automaton, State, IsTable, no_state, target_by, transitions_of, states_of, letters_of, step_of, accepts_from, accepts_of}
 use Rattle.digit_tuple.proofs.DfaLemmas.{row_at}
 
 -- the first letter leads somewhere, from where the rest is accepted
@@ -18,9 +18,9 @@ accepted_step d q a w accepted = by (step_of d q a) refl accepted
     by (Some p) leads h = (p, leads, h)
 
 -- a letter that leads somewhere is one of the alphabet
-letter_of_edge : (letters states : ℕ) (es : List Edge) (letter p : ℕ) → All (λ edge. (edge.letter < letters) × (edge.target < states)) es → target_by es letter ≡ Some p → letter < letters
-letter_of_edge letters states [] letter p range leads = absurd (false≢true (ap (λ (o : Option ℕ). option_map_or (λ n. true) o false) leads))
-letter_of_edge letters states (e ∷ es) letter p range leads = by (e.letter == letter) refl leads (letter_of_edge letters states es letter p (λ k z within. range (suc k) z (omega (arith, within))))
+letter_of_transition : (letters states : ℕ) (es : List Transition) (letter p : ℕ) → All (λ transition. (transition.letter < letters) × (transition.target < states)) es → target_by es letter ≡ Some p → letter < letters
+letter_of_transition letters states [] letter p range leads = absurd (false≢true (ap (λ (o : Option ℕ). option_map_or (λ n. true) o false) leads))
+letter_of_transition letters states (e ∷ es) letter p range leads = by (e.letter == letter) refl leads (letter_of_transition letters states es letter p (λ k z within. range (suc k) z (omega (arith, within))))
   where
     by : (b : Bool) → (e.letter == letter) ≡ b → (if b then Some e.target else target_by es letter) ≡ Some p → (target_by es letter ≡ Some p → letter < letters) → letter < letters
     by true same found rest = subst (λ n. n < letters) (eqb-true e.letter letter same) (range 0 e (omega arith)).0
@@ -28,10 +28,10 @@ letter_of_edge letters states (e ∷ es) letter p range leads = by (e.letter == 
 
 step_over : (d : Automaton) (q a p : ℕ) → IsTable (letters_of d) d.states → step_of d q a ≡ Some p → a < letters_of d
 step_over d q a p table leads = elim (cases_lt q (states_of d)) [
-  | inl within ↦ letter_of_edge (letters_of d) (states_of d) (edges_of d q) a p (row_at d q table within).in_range leads
+  | inl within ↦ letter_of_transition (letters_of d) (states_of d) (transitions_of d q) a p (row_at d q table within).in_range leads
   | inr past ↦
-      letter_of_edge (letters_of d) (states_of d) [] a p (λ k z within. absurd (omega (arith, within)))
-      (sym (ap (λ (s : State). target_by s.edges a) (get_or_past d.states q no_state past)) ∙ leads)
+      letter_of_transition (letters_of d) (states_of d) [] a p (λ k z within. absurd (omega (arith, within)))
+      (sym (ap (λ (s : State). target_by s.transitions a) (get_or_past d.states q no_state past)) ∙ leads)
 ]
 
 accepted_from : (d : Automaton) (q : ℕ) (w : List ℕ) → IsTable (letters_of d) d.states → IsTrue (accepts_from d q w) → IsWord (letters_of d) w

@@ -7,9 +7,9 @@ use Rattle.std.proofs.lemmas.List.Sums.{sum_by-append, sum_by-cons, sum_by_more,
 use Rattle.digit_tuple.specs.CellCounts.{cells_of}
 use Rattle.digit_tuple.specs.Decisions.{rows_in, sizes_in, letters_in}
 use Rattle.digit_tuple.specs.Letters.{product}
-use Rattle.digit_tuple.specs.Reversed.{edge_to}
+use Rattle.digit_tuple.specs.Reversed.{transition_to}
 use Rattle.digit_tuple.specs.SparseRows.{AreOver}
-use Rattle.digit_tuple.specs.declared.edges.Edge.{Edge}
+use Rattle.digit_tuple.specs.declared.transitions.Transition.{Transition}
 use Rattle.digit_tuple.specs.declared.decisions.Decisions.{Decisions}
 use Rattle.digit_tuple.proofs.AscendingRows.{ascending-row}
 use Rattle.digit_tuple.proofs.DecisionReads.{letters-below}
@@ -17,23 +17,23 @@ use Rattle.digit_tuple.proofs.JoinedReads.{AreBelow, all_at}
 use Rattle.digit_tuple.proofs.LetterCellLemmas.{few-cells_of, cells_of-from_zero}
 use Rattle.digit_tuple.proofs.SparseRowLemmas.{decide-product}
 
--- rows take at most a cell for each edge on each track
-pub few-cells : (sizes : List ℕ) (rows : List (List Edge)) → sum_by (cells_of sizes) rows ≤ length sizes * sum_by length rows
+-- rows take at most a cell for each transition on each track
+pub few-cells : (sizes : List ℕ) (rows : List (List Transition)) → sum_by (cells_of sizes) rows ≤ length sizes * sum_by length rows
 few-cells sizes [] = omega arith
 few-cells sizes (row ∷ rows) =
     omega (arith, few-cells_of sizes row, few-cells sizes rows, sum_by-cons (cells_of sizes) row rows, ap (λ n. length sizes * n) (sum_by-cons length row rows))
 
--- the letters of a row, as those of the edges of rows stand in lists
-pub record AreRowLetters (sizes : List ℕ) (rows : List (List Edge)) (place : ℕ) (letters : List ℕ) : Type 0 where
+-- the letters of a row, as those of the transitions of rows are in lists
+pub record AreRowLetters (sizes : List ℕ) (rows : List (List Transition)) (place : ℕ) (letters : List ℕ) : Type 0 where
   pub within : place < length rows
   pub same : letters ≡ letters_in (get_or rows place [])
   pub in_range : All (λ letter. (0 ≤ letter) × (letter < 0 + product sizes)) letters
   pub ascending : AllPairs (λ l m. l < m) letters
 
-letter-at : (row : List Edge) (k d : ℕ) → k < length row → (z : Edge) → get_or (letters_in row) k d ≡ (get_or row k z).letter
-letter-at row k d within z = get_or-map (λ (edge : Edge). edge.letter) row k z d within
+letter-at : (row : List Transition) (k d : ℕ) → k < length row → (z : Transition) → get_or (letters_in row) k d ≡ (get_or row k z).letter
+letter-at row k d within z = get_or-map (λ (transition : Transition). transition.letter) row k z d within
 
-length-letters : (row : List Edge) → length (letters_in row) ≡ length row
+length-letters : (row : List Transition) → length (letters_in row) ≡ length row
 length-letters [] = omega arith
 length-letters (e ∷ row) = omega (arith, length-letters row)
 
@@ -44,21 +44,21 @@ AreRowLetters-at sizes rows place lists over same there_is = record {
   same = read;
   in_range = subst (All (λ letter. (0 ≤ letter) × (letter < 0 + product sizes))) (sym read)
       (λ k d inside. let there : k < length row = omega (arith, inside, length-letters row) in
-      let less = all_at (λ (e : Edge). e.letter < product (sizes_in rows)) row k (no_edge) below there in
-      (omega arith, omega (arith, less, letter-at row k d there no_edge, decide-product sizes (sizes_in rows) over.tracks)));
+      let less = all_at (λ (e : Transition). e.letter < product (sizes_in rows)) row k (no_transition) below there in
+      (omega arith, omega (arith, less, letter-at row k d there no_transition, decide-product sizes (sizes_in rows) over.tracks)));
   ascending = subst (AllPairs (λ l m. l < m)) (sym read)
       (λ i j d before inside. let there : j < length row = omega (arith, inside, length-letters row) in
-      let less = ascending-row rows place over.sound within i j no_edge before there in
-      omega (arith, less, letter-at row i d (omega (arith, before, there)) no_edge, letter-at row j d there no_edge));
+      let less = ascending-row rows place over.sound within i j no_transition before there in
+      omega (arith, less, letter-at row i d (omega (arith, before, there)) no_transition, letter-at row j d there no_transition));
 }
   where
-    no_edge : Edge
-    no_edge = record { letter = 0; target = 0 }
+    no_transition : Transition
+    no_transition = record { letter = 0; target = 0 }
 
     within : place < length (rows_in rows)
     within = omega (arith, there_is, ap length same, length-map (rows_in rows) letters_in)
 
-    row : List Edge
+    row : List Transition
     row = get_or (rows_in rows) place []
 
     below : AreBelow (product (sizes_in rows)) row
@@ -68,30 +68,30 @@ AreRowLetters-at sizes rows place lists over same there_is = record {
     read = ap (λ (ls : List (List ℕ)). get_or ls place []) same ∙ get_or-map letters_in (rows_in rows) place [] [] within
 
 -- the cells of one row more
-pub cells-more : (sizes : List ℕ) (rows : List (List Edge)) (place cells more : ℕ) (letters : List ℕ) → place < length rows → cells ≡ sum_by (cells_of sizes) (take place rows)
-    → letters ≡ letters_in (get_or rows place []) → more ≡ cells_of sizes (map (λ letter. edge_to (letter - 0) 0) letters) → cells + more ≡ sum_by (cells_of sizes) (take (place + 1) rows)
+pub cells-more : (sizes : List ℕ) (rows : List (List Transition)) (place cells more : ℕ) (letters : List ℕ) → place < length rows → cells ≡ sum_by (cells_of sizes) (take place rows)
+    → letters ≡ letters_in (get_or rows place []) → more ≡ cells_of sizes (map (λ letter. transition_to (letter - 0) 0) letters) → cells + more ≡ sum_by (cells_of sizes) (take (place + 1) rows)
 cells-more sizes rows place cells more letters within before same is =
-    let here : more ≡ cells_of sizes (get_or rows place []) = is ∙ ap (λ (ls : List ℕ). cells_of sizes (map (λ letter. edge_to (letter - 0) 0) ls)) same ∙ cells_of-from_zero sizes (get_or rows place []) in
+    let here : more ≡ cells_of sizes (get_or rows place []) = is ∙ ap (λ (ls : List ℕ). cells_of sizes (map (λ letter. transition_to (letter - 0) 0) ls)) same ∙ cells_of-from_zero sizes (get_or rows place []) in
     omega (arith, before, here, sum_by_more (cells_of sizes) rows place [] within)
 
--- the letters of a row are no more than all edges
-pub few-letters : (sizes : List ℕ) (rows : List (List Edge)) (place : ℕ) (letters : List ℕ) → place < length rows → letters ≡ letters_in (get_or rows place []) → length sizes * length letters ≤ length sizes * sum_by length rows
+-- the letters of a row are no more than all transitions
+pub few-letters : (sizes : List ℕ) (rows : List (List Transition)) (place : ℕ) (letters : List ℕ) → place < length rows → letters ≡ letters_in (get_or rows place []) → length sizes * length letters ≤ length sizes * sum_by length rows
 few-letters sizes rows place letters within same =
-    let row : List Edge = get_or rows place [] in
+    let row : List Transition = get_or rows place [] in
     mul-le (length sizes) (length letters) (length sizes) (sum_by length rows) (omega arith)
     (omega (arith, ap length same, length-letters row, sum_by_more_le length rows place [] within))
 
 -- what all blocks sum to, block by block
-pub sum-blocks : (f : List Edge → ℕ) (blocks : List Decisions) → sum_by f (flat_map rows_in blocks) ≡ sum_by (λ block. sum_by f (rows_in block)) blocks
+pub sum-blocks : (f : List Transition → ℕ) (blocks : List Decisions) → sum_by f (flat_map rows_in blocks) ≡ sum_by (λ block. sum_by f (rows_in block)) blocks
 sum-blocks f [] = refl
 sum-blocks f (b ∷ blocks) = sum_by-append f (rows_in b) (flat_map rows_in blocks) ∙ ap (λ n. sum_by f (rows_in b) + n) (sum-blocks f blocks) ∙ sym (sum_by-cons (λ block. sum_by f (rows_in block)) b blocks)
 
--- the edges of one block are no more than those of all, on each track
-pub few-edges : (sizes : List ℕ) (blocks : List Decisions) (place : ℕ) (block : Decisions) → place < length blocks → block ≡ get_or blocks place block → length sizes * sum_by length (rows_in block) ≤ length sizes * sum_by length (flat_map rows_in blocks)
-few-edges sizes blocks place block within is =
-    let edges : Decisions → ℕ = λ b. sum_by length (rows_in b) in
-    mul-le (length sizes) (edges block) (length sizes) (sum_by length (flat_map rows_in blocks)) (omega arith)
-    (omega (arith, ap edges is, sum_by_more_le edges blocks place block within, sum-blocks length blocks))
+-- the transitions of one block are no more than those of all, on each track
+pub few-transitions : (sizes : List ℕ) (blocks : List Decisions) (place : ℕ) (block : Decisions) → place < length blocks → block ≡ get_or blocks place block → length sizes * sum_by length (rows_in block) ≤ length sizes * sum_by length (flat_map rows_in blocks)
+few-transitions sizes blocks place block within is =
+    let transitions : Decisions → ℕ = λ b. sum_by length (rows_in b) in
+    mul-le (length sizes) (transitions block) (length sizes) (sum_by length (flat_map rows_in blocks)) (omega arith)
+    (omega (arith, ap transitions is, sum_by_more_le transitions blocks place block within, sum-blocks length blocks))
 
 -- the cells of one block more
 pub block_cells-more : (sizes : List ℕ) (blocks : List Decisions) (place cells more : ℕ) (block : Decisions) → place < length blocks → block ≡ get_or blocks place block → cells ≡ sum_by (cells_of sizes) (flat_map rows_in (take place blocks))

@@ -1,4 +1,4 @@
--- Blocks of elements: where an element stands in them, and blocks with one more.
+-- Blocks of elements: where an element is in them, and blocks with one more.
 use Rattle.std.proofs.Common.{◌≡◌, ℕ, suc, zero, ◌+◌, ◌-◌, ◌*◌, ◌/◌, ◌%◌, ◌<◌, ◌≤◌, Some, List, [], ◌∷◌, ◌++◌, map, take, length, get_or, sym, ap, ◌∙◌, subst, length-append, arith}
 use Rattle.std.specs.List.{AllByRecursion, flat_map, slice_get}
 use Rattle.std.proofs.lemmas.Nat.{div-add-mod', mod_below}
@@ -43,7 +43,7 @@ in_block f xs size place are some within =
     subst (λ n. IsInBlock f xs (place / size) (place % size) n) whole
     (place_of f xs size (place / size) (place % size) are (mod_below place size some) (subst (λ n. n < length (flat_map f xs)) (sym whole) within))
 
--- blocks that are full, and one more behind them
+-- blocks that are full, and one more after them
 pub AreBlocks-push : {X A : Type 0} (f : X → List A) (xs : List X) (size : ℕ) (x : X) → AllByRecursion (λ y. length (f y) ≡ size) xs → length (f x) ≤ size → AreBlocks size (map f (xs ++ x ∷ []))
 AreBlocks-push f [] size x full short = short
 AreBlocks-push f (y ∷ []) size x full short = (full.0, short)

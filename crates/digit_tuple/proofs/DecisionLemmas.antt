@@ -7,8 +7,8 @@ use Rattle.std.proofs.lemmas.List.Elements.{All-push}
 use Rattle.std.proofs.lemmas.List.Quantifiers.{all_pairs_push}
 use Rattle.std.proofs.lemmas.List.Sums.{sum_by-cons, sum_by_push}
 use Rattle.digit_tuple.specs.NumberLists.{extended, last_of, last_number}
-use Rattle.digit_tuple.specs.Decisions.{AreDigitsBelow, HasEdge, IsTrack}
-use Rattle.digit_tuple.specs.declared.edges.Edge.{Edge}
+use Rattle.digit_tuple.specs.Decisions.{AreDigitsBelow, HasTransition, IsTrack}
+use Rattle.digit_tuple.specs.declared.transitions.Transition.{Transition}
 use Rattle.digit_tuple.specs.declared.decisions.Track.{Track}
 
 pub all_push : {A : Type 0} (P : A → Type 0) (xs : List A) (x : A) → AllByRecursion P xs → P x → AllByRecursion P (xs ++ x ∷ [])
@@ -66,7 +66,7 @@ AreDigitsBelow-more size d (n ∷ ns) are less above = record {
 }
 
 -- one more empty list
-pub IsTrack-begin : (track : Track) (letters : ℕ) (rows : List (List Edge)) → IsTrack track letters rows → IsTrack (record { size = track.size; weight = track.weight; digits = track.digits ++ [] ∷ [] }) letters rows
+pub IsTrack-begin : (track : Track) (letters : ℕ) (rows : List (List Transition)) → IsTrack track letters rows → IsTrack (record { size = track.size; weight = track.weight; digits = track.digits ++ [] ∷ [] }) letters rows
 IsTrack-begin track letters rows is = record {
   weight = is.weight;
   count = omega (arith, is.count, sum_by_push length track.digits []);
@@ -74,16 +74,16 @@ IsTrack-begin track letters rows is = record {
   filled = is.filled;
 }
 
--- one more digit at the end of the last list, and a row behind it
-pub IsTrack-more : (track : Track) (letters d : ℕ) (rows : List (List Edge)) (row : List Edge) → IsTrack track letters rows → d < track.size → 0 < length track.digits → HasEdge row
+-- one more digit at the end of the last list, and a row after it
+pub IsTrack-more : (track : Track) (letters d : ℕ) (rows : List (List Transition)) (row : List Transition) → IsTrack track letters rows → d < track.size → 0 < length track.digits → HasTransition row
     → ((l : ℕ) → last_number (last_of track.digits []) ≡ Some l → l < d)
     → IsTrack (record { size = track.size; weight = track.weight; digits = extended track.digits (d ∷ []) }) letters (rows ++ row ∷ [])
-IsTrack-more track letters d rows row is less some edge above = record {
+IsTrack-more track letters d rows row is less some transition above = record {
   weight = is.weight;
   count = omega (arith, is.count, sum-extended track.digits d some, length-append rows (row ∷ []));
   digits = all_extended (AreDigitsBelow track.size) track.digits (d ∷ []) is.digits
       (AreDigitsBelow-more track.size d (last_of track.digits []) (all_last (AreDigitsBelow track.size) track.digits [] is.digits (record { below = λ k z within. absurd (omega arith); ascending = λ i j z before within. absurd (omega arith) })) less above);
-  filled = all_push HasEdge rows row is.filled edge;
+  filled = all_push HasTransition rows row is.filled transition;
 }
 
 -- what holds on Ok gives what follows from it

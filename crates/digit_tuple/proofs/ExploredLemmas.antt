@@ -13,9 +13,9 @@ use Rattle.digit_tuple.specs.Width.{HasApart, HasWidth}
 use Rattle.digit_tuple.proofs.WordLemmas.{IsWord-push}
 use Rattle.digit_tuple.specs.Keys.{key_run, key_accepts, LeadAlike}
 use Rattle.digit_tuple.specs.Explored.{AreApart, key_at, IsExplored}
-use Rattle.digit_tuple.proofs.KeyEdgeLemmas.{IsStateFrom, Overflows}
+use Rattle.digit_tuple.proofs.KeyTransitionLemmas.{IsStateFrom, Overflows}
 use Rattle.digit_tuple.proofs.RowLemmas.{IsFrom, IsFrom-row, gap_of, full_of}
-use Rattle.digit_tuple.proofs.FrontierLemmas.{IsFrontier, IsFrontier-next, IsFrontier-start, IsStateOf, IsStateOf-tried, IsStateOf-grows, LeadsTo, IsTrail, IsTrail-are, IsTrail-front, AreTried, AreTried-edges, NoLater, NoLater-trans, NoLater-push, key_run-push}
+use Rattle.digit_tuple.proofs.FrontierLemmas.{IsFrontier, IsFrontier-next, IsFrontier-start, IsStateOf, IsStateOf-tried, IsStateOf-grows, LeadsTo, IsTrail, IsTrail-are, IsTrail-prefix, AreTried, AreTried-transitions, NoLater, NoLater-trans, NoLater-push, key_run-push}
 
 -- what holds of reads at one default
 pub AllPairs-from_get_or : {X : Type 0} (R : X → X → Type 0) (xs : List X) (e : X) → ((i j : ℕ) → i < j → j < length xs → R (get_or xs i e) (get_or xs j e)) → AllPairs R xs
@@ -65,7 +65,7 @@ module _ (letters : ℕ) (start : List ℕ) (after : List ℕ → ℕ → Option
   -- whether a word leads to no key, as far as the states were tried
   abbrev pub IsGap : List State → Bool → Type 0
   IsGap states true = (w : List ℕ) × IsWord letters w × (key_run after start w ≡ None)
-  IsGap states false = (p a : ℕ) → p < length states → a < letters → (t : ℕ) × (target_by (get_or states p no_state).edges a ≡ Some t)
+  IsGap states false = (p a : ℕ) → p < length states → a < letters → (t : ℕ) × (target_by (get_or states p no_state).transitions a ≡ Some t)
 
   -- the states so far are those of the first keys, and the keys have first words
   pub record IsExploring (keys : List (List ℕ)) (states : List State) (gap : Bool) : Type 0 where
@@ -80,7 +80,7 @@ module _ (letters : ℕ) (start : List ℕ) (after : List ℕ → ℕ → Option
   -- one more state
   pub IsExploring-row : (keys new : List (List ℕ)) (states : List State) (state : State) (gap now : Bool) → IsExploring keys states gap → length states < length keys
       → IsStateFrom letters (after (key_at keys (length states))) (accepts (key_at keys (length states))) keys new state
-      → ((length state.edges < letters) × (now ≡ true)) ⊎ ((letters ≤ length state.edges) × (now ≡ gap)) → IsExploring new (states ++ state ∷ []) now
+      → ((length state.transitions < letters) × (now ≡ true)) ⊎ ((letters ≤ length state.transitions) × (now ≡ gap)) → IsExploring new (states ++ state ∷ []) now
   IsExploring-row keys new states state gap now e here from short = record {
     firsts = tried.more;
     frontier = subst (λ n. IsFrontier letters start after new tried.more n 0) (sym size) (IsFrontier-next letters start after new tried.more (length states) tried.bound still tried.frontier);
@@ -91,14 +91,14 @@ module _ (letters : ℕ) (start : List ℕ) (after : List ℕ → ℕ → Option
       size : length (states ++ state ∷ []) ≡ length states + 1
       size = length_push states state
 
-      tried : AreTried letters start after keys e.firsts new (length states) from.key_edges state.edges
-      tried = AreTried-edges letters start after from.key_edges state.edges keys e.firsts new (length states) 0 e.frontier here (IsTrail-are letters start after (key_at keys (length states)) from.key_edges from.are) from.numbered
+      tried : AreTried letters start after keys e.firsts new (length states) from.key_transitions state.transitions
+      tried = AreTried-transitions letters start after from.key_transitions state.transitions keys e.firsts new (length states) 0 e.frontier here (IsTrail-are letters start after (key_at keys (length states)) from.key_transitions from.are) from.numbered
 
       still : length states < length new
       still = omega (arith, tried.keys_grow.more, here)
 
       row : IsStateOf letters start after accepts new tried.more (length states) state
-      row = IsStateOf-tried letters start after accepts keys new tried.more (length states) from.key_edges state (tried.keys_grow.same (length states) here) from.are tried.led from.accepting_is
+      row = IsStateOf-tried letters start after accepts keys new tried.more (length states) from.key_transitions state (tried.keys_grow.same (length states) here) from.are tried.led from.accepting_is
 
       at_last : get_or (states ++ state ∷ []) (length states) no_state ≡ state
       at_last = get_or_push states state no_state (length states) refl
@@ -114,12 +114,12 @@ module _ (letters : ℕ) (start : List ℕ) (after : List ℕ → ℕ → Option
               subst (λ n. IsStateOf letters start after accepts new tried.more n (get_or (states ++ state ∷ []) n no_state)) same
               (subst (IsStateOf letters start after accepts new tried.more (length states)) (sym at_last) row)
 
-      from_0 : IsFrom letters 0 state.edges
-      from_0 = IsFrom-row letters 0 state.edges (λ k d within. (row.in_range k d within).0) row.ascending (λ k d within. omega arith)
+      from_0 : IsFrom letters 0 state.transitions
+      from_0 = IsFrom-row letters 0 state.transitions (λ k d within. (row.in_range k d within).0) row.ascending (λ k d within. omega arith)
 
-      gap_of_row : (b : Bool) → ((length state.edges < letters) × (now ≡ true)) ⊎ ((letters ≤ length state.edges) × (now ≡ b)) → IsGap states b → IsGap (states ++ state ∷ []) now
+      gap_of_row : (b : Bool) → ((length state.transitions < letters) × (now ≡ true)) ⊎ ((letters ≤ length state.transitions) × (now ≡ b)) → IsGap states b → IsGap (states ++ state ∷ []) now
       gap_of_row b (inl h) g =
-          let found : (a : ℕ) × (0 ≤ a) × (a < letters) × (target_by state.edges a ≡ None) = gap_of letters 0 state.edges from_0 (omega (arith, h.0)) in
+          let found : (a : ℕ) × (0 ≤ a) × (a < letters) × (target_by state.transitions a ≡ None) = gap_of letters 0 state.transitions from_0 (omega (arith, h.0)) in
           let none : after (key_at new (length states)) found.0 ≡ None =
           subst (λ o. MatchOption o (after (key_at new (length states)) found.0 ≡ None) (LeadsTo letters start after new tried.more (length states) found.0)) found.3 (row.leads found.0 found.2) in
           subst (IsGap (states ++ state ∷ [])) (sym h.1) (
@@ -130,19 +130,19 @@ module _ (letters : ℕ) (start : List ℕ) (after : List ℕ → ℕ → Option
       gap_of_row true (inr h) g = subst (IsGap (states ++ state ∷ [])) (sym h.1) g
       gap_of_row false (inr h) g = subst (IsGap (states ++ state ∷ [])) (sym h.1) (λ q a within small. by q a (cases_lt q (length states)) within small)
         where
-          by : (q a : ℕ) → (q < length states) ⊎ (length states ≤ q) → q < length (states ++ state ∷ []) → a < letters → (t : ℕ) × (target_by (get_or (states ++ state ∷ []) q no_state).edges a ≡ Some t)
-          by q a (inl less) within small = let old = g q a less small in (old.0, ap (λ (s : State). target_by s.edges a) (get_or_append_left states (state ∷ []) no_state q less) ∙ old.1)
+          by : (q a : ℕ) → (q < length states) ⊎ (length states ≤ q) → q < length (states ++ state ∷ []) → a < letters → (t : ℕ) × (target_by (get_or (states ++ state ∷ []) q no_state).transitions a ≡ Some t)
+          by q a (inl less) within small = let old = g q a less small in (old.0, ap (λ (s : State). target_by s.transitions a) (get_or_append_left states (state ∷ []) no_state q less) ∙ old.1)
           by q a (inr more) within small =
-              let found = full_of letters 0 state.edges from_0 (omega (arith, h.0)) a (omega arith) small in
-              (found.0, ap (λ (s : State). target_by s.edges a) (get_or_push states state no_state q (omega (arith, size, within))) ∙ found.1)
+              let found = full_of letters 0 state.transitions from_0 (omega (arith, h.0)) a (omega arith) small in
+              (found.0, ap (λ (s : State). target_by s.transitions a) (get_or_push states state no_state q (omega (arith, size, within))) ∙ found.1)
 
-  -- an edge too many
+  -- a transition too many
   pub IsExploring-overflows : (keys new : List (List ℕ)) (states : List State) (gap : Bool) (count : ℕ) → IsExploring keys states gap → length states < length keys
       → Overflows letters (after (key_at keys (length states))) keys new count → HasApart (LeadAlike after start) letters count
   IsExploring-overflows keys new states gap count e here over =
-      let trail = IsTrail-front letters start after (key_at keys (length states)) 0 over.some.front over.some.rest
-      (subst (λ ss. IsTrail letters start after (key_at keys (length states)) 0 ss) over.some.edges_are (IsTrail-are letters start after (key_at keys (length states)) over.key_edges over.are)) in
-      let tried = AreTried-edges letters start after over.some.front over.some.edges keys e.firsts new (length states) 0 e.frontier here trail over.some.numbered in
+      let trail = IsTrail-prefix letters start after (key_at keys (length states)) 0 over.some.prefix over.some.rest
+      (subst (λ ss. IsTrail letters start after (key_at keys (length states)) 0 ss) over.some.transitions_are (IsTrail-are letters start after (key_at keys (length states)) over.key_transitions over.are)) in
+      let tried = AreTried-transitions letters start after over.some.prefix over.some.transitions keys e.firsts new (length states) 0 e.frontier here trail over.some.numbered in
       subst (HasApart (LeadAlike after start) letters) over.some.count_is (HasApart-firsts letters start after new tried.more (length states) tried.bound tried.frontier)
 
   -- a word that leads to no key too many
@@ -154,7 +154,7 @@ module _ (letters : ℕ) (start : List ℕ) (after : List ℕ → ℕ → Option
   -- where a word leads in the automaton is where it leads in the keys
   pub run_of-explored : (w : List ℕ) (p : ℕ) → p < states_of d → IsWord letters w → MatchOption (run_of d p w) (key_run after (key_at keys p) w ≡ None) (λ t. (t < states_of d) × (key_run after (key_at keys p) w ≡ Some (key_at keys t)))
   run_of-explored [] p within over = (within, refl)
-  run_of-explored (a ∷ w) p within over = by (step_of d p a) (e.edges p a within over.0) (λ t inside. run_of-explored w t inside over.1)
+  run_of-explored (a ∷ w) p within over = by (step_of d p a) (e.transitions p a within over.0) (λ t inside. run_of-explored w t inside over.1)
     where
       by : (o : Option ℕ) → MatchOption o (after (key_at keys p) a ≡ None) (λ t. (t < states_of d) × (after (key_at keys p) a ≡ Some (key_at keys t)))
           → ((t : ℕ) → t < states_of d → MatchOption (run_of d t w) (key_run after (key_at keys t) w ≡ None) (λ u. (u < states_of d) × (key_run after (key_at keys t) w ≡ Some (key_at keys u))))
@@ -167,7 +167,7 @@ module _ (letters : ℕ) (start : List ℕ) (after : List ℕ → ℕ → Option
   -- a word is accepted where the keys accept it
   pub accepts_from-explored : (w : List ℕ) (p : ℕ) → p < states_of d → IsWord letters w → accepts_from d p w ≡ key_accepts after accepts (key_at keys p) w
   accepts_from-explored [] p within over = e.accepting p within
-  accepts_from-explored (a ∷ w) p within over = by (step_of d p a) (e.edges p a within over.0) (λ t inside. accepts_from-explored w t inside over.1)
+  accepts_from-explored (a ∷ w) p within over = by (step_of d p a) (e.transitions p a within over.0) (λ t inside. accepts_from-explored w t inside over.1)
     where
       by : (o : Option ℕ) → MatchOption o (after (key_at keys p) a ≡ None) (λ t. (t < states_of d) × (after (key_at keys p) a ≡ Some (key_at keys t)))
           → ((t : ℕ) → t < states_of d → accepts_from d t w ≡ key_accepts after accepts (key_at keys t) w)
@@ -197,9 +197,9 @@ module _ (letters : ℕ) (start : List ℕ) (after : List ℕ → ℕ → Option
 
   -- the table is whole
   pub IsTable-explored : length d.states < 2 ^ 32 → IsTable letters d.states
-  IsTable-explored small = record { initial = positive; part = record { small = small; rows = All-from_get_or (λ (s : State). IsRow letters (length d.states) s.edges) d.states no_state row } }
+  IsTable-explored small = record { initial = positive; part = record { small = small; rows = All-from_get_or (λ (s : State). IsRow letters (length d.states) s.transitions) d.states no_state row } }
     where
-      row : (p : ℕ) → p < length d.states → IsRow letters (length d.states) (get_or d.states p no_state).edges
+      row : (p : ℕ) → p < length d.states → IsRow letters (length d.states) (get_or d.states p no_state).transitions
       row p within = record { in_range = λ k z inside. let range = (e.rows p within).in_range k z inside in (range.0, omega (arith, range.1, done)); ascending = (e.rows p within).ascending }
 
   -- the states stand for the keys
@@ -209,7 +209,7 @@ module _ (letters : ℕ) (start : List ℕ) (after : List ℕ → ℕ → Option
     start_is = e.frontier.start_is;
     apart = e.frontier.apart;
     accepting = λ q within. (e.rows q within).accepting;
-    edges = λ q a within small. by q a (step_of d q a) ((e.rows q within).leads a small);
+    transitions = λ q a within small. by q a (step_of d q a) ((e.rows q within).leads a small);
   }
     where
       by : (q a : ℕ) (o : Option ℕ) → MatchOption o (after (key_at keys q) a ≡ None) (LeadsTo letters start after keys e.firsts q a)

@@ -6,16 +6,16 @@ use Rattle.std.proofs.lemmas.Bool.{ne_eqb, cases_lt}
 use Rattle.std.proofs.lemmas.Bool.Decides.{eqb_tells}
 use Rattle.std.proofs.lemmas.List.{length_push, get_or_append_left, get_or_push}
 use Rattle.std.proofs.lemmas.List.Quantifiers.{all_pairs_push}
-use Rattle.digit_tuple.specs.declared.edges.Edge.{Edge}
+use Rattle.digit_tuple.specs.declared.transitions.Transition.{Transition}
 use Rattle.digit_tuple.specs.Deterministic.{State, target_by}
 use Rattle.digit_tuple.specs.Deterministic as det
 use Rattle.digit_tuple.specs.Letters.{IsWord}
 use Rattle.digit_tuple.specs.Shortlex.{IsBefore, AreInOrder}
 use Rattle.digit_tuple.proofs.ShortlexLemmas.{IsBefore-trans, IsBefore-push, IsBefore-last}
 use Rattle.digit_tuple.proofs.WordLemmas.{IsWord-push}
-use Rattle.digit_tuple.specs.Keys.{KeyEdge, key_by, key_run, AreKeyEdges, IsByEarlier}
+use Rattle.digit_tuple.specs.Keys.{KeyTransition, key_by, key_run, AreKeyTransitions, IsByEarlier}
 use Rattle.digit_tuple.specs.Explored.{AreApart, IsNumbered, AreNumbered, key_at}
-use Rattle.digit_tuple.proofs.KeyEdgeLemmas.{All-are_numbered, IsStateFrom}
+use Rattle.digit_tuple.proofs.KeyTransitionLemmas.{All-are_numbered, IsStateFrom}
 use Rattle.std.specs.Bool.{⊤}
 
 -- the one word is the other or before it
@@ -58,7 +58,7 @@ each_pushed P xs ys x y count before here q within = by (cases_lt q (length xs))
         subst (λ k. P k (get_or (ys ++ y ∷ []) q [])) (sym (get_or_push xs x [] q (omega arith)))
         (subst (λ w. P x w) (sym (get_or_push ys y [] q (omega (arith, count)))) here)
 
--- a word and a letter behind it
+-- a word and a letter after it
 pub key_run-push : (after : List ℕ → ℕ → Option (List ℕ)) (key k : List ℕ) (w : List ℕ) (a : ℕ) → key_run after key w ≡ Some k → key_run after key (w ++ a ∷ []) ≡ after k a
 key_run-push after key k [] a leads = last (after key a) ∙ ap (λ o. after (of o) a) leads
   where
@@ -98,17 +98,17 @@ module _ (letters : ℕ) (start : List ℕ) (after : List ℕ → ℕ → Option
   -- the state is that of the key p
   pub record IsStateOf (accepts : List ℕ → Bool) (keys firsts : List (List ℕ)) (p : ℕ) (state : State) : Type 0 where
     pub accepting : state.accepting ≡ accepts (key_at keys p)
-    pub in_range : All (λ edge. (edge.letter < letters) × (edge.target < length keys)) state.edges
-    pub ascending : AllPairs det.IsByEarlier state.edges
-    pub leads : (a : ℕ) → a < letters → MatchOption (target_by state.edges a) (after (key_at keys p) a ≡ None) (LeadsTo keys firsts p a)
+    pub in_range : All (λ transition. (transition.letter < letters) × (transition.target < length keys)) state.transitions
+    pub ascending : AllPairs det.IsByEarlier state.transitions
+    pub leads : (a : ℕ) → a < letters → MatchOption (target_by state.transitions a) (after (key_at keys p) a ≡ None) (LeadsTo keys firsts p a)
 
-  -- the key edges are by letters from one on, and lead where the letters do
-  abbrev pub IsTrail : List ℕ → ℕ → List KeyEdge → Type 0
+  -- the key transitions are by letters from one on, and lead where the letters do
+  abbrev pub IsTrail : List ℕ → ℕ → List KeyTransition → Type 0
   IsTrail key from [] = Unit {0}
   IsTrail key from (s ∷ ss) = (from ≤ s.letter) × (s.letter < letters) × (after key s.letter ≡ Some s.key) × IsTrail key (s.letter + 1) ss
 
-  -- the edges lead from the key p as the key edges say
-  abbrev pub AreLed : List (List ℕ) → List (List ℕ) → ℕ → List KeyEdge → List Edge → Type 0
+  -- the transitions lead from the key p as the key transitions say
+  abbrev pub AreLed : List (List ℕ) → List (List ℕ) → ℕ → List KeyTransition → List Transition → Type 0
   AreLed keys firsts p [] [] = Unit {0}
   AreLed keys firsts p [] (e ∷ es) = ⊥
   AreLed keys firsts p (s ∷ ss) [] = ⊥
@@ -268,8 +268,8 @@ module _ (letters : ℕ) (start : List ℕ) (after : List ℕ → ℕ → Option
             leads = subst (λ n. LeadsTo (keys ++ key ∷ []) (firsts ++ (get_or firsts p [] ++ a ∷ []) ∷ []) p a n) (sym fresh.0) both.1;
           })
 
-  -- the edges from a key were tried
-  pub record AreTried (keys firsts new : List (List ℕ)) (p : ℕ) (ss : List KeyEdge) (es : List Edge) : Type 0 where
+  -- the transitions from a key were tried
+  pub record AreTried (keys firsts new : List (List ℕ)) (p : ℕ) (ss : List KeyTransition) (es : List Transition) : Type 0 where
     pub more : List (List ℕ)
     pub bound : ℕ
     pub keys_grow : Grows keys new
@@ -277,16 +277,16 @@ module _ (letters : ℕ) (start : List ℕ) (after : List ℕ → ℕ → Option
     pub frontier : IsFrontier new more p bound
     pub led : AreLed new more p ss es
 
-  pub AreTried-edges : (ss : List KeyEdge) (es : List Edge) (keys firsts new : List (List ℕ)) (p a : ℕ) → IsFrontier keys firsts p a → p < length keys → IsTrail (key_at keys p) a ss → AreNumbered ss es keys new → AreTried keys firsts new p ss es
-  AreTried-edges [] [] keys firsts new p a f here trail numbered = subst (λ ks. AreTried keys firsts ks p [] []) numbered
+  pub AreTried-transitions : (ss : List KeyTransition) (es : List Transition) (keys firsts new : List (List ℕ)) (p a : ℕ) → IsFrontier keys firsts p a → p < length keys → IsTrail (key_at keys p) a ss → AreNumbered ss es keys new → AreTried keys firsts new p ss es
+  AreTried-transitions [] [] keys firsts new p a f here trail numbered = subst (λ ks. AreTried keys firsts ks p [] []) numbered
       (record { more = firsts; bound = a; keys_grow = Grows-refl keys; firsts_grow = Grows-refl firsts; frontier = f; led = tt })
-  AreTried-edges [] (e ∷ es) keys firsts new p a f here trail numbered = absurd numbered
-  AreTried-edges (s ∷ ss) [] keys firsts new p a f here trail numbered = absurd numbered
-  AreTried-edges (s ∷ ss) (e ∷ es) keys firsts new p a f here trail numbered =
+  AreTried-transitions [] (e ∷ es) keys firsts new p a f here trail numbered = absurd numbered
+  AreTried-transitions (s ∷ ss) [] keys firsts new p a f here trail numbered = absurd numbered
+  AreTried-transitions (s ∷ ss) (e ∷ es) keys firsts new p a f here trail numbered =
       let next : List (List ℕ) = numbered.1.0 in
       let one = IsTried-letter keys firsts next p s.letter s.key e.target (IsFrontier-later keys firsts p a s.letter trail.0 f) here trail.1 trail.2 numbered.1.1 in
       let still : p < length next = omega (arith, one.keys_grow.more) in
-      let rest = AreTried-edges ss es next one.more new p (s.letter + 1) one.frontier still (subst (λ k. IsTrail k (s.letter + 1) ss) (sym (one.keys_grow.same p here)) trail.3) numbered.1.2 in
+      let rest = AreTried-transitions ss es next one.more new p (s.letter + 1) one.frontier still (subst (λ k. IsTrail k (s.letter + 1) ss) (sym (one.keys_grow.same p here)) trail.3) numbered.1.2 in
       record {
         more = rest.more;
         bound = rest.bound;
@@ -296,23 +296,23 @@ module _ (letters : ℕ) (start : List ℕ) (after : List ℕ → ℕ → Option
         led = (numbered.0, LeadsTo-grows next new one.more rest.more p s.letter e.target rest.keys_grow rest.firsts_grow one.frontier.count still one.leads, rest.led);
       }
 
-  -- the edges from a key are a trail
-  pub IsTrail-edges : (key : List ℕ) (from : ℕ) (ss : List KeyEdge) → All (λ s. from ≤ s.letter) ss → All (λ s. s.letter < letters) ss → AllPairs IsByEarlier ss → All (λ s. after key s.letter ≡ Some s.key) ss → IsTrail key from ss
-  IsTrail-edges key from [] above range ascending leads = tt
-  IsTrail-edges key from (s ∷ ss) above range ascending leads = (
+  -- the transitions from a key are a trail
+  pub IsTrail-transitions : (key : List ℕ) (from : ℕ) (ss : List KeyTransition) → All (λ s. from ≤ s.letter) ss → All (λ s. s.letter < letters) ss → AllPairs IsByEarlier ss → All (λ s. after key s.letter ≡ Some s.key) ss → IsTrail key from ss
+  IsTrail-transitions key from [] above range ascending leads = tt
+  IsTrail-transitions key from (s ∷ ss) above range ascending leads = (
     above 0 s (omega arith),
     range 0 s (omega arith),
     leads 0 s (omega arith),
-    IsTrail-edges key (s.letter + 1) ss (λ k d within. let less = ascending 0 (suc k) d (omega arith) (omega arith) in omega (arith, less)) (λ k d within. range (suc k) d (omega arith))
+    IsTrail-transitions key (s.letter + 1) ss (λ k d within. let less = ascending 0 (suc k) d (omega arith) (omega arith) in omega (arith, less)) (λ k d within. range (suc k) d (omega arith))
         (λ i j d before within. ascending (suc i) (suc j) d (omega arith) (omega arith)) (λ k d within. leads (suc k) d (omega arith)),
   )
 
-  pub IsTrail-front : (key : List ℕ) (from : ℕ) (ss more : List KeyEdge) → IsTrail key from (ss ++ more) → IsTrail key from ss
-  IsTrail-front key from [] more trail = tt
-  IsTrail-front key from (s ∷ ss) more trail = (trail.0, trail.1, trail.2, IsTrail-front key (s.letter + 1) ss more trail.3)
+  pub IsTrail-prefix : (key : List ℕ) (from : ℕ) (ss more : List KeyTransition) → IsTrail key from (ss ++ more) → IsTrail key from ss
+  IsTrail-prefix key from [] more trail = tt
+  IsTrail-prefix key from (s ∷ ss) more trail = (trail.0, trail.1, trail.2, IsTrail-prefix key (s.letter + 1) ss more trail.3)
 
--- the first edge by the letter of one of them is that one
-pub key_by-at : (ss : List KeyEdge) → AllPairs IsByEarlier ss → All (λ s. key_by ss s.letter ≡ Some s.key) ss
+-- the first transition by the letter of one of them is that one
+pub key_by-at : (ss : List KeyTransition) → AllPairs IsByEarlier ss → All (λ s. key_by ss s.letter ≡ Some s.key) ss
 key_by-at [] ascending k d within = absurd (omega arith)
 key_by-at (s ∷ ss) ascending zero d within = ap (λ b. if b then Some s.key else key_by ss s.letter) (eq-eqb s.letter s.letter refl)
 key_by-at (s ∷ ss) ascending (suc k) d within =
@@ -323,17 +323,17 @@ key_by-at (s ∷ ss) ascending (suc k) d within =
 -- what holds of the keys, and of all that letters lead to from one of them, holds of all after its state
 pub All-state_from : (P : List ℕ → Type 0) (letters : ℕ) (after : ℕ → Option (List ℕ)) (accepting : Bool) (old new : List (List ℕ)) (state : State) → ((a : ℕ) → a < letters → MatchOption (after a) ⊤ P)
     → IsStateFrom letters after accepting old new state → All P old → All P new
-All-state_from P letters after accepting old new state closed from all = All-are_numbered P from.key_edges state.edges old new from.numbered
-    (λ k d within. let leads : after (get_or from.key_edges k d).letter ≡ Some (get_or from.key_edges k d).key = sym (from.are.lead (get_or from.key_edges k d).letter (from.are.in_range k d within)) ∙ key_by-at from.key_edges from.are.ascending k d within in
-    subst (λ o. MatchOption o ⊤ P) leads (closed (get_or from.key_edges k d).letter (from.are.in_range k d within))) all
+All-state_from P letters after accepting old new state closed from all = All-are_numbered P from.key_transitions state.transitions old new from.numbered
+    (λ k d within. let leads : after (get_or from.key_transitions k d).letter ≡ Some (get_or from.key_transitions k d).key = sym (from.are.lead (get_or from.key_transitions k d).letter (from.are.in_range k d within)) ∙ key_by-at from.key_transitions from.are.ascending k d within in
+    subst (λ o. MatchOption o ⊤ P) leads (closed (get_or from.key_transitions k d).letter (from.are.in_range k d within))) all
 
 module _ (letters : ℕ) (start : List ℕ) (after : List ℕ → ℕ → Option (List ℕ)) where
-  pub IsTrail-are : (key : List ℕ) (ss : List KeyEdge) → AreKeyEdges letters (after key) ss → IsTrail letters start after key 0 ss
-  IsTrail-are key ss are = IsTrail-edges letters start after key 0 ss (λ k d within. omega arith) are.in_range are.ascending
+  pub IsTrail-are : (key : List ℕ) (ss : List KeyTransition) → AreKeyTransitions letters (after key) ss → IsTrail letters start after key 0 ss
+  IsTrail-are key ss are = IsTrail-transitions letters start after key 0 ss (λ k d within. omega arith) are.in_range are.ascending
       (λ k d within. sym (are.lead (get_or ss k d).letter (are.in_range k d within)) ∙ key_by-at ss are.ascending k d within)
 
-  -- the edges lead as the first key edge by each letter says
-  pub AreLed-match : (keys firsts : List (List ℕ)) (p : ℕ) (ss : List KeyEdge) (es : List Edge) → AreLed letters start after keys firsts p ss es → (a : ℕ)
+  -- the transitions lead as the first key transition by each letter says
+  pub AreLed-match : (keys firsts : List (List ℕ)) (p : ℕ) (ss : List KeyTransition) (es : List Transition) → AreLed letters start after keys firsts p ss es → (a : ℕ)
       → MatchOption (target_by es a) (key_by ss a ≡ None) (LeadsTo letters start after keys firsts p a)
   AreLed-match keys firsts p [] [] led a = refl
   AreLed-match keys firsts p [] (e ∷ es) led a = absurd led
@@ -348,42 +348,42 @@ module _ (letters : ℕ) (start : List ℕ) (after : List ℕ → ℕ → Option
           (subst (λ n. LeadsTo letters start after keys firsts p n e.target) same.1 led.1)
       by (inr other) rest = subst (λ b. MatchOption (if b then Some e.target else target_by es a) ((if b then Some s.key else key_by ss a) ≡ None) (LeadsTo letters start after keys firsts p a)) (sym other.0) rest
 
-  -- edges are as many as their key edges, by the same letters, and lead to keys
-  pub AreLed-length : (keys firsts : List (List ℕ)) (p : ℕ) (ss : List KeyEdge) (es : List Edge) → AreLed letters start after keys firsts p ss es → length es ≡ length ss
+  -- transitions are as many as their key transitions, by the same letters, and lead to keys
+  pub AreLed-length : (keys firsts : List (List ℕ)) (p : ℕ) (ss : List KeyTransition) (es : List Transition) → AreLed letters start after keys firsts p ss es → length es ≡ length ss
   AreLed-length keys firsts p [] [] led = refl
   AreLed-length keys firsts p [] (e ∷ es) led = absurd led
   AreLed-length keys firsts p (s ∷ ss) [] led = absurd led
   AreLed-length keys firsts p (s ∷ ss) (e ∷ es) led = omega (arith, AreLed-length keys firsts p ss es led.2)
 
-  pub AreLed-letters : (keys firsts : List (List ℕ)) (p : ℕ) (ss : List KeyEdge) (es : List Edge) → AreLed letters start after keys firsts p ss es → (k : ℕ) (d : Edge) (c : KeyEdge) → k < length es → (get_or es k d).letter ≡ (get_or ss k c).letter
+  pub AreLed-letters : (keys firsts : List (List ℕ)) (p : ℕ) (ss : List KeyTransition) (es : List Transition) → AreLed letters start after keys firsts p ss es → (k : ℕ) (d : Transition) (c : KeyTransition) → k < length es → (get_or es k d).letter ≡ (get_or ss k c).letter
   AreLed-letters keys firsts p [] [] led k d c within = absurd (omega arith)
   AreLed-letters keys firsts p [] (e ∷ es) led k d c within = absurd led
   AreLed-letters keys firsts p (s ∷ ss) [] led k d c within = absurd led
   AreLed-letters keys firsts p (s ∷ ss) (e ∷ es) led zero d c within = led.0
   AreLed-letters keys firsts p (s ∷ ss) (e ∷ es) led (suc k) d c within = AreLed-letters keys firsts p ss es led.2 k d c (omega arith)
 
-  pub AreLed-targets : (keys firsts : List (List ℕ)) (p : ℕ) (ss : List KeyEdge) (es : List Edge) → AreLed letters start after keys firsts p ss es → All (λ e. e.target < length keys) es
+  pub AreLed-targets : (keys firsts : List (List ℕ)) (p : ℕ) (ss : List KeyTransition) (es : List Transition) → AreLed letters start after keys firsts p ss es → All (λ e. e.target < length keys) es
   AreLed-targets keys firsts p [] [] led k d within = absurd (omega arith)
   AreLed-targets keys firsts p [] (e ∷ es) led k d within = absurd led
   AreLed-targets keys firsts p (s ∷ ss) [] led k d within = absurd led
   AreLed-targets keys firsts p (s ∷ ss) (e ∷ es) led zero d within = led.1.within
   AreLed-targets keys firsts p (s ∷ ss) (e ∷ es) led (suc k) d within = AreLed-targets keys firsts p ss es led.2 k d (omega arith)
 
-  -- the state of a key whose edges were tried
-  pub IsStateOf-tried : (accepts : List ℕ → Bool) (old keys firsts : List (List ℕ)) (p : ℕ) (ss : List KeyEdge) (state : State) → key_at keys p ≡ key_at old p → AreKeyEdges letters (after (key_at old p)) ss → AreLed letters start after keys firsts p ss state.edges
+  -- the state of a key whose transitions were tried
+  pub IsStateOf-tried : (accepts : List ℕ → Bool) (old keys firsts : List (List ℕ)) (p : ℕ) (ss : List KeyTransition) (state : State) → key_at keys p ≡ key_at old p → AreKeyTransitions letters (after (key_at old p)) ss → AreLed letters start after keys firsts p ss state.transitions
       → state.accepting ≡ accepts (key_at old p) → IsStateOf letters start after accepts keys firsts p state
   IsStateOf-tried accepts old keys firsts p ss state same are led accepting = record {
     accepting = accepting ∙ ap accepts (sym same);
-    in_range = λ k d within. let c : KeyEdge = record { letter = 0; key = [] } in
-        (subst (λ n. n < letters) (sym (AreLed-letters keys firsts p ss state.edges led k d c within)) (are.in_range k c (omega (arith, size))), AreLed-targets keys firsts p ss state.edges led k d within);
-    ascending = λ i j d before within. let c : KeyEdge = record { letter = 0; key = [] } in
+    in_range = λ k d within. let c : KeyTransition = record { letter = 0; key = [] } in
+        (subst (λ n. n < letters) (sym (AreLed-letters keys firsts p ss state.transitions led k d c within)) (are.in_range k c (omega (arith, size))), AreLed-targets keys firsts p ss state.transitions led k d within);
+    ascending = λ i j d before within. let c : KeyTransition = record { letter = 0; key = [] } in
         let less = are.ascending i j c before (omega (arith, size)) in
-        omega (arith, less, AreLed-letters keys firsts p ss state.edges led i d c (omega arith), AreLed-letters keys firsts p ss state.edges led j d c within);
-    leads = λ a small. subst (λ o. MatchOption (target_by state.edges a) (o ≡ None) (LeadsTo letters start after keys firsts p a)) (are.lead a small ∙ ap (λ k. after k a) (sym same)) (AreLed-match keys firsts p ss state.edges led a);
+        omega (arith, less, AreLed-letters keys firsts p ss state.transitions led i d c (omega arith), AreLed-letters keys firsts p ss state.transitions led j d c within);
+    leads = λ a small. subst (λ o. MatchOption (target_by state.transitions a) (o ≡ None) (LeadsTo letters start after keys firsts p a)) (are.lead a small ∙ ap (λ k. after k a) (sym same)) (AreLed-match keys firsts p ss state.transitions led a);
   }
     where
-      size : length state.edges ≡ length ss
-      size = AreLed-length keys firsts p ss state.edges led
+      size : length state.transitions ≡ length ss
+      size = AreLed-length keys firsts p ss state.transitions led
 
   pub IsStateOf-grows : (accepts : List ℕ → Bool) (keys new firsts more : List (List ℕ)) (p : ℕ) (state : State) → Grows keys new → Grows firsts more → length firsts ≡ length keys → p < length keys
       → IsStateOf letters start after accepts keys firsts p state → IsStateOf letters start after accepts new more p state
@@ -391,7 +391,7 @@ module _ (letters : ℕ) (start : List ℕ) (after : List ℕ → ℕ → Option
     accepting = is.accepting ∙ ap accepts (sym (g.same p here));
     in_range = λ k d within. let range = is.in_range k d within in (range.0, omega (arith, range.1, g.more));
     ascending = is.ascending;
-    leads = λ a small. by a (target_by state.edges a) (is.leads a small);
+    leads = λ a small. by a (target_by state.transitions a) (is.leads a small);
   }
     where
       by : (a : ℕ) (o : Option ℕ) → MatchOption o (after (key_at keys p) a ≡ None) (LeadsTo letters start after keys firsts p a) → MatchOption o (after (key_at new p) a ≡ None) (LeadsTo letters start after new more p a)

@@ -1,33 +1,33 @@
--- Rows that are joined behind digits, and what one more digit or edge at their end does.
+-- Rows that are joined after digits, and what one more digit or transition at their end does.
 use Rattle.std.proofs.Common.{◌≡◌, ℕ, suc, ◌*◌, ◌<◌, ◌≤◌, List, [], ◌∷◌, ◌++◌, map, take, drop, length, Some, refl, sym, ap, ◌∙◌, append_assoc, length-append, length-drop, arith}
 use Rattle.std.specs.List.{sum_by}
 use Rattle.std.proofs.lemmas.List.{take-append-le, drop-append-le, take_all, append-nil}
 use Rattle.std.proofs.lemmas.List.Sums.{sum_by-cons}
 use Rattle.digit_tuple.specs.NumberLists.{extended, last_of, last_number}
-use Rattle.digit_tuple.specs.Decisions.{behind, joined, joined_rows}
-use Rattle.digit_tuple.specs.declared.edges.Edge.{Edge}
+use Rattle.digit_tuple.specs.Decisions.{after_digit, joined, joined_rows}
+use Rattle.digit_tuple.specs.declared.transitions.Transition.{Transition}
 
-pub length-joined_rows : (w : ℕ) (xs : List (List ℕ)) (rows : List (List Edge)) → length (joined_rows w xs rows) ≡ length xs
+pub length-joined_rows : (w : ℕ) (xs : List (List ℕ)) (rows : List (List Transition)) → length (joined_rows w xs rows) ≡ length xs
 length-joined_rows w [] rows = refl
 length-joined_rows w (x ∷ xs) rows = ap suc (length-joined_rows w xs (drop (length x) rows))
 
 -- one more digit with its row
-pub joined-push : (w : ℕ) (ds : List ℕ) (rows : List (List Edge)) (d : ℕ) (row : List Edge) → length ds ≡ length rows → joined w (ds ++ d ∷ []) (rows ++ row ∷ []) ≡ joined w ds rows ++ map (behind (d * w)) row
-joined-push w [] [] d row same = append-nil (map (behind (d * w)) row)
+pub joined-push : (w : ℕ) (ds : List ℕ) (rows : List (List Transition)) (d : ℕ) (row : List Transition) → length ds ≡ length rows → joined w (ds ++ d ∷ []) (rows ++ row ∷ []) ≡ joined w ds rows ++ map (after_digit (d * w)) row
+joined-push w [] [] d row same = append-nil (map (after_digit (d * w)) row)
 joined-push w [] (r ∷ rows) d row same = absurd (omega arith)
 joined-push w (c ∷ ds) [] d row same = absurd (omega arith)
 joined-push w (c ∷ ds) (r ∷ rows) d row same =
-    ap (λ es. map (behind (c * w)) r ++ es) (joined-push w ds rows d row (omega arith))
-    ∙ sym (append_assoc (map (behind (c * w)) r) (joined w ds rows) (map (behind (d * w)) row))
+    ap (λ es. map (after_digit (c * w)) r ++ es) (joined-push w ds rows d row (omega arith))
+    ∙ sym (append_assoc (map (after_digit (c * w)) r) (joined w ds rows) (map (after_digit (d * w)) row))
 
 -- one more empty list
-pub joined_rows-begin : (w : ℕ) (xs : List (List ℕ)) (rows : List (List Edge)) → joined_rows w (xs ++ [] ∷ []) rows ≡ joined_rows w xs rows ++ [] ∷ []
+pub joined_rows-begin : (w : ℕ) (xs : List (List ℕ)) (rows : List (List Transition)) → joined_rows w (xs ++ [] ∷ []) rows ≡ joined_rows w xs rows ++ [] ∷ []
 joined_rows-begin w [] rows = refl
 joined_rows-begin w (x ∷ xs) rows = ap (λ es. joined w x (take (length x) rows) ∷ es) (joined_rows-begin w xs (drop (length x) rows))
 
 -- one more digit at the end of the last list, with its row
-pub joined_rows-extended : (w : ℕ) (xs : List (List ℕ)) (rows : List (List Edge)) (d : ℕ) (row : List Edge) → 0 < length xs → sum_by length xs ≡ length rows
-    → joined_rows w (extended xs (d ∷ [])) (rows ++ row ∷ []) ≡ extended (joined_rows w xs rows) (map (behind (d * w)) row)
+pub joined_rows-extended : (w : ℕ) (xs : List (List ℕ)) (rows : List (List Transition)) (d : ℕ) (row : List Transition) → 0 < length xs → sum_by length xs ≡ length rows
+    → joined_rows w (extended xs (d ∷ [])) (rows ++ row ∷ []) ≡ extended (joined_rows w xs rows) (map (after_digit (d * w)) row)
 joined_rows-extended w [] rows d row some same = absurd (omega arith)
 joined_rows-extended w (x ∷ []) rows d row some same =
     let total = sum_by-cons length x [] in
@@ -35,7 +35,7 @@ joined_rows-extended w (x ∷ []) rows d row some same =
     let more : length (rows ++ row ∷ []) ≤ length (x ++ d ∷ []) = omega (arith, total, length-append rows (row ∷ []), length-append x (d ∷ [])) in
     ap (λ rs. joined w (x ++ d ∷ []) rs ∷ []) (take_all (length (x ++ d ∷ [])) (rows ++ row ∷ []) more)
     ∙ ap (λ es. es ∷ []) (joined-push w x rows d row (omega (arith, total)))
-    ∙ ap (λ rs. (joined w x rs ++ map (behind (d * w)) row) ∷ []) (sym (take_all (length x) rows all))
+    ∙ ap (λ rs. (joined w x rs ++ map (after_digit (d * w)) row) ∷ []) (sym (take_all (length x) rows all))
 joined_rows-extended w (x ∷ (y ∷ xs)) rows d row some same =
     let total = sum_by-cons length x (y ∷ xs) in
     let fits : length x ≤ length rows = omega (arith, total) in

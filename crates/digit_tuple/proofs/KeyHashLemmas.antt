@@ -12,7 +12,7 @@ module _ (hash : ℕ) (key : List ℕ) (n : ℕ) where
       let two : next ≡ suc (suc n) = omega arith in
       rw (two, first, second, one) (ap (hash_from hash) (drop-cons key n 0 (omega arith) ∙ ap (λ (ks : List ℕ). get_or key n 0 ∷ ks) (drop-cons key (suc n) 0 (omega arith))))
 
-  -- the last number, where it stands alone
+  -- the last number, where it is alone
   pub hash_from-last : (x : ℕ) → n + 1 ≡ length key → x ≡ get_or key n 0 → hash_from hash (drop n key) ≡ mixed hash x
   hash_from-last x last is =
       rw is (ap (hash_from hash) (drop-cons key n 0 (omega arith) ∙ ap (λ (ks : List ℕ). get_or key n 0 ∷ ks) (drop_all (suc n) key (omega arith))))

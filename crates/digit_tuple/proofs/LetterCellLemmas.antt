@@ -1,4 +1,4 @@
--- How many cells edges take: it depends on their letters alone, and grows run by run of letters that begin alike.
+-- How many cells transitions take: it depends on their letters alone, and grows run by run of letters that begin alike.
 use Rattle.std.proofs.Common.{◌≡◌, ◌≢◌, ℕ, zero, suc, ◌+◌, ◌-◌, ◌*◌, ◌/◌, ◌%◌, ◌<◌, ◌≤◌, ◌⊎◌, inl, inr, List, [], ◌∷◌, ◌++◌, map, take, drop, length, get_or, Some, refl, sym, ap, ◌∙◌, subst, length-take, length-drop, arith}
 use Rattle.std.specs.List.{sum_by, range_with_len, slice_get, All, AllPairs, AllByRecursion}
 use Rattle.std.proofs.lemmas.Bool.{cases_eq, cases_lt}
@@ -8,22 +8,22 @@ use Rattle.std.proofs.lemmas.List.Elements.{recursion_from_All, All-nil, All-con
 use Rattle.std.proofs.lemmas.List.Sums.{sum_by-cons}
 use Rattle.std.proofs.Math.Nat.{mul-add}
 use Rattle.digit_tuple.specs.Letters.{product}
-use Rattle.digit_tuple.specs.Reversed.{edge_to}
-use Rattle.digit_tuple.specs.CellCounts.{edges_behind, one_if_any, cells_of}
-use Rattle.digit_tuple.specs.Decisions.{behind}
-use Rattle.digit_tuple.specs.declared.edges.Edge.{Edge}
+use Rattle.digit_tuple.specs.Reversed.{transition_to}
+use Rattle.digit_tuple.specs.CellCounts.{transitions_after, one_if_any, cells_of}
+use Rattle.digit_tuple.specs.Decisions.{after_digit}
+use Rattle.digit_tuple.specs.declared.transitions.Transition.{Transition}
 use Rattle.digit_tuple.proofs.JoinedReads.{AreBelow, drop-drop}
 use Rattle.digit_tuple.proofs.LetterLemmas.{positive_right}
 use Rattle.digit_tuple.proofs.SparseRowLemmas.{first_weight}
-use Rattle.digit_tuple.proofs.CellLemmas.{sum-larger, sum-zero, behind-first, behind-other, cells_at, cells_of-none, cells-digit}
+use Rattle.digit_tuple.proofs.CellLemmas.{sum-larger, sum-zero, after_digit-first, after_digit-other, cells_at, cells_of-none, cells-digit}
 
--- the edges by these letters, the base taken from each
-abbrev pub by_letters : ℕ → List ℕ → List Edge
-by_letters base letters = map (λ letter. edge_to (letter - base) 0) letters
+-- the transitions by these letters, the base taken from each
+abbrev pub by_letters : ℕ → List ℕ → List Transition
+by_letters base letters = map (λ letter. transition_to (letter - base) 0) letters
 
--- the edges by the letters of others
-abbrev bare : List Edge → List Edge
-bare edges = map (λ letter. edge_to letter 0) (map (λ edge. edge.letter) edges)
+-- the transitions by the letters of others
+abbrev bare : List Transition → List Transition
+bare transitions = map (λ letter. transition_to letter 0) (map (λ transition. transition.letter) transitions)
 
 -- sums whose terms are the same at each number of the range
 sum-among : (f g : ℕ → ℕ) (from n : ℕ) → ((x : ℕ) → x < from + n → f x ≡ g x) → sum_by f (range_with_len from n) ≡ sum_by g (range_with_len from n)
@@ -33,57 +33,57 @@ sum-among f g from (suc n) same =
     let rest = sum-among f g (from + 1) n (λ x less. same x (omega (arith, less))) in
     omega (arith, here, rest, sum_by-cons f from (range_with_len (from + 1) n), sum_by-cons g from (range_with_len (from + 1) n))
 
-behind-bare : (w x : ℕ) (es : List Edge) → edges_behind w x (bare es) ≡ bare (edges_behind w x es)
-behind-bare w x [] = refl
-behind-bare w x (e ∷ es) = by (cases_eq (e.letter / w) x) (behind-bare w x es)
+after_digit-bare : (w x : ℕ) (es : List Transition) → transitions_after w x (bare es) ≡ bare (transitions_after w x es)
+after_digit-bare w x [] = refl
+after_digit-bare w x (e ∷ es) = by (cases_eq (e.letter / w) x) (after_digit-bare w x es)
   where
-    by : (e.letter / w ≡ x) ⊎ ¬ (e.letter / w ≡ x) → edges_behind w x (bare es) ≡ bare (edges_behind w x es) → edges_behind w x (bare (e ∷ es)) ≡ bare (edges_behind w x (e ∷ es))
-    by (inl same) rest = behind-first w x (edge_to e.letter 0) (bare es) same ∙ ap (λ fs. edge_to (e.letter % w) 0 ∷ fs) rest ∙ sym (ap bare (behind-first w x e es same))
-    by (inr differ) rest = behind-other w x (edge_to e.letter 0) (bare es) differ ∙ rest ∙ sym (ap bare (behind-other w x e es differ))
+    by : (e.letter / w ≡ x) ⊎ ¬ (e.letter / w ≡ x) → transitions_after w x (bare es) ≡ bare (transitions_after w x es) → transitions_after w x (bare (e ∷ es)) ≡ bare (transitions_after w x (e ∷ es))
+    by (inl same) rest = after_digit-first w x (transition_to e.letter 0) (bare es) same ∙ ap (λ fs. transition_to (e.letter % w) 0 ∷ fs) rest ∙ sym (ap bare (after_digit-first w x e es same))
+    by (inr differ) rest = after_digit-other w x (transition_to e.letter 0) (bare es) differ ∙ rest ∙ sym (ap bare (after_digit-other w x e es differ))
 
-any-bare : (es : List Edge) → one_if_any (bare es) ≡ one_if_any es
+any-bare : (es : List Transition) → one_if_any (bare es) ≡ one_if_any es
 any-bare [] = refl
 any-bare (e ∷ es) = refl
 
--- the cells of edges depend on their letters alone
-pub cells_of-letters : (sizes : List ℕ) (es : List Edge) → cells_of sizes es ≡ cells_of sizes (map (λ letter. edge_to letter 0) (map (λ edge. edge.letter) es))
+-- the cells of transitions depend on their letters alone
+pub cells_of-letters : (sizes : List ℕ) (es : List Transition) → cells_of sizes es ≡ cells_of sizes (map (λ letter. transition_to letter 0) (map (λ transition. transition.letter) es))
 cells_of-letters [] es = refl
 cells_of-letters (size ∷ sizes) es =
-    sum-among (λ x. cells_at sizes (edges_behind (product sizes) x es)) (λ x. cells_at sizes (edges_behind (product sizes) x (bare es))) 0 size
+    sum-among (λ x. cells_at sizes (transitions_after (product sizes) x es)) (λ x. cells_at sizes (transitions_after (product sizes) x (bare es))) 0 size
     (λ x less.
-    let inner = cells_of-letters sizes (edges_behind (product sizes) x es) in
-    let any = any-bare (edges_behind (product sizes) x es) in
-    let same : cells_at sizes (edges_behind (product sizes) x (bare es)) ≡ cells_at sizes (bare (edges_behind (product sizes) x es)) = ap (cells_at sizes) (behind-bare (product sizes) x es) in
+    let inner = cells_of-letters sizes (transitions_after (product sizes) x es) in
+    let any = any-bare (transitions_after (product sizes) x es) in
+    let same : cells_at sizes (transitions_after (product sizes) x (bare es)) ≡ cells_at sizes (bare (transitions_after (product sizes) x es)) = ap (cells_at sizes) (after_digit-bare (product sizes) x es) in
     omega (arith, inner, any, same))
 
-bare-from_zero : (es : List Edge) → by_letters 0 (map (λ edge. edge.letter) es) ≡ bare es
+bare-from_zero : (es : List Transition) → by_letters 0 (map (λ transition. transition.letter) es) ≡ bare es
 bare-from_zero [] = refl
-bare-from_zero (e ∷ es) = let same : e.letter - 0 ≡ e.letter = omega arith in ap (λ n. edge_to n 0 ∷ by_letters 0 (map (λ edge. edge.letter) es)) same ∙ ap (λ (fs : List Edge). edge_to e.letter 0 ∷ fs) (bare-from_zero es)
+bare-from_zero (e ∷ es) = let same : e.letter - 0 ≡ e.letter = omega arith in ap (λ n. transition_to n 0 ∷ by_letters 0 (map (λ transition. transition.letter) es)) same ∙ ap (λ (fs : List Transition). transition_to e.letter 0 ∷ fs) (bare-from_zero es)
 
 -- and so where nothing is taken from the letters
-pub cells_of-from_zero : (sizes : List ℕ) (es : List Edge) → cells_of sizes (map (λ letter. edge_to (letter - 0) 0) (map (λ edge. edge.letter) es)) ≡ cells_of sizes es
+pub cells_of-from_zero : (sizes : List ℕ) (es : List Transition) → cells_of sizes (map (λ letter. transition_to (letter - 0) 0) (map (λ transition. transition.letter) es)) ≡ cells_of sizes es
 cells_of-from_zero sizes es = ap (cells_of sizes) (bare-from_zero es) ∙ sym (cells_of-letters sizes es)
 
--- each edge is behind at most one digit of a track
-few-behind : (w size : ℕ) (es : List Edge) → sum_by (λ x. length (edges_behind w x es)) (range_with_len 0 size) ≤ length es
-few-behind w size [] = omega (arith, sum-zero (range_with_len 0 size))
-few-behind w size (e ∷ es) = by (cases_lt (e.letter / w) size) (few-behind w size es)
+-- each transition is after at most one digit of a track
+few-after_digit : (w size : ℕ) (es : List Transition) → sum_by (λ x. length (transitions_after w x es)) (range_with_len 0 size) ≤ length es
+few-after_digit w size [] = omega (arith, sum-zero (range_with_len 0 size))
+few-after_digit w size (e ∷ es) = by (cases_lt (e.letter / w) size) (few-after_digit w size es)
   where
-    longer : length (edges_behind w (e.letter / w) (e ∷ es)) ≡ 1 + length (edges_behind w (e.letter / w) es)
-    longer = let one = ap length (behind-first w (e.letter / w) e es refl) in omega (arith, one)
+    longer : length (transitions_after w (e.letter / w) (e ∷ es)) ≡ 1 + length (transitions_after w (e.letter / w) es)
+    longer = let one = ap length (after_digit-first w (e.letter / w) e es refl) in omega (arith, one)
 
-    same : (x : ℕ) → e.letter / w ≢ x → length (edges_behind w x (e ∷ es)) ≡ length (edges_behind w x es)
-    same x differ = ap length (behind-other w x e es differ)
+    same : (x : ℕ) → e.letter / w ≢ x → length (transitions_after w x (e ∷ es)) ≡ length (transitions_after w x es)
+    same x differ = ap length (after_digit-other w x e es differ)
 
-    by : (e.letter / w < size) ⊎ (size ≤ e.letter / w) → sum_by (λ x. length (edges_behind w x es)) (range_with_len 0 size) ≤ length es → sum_by (λ x. length (edges_behind w x (e ∷ es))) (range_with_len 0 size) ≤ length (e ∷ es)
+    by : (e.letter / w < size) ⊎ (size ≤ e.letter / w) → sum_by (λ x. length (transitions_after w x es)) (range_with_len 0 size) ≤ length es → sum_by (λ x. length (transitions_after w x (e ∷ es))) (range_with_len 0 size) ≤ length (e ∷ es)
     by (inl less) rest =
-        let more = sum-larger (λ x. length (edges_behind w x (e ∷ es))) (λ x. length (edges_behind w x es)) 0 size (e.letter / w) 1 (omega arith) (omega (arith, less)) longer same in
+        let more = sum-larger (λ x. length (transitions_after w x (e ∷ es))) (λ x. length (transitions_after w x es)) 0 size (e.letter / w) 1 (omega arith) (omega (arith, less)) longer same in
         omega (arith, more, rest)
     by (inr past) rest =
-        let all = sum-among (λ x. length (edges_behind w x (e ∷ es))) (λ x. length (edges_behind w x es)) 0 size (λ x within. same x (λ is. omega (arith, is, within, past))) in
+        let all = sum-among (λ x. length (transitions_after w x (e ∷ es))) (λ x. length (transitions_after w x es)) 0 size (λ x within. same x (λ is. omega (arith, is, within, past))) in
         omega (arith, all, rest)
 
-any-few : (es : List Edge) → one_if_any es ≤ length es
+any-few : (es : List Transition) → one_if_any es ≤ length es
 any-few [] = omega arith
 any-few (e ∷ es) = omega arith
 
@@ -93,13 +93,13 @@ sum-few f g m [] few = omega arith
 sum-few f g m (x ∷ xs) few =
     omega (arith, few x, sum-few f g m xs few, mul-add m (g x) (sum_by g xs), sum_by-cons f x xs, ap (λ n. m * n) (sum_by-cons g x xs))
 
--- on each track there are at most as many cells as edges
-pub few-cells_of : (sizes : List ℕ) (es : List Edge) → cells_of sizes es ≤ length sizes * length es
+-- on each track there are at most as many cells as transitions
+pub few-cells_of : (sizes : List ℕ) (es : List Transition) → cells_of sizes es ≤ length sizes * length es
 few-cells_of [] es = omega arith
 few-cells_of (size ∷ sizes) es =
-    let digits = sum-few (λ x. cells_at sizes (edges_behind (product sizes) x es)) (λ x. length (edges_behind (product sizes) x es)) (1 + length sizes) (range_with_len 0 size)
-    (λ x. omega (arith, few-cells_of sizes (edges_behind (product sizes) x es), any-few (edges_behind (product sizes) x es))) in
-    let few = mul-le (1 + length sizes) (sum_by (λ x. length (edges_behind (product sizes) x es)) (range_with_len 0 size)) (1 + length sizes) (length es) (omega arith) (few-behind (product sizes) size es) in
+    let digits = sum-few (λ x. cells_at sizes (transitions_after (product sizes) x es)) (λ x. length (transitions_after (product sizes) x es)) (1 + length sizes) (range_with_len 0 size)
+    (λ x. omega (arith, few-cells_of sizes (transitions_after (product sizes) x es), any-few (transitions_after (product sizes) x es))) in
+    let few = mul-le (1 + length sizes) (sum_by (λ x. length (transitions_after (product sizes) x es)) (range_with_len 0 size)) (1 + length sizes) (length es) (omega arith) (few-after_digit (product sizes) size es) in
     omega (arith, digits, few)
 
 length-by_letters : (base : ℕ) (letters : List ℕ) → length (by_letters base letters) ≡ length letters
@@ -117,20 +117,20 @@ record IsLetterRun (base size weight digit low : ℕ) (run rest : List ℕ) : Ty
   pub below : All (λ letter. letter < low + weight) run
   pub later : All (λ letter. low + weight ≤ letter) rest
 
-run-behind : (base low k : ℕ) (run : List ℕ) → low ≡ base + k → AllByRecursion (λ letter. low ≤ letter) run → map (behind k) (by_letters low run) ≡ by_letters base run
-run-behind base low k [] is from = refl
-run-behind base low k (l ∷ run) is from =
+run-after_digit : (base low k : ℕ) (run : List ℕ) → low ≡ base + k → AllByRecursion (λ letter. low ≤ letter) run → map (after_digit k) (by_letters low run) ≡ by_letters base run
+run-after_digit base low k [] is from = refl
+run-after_digit base low k (l ∷ run) is from =
     let same : k + (l - low) ≡ l - base = omega (arith, is, from.0) in
-    ap (λ n. edge_to n 0 ∷ map (behind k) (by_letters low run)) same ∙ ap (λ (es : List Edge). edge_to (l - base) 0 ∷ es) (run-behind base low k run is from.1)
+    ap (λ n. transition_to n 0 ∷ map (after_digit k) (by_letters low run)) same ∙ ap (λ (es : List Transition). transition_to (l - base) 0 ∷ es) (run-after_digit base low k run is from.1)
 
 run-below : (low weight : ℕ) (run : List ℕ) → 0 < weight → AllByRecursion (λ letter. letter < low + weight) run → AreBelow weight (by_letters low run)
 run-below low weight [] positive below = tt
 run-below low weight (l ∷ run) positive below = (omega (arith, positive, below.0), run-below low weight run positive below.1)
 
-later-none : (base weight digit : ℕ) (later : List ℕ) → 0 < weight → AllByRecursion (λ letter. base + digit * weight + weight ≤ letter) later → edges_behind weight digit (by_letters base later) ≡ []
+later-none : (base weight digit : ℕ) (later : List ℕ) → 0 < weight → AllByRecursion (λ letter. base + digit * weight + weight ≤ letter) later → transitions_after weight digit (by_letters base later) ≡ []
 later-none base weight digit [] positive from = refl
 later-none base weight digit (l ∷ later) positive from =
-    behind-other weight digit (edge_to (l - base) 0) (by_letters base later)
+    after_digit-other weight digit (transition_to (l - base) 0) (by_letters base later)
     (λ same. omega (arith, from.0, div-add-mod' (l - base) weight, mod_below (l - base) weight positive, ap (λ n. n * weight) same))
     ∙ later-none base weight digit later positive from.1
 
@@ -139,7 +139,7 @@ cells-run : (size : ℕ) (sizes : List ℕ) (base digit low : ℕ) (run later : 
     → cells_of (size ∷ sizes) (by_letters base (run ++ later)) ≡ (1 + cells_of sizes (by_letters low run)) + cells_of (size ∷ sizes) (by_letters base later)
 cells-run size sizes base digit low run later is =
     let w : ℕ = product sizes in
-    ap (cells_of (size ∷ sizes)) (map-append (λ letter. edge_to (letter - base) 0) run later ∙ ap (λ es. es ++ by_letters base later) (sym (run-behind base low (digit * w) run is.low_is (recursion_from_All (λ letter. low ≤ letter) run is.from))))
+    ap (cells_of (size ∷ sizes)) (map-append (λ letter. transition_to (letter - base) 0) run later ∙ ap (λ es. es ++ by_letters base later) (sym (run-after_digit base low (digit * w) run is.low_is (recursion_from_All (λ letter. low ≤ letter) run is.from))))
     ∙ cells-digit size sizes digit (by_letters low run) (by_letters base later) is.small
     (run-below low w run is.positive (recursion_from_All (λ letter. letter < low + w) run is.below))
     (omega (arith, is.some, length-by_letters low run))

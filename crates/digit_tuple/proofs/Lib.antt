@@ -23,7 +23,7 @@ pub mod WordLemmas
 pub mod PaddingLemmas
 pub mod PigeonLemmas
 pub mod WidthLemmas
-pub mod EdgesByLemmas
+pub mod TransitionsByLemmas
 pub mod BuilderLemmas
 pub mod AddedStates
 pub mod NoWordLemmas
@@ -33,10 +33,10 @@ pub mod KeyPartLemmas
 pub mod KeyEndLemmas
 pub mod SlotLemmas
 pub mod KeyHashLemmas
-pub mod KeyEdgeLemmas
+pub mod KeyTransitionLemmas
 pub mod GroupLemmas
 pub mod KeyLemmas
-pub mod EdgeLemmas
+pub mod TransitionLemmas
 pub mod StateLemmas
 pub mod ReversedLemmas
 pub mod AcceptingStateLemmas
@@ -45,8 +45,8 @@ pub mod KeptLemmas
 pub mod FrontierLemmas
 pub mod ExploredLemmas
 pub mod RoundLemmas
-pub mod LetterEdges
-pub mod LetterKeyEdges
+pub mod LetterTransitions
+pub mod LetterKeyTransitions
 pub mod ReflaggedLemmas
 pub mod StartLemmas
 pub mod NumberListLemmas

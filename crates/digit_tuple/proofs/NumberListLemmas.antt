@@ -1,4 +1,4 @@
--- Lists that stand one behind another in one list of numbers.
+-- Lists that are one after another in one list of numbers.
 use Rattle.std.proofs.Common.{◌≡◌, ℕ, zero, suc, ◌+◌, ◌-◌, ◌*◌, ◌<◌, ◌≤◌, List, [], ◌∷◌, ◌++◌, take, drop, replicate, length, get_or, refl, sym, ap, ◌∙◌, length-append, length-drop, length-take, arith}
 use Rattle.std.specs.List.{slice_range, sum_by}
 use Rattle.std.proofs.Math.Seq.{take-append-add}
@@ -75,7 +75,7 @@ lists_at-read (s ∷ ss) numbers (suc q) d within = lists_at-read ss numbers q d
 length-slice_range : (numbers : List ℕ) (i j : ℕ) → i ≤ j → j ≤ length numbers → i + length (slice_range numbers i j) ≡ j
 length-slice_range numbers i j le within = omega (arith, length-take (j - i) (drop i numbers), length-drop i numbers)
 
--- where a list begins: behind all numbers of those before it
+-- where a list begins: after all numbers of those before it
 pub lists_at-start : (starts numbers : List ℕ) (q d : ℕ) → AreAscendingPlaces starts (length numbers) → q < length starts → first_place starts (length numbers) + sum_by length (take q (lists_at starts numbers)) ≡ get_or starts q d
 lists_at-start [] numbers q d are within = absurd (omega arith)
 lists_at-start (s ∷ ss) numbers zero d are within = omega arith

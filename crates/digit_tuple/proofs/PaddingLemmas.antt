@@ -1,4 +1,4 @@
--- Words turned round, and the zeros at their ends.
+-- Words reversed, and the zeros at their ends.
 use Rattle.std.proofs.Common.{◌≡◌, ℕ, zero, suc, ◌+◌, ◌<◌, ◌≤◌, List, [], ◌∷◌, ◌++◌, reverse, map, length, refl, sym, ap, ◌∙◌, subst, arith}
 use Rattle.std.proofs.lemmas.List.{reverse-append, reverse-reverse, length-reverse, map_push}
 use Rattle.digit_tuple.specs.Letters.{IsWord}
@@ -19,20 +19,20 @@ map-reverse f [] = refl
 map-reverse f (a ∷ w) = ap (map f) (reverse-append (a ∷ []) w) ∙ map_push f (reverse w) a ∙ ap (λ u. u ++ f a ∷ []) (map-reverse f w) ∙ sym (reverse-append (f a ∷ []) (map f w))
 
 -- a direction twice is none
-pub in_order-twice : (way : Direction) (w : List ℕ) → in_order way (in_order way w) ≡ w
+pub in_order-twice : (direction : Direction) (w : List ℕ) → in_order direction (in_order direction w) ≡ w
 in_order-twice Msd w = refl
 in_order-twice Lsd w = reverse-reverse w
 
-pub length-in_order : (way : Direction) (w : List ℕ) → length (in_order way w) ≡ length w
+pub length-in_order : (direction : Direction) (w : List ℕ) → length (in_order direction w) ≡ length w
 length-in_order Msd w = refl
 length-in_order Lsd w = length-reverse w
 
-pub IsWord-in_order : (way : Direction) (d : ℕ) (w : List ℕ) → IsWord d w → IsWord d (in_order way w)
+pub IsWord-in_order : (direction : Direction) (d : ℕ) (w : List ℕ) → IsWord d w → IsWord d (in_order direction w)
 IsWord-in_order Msd d w over = over
 IsWord-in_order Lsd d w over = IsWord-reverse d w over
 
 -- letters are mapped in either order
-pub in_order-map : (way : Direction) (f : ℕ → ℕ) (w : List ℕ) → in_order way (map f w) ≡ map f (in_order way w)
+pub in_order-map : (direction : Direction) (f : ℕ → ℕ) (w : List ℕ) → in_order direction (map f w) ≡ map f (in_order direction w)
 in_order-map Msd f w = refl
 in_order-map Lsd f w = sym (map-reverse f w)
 
@@ -71,8 +71,8 @@ reverse-zeros (suc k) = reverse-cons 0 (zeros k) ∙ ap (λ (u : List ℕ). u ++
 -- a word is what is left without its trailing zeros, and these
 pub zeros_at_end : (w : List ℕ) → (k : ℕ) × (w ≡ strip Lsd w ++ zeros k)
 zeros_at_end w =
-    let front = zeros_in_front (reverse w) in
-    (front.0, sym (reverse-reverse w) ∙ ap reverse front.1 ∙ reverse-append (zeros front.0) (without_zeros (reverse w)) ∙ ap (λ (u : List ℕ). strip Lsd w ++ u) (reverse-zeros front.0))
+    let prefix = zeros_in_front (reverse w) in
+    (prefix.0, sym (reverse-reverse w) ∙ ap reverse prefix.1 ∙ reverse-append (zeros prefix.0) (without_zeros (reverse w)) ∙ ap (λ (u : List ℕ). strip Lsd w ++ u) (reverse-zeros prefix.0))
 
 -- trailing zeros do not count
 pub strip-zeros : (w : List ℕ) (k : ℕ) → strip Lsd (strip Lsd w ++ zeros k) ≡ strip Lsd w

@@ -100,7 +100,7 @@ module _ (parts : List ℕ) (count : ℕ) where
           (subst (IsChain (set next a head) (get_or first part 0)) (sym (letters_from-other parts part a less apart))
           (IsChain-kept next a head (get_or first part 0) (letters_from parts part (a + 1)) late (are.chains part within)))
 
--- the letters of the first so many parts stand in the list
+-- the letters of the first so many parts are in the list
 pub record AreBlocksTo (parts letters starts : List ℕ) (count : ℕ) : Type 0 where
   pub long : length starts ≡ count + 1
   pub last : get_or starts count 0 ≡ length letters

@@ -39,7 +39,7 @@ picked-digits sizes ds [] fit within = tt
 picked-digits sizes ds (p ∷ ps) fit within =
     (AllZip-get_or (λ size digit. digit < size) sizes ds p 0 0 fit (All-head (λ place. place < length sizes) p ps within), picked-digits sizes ds ps fit (All-tail (λ place. place < length sizes) p ps within))
 
--- what stands at some of the picked places stands at these of the places
+-- what is at some of the picked places is at these of the places
 pub picked-picked : (qs ps entries : List ℕ) → All (λ q. q < length ps) qs → picked qs (picked ps entries) ≡ picked (picked qs ps) entries
 picked-picked [] ps entries within = refl
 picked-picked (q ∷ qs) ps entries within =

@@ -1,4 +1,4 @@
--- Lists of numbers below a bound: those in which each stands, and those in which none stands twice.
+-- Lists of numbers below a bound: those in which each is, and those in which none is twice.
 use Rattle.std.proofs.Common.{◌≡◌, ◌≢◌, ℕ, zero, suc, ◌+◌, ◌<◌, ◌≤◌, true, false, List, [], ◌∷◌, ◌++◌, length, get_or, ◌⊎◌, inl, inr, refl, sym, ap, ◌∙◌, subst, arith}
 use Rattle.std.specs.Prelude.{eqb}
 use Rattle.std.specs.List.{AllByRecursion, IsDistinct, list_any, remove}
@@ -8,11 +8,11 @@ use Rattle.std.proofs.lemmas.List.Folds.{Any-from_list_any}
 use Rattle.std.proofs.lemmas.List.Edits.{length-remove, get_or-remove_below, get_or-remove_above}
 use Rattle.std.proofs.lemmas.Map.Steps.{length-le_from_distinct_below}
 
--- the number stands in the list
+-- the number is in the list
 abbrev pub StandsIn : List ℕ → ℕ → Type 0
 StandsIn xs k = (i : ℕ) × (i < length xs) × (get_or xs i 0 ≡ k)
 
--- what stands at another place stays when a place is removed
+-- what is at another place stays when a place is removed
 stays : (xs : List ℕ) (j i k : ℕ) → j < length xs → i < length xs → i ≢ j → get_or xs i 0 ≡ k → StandsIn (remove xs j) k
 stays xs j i k place within other at = by (cases_order i j)
   where

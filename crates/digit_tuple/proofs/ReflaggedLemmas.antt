@@ -11,8 +11,8 @@ IsTable-reflagged letters flags old new re table = record {
   part = record {
     small = omega (arith, re.count, table.part.small);
     rows = λ q state inside.
-        subst (IsRow letters (length new)) (sym (ap (λ (s : State). s.edges) (get_or_default new q state no_state inside)))
-        (subst (λ n. IsRow letters n (slice_index_or new q no_state).edges) (sym re.count)
-        (subst (IsRow letters (length old)) (sym (re.edges q)) (table.part.rows q no_state (omega (arith, re.count, inside)))));
+        subst (IsRow letters (length new)) (sym (ap (λ (s : State). s.transitions) (get_or_default new q state no_state inside)))
+        (subst (λ n. IsRow letters n (slice_index_or new q no_state).transitions) (sym re.count)
+        (subst (IsRow letters (length old)) (sym (re.transitions q)) (table.part.rows q no_state (omega (arith, re.count, inside)))));
   };
 }

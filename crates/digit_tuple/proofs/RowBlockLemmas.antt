@@ -6,7 +6,7 @@ use Rattle.std.proofs.lemmas.List.{length-append, flat_map_more}
 use Rattle.digit_tuple.specs.Blocks.{AreBlocks}
 use Rattle.digit_tuple.specs.Decisions.{rows_in, sizes_in, IsSound}
 use Rattle.digit_tuple.specs.SparseRows.{DecideRows, block_rows, AreOver, IsFullOver, AreOpenBlocks, AreRowBlocks, HaveSameRows}
-use Rattle.digit_tuple.specs.declared.edges.Edge.{Edge}
+use Rattle.digit_tuple.specs.declared.transitions.Transition.{Transition}
 use Rattle.digit_tuple.specs.declared.decisions.Decisions.{Decisions}
 use Rattle.digit_tuple.proofs.BlockLemmas.{AreBlocks-push, AreBlocks-full, AreBlocks-short, flat_map-same}
 use Rattle.digit_tuple.proofs.DecisionLemmas.{all_push}
@@ -93,7 +93,7 @@ HaveSameRows-set xs i x y all there sound tracks rows = record {
 }
 
 -- the rows of blocks of which the last has one row more
-pub rows-pushed : (xs : List Decisions) (x y : Decisions) (row : List Edge) → rows_in y ≡ rows_in x ++ row ∷ [] → flat_map rows_in (xs ++ y ∷ []) ≡ (flat_map rows_in xs ++ rows_in x) ++ row ∷ []
+pub rows-pushed : (xs : List Decisions) (x y : Decisions) (row : List Transition) → rows_in y ≡ rows_in x ++ row ∷ [] → flat_map rows_in (xs ++ y ∷ []) ≡ (flat_map rows_in xs ++ rows_in x) ++ row ∷ []
 rows-pushed xs x y row rows = sym (flat_map_more rows_in [] xs y) ∙ ap (λ rs. flat_map rows_in xs ++ rs) rows ∙ sym (append_assoc (flat_map rows_in xs) (rows_in x) (row ∷ []))
 
 -- full blocks stay so where they keep their rows
@@ -118,7 +118,7 @@ module _ (sizes : List ℕ) (blocks : List Decisions) (opened : AreOpenBlocks si
   pub open-last : (d : Decisions) → get_or blocks (count - 1) d ≡ opened.last
   open-last d = ap (λ bs. get_or bs (count - 1) d) opened.are ∙ ap (λ i. get_or (opened.before ++ opened.last ∷ []) i d) at_last ∙ get_or-append_seam opened.before opened.last [] d
 
-  module _ (here : Decisions) (is : here ≡ get_or blocks (count - 1) here) (grown : Decisions) (row : List Edge) (sound : IsSound grown) (tracks : sizes_in grown ≡ sizes_in here) (rows : rows_in grown ≡ rows_in here ++ row ∷ []) where
+  module _ (here : Decisions) (is : here ≡ get_or blocks (count - 1) here) (grown : Decisions) (row : List Transition) (sound : IsSound grown) (tracks : sizes_in grown ≡ sizes_in here) (rows : rows_in grown ≡ rows_in here ++ row ∷ []) where
     here_last : here ≡ opened.last
     here_last = is ∙ open-last here
 

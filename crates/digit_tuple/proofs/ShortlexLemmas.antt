@@ -22,7 +22,7 @@ IsBefore-trans u v w (inl x) (inr y) = inl (omega (arith, x, y.0))
 IsBefore-trans u v w (inr x) (inl y) = inl (omega (arith, x.0, y))
 IsBefore-trans u v w (inr x) (inr y) = inr (omega (arith, x.0, y.0), IsLetterwiseBefore-trans u v w x.1 y.1)
 
--- letters put behind change nothing
+-- letters put after change nothing
 pub IsLetterwiseBefore-push : (u v : List ℕ) (a b : ℕ) → IsLetterwiseBefore u v → IsLetterwiseBefore (u ++ a ∷ []) (v ++ b ∷ [])
 IsLetterwiseBefore-push [] v a b before = absurd before
 IsLetterwiseBefore-push (x ∷ u) [] a b before = absurd before
@@ -33,7 +33,7 @@ pub IsBefore-push : (u v : List ℕ) (a b : ℕ) → IsBefore u v → IsBefore (
 IsBefore-push u v a b (inl less) = inl (omega (arith, length_push u a, length_push v b))
 IsBefore-push u v a b (inr same) = inr (omega (arith, same.0, length_push u a, length_push v b), IsLetterwiseBefore-push u v a b same.1)
 
--- of two letters behind one word the smaller comes first
+-- of two letters after one word the smaller comes first
 pub IsLetterwiseBefore-last : (u : List ℕ) (a b : ℕ) → a < b → IsLetterwiseBefore (u ++ a ∷ []) (u ++ b ∷ [])
 IsLetterwiseBefore-last [] a b less = inl less
 IsLetterwiseBefore-last (x ∷ u) a b less = inr (refl, IsLetterwiseBefore-last u a b less)

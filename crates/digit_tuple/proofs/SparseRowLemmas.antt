@@ -1,10 +1,10 @@
--- Rows that are kept by tracks: the tracks that decide, and edges before a place.
+-- Rows that are kept by tracks: the tracks that decide, and transitions before a place.
 use Rattle.std.proofs.Common.{◌≡◌, ℕ, suc, zero, ◌+◌, ◌*◌, ◌/◌, ◌<◌, ◌≤◌, inl, inr, List, [], ◌∷◌, take, drop, length, get_or, Some, refl, ap, ◌∙◌, arith}
 use Rattle.std.specs.List.{slice_get}
 use Rattle.std.proofs.lemmas.Nat.{div-mul-add}
 use Rattle.digit_tuple.specs.Letters.{product}
 use Rattle.digit_tuple.specs.SparseRows.{DecideRows}
-use Rattle.digit_tuple.specs.declared.edges.Edge.{Edge}
+use Rattle.digit_tuple.specs.declared.transitions.Transition.{Transition}
 use Rattle.digit_tuple.proofs.LetterLemmas.{positive_left}
 
 -- tracks by which rows are decided have the letters of the alphabet, and there is one at least
@@ -12,7 +12,7 @@ pub decide-product : (sizes tracks : List ℕ) → DecideRows sizes tracks → p
 decide-product sizes tracks (inl same) = ap product same.0
 decide-product sizes tracks (inr one) = let letters : product tracks ≡ product sizes * 1 = ap product one in omega (arith, letters)
 
-pub get_or-taken : (es : List Edge) (i k : ℕ) (d : Edge) → k < i → i ≤ length es → get_or (take i es) k d ≡ get_or es k d
+pub get_or-taken : (es : List Transition) (i k : ℕ) (d : Transition) → k < i → i ≤ length es → get_or (take i es) k d ≡ get_or es k d
 get_or-taken [] i k d less within = absurd (omega arith)
 get_or-taken (e ∷ es) zero k d less within = absurd (omega arith)
 get_or-taken (e ∷ es) (suc i) zero d less within = refl

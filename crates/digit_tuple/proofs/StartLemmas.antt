@@ -30,10 +30,10 @@ pub length-places_from : (index : ℕ) (offsets : List ℕ) (bases : List Base) 
 length-places_from index [] bases = refl
 length-places_from index (o ∷ os) bases = ap suc (length-places_from (suc index) os bases)
 
--- a base behind all places changes none
+-- a base after all places changes none
 pub places_from-base : (index : ℕ) (offsets : List ℕ) (bases : List Base) (b : Base) → index + length offsets ≤ b.first → places_from index offsets (bases ++ b ∷ []) ≡ places_from index offsets bases
-places_from-base index [] bases b behind = refl
-places_from-base index (o ∷ os) bases b behind =
+places_from-base index [] bases b after_digit = refl
+places_from-base index (o ∷ os) bases b after_digit =
     ap (λ n. (n + o) ∷ places_from (suc index) os (bases ++ b ∷ [])) (base_at-before 0 bases b index (omega arith))
     ∙ ap (λ (ps : List ℕ). (base_at 0 bases index + o) ∷ ps) (places_from-base (suc index) os bases b (omega arith))
 

@@ -1,4 +1,4 @@
--- Answers that are true exactly where a fact holds.
+-- Answers that are true if and only if a fact holds.
 use Rattle.std.proofs.Common.{◌≡◌, Bool, true, false, IsTrue, ◌↔◌, refl, sym, subst}
 
 -- an equal answer

@@ -8,9 +8,9 @@ pub IsWord-push : (letters : ℕ) (w : List ℕ) (a : ℕ) → IsWord letters w 
 IsWord-push letters [] a over within = (within, tt)
 IsWord-push letters (b ∷ w) a over within = (over.0, IsWord-push letters w a over.1 within)
 
-pub IsWord-front : (letters : ℕ) (w v : List ℕ) → IsWord letters (w ++ v) → IsWord letters w
-IsWord-front letters [] v over = tt
-IsWord-front letters (b ∷ w) v over = (over.0, IsWord-front letters w v over.1)
+pub IsWord-prefix : (letters : ℕ) (w v : List ℕ) → IsWord letters (w ++ v) → IsWord letters w
+IsWord-prefix letters [] v over = tt
+IsWord-prefix letters (b ∷ w) v over = (over.0, IsWord-prefix letters w v over.1)
 
 pub IsWord-back : (letters : ℕ) (w v : List ℕ) → IsWord letters (w ++ v) → IsWord letters v
 IsWord-back letters [] v over = over

@@ -2,12 +2,12 @@
 use Rattle.std.specs.Prelude.{◌≡◌, ℕ, ◌<◌, ◌^◌, ◌⊎◌, Bool, false, List, [], ◌∷◌, length, slice_index_or, IsTrue}
 use Rattle.std.specs.List.{All, AllPairs, Contains}
 use Rattle.digit_tuple.specs.Letters.{product}
-use Rattle.digit_tuple.specs.declared.edges.Edge.{Edge}
+use Rattle.digit_tuple.specs.declared.transitions.Transition.{Transition}
 
--- a state: whether it accepts, and its edges, each a letter and the state that it leads to
+-- a state: whether it accepts, and its transitions, each a letter and the state that it leads to
 pub record Branch : Type 0 where
   pub accepting : Bool
-  pub edges : List Edge
+  pub transitions : List Transition
 
 -- a nondeterministic automaton over letters of tracks of these sizes, whose initial state is 0
 pub record Branching : Type 0 where
@@ -22,7 +22,7 @@ states_of n = length n.states
 
 -- what stands for a state that is not there
 abbrev pub no_branch : Branch
-no_branch = record { accepting = false; edges = [] }
+no_branch = record { accepting = false; transitions = [] }
 
 abbrev pub branch_of : Branching → ℕ → Branch
 branch_of n q = slice_index_or n.states q no_branch
@@ -30,12 +30,12 @@ branch_of n q = slice_index_or n.states q no_branch
 abbrev pub accepting_of : Branching → ℕ → Bool
 accepting_of n q = (branch_of n q).accepting
 
-abbrev pub edges_of : Branching → ℕ → List Edge
-edges_of n q = (branch_of n q).edges
+abbrev pub transitions_of : Branching → ℕ → List Transition
+transitions_of n q = (branch_of n q).transitions
 
--- an edge by the letter leads from p to q
+-- a transition by the letter leads from p to q
 abbrev pub Leads : Branching → ℕ → ℕ → ℕ → Type 0
-Leads n p letter q = Contains (edges_of n p) (let e : Edge = record { letter = letter; target = q } in e)
+Leads n p letter q = Contains (transitions_of n p) (let e : Transition = record { letter = letter; target = q } in e)
 
 -- the word may lead from p to q
 abbrev pub Path : Branching → ℕ → List ℕ → ℕ → Type 0
@@ -46,17 +46,17 @@ Path n p (a ∷ w) q = (r : ℕ) × Leads n p a r × Path n r w q
 abbrev pub Accepts : Branching → List ℕ → Type 0
 Accepts n w = (q : ℕ) × Path n 0 w q × IsTrue (accepting_of n q)
 
--- the order of edges: by letter, then by target
-abbrev pub IsBefore : Edge → Edge → Type 0
+-- the order of transitions: by letter, then by target
+abbrev pub IsBefore : Transition → Transition → Type 0
 IsBefore e f = (e.letter < f.letter) ⊎ ((e.letter ≡ f.letter) × (e.target < f.target))
 
--- the edges of a state are by letters of the alphabet, lead to states, and stand in order, none twice
-pub record IsRow (letters states : ℕ) (edges : List Edge) : Type 0 where
-  pub in_range : All (λ edge. (edge.letter < letters) × (edge.target < states)) edges
-  pub ascending : AllPairs IsBefore edges
+-- the transitions of a state are by letters of the alphabet, lead to states, and are in order, none twice
+pub record IsRow (letters states : ℕ) (transitions : List Transition) : Type 0 where
+  pub in_range : All (λ transition. (transition.letter < letters) × (transition.target < states)) transitions
+  pub ascending : AllPairs IsBefore transitions
 
--- there is an initial state, states are numbered by 32 bits, and the edges of each are in range and in order
+-- there is an initial state, states are numbered by 32 bits, and the transitions of each are in range and in order
 pub record IsBranchTable (letters : ℕ) (states : List Branch) : Type 0 where
   pub initial : 0 < length states
   pub small : length states < 2 ^ 32
-  pub rows : All (λ state. IsRow letters (length states) state.edges) states
+  pub rows : All (λ state. IsRow letters (length states) state.transitions) states

@@ -2,8 +2,8 @@
 use Rattle.std.specs.Prelude.{◌≡◌, ◌≢◌, ℕ, ◌<◌, List, [], ◌∷◌, ◌++◌, length, Bool, Option, None, Some, slice_index_or, ◌⊎◌, MatchOption}
 use Rattle.std.specs.List.{AllPairs}
 use Rattle.digit_tuple.specs.Deterministic.{Automaton, step_of, accepting_of, states_of}
-use Rattle.digit_tuple.specs.declared.edges.Edge.{Edge}
-use Rattle.digit_tuple.specs.Keys.{KeyEdge}
+use Rattle.digit_tuple.specs.declared.transitions.Transition.{Transition}
+use Rattle.digit_tuple.specs.Keys.{KeyTransition}
 
 -- no two of the keys are the same
 abbrev pub AreApart : List (List ℕ) → Type 0
@@ -18,27 +18,27 @@ pub record IsNumbered (old new : List (List ℕ)) (key : List ℕ) (number : ℕ
   pub key_is : key_at new number ≡ key
   pub old_or_new : ((new ≡ old) × (number < length old)) ⊎ ((number ≡ length old) × (new ≡ old ++ key ∷ []))
 
--- numbering the keys that the key edges lead to, in turn, takes the old keys to the new ones, and gives the edges
-abbrev pub AreNumbered : List KeyEdge → List Edge → List (List ℕ) → List (List ℕ) → Type 0
+-- numbering the keys that the key transitions lead to, in turn, takes the old keys to the new ones, and gives the transitions
+abbrev pub AreNumbered : List KeyTransition → List Transition → List (List ℕ) → List (List ℕ) → Type 0
 AreNumbered [] [] old new = old ≡ new
-AreNumbered [] (edge ∷ edges) old new = ⊥
-AreNumbered (from ∷ key_edges) [] old new = ⊥
-AreNumbered (from ∷ key_edges) (edge ∷ edges) old new =
-    (edge.letter ≡ from.letter) × ((next : List (List ℕ)) × IsNumbered old next from.key edge.target × AreNumbered key_edges edges next new)
+AreNumbered [] (transition ∷ transitions) old new = ⊥
+AreNumbered (from ∷ key_transitions) [] old new = ⊥
+AreNumbered (from ∷ key_transitions) (transition ∷ transitions) old new =
+    (transition.letter ≡ from.letter) × ((next : List (List ℕ)) × IsNumbered old next from.key transition.target × AreNumbered key_transitions transitions next new)
 
--- numbering the keys that the first of the key edges lead to takes the old keys to so many new ones
-pub record NumbersSome (key_edges : List KeyEdge) (old new : List (List ℕ)) (count : ℕ) : Type 0 where
-  pub front : List KeyEdge
-  pub rest : List KeyEdge
-  pub edges : List Edge
-  pub edges_are : key_edges ≡ front ++ rest
-  pub numbered : AreNumbered front edges old new
+-- numbering the keys that the first of the key transitions lead to takes the old keys to so many new ones
+pub record NumbersSome (key_transitions : List KeyTransition) (old new : List (List ℕ)) (count : ℕ) : Type 0 where
+  pub prefix : List KeyTransition
+  pub rest : List KeyTransition
+  pub transitions : List Transition
+  pub transitions_are : key_transitions ≡ prefix ++ rest
+  pub numbered : AreNumbered prefix transitions old new
   pub count_is : length new ≡ count
 
--- the states of the automaton stand for the keys, from the first one on, and its edges lead as theirs do
+-- the states of the automaton stand for the keys, from the first one on, and its transitions lead as theirs do
 pub record IsExplored (letters : ℕ) (start : List ℕ) (after : List ℕ → ℕ → Option (List ℕ)) (accepts : List ℕ → Bool) (keys : List (List ℕ)) (d : Automaton) : Type 0 where
   pub count : length keys ≡ states_of d
   pub start_is : key_at keys 0 ≡ start
   pub apart : AreApart keys
   pub accepting : (q : ℕ) → q < states_of d → accepting_of d q ≡ accepts (key_at keys q)
-  pub edges : (q a : ℕ) → q < states_of d → a < letters → MatchOption (step_of d q a) (after (key_at keys q) a ≡ None) (λ t. (t < states_of d) × (after (key_at keys q) a ≡ Some (key_at keys t)))
+  pub transitions : (q a : ℕ) → q < states_of d → a < letters → MatchOption (step_of d q a) (after (key_at keys q) a ≡ None) (λ t. (t < states_of d) × (after (key_at keys q) a ≡ Some (key_at keys t)))

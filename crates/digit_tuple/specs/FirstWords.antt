@@ -4,7 +4,7 @@ use Rattle.digit_tuple.specs.Deterministic.{Automaton, letters_of, states_of, ru
 use Rattle.digit_tuple.specs.Letters.{IsWord}
 use Rattle.digit_tuple.specs.Shortlex.{IsBefore, AreInOrder}
 
--- each state has a first word that leads to it, and the states stand in the order of their first words
+-- each state has a first word that leads to it, and the states are in the order of their first words
 pub record IsNumberedByFirsts (d : Automaton) (firsts : List (List ℕ)) : Type 0 where
   pub count : length firsts ≡ states_of d
   pub over : (q : ℕ) → q < states_of d → IsWord (letters_of d) (slice_index_or firsts q [])

@@ -1,4 +1,4 @@
--- Keys that stand one after another in a list of numbers.
+-- Keys that are one after another in a list of numbers.
 use Rattle.std.specs.Prelude.{ℕ, ◌+◌, ◌*◌, ◌≤◌, List, [], ◌∷◌, map, slice_range, slice_index}
 use Rattle.std.specs.List.{range_with_len}
 
@@ -11,7 +11,7 @@ abbrev pub parts_from : List ℕ → ℕ → List ℕ → List (List ℕ)
 parts_from numbers start [] = []
 parts_from numbers start (end ∷ ends) = slice_range numbers start end ∷ parts_from numbers end ends
 
--- the ends do not go down, and stand among so many numbers
+-- the ends do not go down, and are among so many numbers
 abbrev pub AreEnds : ℕ → ℕ → List ℕ → Type 0
 AreEnds count start [] = start ≤ count
 AreEnds count start (end ∷ ends) = (start ≤ end) × AreEnds count end ends

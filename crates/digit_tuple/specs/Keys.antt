@@ -3,37 +3,37 @@ use Rattle.std.specs.Prelude.{◌≡◌, ◌==◌, ℕ, ◌+◌, ◌*◌, ◌<�
 use Rattle.std.specs.List.{All, AllPairs, list_any}
 use Rattle.std.specs.Option.{option_map_or, option_and_then}
 
--- an edge from a key: its letter, and the key that it leads to
-pub record KeyEdge : Type 0 where
+-- a transition from a key: its letter, and the key that it leads to
+pub record KeyTransition : Type 0 where
   pub letter : ℕ
   pub key : List ℕ
 
--- the edge at a place
-abbrev pub no_edge : KeyEdge
-no_edge = record { letter = 0; key = [] }
+-- the transition at a place
+abbrev pub no_transition : KeyTransition
+no_transition = record { letter = 0; key = [] }
 
-abbrev pub edge_at : List KeyEdge → ℕ → KeyEdge
-edge_at edges place = slice_index_or edges place no_edge
+abbrev pub transition_at : List KeyTransition → ℕ → KeyTransition
+transition_at transitions place = slice_index_or transitions place no_transition
 
--- where the first edge by the letter leads
-abbrev pub key_by : List KeyEdge → ℕ → Option (List ℕ)
+-- where the first transition by the letter leads
+abbrev pub key_by : List KeyTransition → ℕ → Option (List ℕ)
 key_by [] letter = None
-key_by (edge ∷ edges) letter = if edge.letter == letter then Some edge.key else key_by edges letter
+key_by (transition ∷ transitions) letter = if transition.letter == letter then Some transition.key else key_by transitions letter
 
--- the letter of the one edge is before that of the other
-abbrev pub IsByEarlier : KeyEdge → KeyEdge → Type 0
+-- the letter of the one transition is before that of the other
+abbrev pub IsByEarlier : KeyTransition → KeyTransition → Type 0
 IsByEarlier e f = e.letter < f.letter
 
--- the edges are by letters of the alphabet, stand by letter, at most one by each, and lead where the function says
-pub record AreKeyEdges (letters : ℕ) (after : ℕ → Option (List ℕ)) (edges : List KeyEdge) : Type 0 where
-  pub in_range : All (λ edge. edge.letter < letters) edges
-  pub ascending : AllPairs IsByEarlier edges
-  pub lead : (letter : ℕ) → letter < letters → key_by edges letter ≡ after letter
+-- the transitions are by letters of the alphabet, are sorted by letter, at most one by each, and lead where the function says
+pub record AreKeyTransitions (letters : ℕ) (after : ℕ → Option (List ℕ)) (transitions : List KeyTransition) : Type 0 where
+  pub in_range : All (λ transition. transition.letter < letters) transitions
+  pub ascending : AllPairs IsByEarlier transitions
+  pub lead : (letter : ℕ) → letter < letters → key_by transitions letter ≡ after letter
 
--- the edge by a letter to a key, if it leads to one
-abbrev pub edges_to : ℕ → Option (List ℕ) → List KeyEdge
-edges_to letter None = []
-edges_to letter (Some key) = (record { letter = letter; key = key }) ∷ []
+-- the transition by a letter to a key, if it leads to one
+abbrev pub transitions_to : ℕ → Option (List ℕ) → List KeyTransition
+transitions_to letter None = []
+transitions_to letter (Some key) = (record { letter = letter; key = key }) ∷ []
 
 -- the part of the numbers that is the letter's, where each letter in turn has so many
 abbrev pub part_of : List ℕ → ℕ → ℕ → List ℕ

@@ -13,7 +13,7 @@ pub mod Rows
 pub mod Deterministic
 pub mod Reflagged
 pub mod DfaRows
-pub mod EdgesBy
+pub mod TransitionsBy
 pub mod Reversed
 pub mod AcceptingStates
 pub mod Width
@@ -37,6 +37,6 @@ pub mod Starts
 pub mod NumberLists
 pub mod Decisions
 pub mod CellCounts
-pub mod EdgeCounts
+pub mod TransitionCounts
 pub mod Blocks
 pub mod SparseRows

@@ -11,7 +11,7 @@ use Rattle.std.specs.declared.cmp.Ordering.TheVariants.{Less, Equal, Greater}
 abbrev pub AreDistinct : List (List ℕ) → Type 0
 AreDistinct names = AllPairs (λ n m. n ≢ m) names
 
--- the place of the first track of this name: how many tracks stand before it
+-- the place of the first track of this name: how many tracks come before it
 abbrev pub place_of : List (List ℕ) → List ℕ → ℕ
 place_of [] name = 0
 place_of (n ∷ names) name = if bytes_eq n name then 0 else suc (place_of names name)
@@ -28,7 +28,7 @@ names_without names name = filter (λ n. not (bytes_eq n name)) names
 abbrev pub IsBytesBefore : List ℕ → List ℕ → Type 0
 IsBytesBefore m n = slice_cmp nat_cmp m n ≡ Less
 
--- the names from n on with one more, by where n stands to it
+-- the names from n on with one more, by where n is to it
 abbrev pub placed : Ordering → List ℕ → List (List ℕ) → List ℕ → List (List ℕ) → List (List ℕ)
 placed Less n names name rest = n ∷ rest
 placed Equal n names name rest = n ∷ names

@@ -4,4 +4,4 @@ use Rattle.digit_tuple.specs.Deterministic.{Automaton}
 
 -- the automaton of one state that accepts nothing
 abbrev pub bare_automaton : List ℕ → Automaton
-bare_automaton sizes = record { sizes = sizes; states = (record { accepting = false; edges = [] }) ∷ [] }
+bare_automaton sizes = record { sizes = sizes; states = (record { accepting = false; transitions = [] }) ∷ [] }

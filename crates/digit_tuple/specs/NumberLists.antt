@@ -1,5 +1,5 @@
--- Lists that stand one behind another in one list of numbers, the first of them once for all that are the same, and a
--- list of lists whose last one grows.
+-- Lists that are one after another in one list of numbers, the first of them once for all that are the same, and a list of lists whose last
+-- one grows.
 use Rattle.std.specs.Prelude.{◌≡◌, ℕ, ◌^◌, ◌<◌, ◌≤◌, List, [], ◌∷◌, ◌++◌, length, take, drop, replicate, sum_by, slice_range, Option, None, Some, ⊤}
 
 -- the first of the places, or the end where there is none
@@ -17,12 +17,12 @@ abbrev pub AreAscendingPlaces : List ℕ → ℕ → Type 0
 AreAscendingPlaces [] end = ⊤
 AreAscendingPlaces (start ∷ starts) end = (start ≤ first_place starts end) × AreAscendingPlaces starts end
 
--- lists that begin at these places fill the numbers, so many as the end says
+-- lists that begin at these places fill the numbers, as many as the end says
 pub record AreStarts (starts : List ℕ) (end : ℕ) : Type 0 where
   pub first : first_place starts end ≡ 0
   pub ascending : AreAscendingPlaces starts end
 
--- so many times the first numbers, up to the width, and then the lists that begin at these places behind them
+-- so many times the first numbers, up to the width, and then the lists that begin at these places after them
 abbrev pub lists_of : ℕ → ℕ → List ℕ → List ℕ → List (List ℕ)
 lists_of same width starts numbers = replicate same (take width numbers) ++ lists_at starts (drop width numbers)
 

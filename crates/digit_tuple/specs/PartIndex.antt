@@ -10,13 +10,13 @@ letters_from parts part from = filter (λ a. slice_index parts a == part) (range
 abbrev pub letters_with : List ℕ → ℕ → List ℕ
 letters_with parts part = letters_from parts part 0
 
--- the letters that have the part stand in the list from its start on, up to the start of the next part
+-- the letters that have the part are in the list from its start on, up to the start of the next part
 pub record IsBlock (parts letters starts : List ℕ) (part : ℕ) : Type 0 where
   pub begins : slice_index starts part ≤ slice_index starts (part + 1)
   pub ends : slice_index starts (part + 1) ≤ length letters
   pub letters_are : slice_range letters (slice_index starts part) (slice_index starts (part + 1)) ≡ letters_with parts part
 
--- the letters stand by their parts, and each part that some letter has begins and ends
+-- the letters are by their parts, and each part that some letter has begins and ends
 pub record AreByPart (parts letters starts : List ℕ) : Type 0 where
   pub within : All (λ part. part + 1 < length starts) parts
   pub blocks : (part : ℕ) → part + 1 < length starts → IsBlock parts letters starts part

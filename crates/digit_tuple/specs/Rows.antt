@@ -1,10 +1,10 @@
 -- The states that a table of the code stands for.
 use Rattle.std.specs.Prelude.{List, map}
 use Rattle.digit_tuple.specs.Automaton.{Branch}
-use Rattle.digit_tuple.specs.declared.edges.NfaState.{NfaState}
+use Rattle.digit_tuple.specs.declared.transitions.NfaState.{NfaState}
 
 abbrev pub branch_in : NfaState → Branch
-branch_in state = record { accepting = state.accepting; edges = state.edges.items }
+branch_in state = record { accepting = state.accepting; transitions = state.transitions.items }
 
 abbrev pub branches_in : List NfaState → List Branch
 branches_in states = map branch_in states

@@ -26,7 +26,7 @@ pub record AreSlotted (table : SlotTable) (hashes : List ℕ) : Type 0 where
   pub held : (place : ℕ) → (slot_at table.slots.items place).link ≤ length hashes
   pub slotted : (number : ℕ) → number < length hashes → IsSlotted table.mask table.slots.items (slice_index hashes number) number
 
--- the slot stands at the first place that was free from the home of its hash on, and all other slots stay
+-- the slot is at the first place that was free from the home of its hash on, and all other slots stay
 pub record IsPut (old new : SlotTable) (slot : Slot) : Type 0 where
   pub place : ℕ
   pub from : home_of old.mask slot.hash ≤ place

@@ -1,18 +1,18 @@
--- Rows of edges by letters of tracks, kept as decisions by these tracks.
+-- Rows of transitions by letters of tracks, kept as decisions by these tracks.
 use Rattle.std.specs.Prelude.{◌≡◌, ℕ, ◌<◌, ◌⊎◌, List, [], ◌∷◌, ◌++◌, length, map, slice_index_or}
 use Rattle.std.specs.List.{AllByRecursion}
 use Rattle.digit_tuple.specs.Blocks.{AreBlocks}
 use Rattle.digit_tuple.specs.Letters.{product}
 use Rattle.digit_tuple.specs.Decisions.{rows_in, sizes_in, IsSound}
-use Rattle.digit_tuple.specs.declared.edges.Edge.{Edge}
+use Rattle.digit_tuple.specs.declared.transitions.Transition.{Transition}
 use Rattle.digit_tuple.specs.declared.decisions.Decisions.{Decisions}
 
--- rows of edges by letters of tracks of these sizes
+-- rows of transitions by letters of tracks of these sizes
 pub record Rows : Type 0 where
   pub sizes : List ℕ
-  pub rows : List (List Edge)
+  pub rows : List (List Transition)
 
-abbrev pub row_at : Rows → ℕ → List Edge
+abbrev pub row_at : Rows → ℕ → List Transition
 row_at table place = slice_index_or table.rows place []
 
 -- tracks by which rows over an alphabet are decided: those of the alphabet, where it has any, or one whose digits are the letters

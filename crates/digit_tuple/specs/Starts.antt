@@ -7,7 +7,7 @@ abbrev pub base_at : ℕ → List Base → ℕ → ℕ
 base_at place [] index = place
 base_at place (base ∷ bases) index = base_at (if nat_lt index base.first then place else base.place) bases index
 
--- the places from an index on, each so far behind its base
+-- the places from an index on, each so far after its base
 abbrev pub places_from : ℕ → List ℕ → List Base → List ℕ
 places_from index [] bases = []
 places_from index (offset ∷ offsets) bases = (base_at 0 bases index + offset) ∷ places_from (suc index) offsets bases

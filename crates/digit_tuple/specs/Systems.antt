@@ -11,7 +11,7 @@ pub record IsDigitCount (count : ℕ) : Type 0 where
 abbrev pub HasDigitCount : SystemTrack → Type 0
 HasDigitCount track = IsDigitCount track.digits
 
--- the tracks with one more behind them
+-- the tracks with one more after them
 abbrev pub with_system : List SystemTrack → List ℕ → ℕ → List SystemTrack
 with_system systems name digits = systems ++ (record { name = name; digits = digits }) ∷ []
 

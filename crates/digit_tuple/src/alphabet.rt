@@ -41,8 +41,8 @@ impl Model for Alphabet {
 }
 
 impl Alphabet {
-    /// The letters of tracks of these sizes. `Letters` comes exactly where there are more than 16
-    /// tracks or more than 65,536 letters, and `States` never.
+    /// The letters of tracks of these sizes. `Letters` comes if and only if there are more than 16 tracks or more than
+    /// 65,536 letters, and `States` never.
     pub fn new(alloc: Global, sizes: &[u32]) -> Result<Self, OpFault>
         ensures value { IfOk result (λ alphabet. alphabet ≡ sizes.now) }
         ensures fits { OnOk result (IsAlphabet sizes.now) }
@@ -67,8 +67,8 @@ impl Alphabet {
         })
     }
 
-    /// The letters of a header's tracks. `Letters` comes exactly where there are more than 16
-    /// tracks or more than 65,536 letters, and `States` never.
+    /// The letters of a header's tracks. `Letters` comes if and only if there are more than 16 tracks or more than
+    /// 65,536 letters, and `States` never.
     pub fn of_header(alloc: Global, header: &Header) -> Result<Self, OpFault>
         ensures value { IfOk result (λ alphabet. alphabet ≡ sizes_of (sets_of header.now)) }
         ensures fits { OnOk result (IsAlphabet (sizes_of (sets_of header.now))) }
@@ -84,8 +84,8 @@ impl Alphabet {
         }
     }
 
-    /// The letters of tracks over these sets. `Letters` comes exactly where there are more than 16
-    /// tracks or more than 65,536 letters, and `States` never.
+    /// The letters of tracks over these sets. `Letters` comes if and only if there are more than 16 tracks or more than
+    /// 65,536 letters, and `States` never.
     pub fn of_sets(alloc: Global, sets: &Sets) -> Result<Self, OpFault>
         ensures value { IfOk result (λ alphabet. alphabet ≡ sizes_of sets.now) }
         ensures fits { OnOk result (IsAlphabet (sizes_of sets.now)) }

@@ -1,29 +1,29 @@
-//! Rows of edges as decisions by tracks.
+//! Rows of transitions as decisions by tracks.
 
 ghost use Rattle.std.specs.Prelude.{◌≡◌, ◌≢◌, ℕ, ◌+◌, ◌*◌, ◌<◌, ◌≤◌, ◌↔◌, ◌^◌, ◌++◌, ◌∷◌, [], List, length, map, Some, IfOk, OnOk, IfSome, IfNone, IsTrue, slice_index, slice_index_or, sum_by, take, drop};
-ghost use Rattle.digit_tuple.specs.Decisions.{rows_in, sizes_in, cells_in, joined_rows, only_edge, IsFrom, IsSound, IsTrack, LeadsAs, ahead, behind, letters_in};
+ghost use Rattle.digit_tuple.specs.Decisions.{rows_in, sizes_in, cells_in, joined_rows, only_transition, IsFrom, IsSound, IsTrack, LeadsAs, ahead, after_digit, letters_in};
 ghost use Rattle.std.specs.List.{All, AllPairs, AllByRecursion};
 ghost use Rattle.digit_tuple.specs.Deterministic.{IsByEarlier, target_by};
 ghost use Rattle.digit_tuple.specs.Letters.{product};
 
-use crate::edges::Edge;
 use crate::faults::OutOfMemory;
 use crate::number_lists::NumberLists;
+use crate::transitions::Transition;
 use std::alloc::Global;
 
 // For how many rows there is memory at first, so that a small table seldom asks for more.
 const FIRST_ROWS: usize = 32;
 
-/// Rows of edges over some tracks. A row on no track is one edge, of which the target is kept. A row
-/// on some tracks is a list of digits on the first, and behind each digit a row on the others.
+/// Rows of transitions over some tracks. A row on no track is one transition, of which the target is kept. A row on
+/// some tracks is a list of digits on the first, and after each digit a row on the others.
 #[derive(Drop)]
 pub(crate) enum Decisions {
     Targets(Vec<u32>),
     OnTrack(Track, Box<Decisions>),
 }
 
-/// A track: how many digits it has, how many letters the later tracks have, and the digits of each row.
-/// The rows behind these digits stand in the order of the digits.
+/// A track: how many digits it has, how many letters the later tracks have, and the digits of each row. The rows after
+/// these digits are in the order of the digits.
 #[derive(Drop)]
 pub(crate) struct Track {
     pub(crate) size: u32,
@@ -32,25 +32,29 @@ pub(crate) struct Track {
 }
 
 impl Decisions {
-    /// Adds a row of the edges, each letter with the base taken from it. On no track there is one edge. What a
-    /// refused call leaves is of no use.
+    /// Adds a row of the transitions, each letter with the base taken from it. On no track there is one transition.
+    /// What a refused call leaves is of no use.
     #[cycle(row)]
-    pub(crate) fn add_row(&mut self, base: u32, edges: &[Edge]) -> Result<(), OutOfMemory>
+    pub(crate) fn add_row(
+        &mut self,
+        base: u32,
+        transitions: &[Transition],
+    ) -> Result<(), OutOfMemory>
         requires sound { IsSound self.old }
-        requires some { 0 < length (sizes_in self.old) + length edges.now }
-        requires letters { All (IsFrom base (product (sizes_in self.old))) edges.now }
-        requires ascending { AllPairs IsByEarlier edges.now }
+        requires some { 0 < length (sizes_in self.old) + length transitions.now }
+        requires letters { All (IsFrom base (product (sizes_in self.old))) transitions.now }
+        requires ascending { AllPairs IsByEarlier transitions.now }
         requires narrow { base + product (sizes_in self.old) ≤ 2 ^ 16 }
         ensures sound { OnOk result (IsSound self.new) }
         ensures sizes { OnOk result (sizes_in self.new ≡ sizes_in self.old) }
-        ensures rows { OnOk result (rows_in self.new ≡ rows_in self.old ++ map (ahead base) edges.now ∷ []) }
+        ensures rows { OnOk result (rows_in self.new ≡ rows_in self.old ++ map (ahead base) transitions.now ∷ []) }
     {
         match self {
             Decisions::Targets(targets) => {
-                targets.push(edges[0].target)?;
+                targets.push(transitions[0].target)?;
                 Ok(())
             }
-            Decisions::OnTrack(track, below) => track.add_row(below, base, edges),
+            Decisions::OnTrack(track, below) => track.add_row(below, base, transitions),
         }
     }
 
@@ -92,21 +96,21 @@ impl Decisions {
         Ok(Decisions::OnTrack(track, Box::new(alloc, targets)?))
     }
 
-    /// Writes the edges of a row at the end of others, each letter with so much added.
+    /// Writes the transitions of a row at the end of others, each letter with so much added.
     pub(crate) fn row_into(
         &self,
         place: usize,
         base: u32,
-        row: &mut Vec<Edge>,
+        row: &mut Vec<Transition>,
     ) -> Result<(), OutOfMemory>
         requires sound { IsSound self.now }
         requires place { place < length (rows_in self.now) }
         requires base { base + product (sizes_in self.now) < 2 ^ 32 }
-        ensures { OnOk result (row.new.items ≡ row.old.items ++ map (behind base) (slice_index_or (rows_in self.now) place [])) }
+        ensures { OnOk result (row.new.items ≡ row.old.items ++ map (after_digit base) (slice_index_or (rows_in self.now) place [])) }
     {
         match self {
             Decisions::Targets(targets) => {
-                row.push(Edge {
+                row.push(Transition {
                     letter: base,
                     target: targets[place],
                 })?;
@@ -155,15 +159,15 @@ impl Decisions {
         }
     }
 
-    /// Whether a row of the other decisions leads as each edge of a row does, the letter of the edge with so much
-    /// added.
+    /// Whether a row of the other decisions leads as each transition of a row does, the letter of the transition with
+    /// so much added.
     pub(crate) fn is_within(&self, place: usize, base: u32, other: &Decisions, at: usize) -> bool
         requires sound { IsSound self.now }
         requires place { place < length (rows_in self.now) }
         requires base { base + product (sizes_in self.now) < 2 ^ 32 }
         requires other_sound { IsSound other.now }
         requires at { at < length (rows_in other.now) }
-        ensures { IsTrue result ↔ AllByRecursion (LeadsAs (slice_index_or (rows_in other.now) at [])) (map (behind base) (slice_index_or (rows_in self.now) place [])) }
+        ensures { IsTrue result ↔ AllByRecursion (LeadsAs (slice_index_or (rows_in other.now) at [])) (map (after_digit base) (slice_index_or (rows_in self.now) place [])) }
     {
         match self {
             Decisions::Targets(targets) => leads(other, at, base, targets[place]),
@@ -180,7 +184,7 @@ impl Decisions {
         }
     }
 
-    /// Whether a row has no edge.
+    /// Whether a row has no transition.
     pub(crate) fn is_bare(&self, place: usize) -> bool
         requires sound { IsSound self.now }
         requires place { place < length (rows_in self.now) }
@@ -202,14 +206,14 @@ impl Decisions {
         }
     }
 
-    /// How many edges there are in all rows.
-    pub(crate) fn edges(&self) -> u64
+    /// How many transitions there are in all rows.
+    pub(crate) fn transitions(&self) -> u64
         requires { IsSound self.now }
         ensures { result ≡ sum_by length (rows_in self.now) }
     {
         match self {
             Decisions::Targets(targets) => targets.len() as u64,
-            Decisions::OnTrack(_, below) => below.edges(),
+            Decisions::OnTrack(_, below) => below.transitions(),
         }
     }
 
@@ -242,7 +246,7 @@ impl Decisions {
 
     // The targets of rows on no track.
     fn targets(&self) -> Option<&[u32]>
-        ensures targets { IfSome result (λ targets. (rows_in self.now ≡ map only_edge targets.now) × (sizes_in self.now ≡ [])) }
+        ensures targets { IfSome result (λ targets. (rows_in self.now ≡ map only_transition targets.now) × (sizes_in self.now ≡ [])) }
         ensures tracks { IfNone result (0 < length (sizes_in self.now)) }
     {
         match self {
@@ -251,7 +255,7 @@ impl Decisions {
         }
     }
 
-    /// The digits of each row, where there is one track: the letters of its edges.
+    /// The digits of each row, where there is one track: the letters of its transitions.
     pub(crate) fn only_digits(&self) -> Option<&NumberLists>
         requires { IsSound self.now }
         ensures one { IfSome result (λ digits. (length (sizes_in self.now) ≡ 1) × (digits.now ≡ map letters_in (rows_in self.now))) }
@@ -291,33 +295,33 @@ impl Decisions {
 }
 
 impl Track {
-    // Adds a row of the edges, each letter with the base taken from it: a digit for each run of edges that have it,
-    // and behind it the row of the run. What a refused call leaves is of no use.
+    // Adds a row of the transitions, each letter with the base taken from it: a digit for each run of transitions that
+    // have it, and after it the row of the run. What a refused call leaves is of no use.
     #[cycle(row)]
     fn add_row(
         &mut self,
         below: &mut Decisions,
         base: u32,
-        edges: &[Edge],
+        transitions: &[Transition],
     ) -> Result<(), OutOfMemory>
         requires track { IsTrack self.old (product (sizes_in below.old)) (rows_in below.old) }
         requires below { IsSound below.old }
-        requires letters { All (IsFrom base (self.old.size * self.old.weight)) edges.now }
-        requires ascending { AllPairs IsByEarlier edges.now }
+        requires letters { All (IsFrom base (self.old.size * self.old.weight)) transitions.now }
+        requires ascending { AllPairs IsByEarlier transitions.now }
         requires narrow { base + self.old.size * self.old.weight ≤ 2 ^ 16 }
         ensures track { OnOk result (IsTrack self.new (product (sizes_in below.new)) (rows_in below.new)) }
         ensures below { OnOk result (IsSound below.new) }
         ensures size { OnOk result (self.new.size ≡ self.old.size) }
         ensures sizes { OnOk result (sizes_in below.new ≡ sizes_in below.old) }
-        ensures rows { OnOk result (joined_rows self.new.weight self.new.digits (rows_in below.new) ≡ joined_rows self.old.weight self.old.digits (rows_in below.old) ++ map (ahead base) edges.now ∷ []) }
+        ensures rows { OnOk result (joined_rows self.new.weight self.new.digits (rows_in below.new) ≡ joined_rows self.old.weight self.old.digits (rows_in below.old) ++ map (ahead base) transitions.now ∷ []) }
     {
         if let Decisions::Targets(targets) = below {
-            return self.add_last_row(targets, base, edges);
+            return self.add_last_row(targets, base, transitions);
         }
         self.digits.begin()?;
         let mut start = 0;
-        while start < edges.len() {
-            let rest = &edges[start..];
+        while start < transitions.len() {
+            let rest = &transitions[start..];
             let digit = (rest[0].letter - base) / self.weight;
             let low = base + digit * self.weight;
             let count = run_length(rest, low + self.weight);
@@ -328,46 +332,46 @@ impl Track {
         Ok(())
     }
 
-    // Adds a row of the edges, each letter with the base taken from it, where no track is later: behind each digit
+    // Adds a row of the transitions, each letter with the base taken from it, where no track is later: after each digit
     // is a target. What a refused call leaves is of no use.
     fn add_last_row(
         &mut self,
         targets: &mut Vec<u32>,
         base: u32,
-        edges: &[Edge],
+        transitions: &[Transition],
     ) -> Result<(), OutOfMemory>
-        requires track { IsTrack self.old 1 (map only_edge targets.old.items) }
-        requires letters { All (IsFrom base self.old.size) edges.now }
-        requires ascending { AllPairs IsByEarlier edges.now }
+        requires track { IsTrack self.old 1 (map only_transition targets.old.items) }
+        requires letters { All (IsFrom base self.old.size) transitions.now }
+        requires ascending { AllPairs IsByEarlier transitions.now }
         requires narrow { base + self.old.size ≤ 2 ^ 16 }
-        ensures track { OnOk result (IsTrack self.new 1 (map only_edge targets.new.items)) }
+        ensures track { OnOk result (IsTrack self.new 1 (map only_transition targets.new.items)) }
         ensures size { OnOk result (self.new.size ≡ self.old.size) }
-        ensures rows { OnOk result (joined_rows self.new.weight self.new.digits (map only_edge targets.new.items) ≡ joined_rows self.old.weight self.old.digits (map only_edge targets.old.items) ++ map (ahead base) edges.now ∷ []) }
+        ensures rows { OnOk result (joined_rows self.new.weight self.new.digits (map only_transition targets.new.items) ≡ joined_rows self.old.weight self.old.digits (map only_transition targets.old.items) ++ map (ahead base) transitions.now ∷ []) }
     {
         self.digits.begin()?;
-        for edge in edges {
-            self.digits.add(edge.letter - base)?;
-            targets.push(edge.target)?;
+        for transition in transitions {
+            self.digits.add(transition.letter - base)?;
+            targets.push(transition.target)?;
         }
         Ok(())
     }
 
-    // Writes the edges of a row at the end of others, where no track is later: behind each digit is a target.
+    // Writes the transitions of a row at the end of others, where no track is later: after each digit is a target.
     fn last_row_into(
         &self,
         place: usize,
         base: u32,
         targets: &[u32],
-        row: &mut Vec<Edge>,
+        row: &mut Vec<Transition>,
     ) -> Result<(), OutOfMemory>
-        requires track { IsTrack self.now self.now.weight (map only_edge targets.now) }
+        requires track { IsTrack self.now self.now.weight (map only_transition targets.now) }
         requires place { place < length self.now.digits }
         requires base { base + self.now.size * self.now.weight < 2 ^ 32 }
-        ensures { OnOk result (row.new.items ≡ row.old.items ++ map (behind base) (slice_index_or (joined_rows self.now.weight self.now.digits (map only_edge targets.now)) place [])) }
+        ensures { OnOk result (row.new.items ≡ row.old.items ++ map (after_digit base) (slice_index_or (joined_rows self.now.weight self.now.digits (map only_transition targets.now)) place [])) }
     {
         let start = self.digits.start(place);
         for (count, digit) in self.digits.list(place).iter().enumerate() {
-            row.push(Edge {
+            row.push(Transition {
                 letter: base + u32::from(*digit) * self.weight,
                 target: targets[start + count],
             })?;
@@ -376,19 +380,19 @@ impl Track {
     }
 }
 
-// How many of the first edges are by letters below the bound.
-fn run_length(edges: &[Edge], bound: u32) -> usize
-    requires { AllPairs IsByEarlier edges.now }
-    ensures within { result ≤ length edges.now }
-    ensures below { All (λ edge. edge.letter < bound) (take result edges.now) }
-    ensures later { All (λ edge. bound ≤ edge.letter) (drop result edges.now) }
+// How many of the first transitions are by letters below the bound.
+fn run_length(transitions: &[Transition], bound: u32) -> usize
+    requires { AllPairs IsByEarlier transitions.now }
+    ensures within { result ≤ length transitions.now }
+    ensures below { All (λ transition. transition.letter < bound) (take result transitions.now) }
+    ensures later { All (λ transition. bound ≤ transition.letter) (drop result transitions.now) }
 {
-    for place in 0..edges.len() {
-        if edges[place].letter >= bound {
+    for place in 0..transitions.len() {
+        if transitions[place].letter >= bound {
             return place;
         }
     }
-    edges.len()
+    transitions.len()
 }
 
 // The index of a digit among ascending ones, if it is one of them.

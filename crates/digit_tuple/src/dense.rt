@@ -1,19 +1,19 @@
-//! Dense tables: the edges of each state in a list of its own, by letter.
+//! Dense tables: the transitions of each state in a list of its own, by letter.
 
 ghost use Rattle.std.specs.Prelude.{◌≡◌, ℕ, ◌<◌, ◌≤◌, Bool, Option, length, IfSome};
 ghost use Rattle.std.specs.List.{AllPairs, AllWithin};
-ghost use Rattle.digit_tuple.specs.Deterministic.{Automaton, IsTable, IsRow, IsByEarlier, target_by, step_of, accepting_of, edges_of, states_of, letters_of};
+ghost use Rattle.digit_tuple.specs.Deterministic.{Automaton, IsTable, IsRow, IsByEarlier, target_by, step_of, accepting_of, transitions_of, states_of, letters_of};
 ghost use Rattle.digit_tuple.specs.Letters.{product};
 ghost use Rattle.digit_tuple.specs.DfaRows.{states_in};
 
 use crate::alphabet::Alphabet;
 use crate::dfa::DfaState;
-use crate::edges::Edge;
 use crate::table::Table;
+use crate::transitions::Transition;
 use std::marker::Model;
 
-/// A deterministic automaton whose states each keep a list of edges. Its initial state is 0, and it
-/// is a table as `Dfa` is one.
+/// A deterministic automaton whose states each keep a list of transitions. Its initial state is 0, and it is a table as
+/// `Dfa` is one.
 #[derive(Drop)]
 pub struct Dense {
     tracks: Alphabet,
@@ -52,14 +52,14 @@ impl Dense {
         &self.tracks
     }
 
-    /// The edges of a state, by letter.
-    pub fn edges(&self, state: u32) -> &[Edge]
+    /// The transitions of a state, by letter.
+    pub fn transitions(&self, state: u32) -> &[Transition]
         requires { state < states_of self.now }
-        ensures edges { result.now ≡ edges_of self.now state }
+        ensures transitions { result.now ≡ transitions_of self.now state }
         ensures row { IsRow (letters_of self.now) (states_of self.now) result.now }
         ensures table { IsTable (letters_of self.now) self.now.states }
     {
-        &self.rows[state as usize].edges
+        &self.rows[state as usize].transitions
     }
 }
 
@@ -81,7 +81,7 @@ impl Table for Dense {
     }
 
     fn step(&self, q: u32, letter: u32) -> Option<u32> {
-        target_in(self.edges(q), letter)
+        target_in(self.transitions(q), letter)
     }
 
     fn accepting(&self, q: u32) -> bool {
@@ -89,31 +89,31 @@ impl Table for Dense {
     }
 }
 
-// Where the edge by the letter leads.
-pub(crate) fn target_in(edges: &[Edge], letter: u32) -> Option<u32>
-    requires { AllPairs IsByEarlier edges.now }
-    ensures { result ≡ target_by edges.now letter }
+// Where the transition by the letter leads.
+pub(crate) fn target_in(transitions: &[Transition], letter: u32) -> Option<u32>
+    requires { AllPairs IsByEarlier transitions.now }
+    ensures { result ≡ target_by transitions.now letter }
 {
-    let place = place_in(edges, letter);
-    if place < edges.len() && edges[place].letter == letter {
-        Some(edges[place].target)
+    let place = place_in(transitions, letter);
+    if place < transitions.len() && transitions[place].letter == letter {
+        Some(transitions[place].target)
     } else {
         None
     }
 }
 
-// The place of the edge by the letter, or where it would stand.
-pub(crate) fn place_in(edges: &[Edge], letter: u32) -> usize
-    requires { AllPairs IsByEarlier edges.now }
-    ensures within { result ≤ length edges.now }
-    ensures before { AllWithin (λ edge. edge.letter < letter) edges.now 0 result }
-    ensures after { AllWithin (λ edge. letter ≤ edge.letter) edges.now result (length edges.now) }
+// The place of the transition by the letter, or where it would be.
+pub(crate) fn place_in(transitions: &[Transition], letter: u32) -> usize
+    requires { AllPairs IsByEarlier transitions.now }
+    ensures within { result ≤ length transitions.now }
+    ensures before { AllWithin (λ transition. transition.letter < letter) transitions.now 0 result }
+    ensures after { AllWithin (λ transition. letter ≤ transition.letter) transitions.now result (length transitions.now) }
 {
     let mut low = 0;
-    let mut high = edges.len();
+    let mut high = transitions.len();
     while low < high {
         let middle = low + (high - low) / 2;
-        if edges[middle].letter < letter {
+        if transitions[middle].letter < letter {
             low = middle + 1;
         } else {
             high = middle;

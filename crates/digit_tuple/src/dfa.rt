@@ -1,33 +1,33 @@
 //! Deterministic automata.
 
 ghost use Rattle.std.specs.Prelude.{◌≡◌, ℕ, ◌*◌, ◌<◌, ◌≤◌, ◌↔◌, [], length, IfOk, IfSome, IsTrue, OnOk};
-ghost use Rattle.digit_tuple.specs.Deterministic.{Automaton, State, IsTable, IsRow, step_of, accepting_of, accepts_of, edges_of, state_of, states_of, letters_of};
+ghost use Rattle.digit_tuple.specs.Deterministic.{Automaton, State, IsTable, IsRow, step_of, accepting_of, accepts_of, transitions_of, state_of, states_of, letters_of};
 ghost use Rattle.digit_tuple.specs.Letters.{product};
 ghost use Rattle.digit_tuple.specs.DfaRows.{states_in, flagged};
-ghost use Rattle.digit_tuple.specs.EdgeCounts.{edge_count, cell_count};
+ghost use Rattle.digit_tuple.specs.TransitionCounts.{transition_count, cell_count};
 ghost use Rattle.digit_tuple.specs.Reflagged.{IsReflagged};
 
 use crate::alphabet::Alphabet;
 use crate::dense::Dense;
-use crate::edges::Edge;
 use crate::faults::OutOfMemory;
 use crate::growing_dfa::GrowingDfa;
 use crate::sparse_rows::SparseRows;
 use crate::table::{Table, accepts_by};
+use crate::transitions::Transition;
 use std::alloc::Global;
 use std::marker::Model;
 
-/// A state: whether it accepts, and its edges.
+/// A state: whether it accepts, and its transitions.
 #[derive(Drop)]
 pub struct DfaState {
     pub accepting: bool,
-    pub edges: Vec<Edge>,
+    pub transitions: Vec<Transition>,
 }
 
-/// A deterministic automaton, whose initial state is 0. There is a state, there are fewer than
-/// 2^32, and the edges of each are by letters of the alphabet, lead to states, and stand by letter,
-/// at most one by each. Where there is no edge by a letter, no word that goes on with it is accepted.
-/// The edges of a state are kept by their digits, track by track, so a missing letter takes no place.
+/// A deterministic automaton, whose initial state is 0. There is a state, there are fewer than 2^32, and the
+/// transitions of each are by letters of the alphabet, lead to states, and are sorted by letter, at most one by each.
+/// Where there is no transition by a letter, no word that goes on with it is accepted. The transitions of a state are
+/// kept by their digits, track by track, so a missing letter takes no place.
 pub struct Dfa {
     flags: Vec<bool>,
     table: SparseRows,
@@ -74,7 +74,7 @@ impl Dfa {
     {
         let mut states = GrowingDfa::new(alloc, dense.alphabet().copy(alloc)?)?;
         for state in 0..dense.states() {
-            states.add_state(dense.accepting(state), dense.edges(state))?;
+            states.add_state(dense.accepting(state), dense.transitions(state))?;
         }
         Ok(states.finish())
     }
@@ -96,19 +96,19 @@ impl Dfa {
         self.flags.len() as u32
     }
 
-    /// How many edges there are.
-    pub fn edges(&self) -> u64
-        ensures { result ≡ edge_count self.now }
+    /// How many transitions there are.
+    pub fn transitions(&self) -> u64
+        ensures { result ≡ transition_count self.now }
     {
-        self.table.edges()
+        self.table.transitions()
     }
 
-    /// How many digits of edges there are, each with what it leads to: on each track one for each digit by
-    /// which an edge of a state goes on, behind the same digits on the tracks before. Where there is no
-    /// track there is none. So many are kept, but for the last rows, which keep one for each edge.
+    /// How many digits of transitions there are, each with what it leads to: on each track one for each digit by which
+    /// a transition of a state goes on, after the same digits on the tracks before. Where there is no track there is
+    /// none. So many are kept, but for the last rows, which keep one for each transition.
     pub fn cells(&self) -> u64
         ensures count { result ≡ cell_count self.now }
-        ensures few { cell_count self.now ≤ length self.now.sizes * edge_count self.now }
+        ensures few { cell_count self.now ≤ length self.now.sizes * transition_count self.now }
     {
         // That there are no more than 65,536 letters.
         let _letters = self.alphabet().letters();
@@ -132,10 +132,10 @@ impl Dfa {
         self.flags[state as usize]
     }
 
-    /// Writes the edges of a state, by letter, in place of what the row held.
-    pub fn edges_into(&self, state: u32, row: &mut Vec<Edge>) -> Result<(), OutOfMemory>
+    /// Writes the transitions of a state, by letter, in place of what the row held.
+    pub fn transitions_into(&self, state: u32, row: &mut Vec<Transition>) -> Result<(), OutOfMemory>
         requires { state < states_of self.now }
-        ensures edges { OnOk result (row.new.items ≡ edges_of self.now state) }
+        ensures transitions { OnOk result (row.new.items ≡ transitions_of self.now state) }
         ensures row { OnOk result (IsRow (letters_of self.now) (states_of self.now) row.new.items) }
         ensures table { IsTable (letters_of self.now) self.now.states }
     {
@@ -145,7 +145,7 @@ impl Dfa {
     /// Whether no letter leads on from a state.
     pub fn is_bare(&self, state: u32) -> bool
         requires { state < states_of self.now }
-        ensures { IsTrue result ↔ (edges_of self.now state ≡ []) }
+        ensures { IsTrue result ↔ (transitions_of self.now state ≡ []) }
     {
         self.table.is_bare(state)
     }
@@ -176,8 +176,8 @@ impl Dfa {
         accepts_by(self, word)
     }
 
-    /// The automaton with the same edges in which the states that the flags say accept, and no others. There is a flag
-    /// for each state. It takes no memory.
+    /// The automaton with the same transitions in which the states that the flags say accept, and no others. There is a
+    /// flag for each state. It takes no memory.
     pub fn with_accepting(mut self, flags: &[bool]) -> Self
         requires { length flags.now ≡ states_of self }
         ensures { IsReflagged flags.now self result }

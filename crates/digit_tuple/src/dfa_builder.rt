@@ -2,14 +2,14 @@
 
 ghost use Rattle.std.specs.Prelude.{◌≡◌, ℕ, ◌<◌, ◌++◌, ◌∷◌, [], length, IfOk, OnOk, OnErr};
 ghost use Rattle.std.specs.List.{All, AllPairs};
-ghost use Rattle.digit_tuple.specs.Deterministic.{Automaton, IsPartTable, IsSet, IsByEarlier, IsEdgeSet, KeepsRow, states_of, letters_of, with_state};
+ghost use Rattle.digit_tuple.specs.Deterministic.{Automaton, IsPartTable, IsSet, IsByEarlier, IsTransitionSet, KeepsRow, states_of, letters_of, with_state};
 ghost use Rattle.digit_tuple.specs.Letters.{product};
 
 use crate::alphabet::Alphabet;
 use crate::dense::place_in;
 use crate::dfa::{Dfa, DfaState};
-use crate::edges::Edge;
 use crate::faults::OutOfMemory;
+use crate::transitions::Transition;
 use std::alloc::Global;
 use std::marker::Model;
 
@@ -56,8 +56,11 @@ impl DfaBuilder {
         if number >= u32::MAX as usize {
             return Err(OutOfMemory);
         }
-        let edges = Vec::new(self.alloc);
-        self.rows.push(DfaState { accepting, edges })?;
+        let transitions = Vec::new(self.alloc);
+        self.rows.push(DfaState {
+            accepting,
+            transitions,
+        })?;
         Ok(number as u32)
     }
 
@@ -71,7 +74,7 @@ impl DfaBuilder {
         ensures err { OnErr result (self.new ≡ self.old) }
     {
         let row = &mut self.rows[state as usize];
-        set_edge(&mut row.edges, letter, to)
+        set_transition(&mut row.transitions, letter, to)
     }
 
     /// The automaton, whose initial state is the one that was added first.
@@ -83,18 +86,22 @@ impl DfaBuilder {
     }
 }
 
-// Lets the edge by the letter lead to the target.
-fn set_edge(edges: &mut Vec<Edge>, letter: u32, target: u32) -> Result<(), OutOfMemory>
-    requires { AllPairs IsByEarlier edges.old.items }
-    ensures row { KeepsRow edges.old.items edges.new.items letter target }
-    ensures set { OnOk result (IsEdgeSet edges.old.items edges.new.items letter target) }
-    ensures err { OnErr result (edges.new.items ≡ edges.old.items) }
+// Lets the transition by the letter lead to the target.
+fn set_transition(
+    transitions: &mut Vec<Transition>,
+    letter: u32,
+    target: u32,
+) -> Result<(), OutOfMemory>
+    requires { AllPairs IsByEarlier transitions.old.items }
+    ensures row { KeepsRow transitions.old.items transitions.new.items letter target }
+    ensures set { OnOk result (IsTransitionSet transitions.old.items transitions.new.items letter target) }
+    ensures err { OnErr result (transitions.new.items ≡ transitions.old.items) }
 {
-    let place = place_in(edges, letter);
-    if place < edges.len() && edges[place].letter == letter {
-        edges[place].target = target;
+    let place = place_in(transitions, letter);
+    if place < transitions.len() && transitions[place].letter == letter {
+        transitions[place].target = target;
     } else {
-        edges.insert(place, Edge { letter, target })?;
+        transitions.insert(place, Transition { letter, target })?;
     }
     Ok(())
 }

@@ -13,17 +13,17 @@ ghost use Rattle.digit_tuple.specs.Explored.{AreNumbered, NumbersSome, IsExplore
 
 use crate::alphabet::Alphabet;
 use crate::dfa::Dfa;
-use crate::edges::Edge;
 use crate::faults::{OpFault, OutOfMemory};
 use crate::growing_dfa::GrowingDfa;
-use crate::key_edges::KeyEdges;
 use crate::key_graph::KeyGraph;
+use crate::key_transitions::KeyTransitions;
 use crate::numbering::{Lookup, Numbering};
 use crate::stepped::Stepped;
+use crate::transitions::Transition;
 use std::alloc::Global;
 
-// For at most how many edges of a state there is memory at first.
-const FIRST_EDGES: usize = 64;
+// For at most how many transitions of a state there is memory at first.
+const FIRST_TRANSITIONS: usize = 64;
 
 /// What an exploration made: the automaton, and the keys that its states stand for, in their order.
 #[derive(Drop)]
@@ -32,11 +32,11 @@ pub struct Explored {
     pub keys: Numbering,
 }
 
-/// The automaton whose states are the keys that words lead to, from the first key on, numbered in the
-/// order of the first words that lead to them, shorter words first. A letter that leads to no key has
-/// no edge. The width is the number of kinds of words, where two are alike that lead to one key, or
-/// both to none: so it is the number of states, and one more where some word leads to no key.
-/// `States` comes exactly where the width passes the limit, and `Letters` never.
+/// The automaton whose states are the keys that words lead to, from the first key on, numbered in the order of the
+/// first words that lead to them, shorter words first. A letter that leads to no key has no transition. The width is
+/// the number of kinds of words, where two are alike that lead to one key, or both to none: so it is the number of
+/// states, and one more where some word leads to no key. `States` comes if and only if the width passes the limit, and
+/// `Letters` never.
 pub fn explore<G: KeyGraph>(
     alloc: Global,
     graph: &G,
@@ -68,8 +68,8 @@ pub fn explore<G: KeyGraph>(
     })
 }
 
-/// The automaton of `explore` with the keys that its states stand for, for what a construction tells of
-/// a key but whether it accepts. Its width and its refusals are those of `explore`.
+/// The automaton of `explore` with the keys that its states stand for, for what a construction says of a key but
+/// whether it accepts. Its width and its refusals are those of `explore`.
 pub fn explore_keys<G: KeyGraph>(
     alloc: Global,
     graph: &G,
@@ -100,21 +100,27 @@ pub fn explore_keys<G: KeyGraph>(
     }
     let letters = alphabet.letters() as usize;
     let mut states = GrowingDfa::new(alloc, alphabet)?;
-    let mut key_edges = KeyEdges::new(alloc);
-    let room = letters.min(FIRST_EDGES);
+    let mut key_transitions = KeyTransitions::new(alloc);
+    let room = letters.min(FIRST_TRANSITIONS);
     let mut lookups = Vec::with_capacity(alloc, room)?;
-    let mut edges = Vec::with_capacity(alloc, room)?;
+    let mut transitions = Vec::with_capacity(alloc, room)?;
     let mut gap = false;
     'explore: while states.len() < keys.len() {
         let key = keys.key(states.len());
         let accepting = graph.is_accepting(key);
-        key_edges.clear();
-        graph.edges(alloc, key, &mut key_edges)?;
-        number_edges(&mut keys, &key_edges, limit, &mut lookups, &mut edges)?;
-        if edges.len() < letters {
+        key_transitions.clear();
+        graph.transitions(alloc, key, &mut key_transitions)?;
+        number_transitions(
+            &mut keys,
+            &key_transitions,
+            limit,
+            &mut lookups,
+            &mut transitions,
+        )?;
+        if transitions.len() < letters {
             gap = true;
         }
-        states.add_state(accepting, &edges)?;
+        states.add_state(accepting, &transitions)?;
         if gap && keys.len() == limit as usize {
             return Err(OpFault::States);
         }
@@ -127,48 +133,48 @@ pub fn explore_keys<G: KeyGraph>(
     })
 }
 
-// Writes the edges that the key edges become in place of what the buffer held, as the keys that they lead
-// to are numbered in turn. All are looked up before the first is numbered, so that the reads of their slots
-// do not wait for one another. `States` comes where the keys are too many.
-fn number_edges(
+// Writes the transitions that the key transitions become in place of what the buffer held, as the keys that they lead
+// to are numbered in turn. All are looked up before the first is numbered, so that the reads of their slots do not wait
+// for one another. `States` comes where the keys are too many.
+fn number_transitions(
     keys: &mut Numbering,
-    key_edges: &KeyEdges,
+    key_transitions: &KeyTransitions,
     limit: u32,
     lookups: &mut Vec<Lookup>,
-    edges: &mut Vec<Edge>,
+    transitions: &mut Vec<Transition>,
 ) -> Result<(), OpFault>
     requires { length keys.old ≤ limit }
-    ensures edges { OnOk result (AreNumbered key_edges.now edges.new.items keys.old keys.new) }
+    ensures transitions { OnOk result (AreNumbered key_transitions.now transitions.new.items keys.old keys.new) }
     ensures few { OnOk result (length keys.new ≤ limit) }
-    ensures states { IsErrOf result OpFault.States → NumbersSome key_edges.now keys.old keys.new (limit + 1) }
+    ensures states { IsErrOf result OpFault.States → NumbersSome key_transitions.now keys.old keys.new (limit + 1) }
     ensures letters { ¬ IsErrOf result OpFault.Letters }
 {
-    look_up_keys(keys, key_edges, lookups)?;
-    edges.clear();
-    for place in 0..key_edges.len() {
-        let target = keys.number_by(key_edges.key(place), lookups[place])?;
+    look_up_keys(keys, key_transitions, lookups)?;
+    transitions.clear();
+    for place in 0..key_transitions.len() {
+        let target = keys.number_by(key_transitions.key(place), lookups[place])?;
         if keys.len() > limit as usize {
             return Err(OpFault::States);
         }
-        edges.push(Edge {
-            letter: key_edges.letter(place),
+        transitions.push(Transition {
+            letter: key_transitions.letter(place),
             target: target as u32,
         })?;
     }
     Ok(())
 }
 
-// Writes the lookups of the keys that the key edges lead to in place of what the buffer held.
+// Writes the lookups of the keys that the key transitions lead to in place of what the buffer held.
 fn look_up_keys(
     keys: &Numbering,
-    key_edges: &KeyEdges,
+    key_transitions: &KeyTransitions,
     lookups: &mut Vec<Lookup>,
 ) -> Result<(), OutOfMemory>
-    ensures { OnOk result (map (λ lookup. lookup.hash) lookups.new.items ≡ map (λ edge. hash_of edge.key) key_edges.now) }
+    ensures { OnOk result (map (λ lookup. lookup.hash) lookups.new.items ≡ map (λ transition. hash_of transition.key) key_transitions.now) }
 {
     lookups.clear();
-    for place in 0..key_edges.len() {
-        lookups.push(keys.look_up(key_edges.key(place)))?;
+    for place in 0..key_transitions.len() {
+        lookups.push(keys.look_up(key_transitions.key(place)))?;
     }
     Ok(())
 }

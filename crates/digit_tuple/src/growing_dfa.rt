@@ -7,20 +7,20 @@ ghost use Rattle.digit_tuple.specs.DfaRows.{flagged};
 
 use crate::alphabet::Alphabet;
 use crate::dfa::Dfa;
-use crate::edges::Edge;
 use crate::faults::OutOfMemory;
 use crate::sparse_rows::SparseRows;
+use crate::transitions::Transition;
 use std::alloc::Global;
 use std::marker::Model;
 
 // For how many states there is memory at first.
-const FIRST_STATES: usize = 32;
+const INITIAL_STATES: usize = 32;
 
 // Up to so many states memory that is not in use is kept.
 const MANY_STATES: usize = 1024;
 
-/// The first states of a deterministic automaton, in the form that it is kept in. Their edges may lead
-/// to states that are still to come.
+/// The first states of a deterministic automaton, in the form that it is kept in. Their transitions may lead to states
+/// that are still to come.
 pub(crate) struct GrowingDfa {
     flags: Vec<bool>,
     table: SparseRows,
@@ -53,7 +53,7 @@ impl GrowingDfa {
         ensures { IfOk result (λ states. states ≡ record { sizes = alphabet; states = [] }) }
     {
         Ok(GrowingDfa {
-            flags: Vec::with_capacity(alloc, FIRST_STATES)?,
+            flags: Vec::with_capacity(alloc, INITIAL_STATES)?,
             table: SparseRows::new(alloc, alphabet)?,
         })
     }
@@ -65,14 +65,18 @@ impl GrowingDfa {
         self.flags.len()
     }
 
-    /// Adds a state of these edges. What a refused call leaves is of no use.
-    pub(crate) fn add_state(&mut self, accepting: bool, edges: &[Edge]) -> Result<(), OutOfMemory>
-        requires in_range { All (λ edge. edge.letter < letters_of self.old) edges.now }
-        requires ascending { AllPairs IsByEarlier edges.now }
-        ensures { OnOk result (self.new ≡ record { sizes = self.old.sizes; states = self.old.states ++ (record { accepting = accepting; edges = edges.now }) ∷ [] }) }
+    /// Adds a state of these transitions. What a refused call leaves is of no use.
+    pub(crate) fn add_state(
+        &mut self,
+        accepting: bool,
+        transitions: &[Transition],
+    ) -> Result<(), OutOfMemory>
+        requires in_range { All (λ transition. transition.letter < letters_of self.old) transitions.now }
+        requires ascending { AllPairs IsByEarlier transitions.now }
+        ensures { OnOk result (self.new ≡ record { sizes = self.old.sizes; states = self.old.states ++ (record { accepting = accepting; transitions = transitions.now }) ∷ [] }) }
     {
         self.flags.push(accepting)?;
-        if let Err(fault) = self.table.add_row(edges) {
+        if let Err(fault) = self.table.add_row(transitions) {
             self.flags.clear();
             return Err(fault);
         }

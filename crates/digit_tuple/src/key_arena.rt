@@ -8,7 +8,7 @@ use crate::key_ends::KeyEnds;
 use std::alloc::Global;
 use std::marker::Model;
 
-/// Lists of numbers, one after another in one buffer. What stands after the last one's end is not in use.
+/// Lists of numbers, one after another in one buffer. What follows the last one's end is not in use.
 #[derive(Drop)]
 pub struct KeyArena {
     numbers: Vec<u32>,

@@ -1,4 +1,4 @@
-//! Where keys end that stand one after another.
+//! Where keys end that are one after another.
 
 ghost use Rattle.std.specs.Prelude.{◌≡◌, ◌-◌, ◌<◌, ◌≤◌, ◌^◌, ◌++◌, ◌∷◌, [], length, slice_index, take, OnOk, OnErr};
 ghost use Rattle.digit_tuple.specs.KeyParts.{start_of};

@@ -1,10 +1,10 @@
 //! Graphs of keys, which an exploration walks.
 
 ghost use Rattle.std.specs.Prelude.{◌≡◌, ℕ, ◌<◌, Bool, List, [], Option, IfOk, OnOk, MatchOption, ⊤};
-ghost use Rattle.digit_tuple.specs.Keys.{AreKeyEdges};
+ghost use Rattle.digit_tuple.specs.Keys.{AreKeyTransitions};
 
 use crate::faults::OutOfMemory;
-use crate::key_edges::KeyEdges;
+use crate::key_transitions::KeyTransitions;
 use std::alloc::Global;
 
 /// Keys that letters lead to, each a list of numbers.
@@ -32,12 +32,17 @@ pub trait KeyGraph {
         requires { is_graph self.now }
         ensures { IfOk result (λ key. key.items ≡ start self.now) };
 
-    /// Writes the edges from a key, by letter. A letter that leads to no key has none.
-    fn edges(&self, alloc: Global, key: &[u32], out: &mut KeyEdges) -> Result<(), OutOfMemory>
+    /// Writes the transitions from a key, by letter. A letter that leads to no key has none.
+    fn transitions(
+        &self,
+        alloc: Global,
+        key: &[u32],
+        out: &mut KeyTransitions,
+    ) -> Result<(), OutOfMemory>
         requires graph { is_graph self.now }
         requires key { is_key self.now key.now }
         requires empty { out.old ≡ [] }
-        ensures { OnOk result (AreKeyEdges (letters self.now) (after self.now key.now) out.new) };
+        ensures { OnOk result (AreKeyTransitions (letters self.now) (after self.now key.now) out.new) };
 
     /// Whether a key accepts.
     fn is_accepting(&self, key: &[u32]) -> bool

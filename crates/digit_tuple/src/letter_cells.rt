@@ -4,7 +4,7 @@ ghost use Rattle.std.specs.Prelude.{◌≡◌, ℕ, ◌+◌, ◌-◌, ◌*◌, �
 ghost use Rattle.std.specs.List.{All, AllPairs};
 ghost use Rattle.digit_tuple.specs.CellCounts.{cells_of};
 ghost use Rattle.digit_tuple.specs.Letters.{product};
-ghost use Rattle.digit_tuple.specs.Reversed.{edge_to};
+ghost use Rattle.digit_tuple.specs.Reversed.{transition_to};
 
 /// How many digits a row by ascending letters takes as decisions by tracks of these sizes, which have so many
 /// letters: on each track one for each run of letters that begin alike. The base is taken from each letter. To
@@ -16,7 +16,7 @@ pub(crate) fn letter_cells(sizes: &[u32], count: u32, base: u32, letters: &[u16]
     requires ascending { AllPairs (λ l m. l < m) letters.now }
     requires narrow { base + count ≤ 2 ^ 16 }
     requires fits { length sizes.now * length letters.now < 2 ^ 64 }
-    ensures { result ≡ cells_of sizes.now (map (λ letter. edge_to (letter - base) 0) letters.now) }
+    ensures { result ≡ cells_of sizes.now (map (λ letter. transition_to (letter - base) 0) letters.now) }
 {
     match sizes {
         [] => 0,

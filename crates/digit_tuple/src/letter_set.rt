@@ -26,7 +26,7 @@ impl Model for LetterSet {
 }
 
 impl LetterSet {
-    /// The set with these members, which stand in ascending order.
+    /// The set with these members, which are in ascending order.
     pub fn new(members: Vec<i32>) -> Self
         requires { IsLetterSet members.items }
         ensures { result ≡ members.items }
@@ -34,7 +34,7 @@ impl LetterSet {
         LetterSet { numbers: members }
     }
 
-    /// The set with these members, if they stand in ascending order and are fewer than 2^32.
+    /// The set with these members, if they are in ascending order and are fewer than 2^32.
     pub fn try_new(members: Vec<i32>) -> Option<Self>
         ensures fits { IsSome result ↔ IsLetterSet members.items }
         ensures value { IfSome result (λ set. set ≡ members.items) }

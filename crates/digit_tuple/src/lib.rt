@@ -34,8 +34,8 @@ pub mod letter_parts;
 /// The parts of letters, and the letters of each part.
 pub mod part_index;
 
-/// Edges and states of nondeterministic automata.
-pub mod edges;
+/// Transitions and states of nondeterministic automata.
+pub mod transitions;
 
 /// Nondeterministic automata.
 pub mod nfa;
@@ -43,7 +43,7 @@ pub mod nfa;
 /// Tables of deterministic automata, whatever form they are kept in.
 pub mod table;
 
-/// Dense tables: the edges of each state in a list of its own.
+/// Dense tables: the transitions of each state in a list of its own.
 pub mod dense;
 
 /// Places in a buffer at which lists begin.
@@ -52,7 +52,7 @@ mod starts;
 /// Lists of numbers in one buffer.
 mod number_lists;
 
-/// Rows of edges as decisions by tracks.
+/// Rows of transitions as decisions by tracks.
 mod decisions;
 
 /// Rows that are decided by whole letters, and the same rows by tracks.
@@ -64,7 +64,7 @@ mod letter_cells;
 /// How many digits rows take as decisions by tracks.
 mod block_cells;
 
-/// Sparse rows: edges by letters of tracks, of which only those that are there take a place.
+/// Sparse rows: transitions by letters of tracks, of which only those that are there take a place.
 mod sparse_rows;
 
 /// Deterministic automata.
@@ -79,7 +79,7 @@ pub mod dfa_builder;
 /// The accepting states of an automaton.
 pub mod accepting_states;
 
-/// Automata with their edges turned.
+/// Automata with their transitions reversed.
 pub mod reversed;
 
 /// Results of one step of a construction.
@@ -91,10 +91,10 @@ pub mod no_words;
 /// Lists of zeros.
 pub mod blanks;
 
-/// Edges from a key, in one buffer.
-pub mod key_edges;
+/// Transitions from a key, in one buffer.
+pub mod key_transitions;
 
-/// Edges gathered by their letters.
+/// Transitions gathered by their letters.
 pub mod groups;
 
 /// Graphs of keys, which an exploration walks.
@@ -103,7 +103,7 @@ pub mod key_graph;
 /// Hashes of keys.
 pub mod key_hashes;
 
-/// Where keys end that stand one after another.
+/// Where keys end that are one after another.
 pub mod key_ends;
 
 /// Keys, one after another in one buffer.

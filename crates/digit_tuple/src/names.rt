@@ -47,7 +47,7 @@ pub fn names_without(alloc: Global, names: &[Name], name: &Name) -> Result<Vec<N
     Ok(rest)
 }
 
-/// The names of both lists in byte order, each once. So stand the tracks of a product.
+/// The names of both lists in byte order, each once. So are the tracks of a product.
 pub fn joint_names(alloc: Global, first: &[Name], second: &[Name]) -> Result<Vec<Name>, OutOfMemory>
     ensures names { IfOk result (λ names. names.items ≡ joint_names_of first.now second.now) }
     ensures joint { IfOk result (λ names. AreJoint first.now second.now names.items) }
@@ -78,7 +78,7 @@ fn insert_name(alloc: Global, names: &mut Vec<Name>, name: &Name) -> Result<(), 
     Ok(())
 }
 
-// The place at which the name is to stand, or None if it stands among the names.
+// The place at which the name is to be, or None if it is among the names.
 fn new_place(names: &[Name], name: &Name) -> Option<usize>
     ensures within { IfSome result (λ place. place ≤ length names.now) }
     ensures place { MatchOption result (with_name names.now name.now ≡ names.now)

@@ -2,18 +2,18 @@
 
 ghost use Rattle.std.specs.Prelude.{◌≡◌, ℕ, ◌<◌, ◌↔◌, length, IfOk, IsSome, IfSome, IsTrue};
 ghost use Rattle.std.specs.List.{All, AllPairs};
-ghost use Rattle.digit_tuple.specs.Automaton.{Branching, Branch, IsBranchTable, IsRow, accepting_of, edges_of, states_of, letters_of, IsBefore};
+ghost use Rattle.digit_tuple.specs.Automaton.{Branching, Branch, IsBranchTable, IsRow, accepting_of, transitions_of, states_of, letters_of, IsBefore};
 ghost use Rattle.digit_tuple.specs.Letters.{product, IsAlphabet};
 ghost use Rattle.digit_tuple.specs.Rows.{branches_in};
 
 use crate::alphabet::Alphabet;
-use crate::edges::{Edge, NfaState};
 use crate::faults::OutOfMemory;
+use crate::transitions::{NfaState, Transition};
 use std::alloc::Global;
 use std::marker::Model;
 
-/// A nondeterministic automaton, whose initial state is 0. There is a state, there are fewer than
-/// 2^32, and the edges of each are by letters of the alphabet, lead to states, and stand in order.
+/// A nondeterministic automaton, whose initial state is 0. There is a state, there are fewer than 2^32, and the
+/// transitions of each are by letters of the alphabet, lead to states, and are in order.
 #[derive(Drop)]
 pub struct Nfa {
     tracks: Alphabet,
@@ -48,8 +48,8 @@ impl Nfa {
         })
     }
 
-    /// The automaton with these states, or None if they are no table: there is no state, or 2^32, or
-    /// a state's edges are by no letters of the alphabet, lead to no states or stand out of order.
+    /// The automaton with these states, or None if they are no table: there is no state, or 2^32, or a state's
+    /// transitions are by no letters of the alphabet, lead to no states or stand out of order.
     pub fn try_from_states(
         alloc: Global,
         alphabet: Alphabet,
@@ -90,14 +90,14 @@ impl Nfa {
         self.rows[state as usize].accepting
     }
 
-    /// The edges of a state, by letter, then by target.
-    pub fn edges(&self, state: u32) -> &[Edge]
+    /// The transitions of a state, by letter, then by target.
+    pub fn transitions(&self, state: u32) -> &[Transition]
         requires { state < states_of self.now }
-        ensures edges { result.now ≡ edges_of self.now state }
+        ensures transitions { result.now ≡ transitions_of self.now state }
         ensures row { IsRow (letters_of self.now) (states_of self.now) result.now }
         ensures table { IsBranchTable (letters_of self.now) self.now.states }
     {
-        &self.rows[state as usize].edges
+        &self.rows[state as usize].transitions
     }
 }
 
@@ -110,38 +110,38 @@ fn is_table(letters: u32, states: &[NfaState]) -> bool
     }
     let count = states.len() as u32;
     for state in states {
-        if !is_row(letters, count, &state.edges) {
+        if !is_row(letters, count, &state.transitions) {
             return false;
         }
     }
     true
 }
 
-// Whether the edges may be those of a state.
-fn is_row(letters: u32, states: u32, edges: &[Edge]) -> bool
-    ensures { IsTrue result ↔ IsRow letters states edges.now }
+// Whether the transitions may be those of a state.
+fn is_row(letters: u32, states: u32, transitions: &[Transition]) -> bool
+    ensures { IsTrue result ↔ IsRow letters states transitions.now }
 {
-    are_in_range(letters, states, edges) && are_ascending(edges)
+    are_in_range(letters, states, transitions) && are_ascending(transitions)
 }
 
-// Whether the edges are by letters of the alphabet and lead to states.
-fn are_in_range(letters: u32, states: u32, edges: &[Edge]) -> bool
-    ensures { IsTrue result ↔ All (λ edge. (edge.letter < letters) × (edge.target < states)) edges.now }
+// Whether the transitions are by letters of the alphabet and lead to states.
+fn are_in_range(letters: u32, states: u32, transitions: &[Transition]) -> bool
+    ensures { IsTrue result ↔ All (λ transition. (transition.letter < letters) × (transition.target < states)) transitions.now }
 {
-    for edge in edges {
-        if edge.letter >= letters || edge.target >= states {
+    for transition in transitions {
+        if transition.letter >= letters || transition.target >= states {
             return false;
         }
     }
     true
 }
 
-// Whether each edge is before the next.
-fn are_ascending(edges: &[Edge]) -> bool
-    ensures { IsTrue result ↔ AllPairs IsBefore edges.now }
+// Whether each transition is before the next.
+fn are_ascending(transitions: &[Transition]) -> bool
+    ensures { IsTrue result ↔ AllPairs IsBefore transitions.now }
 {
-    for place in 1..edges.len() {
-        if !edges[place - 1].is_before(&edges[place]) {
+    for place in 1..transitions.len() {
+        if !transitions[place - 1].is_before(&transitions[place]) {
             return false;
         }
     }

@@ -20,8 +20,8 @@ pub fn no_words(alloc: Global, alphabet: Alphabet) -> Result<Dfa, OutOfMemory>
     builder.finish()
 }
 
-/// The automaton of one state that accepts no word. The width is 1: all words are alike. `States`
-/// comes exactly where the limit is 0, and `Letters` never.
+/// The automaton of one state that accepts no word. The width is 1: all words are alike. `States` comes if and only if
+/// the limit is 0, and `Letters` never.
 pub fn no_words_within(
     alloc: Global,
     alphabet: Alphabet,

@@ -8,15 +8,15 @@ use crate::starts::Starts;
 use std::alloc::Global;
 use std::marker::Model;
 
-/// Lists of numbers below 65,536, which stand one behind another in one buffer of 2 bytes a number, each with
-/// its start of 4 bytes. The first lists, as far as they are all the same, stand there once and have no start:
-/// nearly all rows of a large automaton have all digits, so nearly all of its lists take no place.
+/// Lists of numbers below 65,536, which are one after another in one buffer of 2 bytes a number, each with its start of
+/// 4 bytes. The first lists, as far as they are all the same, are there once and have no start: nearly all rows of a
+/// large automaton have all digits, so nearly all of its lists take no place.
 #[derive(Drop)]
 pub(crate) struct NumberLists {
     // The first so many lists are all the first numbers, up to the width.
     same: usize,
     width: usize,
-    // Where the other lists begin, behind those numbers.
+    // Where the other lists begin, after those numbers.
     starts: Starts,
     numbers: Vec<u16>,
 }
@@ -174,7 +174,7 @@ fn part(numbers: &[u16], start: usize, end: usize) -> &[u16]
     &numbers[start..end]
 }
 
-// Whether the numbers behind the width are those up to it.
+// Whether the numbers after the width are those up to it.
 fn are_twice(numbers: &[u16], width: usize) -> bool
     requires { width ≤ length numbers.now }
     ensures { IsTrue result ↔ (drop width numbers.now ≡ take width numbers.now) }

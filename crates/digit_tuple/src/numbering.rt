@@ -13,8 +13,8 @@ use crate::slots::SlotTable;
 use std::alloc::Global;
 use std::marker::Model;
 
-/// Lists of numbers, no two the same, numbered in the order in which they were first seen. They stand in
-/// one buffer, and are found by their hashes. Numbers are below 2^32 - 1.
+/// Lists of numbers, no two the same, numbered in the order in which they were first seen. They are in one buffer, and
+/// are found by their hashes. Numbers are below 2^32 - 1.
 #[derive(Drop)]
 pub struct Numbering {
     alloc: Global,

@@ -73,8 +73,8 @@ impl PartIndex {
     }
 }
 
-// For each part its first letter, and for each letter the next one of its part. Where there is none
-// stands the number of letters.
+// For each part its first letter, and for each letter the next one of its part. Where there is none is the number of
+// letters.
 #[derive(Drop)]
 struct Chains {
     first: Vec<u32>,

@@ -1,6 +1,6 @@
 //! Numbers in slots, by their hashes (open addressing: Donald Knuth, "The Art of Computer Programming", volume 3,
-//! section 6.4). A hash has a home among the slots, and its number stands in the first slot from there on that
-//! was free when it came. The slots do not go round: where all up to the end are taken, one more is added.
+//! section 6.4). A hash has a home among the slots, and its number is in the first slot from there on that was free
+//! when it came. The slots do not go round: where all up to the end are taken, one more is added.
 
 ghost use Rattle.std.specs.Prelude.{◌≡◌, ℕ, ◌<◌, ◌≤◌, ◌++◌, ◌∷◌, [], List, length, IfOk, OnOk, OnErr};
 ghost use Rattle.digit_tuple.specs.Slots.{AreSlotted, IsPut, home_of, slot_at};

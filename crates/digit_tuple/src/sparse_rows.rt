@@ -1,4 +1,4 @@
-//! Sparse rows: edges by letters of tracks, of which only those that are there take a place.
+//! Sparse rows: transitions by letters of tracks, of which only those that are there take a place.
 
 ghost use Rattle.std.specs.Prelude.{◌≡◌, ℕ, ◌*◌, ◌%◌, ◌<◌, ◌≤◌, ◌^◌, ◌↔◌, ◌++◌, ◌∷◌, [], List, length, slice_index_or, sum_by, IfOk, OnErr, OnOk, IsTrue};
 ghost use Rattle.std.specs.List.{All, AllByRecursion, AllPairs, flat_map};
@@ -12,30 +12,30 @@ use crate::alphabet::Alphabet;
 use crate::block_cells::block_cells;
 use crate::by_tracks::{by_tracks, is_whole};
 use crate::decisions::Decisions;
-use crate::edges::Edge;
 use crate::faults::OutOfMemory;
+use crate::transitions::Transition;
 use std::alloc::Global;
 use std::marker::Model;
 
 // How many rows a full block has.
 const BLOCK_ROWS: usize = 1024;
 
-// From so many edges on a block decides by tracks, also where it is not full.
-const MANY_EDGES: u64 = 65_536;
+// From so many transitions on a block decides by tracks, also where it is not full.
+const MANY_TRANSITIONS: u64 = 65_536;
 
-/// Rows of edges, each by ascending letters. A row is kept as a decision by tracks: the digits on the
-/// first track that go on, behind each the digits on the next, and behind those on the last track the
-/// targets. A letter without an edge takes no place. The rows stand in blocks, so that a table grows
-/// without a copy of its rows. The last block, which still grows, keeps a row as a decision by the whole
-/// letter, as if all tracks were one, until it is full or has many edges: small tables, of which a
-/// statement makes many, are then written and read without a walk of their tracks.
+/// Rows of transitions, each by ascending letters. A row is kept as a decision by tracks: the digits on the first track
+/// that go on, after each the digits on the next, and after those on the last track the targets. A letter without a
+/// transition takes no place. The rows are in blocks, so that a table grows without a copy of its rows. The last block,
+/// which still grows, keeps a row as a decision by the whole letter, as if all tracks were one, until it is full or has
+/// many transitions: small tables, of which a statement makes many, are then written and read without a walk of their
+/// tracks.
 #[derive(Drop)]
 pub(crate) struct SparseRows {
     tracks: Alphabet,
     // Each block but the last has BLOCK_ROWS rows.
     blocks: Vec<Decisions>,
-    // How many edges all rows have.
-    edges: u64,
+    // How many transitions all rows have.
+    transitions: u64,
 }
 
 impl Model for SparseRows {
@@ -48,7 +48,7 @@ impl Model for SparseRows {
 
     ghost view = { λ r. record { sizes = r.tracks; rows = flat_map rows_in r.blocks.items } };
 
-    ghost invariant = { λ r. AreRowBlocks r.tracks r.blocks.items × (r.edges ≡ sum_by length (flat_map rows_in r.blocks.items)) };
+    ghost invariant = { λ r. AreRowBlocks r.tracks r.blocks.items × (r.transitions ≡ sum_by length (flat_map rows_in r.blocks.items)) };
 }
 
 impl SparseRows {
@@ -59,7 +59,7 @@ impl SparseRows {
         Ok(SparseRows {
             tracks: alphabet,
             blocks: Vec::with_capacity(alloc, 1)?,
-            edges: 0,
+            transitions: 0,
         })
     }
 
@@ -70,29 +70,29 @@ impl SparseRows {
         &self.tracks
     }
 
-    /// Adds a row of these edges. A refused call leaves no rows. A call is also refused where there would be 2^64
-    /// edges.
-    pub(crate) fn add_row(&mut self, edges: &[Edge]) -> Result<(), OutOfMemory>
-        requires in_range { All (λ edge. edge.letter < product self.old.sizes) edges.now }
-        requires ascending { AllPairs IsByEarlier edges.now }
-        ensures ok { OnOk result (self.new ≡ record { sizes = self.old.sizes; rows = self.old.rows ++ edges.now ∷ [] }) }
+    /// Adds a row of these transitions. A refused call leaves no rows. A call is also refused where there would be 2^64
+    /// transitions.
+    pub(crate) fn add_row(&mut self, transitions: &[Transition]) -> Result<(), OutOfMemory>
+        requires in_range { All (λ transition. transition.letter < product self.old.sizes) transitions.now }
+        requires ascending { AllPairs IsByEarlier transitions.now }
+        ensures ok { OnOk result (self.new ≡ record { sizes = self.old.sizes; rows = self.old.rows ++ transitions.now ∷ [] }) }
         ensures err { OnErr result (self.new ≡ record { sizes = self.old.sizes; rows = [] }) }
     {
         // That an alphabet has no more than 65,536 letters.
         let _letters = self.tracks.letters();
-        let count = self.edges.checked_add(edges.len() as u64);
-        let added = add_to_blocks(&self.tracks, &mut self.blocks, edges);
+        let count = self.transitions.checked_add(transitions.len() as u64);
+        let added = add_to_blocks(&self.tracks, &mut self.blocks, transitions);
         if let (Some(count), Ok(())) = (count, added) {
-            self.edges = count;
+            self.transitions = count;
             return Ok(());
         }
         self.blocks.clear();
-        self.edges = 0;
+        self.transitions = 0;
         Err(OutOfMemory)
     }
 
-    /// Writes the edges of a row in place of what the buffer held.
-    pub(crate) fn row_into(&self, place: u32, row: &mut Vec<Edge>) -> Result<(), OutOfMemory>
+    /// Writes the transitions of a row in place of what the buffer held.
+    pub(crate) fn row_into(&self, place: u32, row: &mut Vec<Transition>) -> Result<(), OutOfMemory>
         requires { place < length self.now.rows }
         ensures { OnOk result (row.new.items ≡ row_at self.now place) }
     {
@@ -112,7 +112,7 @@ impl SparseRows {
             .step(place as usize % BLOCK_ROWS, letter)
     }
 
-    /// Whether a row has no edge.
+    /// Whether a row has no transition.
     pub(crate) fn is_bare(&self, place: u32) -> bool
         requires { place < length self.now.rows }
         ensures { IsTrue result ↔ (row_at self.now place ≡ []) }
@@ -138,11 +138,11 @@ impl SparseRows {
         one.is_within(place, 0, two, at) && two.is_within(at, 0, one, place)
     }
 
-    /// How many edges there are. The cost does not depend on their number.
-    pub(crate) fn edges(&self) -> u64
+    /// How many transitions there are. The cost does not depend on their number.
+    pub(crate) fn transitions(&self) -> u64
         ensures { result ≡ sum_by length self.now.rows }
     {
-        self.edges
+        self.transitions
     }
 
     /// How many digits there are where all rows are decisions by tracks, each with what it leads to. Where there is
@@ -172,7 +172,7 @@ impl SparseRows {
         Ok(SparseRows {
             tracks: self.tracks.copy(alloc)?,
             blocks: copy_blocks(alloc, &self.blocks)?,
-            edges: self.edges,
+            transitions: self.transitions,
         })
     }
 
@@ -187,22 +187,22 @@ impl SparseRows {
     }
 }
 
-// Adds a row of these edges. What a refused call leaves is of no use.
+// Adds a row of these transitions. What a refused call leaves is of no use.
 fn add_to_blocks(
     tracks: &Alphabet,
     blocks: &mut Vec<Decisions>,
-    edges: &[Edge],
+    transitions: &[Transition],
 ) -> Result<(), OutOfMemory>
     requires blocks { AreRowBlocks tracks.now blocks.old.items }
     requires few { product tracks.now ≤ 2 ^ 16 }
-    requires in_range { All (λ edge. edge.letter < product tracks.now) edges.now }
-    requires ascending { AllPairs IsByEarlier edges.now }
+    requires in_range { All (λ transition. transition.letter < product tracks.now) transitions.now }
+    requires ascending { AllPairs IsByEarlier transitions.now }
     ensures blocks { OnOk result (AreRowBlocks tracks.now blocks.new.items) }
-    ensures rows { OnOk result (flat_map rows_in blocks.new.items ≡ flat_map rows_in blocks.old.items ++ edges.now ∷ []) }
+    ensures rows { OnOk result (flat_map rows_in blocks.new.items ≡ flat_map rows_in blocks.old.items ++ transitions.now ∷ []) }
 {
     open_block(tracks, blocks)?;
     let last = blocks.len() - 1;
-    blocks[last].add_row(0, edges)?;
+    blocks[last].add_row(0, transitions)?;
     Ok(())
 }
 
@@ -223,7 +223,7 @@ fn open_block(tracks: &Alphabet, blocks: &mut Vec<Decisions>) -> Result<(), OutO
     Ok(())
 }
 
-// Makes the last block decide by all tracks where it is full or has many edges. What a refused call leaves is of
+// Makes the last block decide by all tracks where it is full or has many transitions. What a refused call leaves is of
 // no use.
 fn part_last(tracks: &Alphabet, blocks: &mut Vec<Decisions>) -> Result<(), OutOfMemory>
     requires { AreRowBlocks tracks.now blocks.old.items }
@@ -232,7 +232,9 @@ fn part_last(tracks: &Alphabet, blocks: &mut Vec<Decisions>) -> Result<(), OutOf
 {
     let alloc = *blocks.allocator();
     if let Some(last) = blocks.last_mut() {
-        if is_whole(tracks, last) && (last.len() >= BLOCK_ROWS || last.edges() >= MANY_EDGES) {
+        if is_whole(tracks, last)
+            && (last.len() >= BLOCK_ROWS || last.transitions() >= MANY_TRANSITIONS)
+        {
             *last = by_tracks(alloc, tracks, last)?;
         }
     }

@@ -7,8 +7,8 @@ use crate::faults::OutOfMemory;
 use std::alloc::Global;
 use std::marker::Model;
 
-/// Places, one behind another, of 4 bytes each: a place is kept as its distance from a base. The first
-/// base is 0, and where a place is too far from the last base, it becomes one itself.
+/// Places, one after another, of 4 bytes each: a place is kept as its distance from a base. The first base is 0, and
+/// where a place is too far from the last base, it becomes one itself.
 #[derive(Drop)]
 pub(crate) struct Starts {
     offsets: Vec<u32>,

@@ -1,6 +1,6 @@
 //! Results of one step of a construction.
 
-/// What a construction made, and its width: how many kinds of words it told apart.
+/// What a construction made, and its width: how many kinds of words it distinguished.
 #[derive(Drop)]
 pub struct Stepped<T> {
     pub result: T,

@@ -3,8 +3,8 @@
 ghost use Rattle.std.specs.Prelude.{◌≡◌, ℕ, ◌<◌, Bool, Option, IfSome};
 ghost use Rattle.digit_tuple.specs.Tables.{run_accepts};
 
-/// A table: from each state each letter leads to one state or nowhere, and a state accepts or not. A
-/// table means the words that lead from state 0 to a state that accepts, as `accepts_by` tells.
+/// A table: from each state each letter leads to one state or nowhere, and a state accepts or not. A table means the
+/// words that lead from state 0 to a state that accepts, as `accepts_by` decides.
 pub trait Table {
     /// How many letters there are.
     ghost letter_count: { Self → ℕ };

@@ -8,7 +8,7 @@ use Rattle.digit_tuple.specs.declared.direction.Direction.TheVariants.{Msd, Lsd}
 use Rattle.digit_tuple.proofs.PaddingLemmas.{IsWord-reverse}
 use Rattle.digit_tuple.proofs.TruthLemmas.{true_by, iff_trans}
 use Rattle.numeration.specs.Systems.{System, IsNumeral}
-use Rattle.numeration.specs.Spelling.{Spells, letters_in, first_track, other_tracks}
+use Rattle.numeration.specs.Representation.{Represents, letters_in, first_track, other_tracks}
 use Rattle.numeration.specs.Relations.{HoldsOf, IsSum, IsAdderOf}
 use Rattle.fib_system.specs.Fibonacci.{is_sparse, fibonacci, weight_sum}
 use Rattle.fib_system.specs.Additions.{first_digit, second_digit, third_digit, key_after, no_digits, is_sum, start_is_addition_key}
@@ -37,9 +37,9 @@ sum_on v u n same numeral =
     let there : IsNumeral fibonacci u n = subst (λ (x : List ℕ). IsNumeral fibonacci x n) same numeral in
     (there.0, sum_numeral u n there)
 
--- a word spells two numbers and their sum just where its tracks are words of the system that make x + y = z
-spells_sum : (w : List ℕ) → (AreSparse 0 w × Makes 2 1 w) ↔ ((ns : List ℕ) × Spells three w ns × IsSum ns)
-spells_sum w = (λ both. forth both.0 both.1, λ all. back all.0 all.1 all.2.0 all.2.1 all.2.2)
+-- a word represents two numbers and their sum if and only if its tracks are words of the system that make x + y = z
+represents_sum : (w : List ℕ) → (AreSparse 0 w × Makes 2 1 w) ↔ ((ns : List ℕ) × Represents three w ns × IsSum ns)
+represents_sum w = (λ both. forth both.0 both.1, λ all. back all.0 all.1 all.2.0 all.2.1 all.2.2)
   where
     x : ℕ
     x = weight_sum (map first_digit w)
@@ -47,7 +47,7 @@ spells_sum w = (λ both. forth both.0 both.1, λ all. back all.0 all.1 all.2.0 a
     y : ℕ
     y = weight_sum (map second_digit w)
 
-    forth : AreSparse 0 w → Makes 2 1 w → (ns : List ℕ) × Spells three w ns × IsSum ns
+    forth : AreSparse 0 w → Makes 2 1 w → (ns : List ℕ) × Represents three w ns × IsSum ns
     forth are makes = (
       x ∷ y ∷ (x + y) ∷ [],
       (
@@ -60,21 +60,21 @@ spells_sum w = (λ both. forth both.0 both.1, λ all. back all.0 all.1 all.2.0 a
       (x, y, refl),
     )
 
-    spelled : (m n : ℕ) → Spells three w (m ∷ n ∷ (m + n) ∷ []) → AreSparse 0 w × Makes 2 1 w
-    spelled m n spells =
-        let one = sum_on _ (map first_digit w) m refl spells.0 in
-        let two = sum_on _ (map second_digit w) n (second_is w) spells.1.0 in
-        let sum = sum_on _ (map third_digit w) (m + n) (third_is w) spells.1.1.0 in
+    represented : (m n : ℕ) → Represents three w (m ∷ n ∷ (m + n) ∷ []) → AreSparse 0 w × Makes 2 1 w
+    represented m n represents =
+        let one = sum_on _ (map first_digit w) m refl represents.0 in
+        let two = sum_on _ (map second_digit w) n (second_is w) represents.1.0 in
+        let sum = sum_on _ (map third_digit w) (m + n) (third_is w) represents.1.1.0 in
         (record { first = one.0; second = two.0; third = sum.0 }, omega (arith, one.1, two.1, sum.1))
 
-    back : (ns : List ℕ) → Spells three w ns → (m n : ℕ) → ns ≡ m ∷ n ∷ (m + n) ∷ [] → AreSparse 0 w × Makes 2 1 w
-    back ns spells m n is = spelled m n (subst (Spells three w) is spells)
+    back : (ns : List ℕ) → Represents three w ns → (m n : ℕ) → ns ≡ m ∷ n ∷ (m + n) ∷ [] → AreSparse 0 w × Makes 2 1 w
+    back ns represents m n is = represented m n (subst (Represents three w) is represents)
 
 -- an automaton that accepts what the keys accept adds
 pub keys_add : (d : Automaton) → d.sizes ≡ 2 ∷ 2 ∷ 2 ∷ [] → ((w : List ℕ) → IsWord 8 w → accepts_of d w ≡ key_accepts key_after is_sum no_digits w) → IsAdderOf Msd fibonacci d
 keys_add d sizes same = record {
   sizes = sizes;
-  accepts = λ w over. true_by (accepts_of d w) (key_accepts key_after is_sum no_digits w) _ (same w over) (iff_trans _ _ _ (key_accepts_sums 2 1 0 w start_is_addition_key over) (spells_sum w));
+  accepts = λ w over. true_by (accepts_of d w) (key_accepts key_after is_sum no_digits w) _ (same w over) (iff_trans _ _ _ (key_accepts_sums 2 1 0 w start_is_addition_key over) (represents_sum w));
 }
 
 -- an automaton over the reversed words holds of the same tuples in the other direction

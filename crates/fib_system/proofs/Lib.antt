@@ -3,4 +3,4 @@ mod WeightLemmas
 mod SumLemmas
 mod AdderLemmas
 mod TableLemmas
-mod KeyEdgesBy
+mod KeyTransitionsBy

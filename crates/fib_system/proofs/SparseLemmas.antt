@@ -52,7 +52,7 @@ has_11-reverse w has = (
 turned : (w : List ℕ) → IsTrue (is_sparse w) → IsTrue (is_sparse (reverse w))
 turned w valid = sparse_from (reverse w) (IsWord-reverse 2 w (sparse_over w valid)) (λ has. without_11 w valid (has_11-reverse w has))
 
-pub sparse_in_order : (way : Direction) (w : List ℕ) → is_sparse (in_order way w) ≡ is_sparse w
+pub sparse_in_order : (direction : Direction) (w : List ℕ) → is_sparse (in_order direction w) ≡ is_sparse w
 sparse_in_order Msd w = refl
 sparse_in_order Lsd w = same_tests (is_sparse (reverse w)) (is_sparse w) (λ valid. subst (λ (u : List ℕ). IsTrue (is_sparse u)) (reverse-reverse w) (turned (reverse w) valid), turned w)
 

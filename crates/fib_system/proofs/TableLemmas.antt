@@ -8,7 +8,7 @@ use Rattle.numeration.specs.Relations.{IsLanguageOf}
 use Rattle.fib_system.specs.Fibonacci.{is_sparse, begins_with_1, fibonacci}
 use Rattle.fib_system.proofs.SparseLemmas.{sparse_in_order}
 
--- an automaton of two states, which are told apart by the last digit
+-- an automaton of two states, which are distinguished by the last digit
 pub record TellsLast (d : Automaton) : Type 0 where
   pub accepting : (q : ℕ) → q < 2 → accepting_of d q ≡ true
   pub zero_stays : step_of d 0 0 ≡ Some 0
@@ -33,13 +33,13 @@ sparse_accepted d (a ∷ w) tells = by a (sparse_accepted d w tells)
       ap to (tells.others_stop 1 b (omega arith)) ∙ sym (and_right (not (begins_with_1 (suc (suc b) ∷ w))) false refl),
     )
 
-pub language_holds : (way : Direction) (d : Automaton) → d.sizes ≡ 2 ∷ [] → TellsLast d → IsLanguageOf way fibonacci d
-language_holds way d sizes tells = record {
+pub language_holds : (direction : Direction) (d : Automaton) → d.sizes ≡ 2 ∷ [] → TellsLast d → IsLanguageOf direction fibonacci d
+language_holds direction d sizes tells = record {
   sizes = sizes;
-  accepts = λ w. (sparse_accepted d w tells).0 ∙ sym (sparse_in_order way w);
+  accepts = λ w. (sparse_accepted d w tells).0 ∙ sym (sparse_in_order direction w);
 }
 
--- two accepting states without edges
+-- two accepting states without transitions
 abbrev pub two_states : List ℕ → Automaton
 two_states sizes = with_state (with_state (record { sizes = sizes; states = [] }) true) true
 
@@ -53,9 +53,9 @@ accept sizes zero small = refl
 accept sizes (suc zero) small = refl
 accept sizes (suc (suc q)) small = absurd (omega (arith, small))
 
--- what two states become that are given three edges
-pub set_edges : (sizes : List ℕ) (one two made : Automaton) → IsSet (two_states sizes) one 0 0 0 → IsSet one two 0 1 1 → IsSet two made 1 0 0 → TellsLast made × (made.sizes ≡ sizes)
-set_edges sizes one two made first second third = (
+-- what two states become that are given three transitions
+pub set_transitions : (sizes : List ℕ) (one two made : Automaton) → IsSet (two_states sizes) one 0 0 0 → IsSet one two 0 1 1 → IsSet two made 1 0 0 → TellsLast made × (made.sizes ≡ sizes)
+set_transitions sizes one two made first second third = (
   record {
     accepting = λ q small. third.accepting q ∙ second.accepting q ∙ first.accepting q ∙ accept sizes q small;
     zero_stays = third.elsewhere 0 0 (λ h. absurd (omega (arith, h.0))) ∙ second.elsewhere 0 0 (λ h. absurd (omega (arith, h.1))) ∙ first.there;
@@ -84,7 +84,7 @@ built sizes empty one two first second made zero_state one_state empty_is zero_i
     let with_one : one ≡ with_state (record { sizes = sizes; states = [] }) true = one_is ∙ ap (λ (d : Automaton). with_state d true) empty_is in
     let other : one_state ≡ 1 = one_state_is ∙ ap (λ (d : Automaton). states_of d) with_one in
     let with_two : two ≡ two_states sizes = two_is ∙ ap (λ (d : Automaton). with_state d true) with_one in
-    set_edges sizes first second made
+    set_transitions sizes first second made
     (subst (λ (d : Automaton). IsSet d first 0 0 0) with_two (subst (λ (n : ℕ). IsSet two first n 0 n) start set_first))
     (subst (λ (n : ℕ). IsSet first second 0 1 n) other (subst (λ (n : ℕ). IsSet first second n 1 one_state) start set_second))
     (subst (λ (n : ℕ). IsSet second made 1 0 n) start (subst (λ (n : ℕ). IsSet second made n 0 zero_state) other set_third))

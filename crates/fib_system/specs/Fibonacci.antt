@@ -9,7 +9,7 @@ abbrev pub begins_with_1 : List ℕ → Bool
 begins_with_1 [] = false
 begins_with_1 (a ∷ w) = nat_eq a 1
 
--- each digit is 0 or 1, and no 1 stands next to another
+-- each digit is 0 or 1, and no 1 comes next to another
 abbrev pub is_sparse : List ℕ → Bool
 is_sparse [] = true
 is_sparse (zero ∷ w) = is_sparse w
@@ -35,7 +35,7 @@ weight_sum (a ∷ w) = a * weight (length w) + weight_sum w
 abbrev pub RankIsWeightSum : Type 0
 RankIsWeightSum = (w : List ℕ) → IsTrue (fibonacci.test w) → rank fibonacci.digits fibonacci.test w ≡ weight_sum w
 
--- somewhere in the word two ones stand side by side
+-- somewhere in the word two ones are side by side
 abbrev pub Has11 : List ℕ → Type 0
 Has11 w = (u : List ℕ) × (v : List ℕ) × (w ≡ u ++ 1 ∷ 1 ∷ v)
 

@@ -4,8 +4,8 @@ ghost use Rattle.std.specs.Prelude.{◌≡◌, ◌+◌, ◌<◌, ◌≤◌, ⊤}
 ghost use Rattle.fib_system.specs.Additions.{first_digit, second_digit, third_digit, may_follow, excess_after, key_after, no_digits, is_sum, IsAdditionKey, start_is_addition_key, after_is_addition_key};
 
 use digit_tuple::faults::OutOfMemory;
-use digit_tuple::key_edges::KeyEdges;
 use digit_tuple::key_graph::KeyGraph;
+use digit_tuple::key_transitions::KeyTransitions;
 use std::alloc::Global;
 
 // How many letters three tracks over two digits have.
@@ -39,7 +39,12 @@ impl KeyGraph for Additions {
         Ok(Vec::from_slice(alloc, &[2, 1, 0])?)
     }
 
-    fn edges(&self, _alloc: Global, key: &[u32], out: &mut KeyEdges) -> Result<(), OutOfMemory> {
+    fn transitions(
+        &self,
+        _alloc: Global,
+        key: &[u32],
+        out: &mut KeyTransitions,
+    ) -> Result<(), OutOfMemory> {
         for letter in 0..LETTERS {
             if let Some(next) = next_key(key, letter) {
                 out.push(letter, &next)?;

@@ -18,7 +18,7 @@ use std::alloc::Global;
 
 /// The automaton of the words without 11, in either direction. Its second state is that after a 1.
 pub fn language_of(alloc: Global) -> Result<Dfa, OutOfMemory>
-    ensures { IfOk result (λ dfa. (way : Direction) → IsLanguageOf way fibonacci dfa) }
+    ensures { IfOk result (λ dfa. (direction : Direction) → IsLanguageOf direction fibonacci dfa) }
 {
     let alphabet = Alphabet::fitting(alloc, &[2])?;
     let mut builder = DfaBuilder::new(alloc, alphabet)?;

@@ -10,12 +10,12 @@ use digit_tuple::faults::OutOfMemory;
 use numeration::num_system::NumSystem;
 use std::alloc::Global;
 
-/// The Fibonacci numeration system: the words over 0 and 1 in which no 1 stands next to another are
-/// valid, and each stands for the sum of the weights 1, 2, 3, 5, .. of its digits 1 (Zeckendorf,
-/// "Représentation des nombres naturels par une somme de nombres de Fibonacci ou de nombres de Lucas").
+/// The Fibonacci numeration system: the words over 0 and 1 in which no 1 comes next to another are valid, and each
+/// stands for the sum of the weights 1, 2, 3, 5, .. of its digits 1 (Zeckendorf, "Représentation des nombres naturels
+/// par une somme de nombres de Fibonacci ou de nombres de Lucas").
 #[derive(Clone, Copy)]
 pub struct Fib {
-    /// Which digit of a word stands first.
+    /// Which digit of a word comes first.
     pub direction: Direction,
 }
 
@@ -33,14 +33,14 @@ impl NumSystem for Fib {
 
     ghost system = { λ s. fibonacci };
 
-    ghost way = { λ s. s.direction };
+    ghost first_digit = { λ s. s.direction };
 
     /// Two, 0 and 1.
     fn digits(&self) -> u32 {
         2
     }
 
-    /// Which digit of a word stands first.
+    /// Which digit of a word comes first.
     fn direction(&self) -> Direction {
         self.direction
     }

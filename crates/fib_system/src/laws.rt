@@ -2,7 +2,7 @@
 
 ghost use Rattle.fib_system.specs.Fibonacci.{RankIsWeightSum, WordsAreWithout11};
 
-/// The words of the system are those over the digits 0 and 1 in which no 1 stands next to another.
+/// The words of the system are those over the digits 0 and 1 in which no 1 comes next to another.
 pub fn words_are_without_11()
     ensures { WordsAreWithout11 }
 {}

@@ -5,7 +5,7 @@ use Rattle.std.specs.List.{AllByRecursion, Contains}
 use Rattle.std.proofs.lemmas.Option.{slice_get_within}
 use Rattle.morph_words.proofs.AppliedLemmas.{slice_get-before}
 
--- an element that stands in the first list stands there in both
+-- an element that is in the first list is there in both
 pub slice_get-stays : {X : Type 0} (xs ys : List X) (n : ℕ) (x : X) → slice_get xs n ≡ Some x → slice_get (xs ++ ys) n ≡ Some x
 slice_get-stays xs ys n x is = slice_get-before xs ys n (slice_get_within xs n x is) ∙ is
 

@@ -6,11 +6,11 @@ use Rattle.digit_tuple.specs.Letters.{IsWord, product}
 use Rattle.digit_tuple.specs.StepResults.{IsDone}
 use Rattle.digit_tuple.specs.Steps.{StepLog, with_line}
 use Rattle.digit_tuple.specs.declared.step_fault.StepFault.TheVariants.{Letters, Memory, States}
-use Rattle.numeration.specs.Spelling.{sizes_of}
+use Rattle.numeration.specs.Representation.{sizes_of}
 use Rattle.numeration.specs.Systems.{System}
 use Rattle.base_k.specs.Positional.{RankIsPositional, base, value}
 use Rattle.num_system.specs.Sealed.{IsSealed, SystemValue, system_of}
-use Rattle.num_system.specs.Tracks.{systems_of, way_of}
+use Rattle.num_system.specs.Tracks.{systems_of, direction_of}
 use Rattle.num_system.proofs.OneSystem.{one_sealed}
 use Rattle.word_output.specs.LetterFunctions.{letter_after}
 use Rattle.word_output.specs.Words.{HasLetter, WordValue}
@@ -25,18 +25,18 @@ use Rattle.fixed_points.specs.declared.promote_fault.PromoteFault.TheVariants.{M
 use Rattle.fixed_points.proofs.KindLemmas.{apart, one_base, one_kind}
 use Rattle.fixed_points.proofs.OccurrenceLemmas.{one_number, within_all}
 use Rattle.fixed_points.proofs.PowerLemmas.{one_letter}
-use Rattle.fixed_points.proofs.WordLemmas.{value_spelled}
+use Rattle.fixed_points.proofs.WordLemmas.{value_represented}
 
 head_same : (s t : System) (ss ts : List System) → s ∷ ss ≡ t ∷ ts → s ≡ t
 head_same s t ss ts same = cc
 
 -- the systems of one track, each sealed, are one where their numbers and directions are
-one_track : (k : ℕ) (a b : List SystemValue) → AllByRecursion IsSealed a → AllByRecursion IsSealed b → systems_of a ≡ base k ∷ [] → systems_of b ≡ base k ∷ [] → way_of a ≡ way_of b → a ≡ b
-one_track k [] b first second one two ways = let long : 0 ≡ 1 = ap length one in absurd (omega (arith, long))
-one_track k (s ∷ a) [] first second one two ways = let long : 0 ≡ 1 = ap length two in absurd (omega (arith, long))
-one_track k (s ∷ []) (t ∷ []) first second one two ways = ap (λ u. u ∷ []) (one_sealed s t first.0 second.0 ways (head_same (system_of s) (base k) [] [] one ∙ sym (head_same (system_of t) (base k) [] [] two)))
-one_track k (s ∷ u ∷ a) (t ∷ b) first second one two ways = let long : length (systems_of (s ∷ u ∷ a)) ≡ 1 = ap length one in absurd (omega (arith, long))
-one_track k (s ∷ []) (t ∷ u ∷ b) first second one two ways = let long : length (systems_of (t ∷ u ∷ b)) ≡ 1 = ap length two in absurd (omega (arith, long))
+one_track : (k : ℕ) (a b : List SystemValue) → AllByRecursion IsSealed a → AllByRecursion IsSealed b → systems_of a ≡ base k ∷ [] → systems_of b ≡ base k ∷ [] → direction_of a ≡ direction_of b → a ≡ b
+one_track k [] b first second one two directions = let long : 0 ≡ 1 = ap length one in absurd (omega (arith, long))
+one_track k (s ∷ a) [] first second one two directions = let long : 0 ≡ 1 = ap length two in absurd (omega (arith, long))
+one_track k (s ∷ []) (t ∷ []) first second one two directions = ap (λ u. u ∷ []) (one_sealed s t first.0 second.0 directions (head_same (system_of s) (base k) [] [] one ∙ sym (head_same (system_of t) (base k) [] [] two)))
+one_track k (s ∷ u ∷ a) (t ∷ b) first second one two directions = let long : length (systems_of (s ∷ u ∷ a)) ≡ 1 = ap length one in absurd (omega (arith, long))
+one_track k (s ∷ []) (t ∷ u ∷ b) first second one two directions = let long : length (systems_of (t ∷ u ∷ b)) ≡ 1 = ap length two in absurd (omega (arith, long))
 
 module _ (positional : RankIsPositional) (rules : Rules) (k : ℕ) (has : HasFixedPoint rules k) (v u : WordValue) (first : IsFixedWord rules k v) (second : IsFixedWord rules k u) where
   sizes_are : (w : WordValue) → IsFixedWord rules k w → w.function.automaton.sizes ≡ k ∷ []
@@ -45,9 +45,9 @@ module _ (positional : RankIsPositional) (rules : Rules) (k : ℕ) (has : HasFix
   -- the letter of a word of digits is that of its value
   letter_at : (x : WordValue) → IsFixedWord rules k x → (w : List ℕ) → IsWord k w → (letter : ℤ) × (letter_after x.function w ≡ Some letter) × HasLetter x (value k w ∷ []) letter
   letter_at x is w over =
-      let spelled = value_spelled positional x.systems k has.base.0 is.system is.direction w over in
-      let found = some_value (letter_after x.function w) ((is.word_is.everywhere w spelled.over).1 (value k w ∷ [], spelled)) in
-      (found.0, found.1, (w, spelled, found.1))
+      let represented = value_represented positional x.systems k has.base.0 is.system is.direction w over in
+      let found = some_value (letter_after x.function w) ((is.word_is.everywhere w represented.over).1 (value k w ∷ [], represented)) in
+      (found.0, found.1, (w, represented, found.1))
 
   same_letters : (w : List ℕ) → IsWord (letters_of v.function.automaton) w → letter_after v.function w ≡ letter_after u.function w
   same_letters w over =

@@ -91,7 +91,7 @@ module _ (rules : Rules) (begins : BeginsItself rules) where
           record { times = found.times; first = found.first; letter_is = there ∙ ap Some same }
 
 module _ (rules : Rules) (k : ℕ) (has : HasFixedPoint rules k) where
-  -- the letter that a digit leads to stands in the image
+  -- the letter that a digit leads to is in the image
   by_digit : (letter : ℤ) (digit : ℕ) → HasRule rules letter → digit < k → slice_get (image rules letter) digit ≡ Some (letter_by rules letter digit)
   by_digit letter digit ruled small = slice_get-get_or (image rules letter) digit (pos 0) (omega (arith, has.uniform letter ruled, small))
 
@@ -137,7 +137,7 @@ module _ (rules : Rules) (k : ℕ) (has : HasFixedPoint rules k) where
       letter_at rules has.begins (0 + length w) (value k w) (reached rules (pos 0) w)
       (ap (slice_get (power rules (0 + length w))) (let at : value k w ≡ 0 * k ^ length w + value k w = omega arith in at) ∙ reached_from w 0 0 (pos 0) over (zero_ruled rules k has) refl)
 
-  -- the image of a letter of the fixed point stands in it, k times as far
+  -- the image of a letter of the fixed point is in it, k times as far
   pub image_stands : (place digit : ℕ) (letter other : ℤ) → IsLetterAt rules place letter → digit < k → slice_get (image rules letter) digit ≡ Some other → IsLetterAt rules (place * k + digit) other
   image_stands place digit letter other at small is =
       letter_at rules has.begins (suc at.times) (place * k + digit) other (slice_get-applied rules k has.uniform (power rules at.times) place digit letter (power_ruled at.times) at.letter_is small ∙ is)

@@ -10,15 +10,15 @@ use Rattle.digit_tuple.specs.Letters.{IsWord}
 use Rattle.digit_tuple.specs.Paddings.{in_order}
 use Rattle.digit_tuple.specs.declared.direction.Direction.{Direction}
 use Rattle.digit_tuple.specs.declared.direction.Direction.TheVariants.{Msd}
-use Rattle.numeration.specs.Spelling.{Spells, first_track, letters_in, sizes_of}
+use Rattle.numeration.specs.Representation.{Represents, first_track, letters_in, sizes_of}
 use Rattle.numeration.specs.Systems.{IsNumeral, System}
 use Rattle.base_k.specs.Positional.{RankIsPositional, base, value}
 use Rattle.base_k.specs.BaseLaws as laws
 use Rattle.num_system.specs.Sealed.{IsSealed, SystemValue}
-use Rattle.num_system.specs.Tracks.{HaveOneWay, systems_of, way_of}
+use Rattle.num_system.specs.Tracks.{ShareDirection, systems_of, direction_of}
 use Rattle.word_output.specs.LetterFunctions.{IsLetterFunction, LetterFunctionValue, letter_after}
 use Rattle.word_output.specs.StateLetters.{letter_led}
-use Rattle.word_output.specs.Words.{HasLetter, SpellsPlace, WordValue}
+use Rattle.word_output.specs.Words.{HasLetter, RepresentsPlace, WordValue}
 use Rattle.word_output.proofs.LsdLetterLemmas.{letter_led-explored}
 use Rattle.word_output.proofs.OptionLemmas.{some_there}
 use Rattle.morph_words.specs.Rules.{Rules}
@@ -34,8 +34,8 @@ only_track : (w : List ℕ) → first_track [] w ≡ w
 only_track [] = refl
 only_track (a ∷ w) = ap (λ b. b ∷ first_track [] w) (div-one a) ∙ ap (λ (u : List ℕ). a ∷ u) (only_track w)
 
--- one system has one way
-one_of_one : (systems : List SystemValue) (s : System) → systems_of systems ≡ s ∷ [] → HaveOneWay systems
+-- one system has one direction
+one_of_one : (systems : List SystemValue) (s : System) → systems_of systems ≡ s ∷ [] → ShareDirection systems
 one_of_one [] s are = tt
 one_of_one (t ∷ []) s are = (refl, tt)
 one_of_one (t ∷ u ∷ systems) s are = let long : length (systems_of (t ∷ u ∷ systems)) ≡ 1 = ap length are in absurd (omega (arith, long))
@@ -44,12 +44,12 @@ some_of_one : (systems : List SystemValue) (s : System) → systems_of systems �
 some_of_one [] s are = let long : 0 ≡ 1 = ap length are in absurd (omega (arith, long))
 some_of_one (t ∷ systems) s are = omega arith
 
-module _ (positional : RankIsPositional) (systems : List SystemValue) (k : ℕ) (some : 2 ≤ k) (are : systems_of systems ≡ base k ∷ []) (way : way_of systems ≡ Msd) where
-  moved : (P : List System → Direction → Type 0) → P (systems_of systems) (way_of systems) → P (base k ∷ []) Msd
-  moved P p = subst (λ ss. P ss Msd) are (subst (P (systems_of systems)) way p)
+module _ (positional : RankIsPositional) (systems : List SystemValue) (k : ℕ) (some : 2 ≤ k) (are : systems_of systems ≡ base k ∷ []) (direction : direction_of systems ≡ Msd) where
+  moved : (P : List System → Direction → Type 0) → P (systems_of systems) (direction_of systems) → P (base k ∷ []) Msd
+  moved P p = subst (λ ss. P ss Msd) are (subst (P (systems_of systems)) direction p)
 
-  back : (P : List System → Direction → Type 0) → P (base k ∷ []) Msd → P (systems_of systems) (way_of systems)
-  back P p = subst (P (systems_of systems)) (sym way) (subst (λ ss. P ss Msd) (sym are) p)
+  back : (P : List System → Direction → Type 0) → P (base k ∷ []) Msd → P (systems_of systems) (direction_of systems)
+  back P p = subst (P (systems_of systems)) (sym direction) (subst (λ ss. P ss Msd) (sym are) p)
 
   one_times : k * 1 ≡ k
   one_times = omega arith
@@ -61,36 +61,36 @@ module _ (positional : RankIsPositional) (systems : List SystemValue) (k : ℕ) 
   pub digits_over_track : (w : List ℕ) → IsWord k w → IsWord (letters_in (systems_of systems)) w
   digits_over_track w over = back (λ ss d. IsWord (letters_in ss) w) (subst (λ n. IsWord n w) (sym one_times) over)
 
-  -- a word spells its value alone
-  value_from : (ns w : List ℕ) → IsWord k w → Spells (base k ∷ []) w ns → ns ≡ value k w ∷ []
-  value_from [] w over spells = absurd spells
-  value_from (n ∷ []) w over spells = ap (λ m. m ∷ []) (sym (let numeral : IsNumeral (base k) w n = subst (λ u. IsNumeral (base k) u n) (only_track w) spells.0 in sym (positional k w some over) ∙ numeral.1))
-  value_from (n ∷ m ∷ ns) w over spells = absurd spells.1
+  -- a word represents its value alone
+  value_from : (ns w : List ℕ) → IsWord k w → Represents (base k ∷ []) w ns → ns ≡ value k w ∷ []
+  value_from [] w over represents = absurd represents
+  value_from (n ∷ []) w over represents = ap (λ m. m ∷ []) (sym (let numeral : IsNumeral (base k) w n = subst (λ u. IsNumeral (base k) u n) (only_track w) represents.0 in sym (positional k w some over) ∙ numeral.1))
+  value_from (n ∷ m ∷ ns) w over represents = absurd represents.1
 
-  pub spelled_value : (ns w : List ℕ) → SpellsPlace systems ns w → ns ≡ value k w ∷ []
-  spelled_value ns w spelled = value_from ns w (over_digits w spelled.over) (moved (λ ss d. Spells ss (in_order d w) ns) spelled.spells)
+  pub represented_value : (ns w : List ℕ) → RepresentsPlace systems ns w → ns ≡ value k w ∷ []
+  represented_value ns w represented = value_from ns w (over_digits w represented.over) (moved (λ ss d. Represents ss (in_order d w) ns) represented.represents)
 
-  pub value_spelled : (w : List ℕ) → IsWord k w → SpellsPlace systems (value k w ∷ []) w
-  value_spelled w over = record {
+  pub value_represented : (w : List ℕ) → IsWord k w → RepresentsPlace systems (value k w ∷ []) w
+  value_represented w over = record {
     over = digits_over_track w over;
-    spells = back (λ ss d. Spells ss (in_order d w) (value k w ∷ [])) (subst (λ u. IsNumeral (base k) u (value k w)) (sym (only_track w)) (laws.over_digits k w over, positional k w some over), tt);
+    represents = back (λ ss d. Represents ss (in_order d w) (value k w ∷ [])) (subst (λ u. IsNumeral (base k) u (value k w)) (sym (only_track w)) (laws.over_digits k w over, positional k w some over), tt);
   }
 
 first_same : (a b : ℕ) → a ∷ [] ≡ b ∷ [] → a ≡ b
 first_same a b same = cc
 
 -- a function that gives each word the letter that it reaches is that of the fixed point
-pub fixed_word : RankIsPositional → (rules : Rules) (k : ℕ) (systems : List SystemValue) (f : LetterFunctionValue) → HasFixedPoint rules k → systems_of systems ≡ base k ∷ [] → way_of systems ≡ Msd → AllByRecursion IsSealed systems
+pub fixed_word : RankIsPositional → (rules : Rules) (k : ℕ) (systems : List SystemValue) (f : LetterFunctionValue) → HasFixedPoint rules k → systems_of systems ≡ base k ∷ [] → direction_of systems ≡ Msd → AllByRecursion IsSealed systems
     → IsLetterFunction f → f.automaton.sizes ≡ k ∷ [] → ((w : List ℕ) → IsWord k w → letter_after f w ≡ Some (reached rules (pos 0) w)) → IsFixedWord rules k (record { systems = systems; function = f })
-fixed_word positional rules k systems f has are way sealed function sizes letters = record {
+fixed_word positional rules k systems f has are direction sealed function sizes letters = record {
   word_is = record {
     function = function;
     some = some_of_one systems (base k) are;
     sealed = sealed;
-    one_way = one_of_one systems (base k) are;
+    shared_direction = one_of_one systems (base k) are;
     sizes = sizes ∙ ap sizes_of (sym are);
     everywhere = λ w over. (
-      (λ there. (value k w ∷ [], value_spelled positional systems k has.base.0 are way w (digits w over))),
+      (λ there. (value k w ∷ [], value_represented positional systems k has.base.0 are direction w (digits w over))),
       (λ place. some_there (letter_after f w) (reached rules (pos 0) w) (letters w (digits w over))),
     );
     one = λ ns w u first second.
@@ -100,7 +100,7 @@ fixed_word positional rules k systems f has are way sealed function sizes letter
         ∙ sym (letters u (digits u second.over));
   };
   system = are;
-  direction = way;
+  direction = direction;
   letters = λ place letter. (over place letter, back_at place letter);
 }
   where
@@ -108,23 +108,23 @@ fixed_word positional rules k systems f has are way sealed function sizes letter
     word = record { systems = systems; function = f }
 
     digits : (w : List ℕ) → IsWord (letters_in (systems_of systems)) w → IsWord k w
-    digits w over = over_digits positional systems k has.base.0 are way w over
+    digits w over = over_digits positional systems k has.base.0 are direction w over
 
-    value_of : (ns w : List ℕ) → SpellsPlace systems ns w → ns ≡ value k w ∷ []
-    value_of ns w spelled = spelled_value positional systems k has.base.0 are way ns w spelled
+    value_of : (ns w : List ℕ) → RepresentsPlace systems ns w → ns ≡ value k w ∷ []
+    value_of ns w represented = represented_value positional systems k has.base.0 are direction ns w represented
 
     over : (place : ℕ) (letter : ℤ) → HasLetter word (place ∷ []) letter → IsLetterAt rules place letter
-    over place letter (w, spelled, is) =
-        let at : place ≡ value k w = first_same place (value k w) (value_of (place ∷ []) w spelled) in
-        let same : reached rules (pos 0) w ≡ letter = same_Some (reached rules (pos 0) w) letter (sym (letters w (digits w spelled.over)) ∙ is) in
-        subst (λ n. IsLetterAt rules n letter) (sym at) (subst (IsLetterAt rules (value k w)) same (letter_of_word rules k has w (digits w spelled.over)))
+    over place letter (w, represented, is) =
+        let at : place ≡ value k w = first_same place (value k w) (value_of (place ∷ []) w represented) in
+        let same : reached rules (pos 0) w ≡ letter = same_Some (reached rules (pos 0) w) letter (sym (letters w (digits w represented.over)) ∙ is) in
+        subst (λ n. IsLetterAt rules n letter) (sym at) (subst (IsLetterAt rules (value k w)) same (letter_of_word rules k has w (digits w represented.over)))
 
     back_at : (place : ℕ) (letter : ℤ) → IsLetterAt rules place letter → HasLetter word (place ∷ []) letter
     back_at place letter at =
         let found = word_of_place positional k place has.base.0 in
         let w : List ℕ = found.0 in
         let same : reached rules (pos 0) w ≡ letter = reached_at rules k has w place letter found.1 found.2 at in
-        (w, subst (λ n. SpellsPlace systems (n ∷ []) w) found.2 (value_spelled positional systems k has.base.0 are way w found.1), letters w found.1 ∙ ap Some same)
+        (w, subst (λ n. RepresentsPlace systems (n ∷ []) w) found.2 (value_represented positional systems k has.base.0 are direction w found.1), letters w found.1 ∙ ap Some same)
 
 -- the letter of the state that a word leads to
 pub letter_reached : (rules : Rules) (k : ℕ) (graph : IsLetterGraph rules k) (accepts : List ℕ → Bool) (keys : List (List ℕ)) (d : Automaton) → IsExplored k (key_of (pos 0)) (key_after rules) accepts keys d → 0 < states_of d

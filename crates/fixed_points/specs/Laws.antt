@@ -22,7 +22,7 @@ FixedPointsHaveLetters = (rules : Rules) (k place : ℕ) → HasFixedPoint rules
 abbrev pub FixedPointsHaveOneLetter : Type 0
 FixedPointsHaveOneLetter = (rules : Rules) (place : ℕ) (letter other : ℤ) → IsLetterAt rules place letter → IsLetterAt rules place other → letter ≡ other
 
--- and it is its own image: that of the letter at a place stands from k times the place on
+-- and it is its own image: that of the letter at a place is from k times the place on
 abbrev pub FixedPointsAreFixed : Type 0
 FixedPointsAreFixed = (rules : Rules) (k place digit : ℕ) (letter other : ℤ) → HasFixedPoint rules k → IsLetterAt rules place letter → digit < k → slice_get (image rules letter) digit ≡ Some other → IsLetterAt rules (place * k + digit) other
 

@@ -13,7 +13,7 @@ pub record LacksAmong (rules : Rules) (word : List ℤ) (count : ℕ) (letter : 
   pub letter_is : slice_index_or word place (pos 0) ≡ letter
   pub lacks : ¬ HasRule rules letter
 
--- the letter stands in the image of one of the first so many letters, and has no rule
+-- the letter is in the image of one of the first so many letters, and has no rule
 pub record LacksBelow (rules : Rules) (letters : List ℤ) (count : ℕ) (letter : ℤ) : Type 0 where
   pub place : ℕ
   pub before : place < count

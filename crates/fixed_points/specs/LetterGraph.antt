@@ -32,7 +32,7 @@ pub record IsLetterKey (rules : Rules) (key : List ℕ) : Type 0 where
 abbrev pub key_after : Rules → List ℕ → ℕ → Option (List ℕ)
 key_after rules key digit = Some (key_of (letter_by rules (letter_of key) digit))
 
--- letters with rules are told by their keys, and digits lead from each to another
+-- letters with rules are determined by their keys, and digits lead from each to another
 pub record IsLetterGraph (rules : Rules) (k : ℕ) : Type 0 where
   pub has : HasFixedPoint rules k
   pub told : (letter : ℤ) → HasRule rules letter → letter_of (key_of letter) ≡ letter

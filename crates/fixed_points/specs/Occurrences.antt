@@ -4,7 +4,7 @@ use Rattle.std.specs.List.{All, AllPairs, Contains}
 use Rattle.morph_words.specs.Rules.{Rules}
 use Rattle.morph_words.specs.FixedPoint.{IsLetterAt}
 
--- the letter stands at some place
+-- the letter is at some place
 abbrev pub Occurs : Rules → ℤ → Type 0
 Occurs rules letter = (place : ℕ) × IsLetterAt rules place letter
 

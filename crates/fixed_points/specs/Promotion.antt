@@ -7,7 +7,7 @@ use Rattle.digit_tuple.specs.declared.direction.Direction.TheVariants.{Msd}
 use Rattle.digit_tuple.specs.declared.kind.Kind.TheVariants as kinds
 use Rattle.digit_tuple.specs.declared.steps.StepLine.{StepLine}
 use Rattle.base_k.specs.Positional.{base}
-use Rattle.num_system.specs.Tracks.{systems_of, way_of}
+use Rattle.num_system.specs.Tracks.{systems_of, direction_of}
 use Rattle.word_output.specs.Words.{HasLetter, IsWordValue, WordValue}
 use Rattle.morph_words.specs.Rules.{Rules}
 use Rattle.morph_words.specs.FixedPoint.{IsLetterAt}
@@ -20,7 +20,7 @@ use Rattle.fixed_points.specs.declared.promote_fault.PromoteFault.TheVariants.{M
 pub record IsFixedWord (rules : Rules) (k : ℕ) (word : WordValue) : Type 0 where
   pub word_is : IsWordValue word
   pub system : systems_of word.systems ≡ base k ∷ []
-  pub direction : way_of word.systems ≡ Msd
+  pub direction : direction_of word.systems ≡ Msd
   pub letters : (place : ℕ) (letter : ℤ) → HasLetter word (place ∷ []) letter ↔ IsLetterAt rules place letter
 
 -- the line of the step: its width is the number of letters that occur

@@ -34,7 +34,7 @@ pub(crate) fn fixed_base(morphism: &Morphism, letters: &[i32]) -> Result<u32, Mo
     Ok(base as u32)
 }
 
-// The least letter that stands in an image and has none.
+// The least letter that is in an image and has none.
 fn least_lacking(morphism: &Morphism, letters: &[i32]) -> Option<i32>
     requires { letters.now ≡ keys_of morphism.now }
     ensures { IsLeastOf (IsLacking morphism.now) result }

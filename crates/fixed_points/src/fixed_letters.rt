@@ -25,7 +25,7 @@ use word_output::letter_function::LetterFunction;
 /// the number of letters that occur in the fixed point. Time and memory follow that number times the base.
 ///
 /// # Errors
-/// `States` exactly where the width passes the limit.
+/// `States` if and only if the width passes the limit.
 pub(crate) fn fixed_letters(
     alloc: Global,
     morphism: &Morphism,

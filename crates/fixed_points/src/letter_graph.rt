@@ -1,13 +1,13 @@
 //! Letters with their images, as a graph of keys.
 
 ghost use Rattle.std.specs.Prelude.{◌≡◌, ◌<◌, ◌^◌, pos, List, [], length, Some, OnOk, slice_index_or};
-ghost use Rattle.digit_tuple.specs.Keys.{AreKeyEdges};
+ghost use Rattle.digit_tuple.specs.Keys.{AreKeyTransitions};
 ghost use Rattle.fixed_points.specs.LetterGraph.{IsLetterGraph, IsLetterKey, accepts_all, key_after, key_of, letter_of};
 ghost use Rattle.fixed_points.specs.LetterGraphLaws.{after_is_letter_key, start_is_letter_key};
 
 use digit_tuple::faults::OutOfMemory;
-use digit_tuple::key_edges::KeyEdges;
 use digit_tuple::key_graph::KeyGraph;
+use digit_tuple::key_transitions::KeyTransitions;
 use morph_words::Morphism;
 use std::alloc::Global;
 
@@ -40,7 +40,12 @@ impl KeyGraph for LetterGraph<'_> {
         Ok(Vec::from_slice(alloc, &[0])?)
     }
 
-    fn edges(&self, _alloc: Global, key: &[u32], out: &mut KeyEdges) -> Result<(), OutOfMemory> {
+    fn transitions(
+        &self,
+        _alloc: Global,
+        key: &[u32],
+        out: &mut KeyTransitions,
+    ) -> Result<(), OutOfMemory> {
         match self.morphism.image(letter_of(key)) {
             Some(image) => push_letters(image.letters(), out),
             None => Ok(()),
@@ -60,11 +65,11 @@ pub(crate) fn letter_of(key: &[u32]) -> i32
     key[0].cast_signed()
 }
 
-// An edge by the place of each letter of a word, to that letter.
-fn push_letters(word: &[i32], out: &mut KeyEdges) -> Result<(), OutOfMemory>
+// A transition by the place of each letter of a word, to that letter.
+fn push_letters(word: &[i32], out: &mut KeyTransitions) -> Result<(), OutOfMemory>
     requires few { length word.now < 2 ^ 32 }
     requires empty { out.old ≡ [] }
-    ensures { OnOk result (AreKeyEdges (length word.now) (λ digit. Some (key_of (slice_index_or word.now digit (pos 0)))) out.new) }
+    ensures { OnOk result (AreKeyTransitions (length word.now) (λ digit. Some (key_of (slice_index_or word.now digit (pos 0)))) out.new) }
 {
     for digit in 0..word.len() {
         out.push(digit as u32, &[word[digit].cast_unsigned()])?;

@@ -6,7 +6,7 @@ ghost use Rattle.std.specs.Rc.{rc_value};
 ghost use Rattle.digit_tuple.specs.declared.direction.Direction.TheVariants.{Msd};
 ghost use Rattle.base_k.specs.Positional.{base};
 ghost use Rattle.num_system.specs.Sealed.{IsSealed};
-ghost use Rattle.num_system.specs.Tracks.{systems_of, way_of};
+ghost use Rattle.num_system.specs.Tracks.{systems_of, direction_of};
 ghost use Rattle.morph_words.specs.MorphismKinds.{IsBase};
 
 use base_k::base_k::BaseK;
@@ -22,7 +22,7 @@ use std::rc::Rc;
 pub(crate) fn msd_base(alloc: Global, k: u32) -> Result<Vec<Rc<System>>, OutOfMemory>
     requires { IsBase k }
     ensures systems { IfOk result (λ systems. systems_of (map rc_value systems.items) ≡ base k ∷ []) }
-    ensures direction { IfOk result (λ systems. way_of (map rc_value systems.items) ≡ Msd) }
+    ensures direction { IfOk result (λ systems. direction_of (map rc_value systems.items) ≡ Msd) }
     ensures sealed { IfOk result (λ systems. AllByRecursion IsSealed (map rc_value systems.items)) }
 {
     let system = BaseK {

@@ -22,9 +22,9 @@ use word_output::word::Word;
 /// follow the images.
 ///
 /// # Errors
-/// `Morphism` exactly where the images have not one length of 2 to 40, or some letter of an image has none, or
-/// that of 0 does not begin with 0; the kind is the first that applies. Else `States` exactly where the width
-/// passes the limit. The steps are as before where there is no word, also where memory is wanting.
+/// `Morphism` if and only if the images have not one length of 2 to 40, or some letter of an image has none, or that of
+/// 0 does not begin with 0; the kind is the first that applies. Else `States` if and only if the width passes the
+/// limit. The steps are as before where there is no word, also where memory is wanting.
 pub fn promote(alloc: Global, morphism: &Morphism, steps: &mut Steps) -> Result<Word, PromoteFault>
     ensures { DoesPromote steps.old morphism.now result steps.new }
 {

@@ -50,19 +50,19 @@ abbrev pub none : RelationValue
 none = record { names = []; systems = []; automaton = no_automaton }
 
 -- the steps among the plans up to one of them
-front_steps : (plans : List Plan) (n : ℕ) → n < length plans → filter is_step (take (suc n) plans) ≡ filter is_step (take n plans) ++ filter is_step (plan_at plans n ∷ [])
-front_steps plans n inside = ap (filter is_step) (take-suc plans n absent inside) ∙ filter-append is_step (take n plans) (plan_at plans n ∷ [])
+prefix_steps : (plans : List Plan) (n : ℕ) → n < length plans → filter is_step (take (suc n) plans) ≡ filter is_step (take n plans) ++ filter is_step (plan_at plans n ∷ [])
+prefix_steps plans n inside = ap (filter is_step) (take-suc plans n absent inside) ∙ filter-append is_step (take n plans) (plan_at plans n ∷ [])
 
-module _ (old now : StepLog) (l : LibraryValue) (plans : List Plan) (marks : List Bool) (rs : List RelationValue) (way : IsUnderWay old l plans marks rs now) (inside : length rs < length plans) where
+module _ (old now : StepLog) (l : LibraryValue) (plans : List Plan) (marks : List Bool) (rs : List RelationValue) (direction : IsUnderWay old l plans marks rs now) (inside : length rs < length plans) where
   abbrev here : Plan
   here = plan_at plans (length rs)
 
   same_limit : now.limit ≡ old.limit
-  same_limit = ap (λ (log : StepLog). log.limit) way.now_is
+  same_limit = ap (λ (log : StepLog). log.limit) direction.now_is
 
   longer_made : (c : RelationValue) → (is_marked marks (length rs) ≡ true → Makes l here c) → AreMade l plans marks (rs ++ c ∷ [])
   longer_made c makes i within told = elim (cases_lt i (length rs)) [
-    | inl before ↦ subst (Makes l (plan_at plans i)) (sym (get_or_append_left rs (c ∷ []) none i before)) (way.made i before told)
+    | inl before ↦ subst (Makes l (plan_at plans i)) (sym (get_or_append_left rs (c ∷ []) none i before)) (direction.made i before told)
     | inr past ↦
         let last : length rs ≡ i = omega (arith, past, within, length-append rs (c ∷ [])) in
         subst (λ (k : ℕ). Makes l (plan_at plans k) (relation_at (rs ++ c ∷ []) k)) last
@@ -73,31 +73,31 @@ module _ (old now : StepLog) (l : LibraryValue) (plans : List Plan) (marks : Lis
   count c = omega (arith, length-append rs (c ∷ []))
 
   -- a plan that is no step adds none
-  same_front : (c : RelationValue) → is_step here ≡ false → AreSteps old.limit l (filter is_step (take (length (rs ++ c ∷ [])) plans)) way.lines
-  same_front c bare =
-      subst (λ (ps : List Plan). AreSteps old.limit l ps way.lines)
+  same_prefix : (c : RelationValue) → is_step here ≡ false → AreSteps old.limit l (filter is_step (take (length (rs ++ c ∷ [])) plans)) direction.lines
+  same_prefix c bare =
+      subst (λ (ps : List Plan). AreSteps old.limit l ps direction.lines)
       (sym (append-nil (filter is_step (take (length rs) plans))) ∙ ap (λ (b : Bool). filter is_step (take (length rs) plans) ++ cond b (here ∷ []) []) (sym bare)
-      ∙ sym (front_steps plans (length rs) inside) ∙ ap (λ (n : ℕ). filter is_step (take n plans)) (sym (count c)))
-      way.done
+      ∙ sym (prefix_steps plans (length rs) inside) ∙ ap (λ (n : ℕ). filter is_step (take n plans)) (sym (count c)))
+      direction.done
 
   -- one more
   goes_by : (b : Bool) (new : StepLog) (c : RelationValue) → is_step here ≡ b → Makes l here c → IsTaken b now (IsStep now.limit l here c) new → IsUnderWay old l plans marks (rs ++ c ∷ []) new
   goes_by true new c is makes taken = record {
     made = longer_made c (λ told. makes);
-    lines = way.lines ++ taken.line ∷ [];
-    done = subst (λ (ps : List Plan). AreSteps old.limit l ps (way.lines ++ taken.line ∷ []))
-        (ap (λ (b : Bool). filter is_step (take (length rs) plans) ++ cond b (here ∷ []) []) (sym is) ∙ sym (front_steps plans (length rs) inside) ∙ ap (λ (n : ℕ). filter is_step (take n plans)) (sym (count c)))
-        (one_step_more old.limit l (filter is_step (take (length rs) plans)) way.lines here c taken.line way.done (subst (λ (limit : ℕ). IsStep limit l here c taken.line) same_limit taken.step));
-    now_is = taken.new_is ∙ ap (λ (log : StepLog). with_line log taken.line) way.now_is ∙ with_one_more old way.lines taken.line;
+    lines = direction.lines ++ taken.line ∷ [];
+    done = subst (λ (ps : List Plan). AreSteps old.limit l ps (direction.lines ++ taken.line ∷ []))
+        (ap (λ (b : Bool). filter is_step (take (length rs) plans) ++ cond b (here ∷ []) []) (sym is) ∙ sym (prefix_steps plans (length rs) inside) ∙ ap (λ (n : ℕ). filter is_step (take n plans)) (sym (count c)))
+        (one_step_more old.limit l (filter is_step (take (length rs) plans)) direction.lines here c taken.line direction.done (subst (λ (limit : ℕ). IsStep limit l here c taken.line) same_limit taken.step));
+    now_is = taken.new_is ∙ ap (λ (log : StepLog). with_line log taken.line) direction.now_is ∙ with_one_more old direction.lines taken.line;
   }
   goes_by false new c is makes taken = record {
     made = longer_made c (λ told. makes);
-    lines = way.lines;
-    done = subst (λ (ps : List Plan). AreSteps old.limit l ps way.lines)
+    lines = direction.lines;
+    done = subst (λ (ps : List Plan). AreSteps old.limit l ps direction.lines)
         (sym (append-nil (filter is_step (take (length rs) plans))) ∙ ap (λ (b : Bool). filter is_step (take (length rs) plans) ++ cond b (here ∷ []) []) (sym is)
-        ∙ sym (front_steps plans (length rs) inside) ∙ ap (λ (n : ℕ). filter is_step (take n plans)) (sym (count c)))
-        way.done;
-    now_is = taken ∙ way.now_is;
+        ∙ sym (prefix_steps plans (length rs) inside) ∙ ap (λ (n : ℕ). filter is_step (take n plans)) (sym (count c)))
+        direction.done;
+    now_is = taken ∙ direction.now_is;
   }
 
   pub goes_on : (new : StepLog) (c : RelationValue) → Makes l here c → IsTaken (is_step here) now (IsStep now.limit l here c) new → IsUnderWay old l plans marks (rs ++ c ∷ []) new
@@ -107,9 +107,9 @@ module _ (old now : StepLog) (l : LibraryValue) (plans : List Plan) (marks : Lis
   pub passes : (c : RelationValue) → is_step here ≡ false → is_marked marks (length rs) ≡ false → IsUnderWay old l plans marks (rs ++ c ∷ []) now
   passes c bare unmarked = record {
     made = longer_made c (λ told. absurd (false≢true (sym unmarked ∙ told)));
-    lines = way.lines;
-    done = same_front c bare;
-    now_is = way.now_is;
+    lines = direction.lines;
+    done = same_prefix c bare;
+    now_is = direction.now_is;
   }
 
   all_steps : is_step here ≡ true → filter is_step plans ≡ filter is_step (take (length rs) plans) ++ here ∷ filter is_step (drop (suc (length rs)) plans)
@@ -117,18 +117,18 @@ module _ (old now : StepLog) (l : LibraryValue) (plans : List Plan) (marks : Lis
       ap (filter is_step) (sym (take-append-drop (suc (length rs)) plans))
       ∙ filter-append is_step (take (suc (length rs)) plans) (drop (suc (length rs)) plans)
       ∙ ap (λ (ps : List Plan). ps ++ filter is_step (drop (suc (length rs)) plans))
-      (front_steps plans (length rs) inside ∙ ap (λ (b : Bool). filter is_step (take (length rs) plans) ++ cond b (here ∷ []) []) is)
+      (prefix_steps plans (length rs) inside ∙ ap (λ (b : Bool). filter is_step (take (length rs) plans) ++ cond b (here ∷ []) []) is)
       ∙ append_assoc (filter is_step (take (length rs) plans)) (here ∷ []) (filter is_step (drop (suc (length rs)) plans))
 
   pub stops : (new : StepLog) (fault : StepFault) → is_step here ≡ true → IsRefused now (PassesLetters l here) (PassesStates now.limit l here) new fault → IsStopped old l (filter is_step plans) new fault
   stops new fault is refused = record {
-    front = filter is_step (take (length rs) plans);
+    prefix = filter is_step (take (length rs) plans);
     here = here;
     rest = filter is_step (drop (suc (length rs)) plans);
     steps_are = all_steps is;
-    lines = way.lines;
-    done = way.done;
-    new_is = refused.same ∙ way.now_is;
+    lines = direction.lines;
+    done = direction.done;
+    new_is = refused.same ∙ direction.now_is;
     refused =
         subst (λ (log : StepLog). IsRefusedBy log (PassesLetters l here) (PassesStates old.limit l here) fault) (sym refused.same)
         (subst (λ (limit : ℕ). IsRefusedBy now (PassesLetters l here) (PassesStates limit l here) fault) same_limit refused.by_limit);
@@ -138,31 +138,31 @@ module _ (old now : StepLog) (l : LibraryValue) (plans : List Plan) (marks : Lis
 pub ends : (old now : StepLog) (l : LibraryValue) (plans : List Plan) (marks : List Bool) (rs : List RelationValue) (last : ℕ) → IsUnderWay old l plans marks rs now → length rs ≡ length plans → last < length plans
     → is_marked marks last ≡ true
     → IsBuilt old l (filter is_step plans) (plan_at plans last) (relation_at rs last) now
-ends old now l plans marks rs last way all inside told = record {
-  lines = way.lines;
-  done = subst (λ (ps : List Plan). AreSteps old.limit l (filter is_step ps) way.lines) (take_all (length rs) plans (omega (arith, all))) way.done;
-  new_is = way.now_is;
-  makes = way.made last (omega (arith, all, inside)) told;
+ends old now l plans marks rs last direction all inside told = record {
+  lines = direction.lines;
+  done = subst (λ (ps : List Plan). AreSteps old.limit l (filter is_step ps) direction.lines) (take_all (length rs) plans (omega (arith, all))) direction.done;
+  new_is = direction.now_is;
+  makes = direction.made last (omega (arith, all, inside)) told;
 }
 
-module _ (old now new : StepLog) (l : LibraryValue) (plans : List Plan) (marks : List Bool) (rs : List RelationValue) (m : Making) (way : IsUnderWay old l plans marks rs now)
+module _ (old now new : StepLog) (l : LibraryValue) (plans : List Plan) (marks : List Bool) (rs : List RelationValue) (m : Making) (direction : IsUnderWay old l plans marks rs now)
     (inside : length rs < length plans) (is : IsMakingAt plans (length rs) m) (are : AreMarked marks m) where
   -- the next one was made
   pub next_made : (c : RelationValue) → DoesMaking now l rs m (Ok c) new → IsUnderWay old l plans marks (rs ++ c ∷ []) new
   next_made c does =
-      let by : Makes l (plan_by plans m) c × IsTaken (is_step (plan_by plans m)) now (IsStep now.limit l (plan_by plans m) c) new = made_by now new l plans marks rs way.made m c are is.of_earlier does in
+      let by : Makes l (plan_by plans m) c × IsTaken (is_step (plan_by plans m)) now (IsStep now.limit l (plan_by plans m) c) new = made_by now new l plans marks rs direction.made m c are is.of_earlier does in
       let at = subst (λ (p : Plan). Makes l p c × IsTaken (is_step p) now (IsStep now.limit l p c) new) is.makes by in
-      goes_on old now l plans marks rs way inside new c at.0 at.1
+      goes_on old now l plans marks rs direction inside new c at.0 at.1
 
   -- or not
   pub next_stopped : (fault : StepFault) → DoesMaking now l rs m (Err fault) new → (fault ≡ faults.Memory) ⊎ IsStopped old l (filter is_step plans) new fault
   next_stopped fault does =
-      let by = stopped_by now new l plans marks rs way.made m fault are is.of_earlier does in
+      let by = stopped_by now new l plans marks rs direction.made m fault are is.of_earlier does in
       elim by [
         | inl memory ↦ inl memory
         | inr refused ↦
             let at = subst (λ (p : Plan). (is_step p ≡ true) × IsRefused now (PassesLetters l p) (PassesStates now.limit l p) new fault) is.makes refused in
-            inr (stops old now l plans marks rs way inside new fault at.0 at.1)
+            inr (stops old now l plans marks rs direction inside new fault at.0 at.1)
       ]
 
 -- the making at the next place
@@ -191,7 +191,7 @@ needed_ready l plans last p parts ready (inr (i, within, step, part)) =
 
 -- one turn of the loop
 module _ (old now : StepLog) (l : LibraryValue) (plans : List Plan) (marks : List Bool) (rs : List RelationValue) (last : ℕ) (ms : List Making) (i : ℕ) (m : Making)
-    (way : IsUnderWay old l plans marks rs now) (count : length rs ≡ i) (makings : AreMakingsOf plans ms) (needed : AreNeeded plans ms last marks) (within : i < length ms) (is : m ≡ get_or ms i m) where
+    (direction : IsUnderWay old l plans marks rs now) (count : length rs ≡ i) (makings : AreMakingsOf plans ms) (needed : AreNeeded plans ms last marks) (within : i < length ms) (is : m ≡ get_or ms i m) where
   inside : length rs < length plans
   inside = plan_inside plans ms rs i makings count within
 
@@ -202,21 +202,21 @@ module _ (old now : StepLog) (l : LibraryValue) (plans : List Plan) (marks : Lis
   are_marked told = needed.parts i m (omega (arith, within, makings.as_many)) is told
 
   -- a needed plan can be made
-  pub turn_ready : AreParts (filter is_step plans) (plan_at plans last) → IsReady l (plan_at plans last) → is_marked marks i ≡ true → MayMake l rs m
-  turn_ready parts ready told =
-      may_make l plans marks rs m way.made (are_marked told) at_here
+  pub conflict_ready : AreParts (filter is_step plans) (plan_at plans last) → IsReady l (plan_at plans last) → is_marked marks i ≡ true → MayMake l rs m
+  conflict_ready parts ready told =
+      may_make l plans marks rs m direction.made (are_marked told) at_here
       (needed_ready l plans last (plan_at plans (length rs)) parts ready (needed.rooted (length rs) inside (ap (is_marked marks) count ∙ told)))
 
   -- and is made
-  pub turn_made : (new : StepLog) (c : RelationValue) → is_marked marks i ≡ true → DoesMaking now l rs m (Ok c) new → IsUnderWay old l plans marks (rs ++ c ∷ []) new
-  turn_made new c told does = next_made old now new l plans marks rs m way inside at_here (are_marked told) c does
+  pub conflict_made : (new : StepLog) (c : RelationValue) → is_marked marks i ≡ true → DoesMaking now l rs m (Ok c) new → IsUnderWay old l plans marks (rs ++ c ∷ []) new
+  conflict_made new c told does = next_made old now new l plans marks rs m direction inside at_here (are_marked told) c does
 
-  pub turn_stopped : (new : StepLog) (fault : StepFault) → is_marked marks i ≡ true → DoesMaking now l rs m (Err fault) new → (fault ≡ faults.Memory) ⊎ IsStopped old l (filter is_step plans) new fault
-  turn_stopped new fault told does = next_stopped old now new l plans marks rs m way inside at_here (are_marked told) fault does
+  pub conflict_stopped : (new : StepLog) (fault : StepFault) → is_marked marks i ≡ true → DoesMaking now l rs m (Err fault) new → (fault ≡ faults.Memory) ⊎ IsStopped old l (filter is_step plans) new fault
+  conflict_stopped new fault told does = next_stopped old now new l plans marks rs m direction inside at_here (are_marked told) fault does
 
   -- another is passed over
-  pub turn_passed : (c : RelationValue) → is_marked marks i ≡ false → IsUnderWay old l plans marks (rs ++ c ∷ []) now
-  turn_passed c unmarked = passes old now l plans marks rs way inside c (no_step (is_step (plan_at plans (length rs))) refl) (ap (is_marked marks) count ∙ unmarked)
+  pub conflict_passed : (c : RelationValue) → is_marked marks i ≡ false → IsUnderWay old l plans marks (rs ++ c ∷ []) now
+  conflict_passed c unmarked = passes old now l plans marks rs direction inside c (no_step (is_step (plan_at plans (length rs))) refl) (ap (is_marked marks) count ∙ unmarked)
     where
       no_step : (b : Bool) → is_step (plan_at plans (length rs)) ≡ b → b ≡ false
       no_step false told = refl

@@ -38,7 +38,7 @@ use Rattle.formula_build.proofs.LetterRelationLemmas.{set_says}
 use Rattle.formula_build.proofs.OneMadeLemmas.{one_word, system_sealed, word_is}
 use Rattle.formula_build.proofs.PairRelationLemmas.{pair_is, pair_named}
 
--- two ways of telling a comparison of numbers, and of letters, and a connective
+-- two ways to say a comparison of numbers, and of letters, and a connective
 compares_same : (r : Relation) (x y : ℕ) → comparisons.Compares (comparison_of r) x y ↔ truth.Compares r x y
 compares_same equal x y = (λ h. h, λ h. h)
 compares_same unequal x y = (λ h. h, λ h. h)

@@ -147,7 +147,7 @@ module _ (l : LibraryValue) where
   quantified_known every [] m known = known
   quantified_known every (k ∷ ks) m known = kept_known (k ∷ ks) (complement m.last) known
 
-module _ (l : LibraryValue) (h : Headers) (way : Name → Direction) (fits : Fits l (plan_headers h) way) where
+module _ (l : LibraryValue) (h : Headers) (direction : Name → Direction) (fits : Fits l (plan_headers h) direction) where
   -- the values of a known word's indices
   indices_known : (x : Index) (k : ℕ) → misuse h (mentioned.index_mention x) ≡ None → HasWord l x.word → ArePlacesKnown l (argument_plans (word_tracks h x.word) x.places k).placed
   indices_known x k right known =

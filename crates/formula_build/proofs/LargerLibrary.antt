@@ -123,12 +123,12 @@ module _ (l n : LibraryValue) (within : IsWithin l n) where
   }
   builds_within old new p (Err fault) (inl memory) = inl memory
   builds_within old new p (Err fault) (inr is) = inr (record {
-    front = is.front;
+    prefix = is.prefix;
     here = is.here;
     rest = is.rest;
     steps_are = is.steps_are;
     lines = is.lines;
-    done = steps_within old.limit is.front is.lines is.done;
+    done = steps_within old.limit is.prefix is.lines is.done;
     new_is = is.new_is;
     refused = refused_within new old.limit is.here fault is.refused;
   })

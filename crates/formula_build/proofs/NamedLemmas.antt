@@ -1,5 +1,5 @@
--- Where variables' names begin with letters, and there is room for the numbers of fresh tracks, the tracks of a formula's plan have
--- names that tell them apart.
+-- Where variables' names begin with letters, and there is room for the numbers of fresh tracks, the tracks of a formula's plan have names
+-- that distinguish them.
 use Rattle.std.specs.Prelude.{⊤}
 use Rattle.std.proofs.Common.{◌≡◌, ℕ, ℤ, zero, suc, ◌+◌, ◌-◌, ◌/◌, ◌%◌, ◌^◌, ◌==◌, ◌≤◌, Bool, true, false, if◌then◌else◌, List, [], ◌∷◌, ◌++◌, slice_index_or, Option, None, Some, refl, arith}
 use Rattle.std.specs.List.{AllByRecursion}

@@ -1,4 +1,4 @@
--- A formula is built in one way, but for want of memory.
+-- A formula is built in one way, apart from out of memory.
 use Rattle.std.proofs.Common.{◌≡◌, ◌≢◌, ℕ, List, [], ◌∷◌, ◌++◌, map, Result, Ok, Err, inl, inr, ◌⊎◌, refl, sym, ap, subst, ◌∙◌}
 use Rattle.digit_tuple.specs.Names.{joint_names}
 use Rattle.digit_tuple.specs.StepResults.{IsRefusedBy}
@@ -25,7 +25,7 @@ one_ordered r s t first second =
     one_relation (joint_names r.names []) (systems_under r.names r.systems (joint_names r.names [])) (λ (number_of : List ℕ → ℕ). RelationHolds r (map number_of r.names)) s t first second
 
 module _ (limit : ℕ) (l : LibraryValue) (library : IsLibrary l) where
-  -- the lines of steps are told by their plans
+  -- the lines of steps are determined by their plans
   one_lines : (ps : List Plan) (lines next : List StepLine) → AreSteps limit l ps lines → AreSteps limit l ps next → lines ≡ next
   one_lines [] [] [] first second = refl
   one_lines [] [] (k ∷ next) first second = absurd second
@@ -46,29 +46,29 @@ module _ (limit : ℕ) (l : LibraryValue) (library : IsLibrary l) where
   never_passed p c line step (inr states) = (step_outcome limit l library p).no_states c line step states
 
   -- no step passes a limit where all were done
-  none_passed : (front : List Plan) (here : Plan) (rest : List Plan) (lines : List StepLine) → AreSteps limit l (front ++ here ∷ rest) lines → Passes here → ⊥
+  none_passed : (prefix : List Plan) (here : Plan) (rest : List Plan) (lines : List StepLine) → AreSteps limit l (prefix ++ here ∷ rest) lines → Passes here → ⊥
   none_passed [] here rest [] done passes = absurd done
   none_passed [] here rest (line ∷ lines) ((c, step), done) passes = never_passed here c line step passes
-  none_passed (p ∷ front) here rest [] done passes = absurd done
-  none_passed (p ∷ front) here rest (line ∷ lines) done passes = none_passed front here rest lines done.1 passes
+  none_passed (p ∷ prefix) here rest [] done passes = absurd done
+  none_passed (p ∷ prefix) here rest (line ∷ lines) done passes = none_passed prefix here rest lines done.1 passes
 
   -- the first step that passes a limit is one
-  one_front : (front : List Plan) (here : Plan) (rest : List Plan) (lines : List StepLine) (ahead : List Plan) (there : Plan) (after : List Plan) (next : List StepLine)
-      → front ++ here ∷ rest ≡ ahead ++ there ∷ after → AreSteps limit l front lines → AreSteps limit l ahead next → Passes here → Passes there → (front ≡ ahead) × (here ≡ there)
-  one_front [] here rest lines [] there after next same first second passes also = (refl, cc)
-  one_front [] here rest lines (q ∷ ahead) there after [] same first second passes also = absurd second
-  one_front [] here rest lines (q ∷ ahead) there after (k ∷ next) same first ((d, step), second) passes also =
+  one_prefix : (prefix : List Plan) (here : Plan) (rest : List Plan) (lines : List StepLine) (ahead : List Plan) (there : Plan) (after : List Plan) (next : List StepLine)
+      → prefix ++ here ∷ rest ≡ ahead ++ there ∷ after → AreSteps limit l prefix lines → AreSteps limit l ahead next → Passes here → Passes there → (prefix ≡ ahead) × (here ≡ there)
+  one_prefix [] here rest lines [] there after next same first second passes also = (refl, cc)
+  one_prefix [] here rest lines (q ∷ ahead) there after [] same first second passes also = absurd second
+  one_prefix [] here rest lines (q ∷ ahead) there after (k ∷ next) same first ((d, step), second) passes also =
       let heads : here ≡ q = cc in
       absurd (never_passed q d k step (subst Passes heads passes))
-  one_front (p ∷ front) here rest [] ahead there after next same first second passes also = absurd first
-  one_front (p ∷ front) here rest (line ∷ lines) [] there after next same ((c, step), first) second passes also =
+  one_prefix (p ∷ prefix) here rest [] ahead there after next same first second passes also = absurd first
+  one_prefix (p ∷ prefix) here rest (line ∷ lines) [] there after next same ((c, step), first) second passes also =
       let heads : there ≡ p = cc in
       absurd (never_passed p c line step (subst Passes heads also))
-  one_front (p ∷ front) here rest (line ∷ lines) (q ∷ ahead) there after [] same first second passes also = absurd second
-  one_front (p ∷ front) here rest (line ∷ lines) (q ∷ ahead) there after (k ∷ next) same first second passes also =
+  one_prefix (p ∷ prefix) here rest (line ∷ lines) (q ∷ ahead) there after [] same first second passes also = absurd second
+  one_prefix (p ∷ prefix) here rest (line ∷ lines) (q ∷ ahead) there after (k ∷ next) same first second passes also =
       let heads : p ≡ q = cc in
-      let tails : front ++ here ∷ rest ≡ ahead ++ there ∷ after = cc in
-      let one = one_front front here rest lines ahead there after next tails first.1 second.1 passes also in
+      let tails : prefix ++ here ∷ rest ≡ ahead ++ there ∷ after = cc in
+      let one = one_prefix prefix here rest lines ahead there after next tails first.1 second.1 passes also in
       (λ i. heads i ∷ one.0 i, one.1)
 
   passes_of : (new : StepLog) (p : Plan) (fault : StepFault) → IsRefusedBy new (PassesLetters l p) (PassesStates limit l p) fault → fault ≢ faults.Memory → Passes p
@@ -96,15 +96,15 @@ module _ (l : LibraryValue) (library : IsLibrary l) (old new now : StepLog) (p :
 
   not_stopped : (log other : StepLog) (r : RelationValue) (fault : StepFault) → IsFormulaBuilt old l p r log → IsStopped old l p.steps other fault → fault ≢ faults.Memory → ⊥
   not_stopped log other r fault built stopped enough =
-      none_passed old.limit l library stopped.front stopped.here stopped.rest built.built.lines
+      none_passed old.limit l library stopped.prefix stopped.here stopped.rest built.built.lines
       (subst (λ (ps : List Plan). AreSteps old.limit l ps built.built.lines) stopped.steps_are built.built.done)
       (passes_of old.limit l library other stopped.here fault stopped.refused enough)
 
   both_stopped : (e f : StepFault) → IsStopped old l p.steps new e → IsStopped old l p.steps now f → e ≢ faults.Memory → f ≢ faults.Memory → (e ≡ f) × (new ≡ now)
   both_stopped e f first second enough ample =
-      let one = one_front old.limit l library first.front first.here first.rest first.lines second.front second.here second.rest second.lines (sym first.steps_are ∙ second.steps_are) first.done second.done
+      let one = one_prefix old.limit l library first.prefix first.here first.rest first.lines second.prefix second.here second.rest second.lines (sym first.steps_are ∙ second.steps_are) first.done second.done
       (passes_of old.limit l library new first.here e first.refused enough) (passes_of old.limit l library now second.here f second.refused ample) in
-      let lines : first.lines ≡ second.lines = one_lines old.limit l library second.front first.lines second.lines (subst (λ (ps : List Plan). AreSteps old.limit l ps first.lines) one.0 first.done) second.done in
+      let lines : first.lines ≡ second.lines = one_lines old.limit l library second.prefix first.lines second.lines (subst (λ (ps : List Plan). AreSteps old.limit l ps first.lines) one.0 first.done) second.done in
       let logs : new ≡ now = first.new_is ∙ ap (with_lines old) lines ∙ sym second.new_is in
       let again = subst (λ (q : Plan). IsRefusedBy now (PassesLetters l q) (PassesStates old.limit l q) f) (sym one.1) second.refused in (
         one_fault old.limit l library new first.here e f first.refused (subst (λ (log : StepLog). IsRefusedBy log (PassesLetters l first.here) (PassesStates old.limit l first.here) f) (sym logs) again) enough ample,

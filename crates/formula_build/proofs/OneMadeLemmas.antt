@@ -6,7 +6,7 @@ use Rattle.std.proofs.lemmas.Option.{none-some, same_Some}
 use Rattle.digit_tuple.specs.Deterministic.{Automaton}
 use Rattle.automaton_steps.proofs.OneResults.{one_complement, one_join, one_projection}
 use Rattle.num_system.specs.Sealed.{SystemValue, IsSealed}
-use Rattle.num_system.specs.Tracks.{way_of, languages_of}
+use Rattle.num_system.specs.Tracks.{direction_of, languages_of}
 use Rattle.number_relations.specs.Relations.{RelationValue, RelationHolds, named_of}
 use Rattle.number_relations.specs.Placed.{IsPlaced, changed_names}
 use Rattle.number_relations.specs.Comparisons.{IsComparison, IsSumRelation, IsAnyNumber}
@@ -115,7 +115,7 @@ made_once l (complement p) c d library (a, is, first) (b, also, second) =
     same_relation c d (one_complement (languages_of a.systems) (named_of a) (named_of c) (named_of d) first.complement again.complement) (first.systems ∙ sym again.systems)
 made_once l (projected t p) c d library (a, is, first) (b, also, second) =
     let again = subst (λ (w : RelationValue). IsRelationProjection (track_name t) w d) (made_once l p b a library also is) second in
-    same_relation c d (one_projection (way_of a.systems) (track_name t) (named_of a) (named_of c) (named_of d) first.projection again.projection) (first.systems ∙ sym again.systems)
+    same_relation c d (one_projection (direction_of a.systems) (track_name t) (named_of a) (named_of c) (named_of d) first.projection again.projection) (first.systems ∙ sym again.systems)
 
 pub one_made : OneMade
 one_made l p c d library first second = made_once l p c d library first second

@@ -1,4 +1,4 @@
--- Relations whose tracks stand in byte order of their names.
+-- Relations whose tracks are in byte order of their names.
 use Rattle.std.specs.List.{AllPairs, Contains}
 use Rattle.std.specs.Cmp.Lexicographic.{nat_list_cmp_total}
 use Rattle.std.proofs.Common.{◌≡◌, ℕ, ◌+◌, ◌-◌, ◌<◌, ◌≤◌, List, [], map, get_or, ◌⊎◌, inl, inr, sym, ap, ◌∙◌, subst, arith}
@@ -33,7 +33,7 @@ ascend_more names place some before last i j less low = by (cases_lt j place)
     by (inl early) = before i j less early
     by (inr late) = step (omega arith) (cases_lt i (place - 1))
 
--- names in byte order stand in their order already
+-- names in byte order are in their order already
 joint_same : (names : List (List ℕ)) → AllPairs IsBytesBefore names → joint_names names [] ≡ names
 joint_same names ascending = same_names (joint_names names []) names joint.ordered ascending over (λ n there. All-contains (Contains (joint_names names [])) names n joint.all_first there)
   where

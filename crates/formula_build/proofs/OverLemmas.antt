@@ -1,4 +1,4 @@
--- Over which systems plans stand. It depends on the systems of their own tracks alone.
+-- Over which systems plans are. It depends on the systems of their own tracks alone.
 use Rattle.std.specs.Prelude.{⊤}
 use Rattle.std.proofs.Common.{◌≡◌, Bool, true, false, List, [], ◌∷◌, ◌++◌, map, Option, None, Some, inl, inr, ◌⊎◌, refl, sym, ap, ◌∙◌, subst, if◌then◌else◌}
 use Rattle.std.specs.List.{AllByRecursion}
@@ -40,8 +40,8 @@ with_both t y z on other u one same = by (same_track t u) same
     by true rest = one
     by false rest = rest refl
 
-module _ (h : Headers) (way : Name → Direction) where
-  pub over_depends : (p : Plan) (on other : TrackSystems) → ((t : Track) → has_track (tracks p) t ≡ true → on t ≡ other t) → IsOver h way on p → IsOver h way other p
+module _ (h : Headers) (direction : Name → Direction) where
+  pub over_depends : (p : Plan) (on other : TrackSystems) → ((t : Track) → has_track (tracks p) t ≡ true → on t ≡ other t) → IsOver h direction on p → IsOver h direction other p
   over_depends (compared y r s t) on other same over = (sym (same s (first_is s (t ∷ []))) ∙ over.0, sym (same t (later_is s (t ∷ []) t (first_is t []))) ∙ over.1)
   over_depends (added y s t u) on other same over = (
     sym (same s (first_is s (t ∷ u ∷ []))) ∙ over.0,
@@ -62,12 +62,12 @@ module _ (h : Headers) (way : Name → Direction) where
     over_depends p on other (λ t there. same t (has_first (tracks p) (tracks q) t there)) over.0,
     over_depends q on other (λ t there. same t (has_second (tracks p) (tracks q) t there)) over.1,
     λ s t first second.
-        ap way (sym (same s (has_first (tracks p) (tracks q) s first))) ∙ over.2 s t first second ∙ ap way (same t (has_second (tracks p) (tracks q) t second)),
+        ap direction (sym (same s (has_first (tracks p) (tracks q) s first))) ∙ over.2 s t first second ∙ ap direction (same t (has_second (tracks p) (tracks q) t second)),
   )
   over_depends (paired n ts r w us) on other same over = (
     sym (map_same on other ts (λ t there. same t (has_first ts us t there))) ∙ over.0,
     sym (map_same on other us (λ t there. same t (has_second ts us t there))) ∙ over.1,
-    λ s t first second. ap way (sym (same s (has_first ts us s first))) ∙ over.2 s t first second ∙ ap way (same t (has_second ts us t second)),
+    λ s t first second. ap direction (sym (same s (has_first ts us s first))) ∙ over.2 s t first second ∙ ap direction (same t (has_second ts us t second)),
   )
   over_depends (complement p) on other same over = over_depends p on other same over
   over_depends (projected t p) on other same over = (
@@ -79,8 +79,8 @@ module _ (h : Headers) (way : Name → Direction) where
     ),
   )
 
-  -- a track that is dropped may stand over its own system
-  pub over_projected : (on : TrackSystems) (t : Track) (p : Plan) → has_track (tracks p) t ≡ true → IsOver h way on p → IsOver h way on (projected t p)
+  -- a track that is dropped may be over its own system
+  pub over_projected : (on : TrackSystems) (t : Track) (p : Plan) → has_track (tracks p) t ≡ true → IsOver h direction on p → IsOver h direction on (projected t p)
   over_projected on t p there over = (there, (on t, over_depends p on (with_system t (on t) on) (λ u is. with_own t on u) over))
 
 -- what all tracks of a plan are
@@ -120,27 +120,27 @@ has_closed t (Some r) base u apart is = other_track_stays t (tracks r ++ tracks 
 
 -- the system of a track has this direction
 abbrev pub Faces : (Name → Direction) → TrackSystems → Direction → Track → Type 0
-Faces way on d = λ t. way (on t) ≡ d
+Faces direction on d = λ t. direction (on t) ≡ d
 
-pub one_direction : (way : Name → Direction) (on : TrackSystems) (d : Direction) (p q : Plan) → Only (Faces way on d) p → Only (Faces way on d) q → HaveOneDirection way on p q
-one_direction way on d p q first second = λ s t in_p in_q. first s in_p ∙ sym (second t in_q)
+pub one_direction : (direction : Name → Direction) (on : TrackSystems) (d : Direction) (p q : Plan) → Only (Faces direction on d) p → Only (Faces direction on d) q → HaveOneDirection direction on p q
+one_direction direction on d p q first second = λ s t in_p in_q. first s in_p ∙ sym (second t in_q)
 
-module _ (h : Headers) (way : Name → Direction) (on : TrackSystems) (d : Direction) where
-  -- a fresh track's relation stands over systems of one direction
+module _ (h : Headers) (direction : Name → Direction) (on : TrackSystems) (d : Direction) where
+  -- a fresh track's relation is over systems of one direction
   abbrev pub OverOf : Track → Option Plan → Type 0
   OverOf t None = ⊤
-  OverOf t (Some r) = IsOver h way on r × (has_track (tracks r) t ≡ true) × Only (Faces way on d) r
+  OverOf t (Some r) = IsOver h direction on r × (has_track (tracks r) t ≡ true) × Only (Faces direction on d) r
 
-  pub over_joined : (j : Joint) (p q : Plan) → IsOver h way on p → Only (Faces way on d) p → IsOver h way on q → Only (Faces way on d) q → IsOver h way on (joined j p q)
-  over_joined j p q first faces second also = (first, second, one_direction way on d p q faces also)
+  pub over_joined : (j : Joint) (p q : Plan) → IsOver h direction on p → Only (Faces direction on d) p → IsOver h direction on q → Only (Faces direction on d) q → IsOver h direction on (joined j p q)
+  over_joined j p q first faces second also = (first, second, one_direction direction on d p q faces also)
 
-  pub over_closed : (t : Track) (r : Option Plan) (base : Plan) → OverOf t r → IsOver h way on base → Only (Faces way on d) base → IsOver h way on (closed_by t r base)
+  pub over_closed : (t : Track) (r : Option Plan) (base : Plan) → OverOf t r → IsOver h direction on base → Only (Faces direction on d) base → IsOver h direction on (closed_by t r base)
   over_closed t None base value over faces = over
   over_closed t (Some r) base value over faces =
-      over_projected h way on t (joined and r base) (has_first (tracks r) (tracks base) t value.1) (over_joined and r base value.0 value.2 over faces)
+      over_projected h direction on t (joined and r base) (has_first (tracks r) (tracks base) t value.1) (over_joined and r base value.0 value.2 over faces)
 
-  pub faces_closed : (t : Track) (r : Option Plan) (base : Plan) → OverOf t r → Only (Faces way on d) base → Only (Faces way on d) (closed_by t r base)
+  pub faces_closed : (t : Track) (r : Option Plan) (base : Plan) → OverOf t r → Only (Faces direction on d) base → Only (Faces direction on d) (closed_by t r base)
   faces_closed t None base value faces = faces
-  faces_closed t (Some r) base value faces = only_projected (Faces way on d) t (joined and r base)
-      (only_joined (OrIs (Faces way on d) t) and r base (only_more (Faces way on d) (OrIs (Faces way on d) t) r (λ u is. inl is) value.2)
-      (only_more (Faces way on d) (OrIs (Faces way on d) t) base (λ u is. inl is) faces))
+  faces_closed t (Some r) base value faces = only_projected (Faces direction on d) t (joined and r base)
+      (only_joined (OrIs (Faces direction on d) t) and r base (only_more (Faces direction on d) (OrIs (Faces direction on d) t) r (λ u is. inl is) value.2)
+      (only_more (Faces direction on d) (OrIs (Faces direction on d) t) base (λ u is. inl is) faces))

@@ -12,12 +12,12 @@ use Rattle.product_op.proofs.SizeLemmas.{AreDistinct-ordered}
 use Rattle.numeration.specs.Relations.{HoldsOf}
 use Rattle.numeration.specs.Systems.{System}
 use Rattle.num_system.specs.Sealed.{SystemValue, system_of, IsSealed}
-use Rattle.num_system.specs.Tracks.{absent_system, HaveOneWay, number_under, system_under, systems_of, way_of}
-use Rattle.num_system.proofs.HoldLemmas.{closed_from, holds_spelling, spelling_holds}
+use Rattle.num_system.specs.Tracks.{absent_system, ShareDirection, number_under, system_under, systems_of, direction_of}
+use Rattle.num_system.proofs.HoldLemmas.{closed_from, holds_representation, representation_holds}
 use Rattle.num_system.proofs.SealedLemmas.{are_systems}
 use Rattle.num_system.specs.declared.comparison.Comparison.{Comparison}
 use Rattle.number_relations.specs.Relations.{RelationValue, IsRelation, RelationHolds, named_of}
-use Rattle.number_relations.proofs.PlacedLemmas.{all_under, picked_numbers, way_under}
+use Rattle.number_relations.proofs.PlacedLemmas.{all_under, picked_numbers, direction_under}
 use Rattle.number_relations.proofs.StepOutcomes.{same_relation}
 use Rattle.word_output.specs.LetterSets.{ComparesLetters}
 use Rattle.word_output.specs.WordPairs.{MayPair}
@@ -29,9 +29,9 @@ use Rattle.word_output.proofs.PairPlaces.{pairs}
 use Rattle.word_output.proofs.StepOutcomes.{one_pair, pair_outcome}
 
 -- the direction of both is that of the first
-way_first : (xs ys : List SystemValue) → 0 < length xs → way_of (xs ++ ys) ≡ way_of xs
-way_first [] ys some = absurd (omega (arith, some))
-way_first (x ∷ xs) ys some = refl
+direction_first : (xs ys : List SystemValue) → 0 < length xs → direction_of (xs ++ ys) ≡ direction_of xs
+direction_first [] ys some = absurd (omega (arith, some))
+direction_first (x ∷ xs) ys some = refl
 
 -- the names of both lists are among the one after the other
 pub joint_among : (first second names : List (List ℕ)) → AreJoint first second names → All (Contains (first ++ second)) names
@@ -70,16 +70,16 @@ module _ (comparison : Comparison) (a b : PlacedWord) (is_a : IsWordValue a.word
   no_others : All (Contains under) joint
   no_others = joint_among a.under b.under joint are_joint
 
-  way_is : way_of systems ≡ way_of a.word.systems
-  way_is = way_under under joint all count may.one_way all_there no_others ∙ way_first a.word.systems b.word.systems is_a.some
+  direction_is : direction_of systems ≡ direction_of a.word.systems
+  direction_is = direction_under under joint all count may.shared_direction all_there no_others ∙ direction_first a.word.systems b.word.systems is_a.some
 
   sealed : AllByRecursion IsSealed systems
   sealed = all_under IsSealed under all count (all_both IsSealed a.word.systems b.word.systems is_a.sealed is_b.sealed) joint no_others
 
-  one_way : HaveOneWay systems
-  one_way =
-      subst (λ way. AllByRecursion (λ (s : SystemValue). s.way ≡ way) systems) (sym (way_under under joint all count may.one_way all_there no_others))
-      (all_under (λ (s : SystemValue). s.way ≡ way_of all) under all count may.one_way joint no_others)
+  shared_direction : ShareDirection systems
+  shared_direction =
+      subst (λ direction. AllByRecursion (λ (s : SystemValue). s.direction ≡ direction) systems) (sym (direction_under under joint all count may.shared_direction all_there no_others))
+      (all_under (λ (s : SystemValue). s.direction ≡ direction_of all) under all count may.shared_direction joint no_others)
 
   -- both words have letters at the numbers that compare so
   abbrev HaveSuchLetters : List ℕ → List ℕ → Type 0
@@ -88,11 +88,11 @@ module _ (comparison : Comparison) (a b : PlacedWord) (is_a : IsWordValue a.word
   abbrev Says : List ℕ → Type 0
   Says ns = HaveSuchLetters (map (number_under joint ns) a.under) (map (number_under joint ns) b.under)
 
-  pair_holds : HoldsOf (way_of c.systems) (systems_of c.systems) Says c.automaton
+  pair_holds : HoldsOf (direction_of c.systems) (systems_of c.systems) Says c.automaton
   pair_holds =
-      subst (λ (ss : List SystemValue). HoldsOf (way_of ss) (systems_of ss) Says c.automaton) (sym made.systems)
-      (subst (λ way. HoldsOf way (systems_of systems) Says c.automaton) (sym way_is)
-      (pairs a.word b.word a.under b.under comparison (named_of c) is_a is_b may.first_count may.second_count may.agree may.one_way made.pair))
+      subst (λ (ss : List SystemValue). HoldsOf (direction_of ss) (systems_of ss) Says c.automaton) (sym made.systems)
+      (subst (λ direction. HoldsOf direction (systems_of systems) Says c.automaton) (sym direction_is)
+      (pairs a.word b.word a.under b.under comparison (named_of c) is_a is_b may.first_count may.second_count may.agree may.shared_direction made.pair))
 
   long : length systems ≡ length joint
   long = length-map joint (system_under under all)
@@ -112,8 +112,8 @@ module _ (comparison : Comparison) (a b : PlacedWord) (is_a : IsWordValue a.word
     };
     count = count_c;
     sealed = sealed_c;
-    one_way = subst HaveOneWay (sym made.systems) one_way;
-    closed = closed_from (way_of c.systems) (systems_of c.systems) Says c.automaton pair_holds;
+    shared_direction = subst ShareDirection (sym made.systems) shared_direction;
+    closed = closed_from (direction_of c.systems) (systems_of c.systems) Says c.automaton pair_holds;
   }
 
   -- the numbers under the names of both
@@ -135,11 +135,11 @@ module _ (comparison : Comparison) (a b : PlacedWord) (is_a : IsWordValue a.word
 
       forth : RelationHolds c (map f c.names) → HaveSuchLetters (map f a.under) (map f b.under)
       forth holds =
-          to_names f (subst Says (sym same) (spelling_holds (way_of c.systems) (systems_of c.systems) Says c.automaton pair_holds (map f c.names) holds))
+          to_names f (subst Says (sym same) (representation_holds (direction_of c.systems) (systems_of c.systems) Says c.automaton pair_holds (map f c.names) holds))
 
       back : HaveSuchLetters (map f a.under) (map f b.under) → RelationHolds c (map f c.names)
       back letters =
-          holds_spelling (way_of c.systems) (systems_of c.systems) Says c.automaton pair_holds (are_systems c.systems sealed_c) (map f c.names)
+          holds_representation (direction_of c.systems) (systems_of c.systems) Says c.automaton pair_holds (are_systems c.systems sealed_c) (map f c.names)
           (length-map c.names f ∙ sym (length-map c.systems system_of ∙ count_c)) (subst Says same (from_names f letters))
 
 -- a word's letters have the digits of its systems

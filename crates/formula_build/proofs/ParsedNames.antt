@@ -4,7 +4,7 @@ use Rattle.std.proofs.Common.{◌≡◌, ℕ, zero, suc, ◌-◌, ◌==◌, Bool
 use Rattle.std.specs.List.{AllByRecursion}
 use Rattle.std.proofs.lemmas.Bool.{false≢true}
 use Rattle.text_grammar.specs.Bytes.{is_blank, is_digit, is_letter, is_name_byte}
-use Rattle.text_grammar.specs.Fronts.{front_len, front_of}
+use Rattle.text_grammar.specs.Prefixes.{prefix_len, prefix_of}
 use Rattle.text_grammar.specs.declared.class.Class.TheVariants.{NameByte}
 use Rattle.formula_parse.specs.Tokens as tokens
 use Rattle.formula_parse.specs.Tokens.{Name, Token, Placed, token_of, Letter}
@@ -49,16 +49,16 @@ signs_named at b c d =
     (if_lexeme (b == 61) _ _ (if_lexeme (c == 62) _ _ tt tt) (if_lexeme (b == 33) _ _ (if_lexeme (c == 61) _ _ tt tt) (sign_named at b))))
 
 -- a name at a letter begins with it
-front_named : (b : ℕ) (bs : List ℕ) → is_letter b ≡ true → begins_with_letter (front_of NameByte (b ∷ bs)) ≡ true
-front_named b bs letter = by (is_name_byte b) (or_left (is_letter b || is_digit b) (b == 95) (or_left (is_letter b) (is_digit b) letter))
+prefix_named : (b : ℕ) (bs : List ℕ) → is_letter b ≡ true → begins_with_letter (prefix_of NameByte (b ∷ bs)) ≡ true
+prefix_named b bs letter = by (is_name_byte b) (or_left (is_letter b || is_digit b) (b == 95) (or_left (is_letter b) (is_digit b) letter))
   where
-    by : (c : Bool) → c ≡ true → begins_with_letter (take (if c then suc (front_len NameByte bs) else 0) (b ∷ bs)) ≡ true
+    by : (c : Bool) → c ≡ true → begins_with_letter (take (if c then suc (prefix_len NameByte bs) else 0) (b ∷ bs)) ≡ true
     by true is = letter
     by false is = absurd (false≢true is)
 
 letters_named : (b : ℕ) (bs : List ℕ) → is_letter b ≡ true → IsNamedLexeme (letter_lexeme (b ∷ bs))
 letters_named b bs letter =
-    if_lexeme (b == 69) _ _ tt (if_lexeme (b == 65) _ _ tt (if_lexeme (b == 73) _ _ tt (if_lexeme (nat_le (front_len NameByte (b ∷ bs)) 64) _ _ (front_named b bs letter) tt)))
+    if_lexeme (b == 69) _ _ tt (if_lexeme (b == 65) _ _ tt (if_lexeme (b == 73) _ _ tt (if_lexeme (nat_le (prefix_len NameByte (b ∷ bs)) 64) _ _ (prefix_named b bs letter) tt)))
 
 plain_named : (at b : ℕ) (bs : List ℕ) → IsNamedLexeme (plain_lexeme at (b ∷ bs))
 plain_named at b bs = if_lexeme (is_digit b) _ _ tt (by (is_letter b) refl)
@@ -73,7 +73,7 @@ plain_named at b bs = if_lexeme (is_digit b) _ _ tt (by (is_letter b) refl)
 lexeme_named : (m : Mode) (at b : ℕ) (bs : List ℕ) → IsNamedLexeme (lexeme m at (b ∷ bs))
 lexeme_named plain at b bs = plain_named at b bs
 lexeme_named after_mark at b bs = if_lexeme (system_len (b ∷ bs) == 0) _ _ (plain_named at b bs) (if_lexeme (nat_le (system_len (b ∷ bs)) 62) _ _ tt tt)
-lexeme_named after_call at b bs = if_lexeme (is_letter b) _ _ (if_lexeme (nat_le (front_len NameByte (b ∷ bs)) 64) _ _ tt tt) (plain_named at b bs)
+lexeme_named after_call at b bs = if_lexeme (is_letter b) _ _ (if_lexeme (nat_le (prefix_len NameByte (b ∷ bs)) 64) _ _ tt tt) (plain_named at b bs)
 
 abbrev AreNamedSpots : List (Spot Token) → Type 0
 AreNamedSpots ss = AllByRecursion (λ (s : Spot Token). IsNamedToken s.token) ss
@@ -130,16 +130,16 @@ mutual
   prod_parts : (p : Prod) (d : ℕ) (r : List Placed) → AreNamedPlaced (prod_then p d r) → AreNamedFactors (before_factor p) × IsNamedTerm (last_factor p) × AreNamedPlaced r
   prod_parts (factor f) d r all = let one = factor_named f d r all in (tt, one.0, one.1)
   prod_parts (times p b f) d r all =
-      let front = prod_parts p d (tokens.here (tokens.times b) d ∷ factor_then f d r) all in
-      let last = factor_named f d r front.2.1 in
-      ((front.0, front.1), last.0, last.1)
+      let prefix = prod_parts p d (tokens.here (tokens.times b) d ∷ factor_then f d r) all in
+      let last = factor_named f d r prefix.2.1 in
+      ((prefix.0, prefix.1), last.0, last.1)
 
   term_parts : (t : Term) (d : ℕ) (r : List Placed) → AreNamedPlaced (term_then t d r) → AreNamedAddends (before_prod t) × IsNamedTerm (last_prod t) × AreNamedPlaced r
   term_parts (prod p) d r all = let parts = prod_parts p d r all in (tt, multiplied_named (before_factor p) (last_factor p) parts.0 parts.1, parts.2)
   term_parts (signed t s p) d r all =
-      let front = term_parts t d (tokens.here (tokens.sign s) d ∷ prod_then p d r) all in
-      let last = prod_parts p d r front.2.1 in
-      ((front.0, front.1), multiplied_named (before_factor p) (last_factor p) last.0 last.1, last.2)
+      let prefix = term_parts t d (tokens.here (tokens.sign s) d ∷ prod_then p d r) all in
+      let last = prod_parts p d r prefix.2.1 in
+      ((prefix.0, prefix.1), multiplied_named (before_factor p) (last_factor p) last.0 last.1, last.2)
 
 term_named : (t : Term) (d : ℕ) (r : List Placed) → AreNamedPlaced (term_then t d r) → IsNamedTerm (term_tree t) × AreNamedPlaced r
 term_named t d r all = let parts = term_parts t d r all in (summed_named (before_prod t) (last_prod t) parts.0 parts.1, parts.2)
@@ -149,16 +149,16 @@ index_named (word n t) d r all =
     let one = term_named t (suc d) (tokens.here tokens.unbracket d ∷ r) all.1.1 in
     ((tt, one.0), one.1.1)
 index_named (further x t) d r all =
-    let front = index_named x d (tokens.here tokens.bracket (suc d) ∷ term_then t (suc d) (tokens.here tokens.unbracket d ∷ r)) all in
-    let last = term_named t (suc d) (tokens.here tokens.unbracket d ∷ r) front.1.1 in
-    ((front.0, last.0), last.1.1)
+    let prefix = index_named x d (tokens.here tokens.bracket (suc d) ∷ term_then t (suc d) (tokens.here tokens.unbracket d ∷ r)) all in
+    let last = term_named t (suc d) (tokens.here tokens.unbracket d ∷ r) prefix.1.1 in
+    ((prefix.0, last.0), last.1.1)
 
 terms_named : (ts : Terms) (d : ℕ) (r : List Placed) → AreNamedPlaced (terms_then ts d r) → AreNamedTerms (terms_tree ts) × AreNamedPlaced r
 terms_named (term t) d r all = let one = term_named t d r all in ((tt, one.0), one.1)
 terms_named (comma ts t) d r all =
-    let front = terms_named ts d (tokens.here tokens.comma d ∷ term_then t d r) all in
-    let last = term_named t d r front.1.1 in
-    ((front.0, last.0), last.1)
+    let prefix = terms_named ts d (tokens.here tokens.comma d ∷ term_then t d r) all in
+    let last = term_named t d r prefix.1.1 in
+    ((prefix.0, last.0), last.1)
 
 minus_named : (b : Bool) (d : ℕ) (r : List Placed) → AreNamedPlaced (minus_then b d r) → AreNamedPlaced r
 minus_named true d r all = all.1
@@ -199,27 +199,27 @@ mutual
       let parts = imp_parts i y d r all in
       (tt, chained_named (before_chain y i) (last_chain y i) parts.0 parts.1, parts.2)
   formula_parts (iff f i) y d r all =
-      let front = formula_parts f y d (tokens.here tokens.iff d ∷ imp_then i d r) all in
+      let prefix = formula_parts f y d (tokens.here tokens.iff d ∷ imp_then i d r) all in
       let z = formula_system y f in
-      let last = imp_parts i z d r front.2.1 in
-      ((front.0, front.1), chained_named (before_chain z i) (last_chain z i) last.0 last.1, last.2)
+      let last = imp_parts i z d r prefix.2.1 in
+      ((prefix.0, prefix.1), chained_named (before_chain z i) (last_chain z i) last.0 last.1, last.2)
 
   imp_parts : (i : Imp) (y : Name) (d : ℕ) (r : List Placed) → AreNamedPlaced (imp_then i d r) → AreNamedAmong (before_chain y i) × AreNamedIn (last_chain y i) × AreNamedPlaced r
   imp_parts (chain c) y d r all =
       let parts = chain_parts c y d r all in
       (tt, chained_named (before_operand y c) (last_operand y c) parts.0 parts.1, parts.2)
   imp_parts (implies i b c) y d r all =
-      let front = imp_parts i y d (tokens.here (tokens.implies b) d ∷ chain_then c d r) all in
+      let prefix = imp_parts i y d (tokens.here (tokens.implies b) d ∷ chain_then c d r) all in
       let z = imp_system y i in
-      let last = chain_parts c z d r front.2.1 in
-      ((front.0, front.1), chained_named (before_operand z c) (last_operand z c) last.0 last.1, last.2)
+      let last = chain_parts c z d r prefix.2.1 in
+      ((prefix.0, prefix.1), chained_named (before_operand z c) (last_operand z c) last.0 last.1, last.2)
 
   chain_parts : (c : Chain) (y : Name) (d : ℕ) (r : List Placed) → AreNamedPlaced (chain_then c d r) → AreNamedAmong (before_operand y c) × AreNamedIn (last_operand y c) × AreNamedPlaced r
   chain_parts (operand o) y d r all = let one = operand_named o y d r all in (tt, one.0, one.1)
   chain_parts (joined c k b o) y d r all =
-      let front = chain_parts c y d (tokens.here (tokens.connective k b) d ∷ operand_then o d r) all in
-      let last = operand_named o (chain_system y c) d r front.2.1 in
-      ((front.0, front.1), last.0, last.1)
+      let prefix = chain_parts c y d (tokens.here (tokens.connective k b) d ∷ operand_then o d r) all in
+      let last = operand_named o (chain_system y c) d r prefix.2.1 in
+      ((prefix.0, prefix.1), last.0, last.1)
 
   operand_named : (o : Operand) (y : Name) (d : ℕ) (r : List Placed) → AreNamedPlaced (operand_then o d r) → AreNamedIn (operand_tree y o) × AreNamedPlaced r
   operand_named (marked ms c) y d r all =

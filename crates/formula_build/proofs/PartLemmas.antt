@@ -160,19 +160,19 @@ all_closing_parts (places ps q) base =
     (closing_parts q.track q.relation inside)
 
 one_more_parts : (qs : List Plan) (ps : Places) (p : TermPlan) → ArePlacedParts qs ps → AreTermParts p → ArePlacedParts (qs ++ p.steps) (places ps p.placed)
-one_more_parts qs ps p front parts base =
+one_more_parts qs ps p prefix parts base =
     let inside = closed_all ps base in
     let last = closed p.placed inside in
     parts_both qs p.steps last
-    (parts_within qs inside last (base_closed p.placed.track p.placed.relation inside) (front base))
+    (parts_within qs inside last (base_closed p.placed.track p.placed.relation inside) (prefix base))
     (value_closed p.steps p.placed.track p.placed.relation inside parts)
 
 argument_parts : (ss : List Name) (ts : Terms) (k : ℕ) → ArePlacedParts (argument_plans ss ts k).steps (argument_plans ss ts k).placed
 argument_parts ss no_terms k = λ base. tt
 argument_parts ss (terms ts t) k =
-    let front = argument_plans ss ts k in
-    one_more_parts front.steps front.placed (term_plan (slice_index_or ss (count ts) []) t front.next) (argument_parts ss ts k)
-    (term_parts (slice_index_or ss (count ts) []) t front.next)
+    let prefix = argument_plans ss ts k in
+    one_more_parts prefix.steps prefix.placed (term_plan (slice_index_or ss (count ts) []) t prefix.next) (argument_parts ss ts k)
+    (term_parts (slice_index_or ss (count ts) []) t prefix.next)
 
 over_terms_parts : (ps : TermPlans) (qs : List Plan) (base : Plan) → ArePlacedParts ps.steps ps.placed → AreParts qs base → AreOwnParts (over_terms ps qs base)
 over_terms_parts ps qs base parts also =

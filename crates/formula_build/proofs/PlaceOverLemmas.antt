@@ -1,4 +1,4 @@
--- The plans of arguments stand over the systems of their places.
+-- The plans of arguments are over the systems of their places.
 use Rattle.std.specs.Prelude.{⊤, nat_lt}
 use Rattle.std.proofs.Common.{◌≡◌, ℕ, ◌<◌, ◌≤◌, Bool, true, false, if◌then◌else◌, List, [], ◌∷◌, ◌++◌, map, length, take, slice_index_or, Option, None, Some, inl, inr, ◌⊎◌, refl, sym, ap, ◌∙◌, subst, arith}
 use Rattle.std.proofs.Math.Seq.{take-suc}
@@ -90,17 +90,17 @@ only_all_closed E (places ps p) base values only =
       | inr last ↦ elim (has_cases p.track [] u last) [ inl same ↦ inl (inr same) | inr none ↦ absurd (false≢true none) ]
     ]
 
-module _ (h : Headers) (way : Name → Direction) (on : TrackSystems) (d : Direction) where
+module _ (h : Headers) (direction : Name → Direction) (on : TrackSystems) (d : Direction) where
   abbrev pub AreOver : Places → Type 0
   AreOver no_places = ⊤
-  AreOver (places ps p) = AreOver ps × OverOf h way on d p.track p.relation
+  AreOver (places ps p) = AreOver ps × OverOf h direction on d p.track p.relation
 
-  pub over_all_closed : (ps : Places) (base : Plan) → AreOver ps → IsOver h way on base → Only (Faces way on d) base → IsOver h way on (closed_all ps base) × Only (Faces way on d) (closed_all ps base)
+  pub over_all_closed : (ps : Places) (base : Plan) → AreOver ps → IsOver h direction on base → Only (Faces direction on d) base → IsOver h direction on (closed_all ps base) × Only (Faces direction on d) (closed_all ps base)
   over_all_closed no_places base values over faces = (over, faces)
   over_all_closed (places ps p) base values over faces =
       let rest = over_all_closed ps base values.0 over faces in (
-        over_closed h way on d p.track p.relation (closed_all ps base) values.1 rest.0 rest.1,
-        faces_closed h way on d p.track p.relation (closed_all ps base) values.1 rest.1,
+        over_closed h direction on d p.track p.relation (closed_all ps base) values.1 rest.0 rest.1,
+        faces_closed h direction on d p.track p.relation (closed_all ps base) values.1 rest.1,
       )
 
 -- the tracks of a term's value are those of variables that occur in it, but a fresh one
@@ -108,13 +108,13 @@ pub term_only : (Q : Occurrence → Type 0) (s : Name) (b : Binders) (t : Term) 
     → OnlyOf (IsOwn (OccursAnywhere Q b)) (term_plan s t k).placed.track (term_plan s t k).placed.relation
 term_only Q s b t k all =
     let p = term_plan s t k in
-    value_only h way (λ u. s) s (Occurs Q s b) here (IsOwn (OccursAnywhere Q b)) p.placed.track p.placed.relation k p.next anywhere (term_stands h way (λ u. s) s b Q here t all k)
+    value_only h direction (λ u. s) s (Occurs Q s b) here (IsOwn (OccursAnywhere Q b)) p.placed.track p.placed.relation k p.next anywhere (term_stands h direction (λ u. s) s b Q here t all k)
   where
     h : Headers
     h = record { of_automaton = λ n. []; of_word = λ n. [] }
 
-    way : Name → Direction
-    way = λ n. Msd
+    direction : Name → Direction
+    direction = λ n. Msd
 
     here : AreOn (λ u. s) s (Occurs Q s b)
     here = record { of_fresh = λ i. refl; of_own = λ n is. refl }
@@ -132,7 +132,7 @@ arguments_only Q ss b (terms ts t) k within all = (
   term_only Q (slice_index_or ss (count ts) []) b t (argument_plans ss ts k).next (last_occurs Q ss b ts t (omega (arith, within)) all),
 )
 
--- the fresh tracks of each argument stand over the system of its place
+-- the fresh tracks of each argument are over the system of its place
 abbrev pub AreSystems : (ℕ → Name) → List Name → Terms → ℕ → Type 0
 AreSystems g ss no_terms k = ⊤
 AreSystems g ss (terms ts t) k =
@@ -164,34 +164,34 @@ parted_above mid f g i above = by (nat_lt i mid) refl
 pub systems_exist : (ss : List Name) (ts : Terms) (k : ℕ) → (g : ℕ → Name) × AreSystems g ss ts k
 systems_exist ss no_terms k = (λ i. [], tt)
 systems_exist ss (terms ts t) k =
-    let front = systems_exist ss ts k in
+    let prefix = systems_exist ss ts k in
     let next = (argument_plans ss ts k).next in
     let s : Name = slice_index_or ss (count ts) [] in
-    let g : ℕ → Name = parted next front.0 (λ i. s) in (
+    let g : ℕ → Name = parted next prefix.0 (λ i. s) in (
       g,
-      (same_systems front.0 g ss ts k (λ i low high. parted_below next front.0 (λ i. s) i high) front.1, λ i low high. parted_above next front.0 (λ i. s) i low),
+      (same_systems prefix.0 g ss ts k (λ i low high. parted_below next prefix.0 (λ i. s) i high) prefix.1, λ i low high. parted_above next prefix.0 (λ i. s) i low),
     )
 
--- the systems of places face one way
-abbrev pub FaceOneWay : (Name → Direction) → Direction → List Name → Type 0
-FaceOneWay way d ss = (i : ℕ) → i < length ss → way (slice_index_or ss i []) ≡ d
+-- the systems of places have one direction
+abbrev pub FaceSharedDirection : (Name → Direction) → Direction → List Name → Type 0
+FaceSharedDirection direction d ss = (i : ℕ) → i < length ss → direction (slice_index_or ss i []) ≡ d
 
 faces_after : (E : Track → Type 0) (ts : List Track) (t : Track) → AllByRecursion E ts → E t → AllByRecursion E (ts ++ t ∷ [])
 faces_after E [] t all here = (here, tt)
 faces_after E (u ∷ ts) t all here = (all.0, faces_after E ts t all.1 here)
 
--- arguments whose variables stand over the systems at their places
-module _ (h : Headers) (way : Name → Direction) (scope : Name → Name) (b : Binders) (Q : Occurrence → Type 0) (of_scope : (s n : Name) → Occurs Q s b n → scope n ≡ s) where
+-- arguments whose variables are over the systems at their places
+module _ (h : Headers) (direction : Name → Direction) (scope : Name → Name) (b : Binders) (Q : Occurrence → Type 0) (of_scope : (s n : Name) → Occurs Q s b n → scope n ≡ s) where
   pub constant_on : (s : Name) → AreOn (on_by scope (λ i. s)) s (Occurs Q s b)
   constant_on s = record { of_fresh = λ i. refl; of_own = λ n is. of_scope s n is }
 
   -- a value over one system, among fresh tracks over others
-  pub value_among : (g : ℕ → Name) (s : Name) (d : Direction) (t : Track) (r : Option Plan) (k next : ℕ) → way s ≡ d → ((i : ℕ) → k ≤ i → i < next → g i ≡ s)
-      → IsStood h way (on_by scope (λ i. s)) (Occurs Q s b) t r k next → OverOf h way (on_by scope g) d t r × (on_by scope g t ≡ s)
+  pub value_among : (g : ℕ → Name) (s : Name) (d : Direction) (t : Track) (r : Option Plan) (k next : ℕ) → direction s ≡ d → ((i : ℕ) → k ≤ i → i < next → g i ≡ s)
+      → IsStood h direction (on_by scope (λ i. s)) (Occurs Q s b) t r k next → OverOf h direction (on_by scope g) d t r × (on_by scope g t ≡ s)
   value_among g s d (own n) None k next faces of_fresh stood = (tt, of_scope s n stood.0)
   value_among g s d (fresh j) (Some r) k next faces of_fresh stood =
       let here : g j ≡ s = of_fresh j stood.low stood.high in (
-        (over_depends h way r (on_by scope (λ i. s)) (on_by scope g) (λ u is. same here u (stood.only u is)) stood.over, stood.there, λ u is. ap way (at here u (stood.only u is)) ∙ faces),
+        (over_depends h direction r (on_by scope (λ i. s)) (on_by scope g) (λ u is. same here u (stood.only u is)) stood.over, stood.there, λ u is. ap direction (at here u (stood.only u is)) ∙ faces),
         here,
       )
     where
@@ -210,26 +210,26 @@ module _ (h : Headers) (way : Name → Direction) (scope : Name → Name) (b : B
 
   -- each argument's plan, and its track over the system of its place
   pub record AreArguments (g : ℕ → Name) (d : Direction) (ss : List Name) (ts : Terms) (k : ℕ) : Type 0 where
-    pub over : AreOver h way (on_by scope g) d (argument_plans ss ts k).placed
-    pub faces : AllByRecursion (Faces way (on_by scope g) d) (tracks_of (argument_plans ss ts k).placed)
+    pub over : AreOver h direction (on_by scope g) d (argument_plans ss ts k).placed
+    pub faces : AllByRecursion (Faces direction (on_by scope g) d) (tracks_of (argument_plans ss ts k).placed)
     pub systems : map (on_by scope g) (tracks_of (argument_plans ss ts k).placed) ≡ take (count ts) ss
 
-  pub arguments_over : (g : ℕ → Name) (d : Direction) (ss : List Name) (ts : Terms) (k : ℕ) → count ts ≤ length ss → FaceOneWay way d ss → AreSystems g ss ts k
+  pub arguments_over : (g : ℕ → Name) (d : Direction) (ss : List Name) (ts : Terms) (k : ℕ) → count ts ≤ length ss → FaceSharedDirection direction d ss → AreSystems g ss ts k
       → AllByRecursion Q (place_occurrences ss b ts) → AreArguments g d ss ts k
   arguments_over g d ss no_terms k within facing are all = record { over = tt; faces = tt; systems = refl }
   arguments_over g d ss (terms ts t) k within facing are all =
       let inside : count ts < length ss = omega (arith, within) in
-      let front = arguments_over g d ss ts k (omega (arith, within)) facing are.0 (former_occur Q ss b ts t all) in
+      let prefix = arguments_over g d ss ts k (omega (arith, within)) facing are.0 (former_occur Q ss b ts t all) in
       let s : Name = slice_index_or ss (count ts) [] in
       let next = (argument_plans ss ts k).next in
       let p = term_plan s t next in
       let on = on_by scope g in
       let former = tracks_of (argument_plans ss ts k).placed in
-      let stood = term_stands h way (on_by scope (λ i. s)) s b Q (constant_on s) t (last_occurs Q ss b ts t inside all) next in
+      let stood = term_stands h direction (on_by scope (λ i. s)) s b Q (constant_on s) t (last_occurs Q ss b ts t inside all) next in
       let here = value_among g s d p.placed.track p.placed.relation next p.next (facing (count ts) inside) are.1 stood in
       record {
-        over = (front.over, here.0);
-        faces = faces_after (Faces way on d) former p.placed.track front.faces (ap way here.1 ∙ facing (count ts) inside);
-        systems = map-append on former (p.placed.track ∷ []) ∙ ap (λ (ys : List Name). ys ++ on p.placed.track ∷ []) front.systems
+        over = (prefix.over, here.0);
+        faces = faces_after (Faces direction on d) former p.placed.track prefix.faces (ap direction here.1 ∙ facing (count ts) inside);
+        systems = map-append on former (p.placed.track ∷ []) ∙ ap (λ (ys : List Name). ys ++ on p.placed.track ∷ []) prefix.systems
             ∙ ap (λ (y : Name). take (count ts) ss ++ y ∷ []) here.1 ∙ sym (take-suc ss (count ts) [] inside);
       }

@@ -91,8 +91,8 @@ module _ (l : LibraryValue) where
   chained_met : (os : trees.Operands) (f : trees.Formula) → AreMet (mentions (chained os f)) → AreMet (mentions_among os) × AreMet (mentions f)
   chained_met trees.no_operands f met = (tt, met)
   chained_met (trees.operands os g k) f met =
-      let front = mentions_among (trees.operands os g k) in
-      (all_first IsMet front (mentions f) met, all_second IsMet front (mentions f) met)
+      let prefix = mentions_among (trees.operands os g k) in
+      (all_first IsMet prefix (mentions f) met, all_second IsMet prefix (mentions f) met)
 
   chained_known : (os : trees.Operands) (f : trees.Formula) → AreKnownAmong l os → AreKnownIn l f → AreKnownIn l (chained os f)
   chained_known trees.no_operands f first second = second
@@ -127,8 +127,8 @@ module _ (l : LibraryValue) where
         let parts = imp_known i y is met.0 met.1 in
         (tt, chained_known (before_chain y i) (last_chain y i) parts.0 parts.1, parts.2)
     formula_known (iff f i) y is first second =
-        let front = mentions_among (before_imp y f) in
-        let before = formula_known f y is (all_first IsMet front (mentions (last_imp y f)) first) (all_second IsMet front (mentions (last_imp y f)) first) in
+        let prefix = mentions_among (before_imp y f) in
+        let before = formula_known f y is (all_first IsMet prefix (mentions (last_imp y f)) first) (all_second IsMet prefix (mentions (last_imp y f)) first) in
         let z = formula_system y f in
         let met = chained_met (before_chain z i) (last_chain z i) second in
         let parts = imp_known i z before.2 met.0 met.1 in
@@ -141,8 +141,8 @@ module _ (l : LibraryValue) where
         let parts = chain_known c y is met.0 met.1 in
         (tt, chained_known (before_operand y c) (last_operand y c) parts.0 parts.1, parts.2)
     imp_known (implies i b c) y is first second =
-        let front = mentions_among (before_chain y i) in
-        let before = imp_known i y is (all_first IsMet front (mentions (last_chain y i)) first) (all_second IsMet front (mentions (last_chain y i)) first) in
+        let prefix = mentions_among (before_chain y i) in
+        let before = imp_known i y is (all_first IsMet prefix (mentions (last_chain y i)) first) (all_second IsMet prefix (mentions (last_chain y i)) first) in
         let z = imp_system y i in
         let met = chained_met (before_operand z c) (last_operand z c) second in
         let parts = chain_known c z before.2 met.0 met.1 in
@@ -152,8 +152,8 @@ module _ (l : LibraryValue) where
         → AreKnownAmong l (before_operand y c) × AreKnownIn l (last_operand y c) × HasSystem l (chain_system y c)
     chain_known (operand o) y is first second = let one = operand_known o y is second in (tt, one.0, one.1)
     chain_known (joined c k b o) y is first second =
-        let front = mentions_among (before_operand y c) in
-        let before = chain_known c y is (all_first IsMet front (mentions (last_operand y c)) first) (all_second IsMet front (mentions (last_operand y c)) first) in
+        let prefix = mentions_among (before_operand y c) in
+        let before = chain_known c y is (all_first IsMet prefix (mentions (last_operand y c)) first) (all_second IsMet prefix (mentions (last_operand y c)) first) in
         let last = operand_known o (chain_system y c) before.2 second in
         ((before.0, before.1), last.0, last.1)
 

@@ -12,13 +12,13 @@ use Rattle.digit_tuple.specs.declared.direction.Direction.{Direction}
 use Rattle.formula_parse.specs.Tokens.{Name}
 use Rattle.formula_resolve.specs.Occurrences.{Binders}
 use Rattle.formula_resolve.specs.Clashes.{is_same_binding, first_system, clash_with, clash_after, first_clash}
-use Rattle.formula_resolve.specs.Directions.{is_lsd, is_other_way, lesser, least, first_met, turned, other_met, turn_between, turn_among_parts}
+use Rattle.formula_resolve.specs.Directions.{is_lsd, is_other_direction, lesser, least, first_met, opposed, other_met, conflict_between, conflict_among_parts}
 use Rattle.formula_resolve.specs.declared.fault.ResolveFault.{ResolveFault}
 use Rattle.formula_resolve.specs.declared.fault.ResolveFault.TheVariants.{Clash}
 use Rattle.formula_resolve.specs.declared.occurrence.Occurrence.{Occurrence}
-use Rattle.formula_resolve.specs.declared.direction.Turn.{Turn}
+use Rattle.formula_resolve.specs.declared.direction.Conflict.{Conflict}
 use Rattle.formula_build.specs.Resolved.{or_none, system_under}
-use Rattle.formula_build.proofs.FactOverLemmas.{neither, not_other_way}
+use Rattle.formula_build.proofs.FactOverLemmas.{neither, not_other_direction}
 
 -- an occurrence over the system of the first one under its binding
 abbrev pub Agrees : List Occurrence → Occurrence → Type 0
@@ -32,22 +32,22 @@ same_binding o = both (o.binder == o.binder) (bytes_eq o.name o.name) (eq-eqb o.
     both false q first second = absurd (false≢true first)
 
 -- the first among some stays first where others come after them
-first_stays : (front rest : List Occurrence) (o : Occurrence) (s : Name) → first_system front o ≡ Some s → first_system (front ++ rest) o ≡ Some s
+first_stays : (prefix rest : List Occurrence) (o : Occurrence) (s : Name) → first_system prefix o ≡ Some s → first_system (prefix ++ rest) o ≡ Some s
 first_stays [] rest o s is = absurd (none-some s is)
-first_stays (p ∷ front) rest o s is = by (is_same_binding p o) is (first_stays front rest o s)
+first_stays (p ∷ prefix) rest o s is = by (is_same_binding p o) is (first_stays prefix rest o s)
   where
-    by : (b : Bool) → (if b then Some p.system else first_system front o) ≡ Some s → (first_system front o ≡ Some s → first_system (front ++ rest) o ≡ Some s)
-        → (if b then Some p.system else first_system (front ++ rest) o) ≡ Some s
+    by : (b : Bool) → (if b then Some p.system else first_system prefix o) ≡ Some s → (first_system prefix o ≡ Some s → first_system (prefix ++ rest) o ≡ Some s)
+        → (if b then Some p.system else first_system (prefix ++ rest) o) ≡ Some s
     by true is later = is
     by false is later = later is
 
 -- an occurrence after none under its binding is the first
-first_new : (front rest : List Occurrence) (o : Occurrence) → first_system front o ≡ None → first_system (front ++ o ∷ rest) o ≡ Some o.system
+first_new : (prefix rest : List Occurrence) (o : Occurrence) → first_system prefix o ≡ None → first_system (prefix ++ o ∷ rest) o ≡ Some o.system
 first_new [] rest o none = ap (λ (b : Bool). if b then Some o.system else first_system rest o) (same_binding o)
-first_new (p ∷ front) rest o none = by (is_same_binding p o) none (first_new front rest o)
+first_new (p ∷ prefix) rest o none = by (is_same_binding p o) none (first_new prefix rest o)
   where
-    by : (b : Bool) → (if b then Some p.system else first_system front o) ≡ None → (first_system front o ≡ None → first_system (front ++ o ∷ rest) o ≡ Some o.system)
-        → (if b then Some p.system else first_system (front ++ o ∷ rest) o) ≡ Some o.system
+    by : (b : Bool) → (if b then Some p.system else first_system prefix o) ≡ None → (first_system prefix o ≡ None → first_system (prefix ++ o ∷ rest) o ≡ Some o.system)
+        → (if b then Some p.system else first_system (prefix ++ o ∷ rest) o) ≡ Some o.system
     by true none later = absurd (none-some p.system (sym none))
     by false none later = later none
 
@@ -61,16 +61,16 @@ no_clash s o = by (bytes_eq s o.system) refl
     by true same none = (bytes_eq-Decides s o.system).0 same
     by false apart none = absurd (none-some clash (sym none))
 
-here_agrees : (front rest : List Occurrence) (o : Occurrence) (x : Option Name) → first_system front o ≡ x → clash_with x o ≡ None → Agrees (front ++ o ∷ rest) o
-here_agrees front rest o None is none = first_new front rest o is
-here_agrees front rest o (Some s) is none = first_stays front (o ∷ rest) o s is ∙ ap Some (no_clash s o none)
+here_agrees : (prefix rest : List Occurrence) (o : Occurrence) (x : Option Name) → first_system prefix o ≡ x → clash_with x o ≡ None → Agrees (prefix ++ o ∷ rest) o
+here_agrees prefix rest o None is none = first_new prefix rest o is
+here_agrees prefix rest o (Some s) is none = first_stays prefix (o ∷ rest) o s is ∙ ap Some (no_clash s o none)
 
-agree_after : (all front os : List Occurrence) → all ≡ front ++ os → clash_after front os ≡ None → AllByRecursion (Agrees all) os
-agree_after all front [] same none = tt
-agree_after all front (o ∷ os) same none =
-    let parts = neither (clash_with (first_system front o) o) (clash_after (front ++ o ∷ []) os) none in (
-      subst (λ (ps : List Occurrence). Agrees ps o) (sym same) (here_agrees front os o (first_system front o) refl parts.0),
-      agree_after all (front ++ o ∷ []) os (same ∙ sym (append_assoc front (o ∷ []) os)) parts.1,
+agree_after : (all prefix os : List Occurrence) → all ≡ prefix ++ os → clash_after prefix os ≡ None → AllByRecursion (Agrees all) os
+agree_after all prefix [] same none = tt
+agree_after all prefix (o ∷ os) same none =
+    let parts = neither (clash_with (first_system prefix o) o) (clash_after (prefix ++ o ∷ []) os) none in (
+      subst (λ (ps : List Occurrence). Agrees ps o) (sym same) (here_agrees prefix os o (first_system prefix o) refl parts.0),
+      agree_after all (prefix ++ o ∷ []) os (same ∙ sym (append_assoc prefix (o ∷ []) os)) parts.1,
     )
 
 -- where none clashes, all agree
@@ -82,7 +82,7 @@ first_same : (all : List Occurrence) (n : Name) (i : ℕ) (s t : Name) → first
 first_same [] n i s t = refl
 first_same (o ∷ all) n i s t = ap (λ (x : Option Name). if is_same_binding o (record { name = n; binder = i; system = s }) then Some o.system else x) (first_same all n i s t)
 
--- a variable stands over the system of each occurrence that agrees
+-- a variable is over the system of each occurrence that agrees
 pub agreed_system : (all : List Occurrence) (b : Binders) (s n : Name) → Agrees all (record { name = n; binder = b n; system = s }) → system_under all b n ≡ s
 agreed_system all b s n agrees = ap or_none (first_same all n (b n) [] s ∙ agrees)
 
@@ -132,33 +132,33 @@ none_met (os ∷ parts) none =
     let each = neither (option_map (λ (o : Occurrence). o.system) (least os)) (first_met parts) none in
     (no_least os (none_mapped (least os) each.0), none_met parts each.1)
 
-module _ (way : Name → Direction) (by_name : (s t : Name) → is_lsd s ≡ is_lsd t → way s ≡ way t) where
+module _ (direction : Name → Direction) (by_name : (s t : Name) → is_lsd s ≡ is_lsd t → direction s ≡ direction t) where
   abbrev pub FaceAll : Direction → List Occurrence → Type 0
-  FaceAll d os = AllByRecursion (λ (o : Occurrence). way o.system ≡ d) os
+  FaceAll d os = AllByRecursion (λ (o : Occurrence). direction o.system ≡ d) os
 
-  not_turned : (s : Name) (os : List Occurrence) → AllByRecursion (λ (o : Occurrence). is_other_way s o.system ≡ false) os → FaceAll (way s) os
-  not_turned s [] all = tt
-  not_turned s (o ∷ os) all = (sym (by_name s o.system (not_other_way s o.system all.0)), not_turned s os all.1)
+  not_opposed : (s : Name) (os : List Occurrence) → AllByRecursion (λ (o : Occurrence). is_other_direction s o.system ≡ false) os → FaceAll (direction s) os
+  not_opposed s [] all = tt
+  not_opposed s (o ∷ os) all = (sym (by_name s o.system (not_other_direction s o.system all.0)), not_opposed s os all.1)
 
-  none_turned : (s : Name) (parts : List (List Occurrence)) → AllByRecursion (λ (os : List Occurrence). os ≡ []) (map (turned s) parts) → AllByRecursion (FaceAll (way s)) parts
-  none_turned s [] all = tt
-  none_turned s (os ∷ parts) all = (not_turned s os (none_kept (λ o. is_other_way s o.system) os all.0), none_turned s parts all.1)
+  none_opposed : (s : Name) (parts : List (List Occurrence)) → AllByRecursion (λ (os : List Occurrence). os ≡ []) (map (opposed s) parts) → AllByRecursion (FaceAll (direction s)) parts
+  none_opposed s [] all = tt
+  none_opposed s (os ∷ parts) all = (not_opposed s os (none_kept (λ o. is_other_direction s o.system) os all.0), none_opposed s parts all.1)
 
   none_faces : (d : Direction) (parts : List (List Occurrence)) → AllByRecursion (λ (os : List Occurrence). os ≡ []) parts → AllByRecursion (FaceAll d) parts
   none_faces d [] all = tt
   none_faces d (os ∷ parts) all = (subst (FaceAll d) (sym all.0) tt, none_faces d parts all.1)
 
-  no_other : (s : Name) (x : Option Name) → turn_between (Some s) x ≡ None → x ≡ None
+  no_other : (s : Name) (x : Option Name) → conflict_between (Some s) x ≡ None → x ≡ None
   no_other s None none = refl
-  no_other s (Some t) none = absurd (some_turn s t none)
+  no_other s (Some t) none = absurd (some_conflict s t none)
     where
-      some_turn : (s t : Name) → turn_between (Some s) (Some t) ≡ None → ⊥
-      some_turn s t none = let turn : Turn = record { first = s; other = t } in none-some turn (sym none)
+      some_conflict : (s t : Name) → conflict_between (Some s) (Some t) ≡ None → ⊥
+      some_conflict s t none = let conflict : Conflict = record { first = s; other = t } in none-some conflict (sym none)
 
-  by_first : (parts : List (List Occurrence)) (x : Option Name) → first_met parts ≡ x → turn_between x (other_met x parts) ≡ None → (d : Direction) × AllByRecursion (FaceAll d) parts
-  by_first parts None is none = (way [], none_faces (way []) parts (none_met parts is))
-  by_first parts (Some s) is none = (way s, none_turned s parts (none_met (map (turned s) parts) (no_other s (other_met (Some s) parts) none)))
+  by_first : (parts : List (List Occurrence)) (x : Option Name) → first_met parts ≡ x → conflict_between x (other_met x parts) ≡ None → (d : Direction) × AllByRecursion (FaceAll d) parts
+  by_first parts None is none = (direction [], none_faces (direction []) parts (none_met parts is))
+  by_first parts (Some s) is none = (direction s, none_opposed s parts (none_met (map (opposed s) parts) (no_other s (other_met (Some s) parts) none)))
 
-  -- where no two directions meet, all occurrences face one way
-  pub no_turn : (parts : List (List Occurrence)) → turn_among_parts parts ≡ None → (d : Direction) × AllByRecursion (FaceAll d) parts
-  no_turn parts none = by_first parts (first_met parts) refl none
+  -- where no two directions meet, all occurrences have one direction
+  pub no_conflict : (parts : List (List Occurrence)) → conflict_among_parts parts ≡ None → (d : Direction) × AllByRecursion (FaceAll d) parts
+  no_conflict parts none = by_first parts (first_met parts) refl none

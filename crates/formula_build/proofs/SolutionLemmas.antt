@@ -17,8 +17,8 @@ use Rattle.formula_build.specs.KnownNames.{AreKnownIn}
 use Rattle.formula_build.specs.Libraries.{LibraryValue, IsLibrary}
 use Rattle.formula_build.specs.Makings.{Makes, IsReady}
 use Rattle.formula_build.specs.Parts.{AreParts}
-use Rattle.formula_build.specs.Resolved.{AreWays, plan_headers, systems_of}
-use Rattle.formula_build.specs.Solutions.{IsFormed, IsResolved, IsSolution, formula_plan, way_named}
+use Rattle.formula_build.specs.Resolved.{AreDirections, plan_headers, systems_of}
+use Rattle.formula_build.specs.Solutions.{IsFormed, IsResolved, IsSolution, formula_plan, direction_named}
 use Rattle.formula_build.specs.TrackNames.{AreNamed}
 use Rattle.formula_build.specs.TrackSystems.{Fits, IsKnown, IsOver}
 use Rattle.formula_build.proofs.FormulaLemmas.{formulas_hold}
@@ -34,21 +34,21 @@ listed_parts plans last h f is =
     subst (λ (ps : List Plan). AreParts ps (plan_at plans last)) (sym is.steps)
     (subst (AreParts (formula_plan h f).steps) (sym is.last_is) (steps_are_parts (plan_headers h) f 0))
 
-module _ (l : LibraryValue) (h : Headers) (f : Formula) (library : IsLibrary l) (formed : IsFormed f) (ways : AreWays h way_named) (resolved : IsResolved h f) (few : (formula_plan h f).next ≤ 2 ^ 64)
-    (fits : Fits l (plan_headers h) way_named) (known : AreKnownIn l f) where
+module _ (l : LibraryValue) (h : Headers) (f : Formula) (library : IsLibrary l) (formed : IsFormed f) (directions : AreDirections h direction_named) (resolved : IsResolved h f) (few : (formula_plan h f).next ≤ 2 ^ 64)
+    (fits : Fits l (plan_headers h) direction_named) (known : AreKnownIn l f) where
   pub named : AreNamed (formula_plan h f).last
   named = named_plans (plan_headers h) f 0 formed.1 few
 
   pub known_plan : IsKnown l (formula_plan h f).last
-  known_plan = known_plans l h way_named fits f 0 resolved.arity known
+  known_plan = known_plans l h direction_named fits f 0 resolved.arity known
 
-  pub over : IsOver (plan_headers h) way_named (systems_of (all_occurrences h f)) (formula_plan h f).last
-  over = over_plans h way_named ways f 0 resolved.arity resolved.clash resolved.turn
+  pub over : IsOver (plan_headers h) direction_named (systems_of (all_occurrences h f)) (formula_plan h f).last
+  over = over_plans h direction_named directions f 0 resolved.arity resolved.clash resolved.conflict
 
   -- the plan can be made
   pub plan_ready : IsReady l (formula_plan h f).last
   plan_ready =
-      over_ready l (plan_headers h) way_named fits library (formula_plan h f).last (systems_of (all_occurrences h f)) named known_plan over
+      over_ready l (plan_headers h) direction_named fits library (formula_plan h f).last (systems_of (all_occurrences h f)) named known_plan over
 
   -- and what it makes is the solution, once its tracks are in order
   pub made_solution : (c r : RelationValue) → Makes l (formula_plan h f).last c → IsOrdered c r → IsSolution l f r

@@ -1,4 +1,4 @@
--- The plan of a term stands over the system of its place.
+-- The plan of a term is over the system of its place.
 use Rattle.std.specs.Prelude.{⊤}
 use Rattle.std.proofs.Common.{◌≡◌, ℕ, zero, suc, ◌+◌, ◌-◌, ◌/◌, ◌%◌, ◌<◌, ◌≤◌, ◌==◌, Bool, true, false, if◌then◌else◌, List, [], ◌∷◌, ◌++◌, Option, None, Some, inl, inr, refl, sym, ap, ◌∙◌, arith}
 use Rattle.std.specs.List.{AllByRecursion}
@@ -25,24 +25,24 @@ abbrev pub IsOwn : (Name → Type 0) → Track → Type 0
 IsOwn O (own n) = O n
 IsOwn O (fresh i) = ⊥
 
--- all fresh tracks, and those of some variables, stand over one system
+-- all fresh tracks, and those of some variables, are over one system
 pub record AreOn (on : TrackSystems) (s : Name) (O : Name → Type 0) : Type 0 where
   pub of_fresh : (i : ℕ) → on (fresh i) ≡ s
   pub of_own : (n : Name) → O n → on (own n) ≡ s
 
--- the relation of a fresh track stands over systems; its other tracks are those of such variables
-pub record IsRelated (h : Headers) (way : Name → Direction) (on : TrackSystems) (O : Name → Type 0) (j : ℕ) (r : Plan) (k next : ℕ) : Type 0 where
+-- the relation of a fresh track is over systems; its other tracks are those of such variables
+pub record IsRelated (h : Headers) (direction : Name → Direction) (on : TrackSystems) (O : Name → Type 0) (j : ℕ) (r : Plan) (k next : ℕ) : Type 0 where
   pub low : k ≤ j
   pub high : j < next
-  pub over : IsOver h way on r
+  pub over : IsOver h direction on r
   pub there : has_track (tracks r) (fresh j) ≡ true
   pub only : Only (OrIs (IsOwn O) (fresh j)) r
 
 abbrev pub IsStood : Headers → (Name → Direction) → TrackSystems → (Name → Type 0) → Track → Option Plan → ℕ → ℕ → Type 0
-IsStood h way on O (own n) None k next = O n × (k ≤ next)
-IsStood h way on O (fresh j) (Some r) k next = IsRelated h way on O j r k next
-IsStood h way on O (own n) (Some r) k next = ⊥
-IsStood h way on O (fresh j) None k next = ⊥
+IsStood h direction on O (own n) None k next = O n × (k ≤ next)
+IsStood h direction on O (fresh j) (Some r) k next = IsRelated h direction on O j r k next
+IsStood h direction on O (own n) (Some r) k next = ⊥
+IsStood h direction on O (fresh j) None k next = ⊥
 
 -- the multiple's tracks
 multiple_only : (E : Track → Type 0) (most : ℕ) (s : Name) (c : ℕ) (x y : Track) (k : ℕ) → E x → E y → Only E (multiple most s c x y k).last
@@ -105,9 +105,9 @@ multiple_has (suc most) s c x y k below = by_zero (c == 0) (c == 1) (c == 2) (c 
     by_zero false false false true = linked_has half k even y below (third_is (fresh k) (fresh k) y)
     by_zero false false false false = linked_has less k odd y below (third_is (fresh k) x y)
 
-module _ (h : Headers) (way : Name → Direction) (on : TrackSystems) (s : Name) (O : Name → Type 0) (are_on : AreOn on s O) where
+module _ (h : Headers) (direction : Name → Direction) (on : TrackSystems) (s : Name) (O : Name → Type 0) (are_on : AreOn on s O) where
   abbrev Stands : TermPlan → ℕ → Type 0
-  Stands p k = IsStood h way on O p.placed.track p.placed.relation k p.next
+  Stands p k = IsStood h direction on O p.placed.track p.placed.relation k p.next
 
   own_on : (t : Track) → IsOwn O t → on t ≡ s
   own_on (own n) is = are_on.of_own n is
@@ -117,26 +117,26 @@ module _ (h : Headers) (way : Name → Direction) (on : TrackSystems) (s : Name)
   value_on j t (inl is) = own_on t is
   value_on j t (inr same) = ap on (sym same) ∙ are_on.of_fresh j
 
-  pub track_on : (t : Track) (r : Option Plan) (k next : ℕ) → IsStood h way on O t r k next → on t ≡ s
+  pub track_on : (t : Track) (r : Option Plan) (k next : ℕ) → IsStood h direction on O t r k next → on t ≡ s
   track_on (own n) None k next stood = are_on.of_own n stood.0
   track_on (fresh j) (Some r) k next stood = are_on.of_fresh j
   track_on (own n) (Some r) k next stood = absurd stood
   track_on (fresh j) None k next stood = absurd stood
 
-  stood_up : (t : Track) (r : Option Plan) (k next : ℕ) → IsStood h way on O t r k next → k ≤ next
+  stood_up : (t : Track) (r : Option Plan) (k next : ℕ) → IsStood h direction on O t r k next → k ≤ next
   stood_up (own n) None k next stood = stood.1
   stood_up (fresh j) (Some r) k next stood = omega (arith, stood.low, stood.high)
   stood_up (own n) (Some r) k next stood = absurd stood
   stood_up (fresh j) None k next stood = absurd stood
 
-  track_apart : (t : Track) (r : Option Plan) (k next i : ℕ) → IsStood h way on O t r k next → next ≤ i → same_track t (fresh i) ≡ false
+  track_apart : (t : Track) (r : Option Plan) (k next i : ℕ) → IsStood h direction on O t r k next → next ≤ i → same_track t (fresh i) ≡ false
   track_apart (own n) None k next i stood past = refl
   track_apart (fresh j) (Some r) k next i stood past = fresh_apart j i (λ same. let e : j ≡ i = same in omega (arith, stood.high, past, e))
   track_apart (own n) (Some r) k next i stood past = absurd stood
   track_apart (fresh j) None k next i stood past = absurd stood
 
   -- where such variables are E, all tracks of a value are, but a fresh one
-  pub value_only : (E : Track → Type 0) (t : Track) (r : Option Plan) (k next : ℕ) → ((u : Track) → IsOwn O u → E u) → IsStood h way on O t r k next → OnlyOf E t r
+  pub value_only : (E : Track → Type 0) (t : Track) (r : Option Plan) (k next : ℕ) → ((u : Track) → IsOwn O u → E u) → IsStood h direction on O t r k next → OnlyOf E t r
   value_only E (own n) None k next more stood = more (own n) stood.0
   value_only E (fresh j) (Some r) k next more stood = only_more (OrIs (IsOwn O) (fresh j)) (OrIs E (fresh j)) r each stood.only
     where
@@ -146,24 +146,24 @@ module _ (h : Headers) (way : Name → Direction) (on : TrackSystems) (s : Name)
   value_only E (own n) (Some r) k next more stood = absurd stood
   value_only E (fresh j) None k next more stood = absurd stood
 
-  pub value_over : (t : Track) (r : Option Plan) (k next : ℕ) → IsStood h way on O t r k next → OverOf h way on (way s) t r
+  pub value_over : (t : Track) (r : Option Plan) (k next : ℕ) → IsStood h direction on O t r k next → OverOf h direction on (direction s) t r
   value_over (own n) None k next stood = tt
-  value_over (fresh j) (Some r) k next stood = (stood.over, stood.there, λ u is. ap way (value_on j u (stood.only u is)))
+  value_over (fresh j) (Some r) k next stood = (stood.over, stood.there, λ u is. ap direction (value_on j u (stood.only u is)))
   value_over (own n) (Some r) k next stood = absurd stood
   value_over (fresh j) None k next stood = absurd stood
 
-  linked_over : (m : Made) (k : ℕ) (base : Plan) → IsOver h way on m.last → Only (Faces way on (way s)) m.last → IsOver h way on base → Only (Faces way on (way s)) base
-      → has_track (tracks base) (fresh k) ≡ true → IsOver h way on (linked m (fresh k) base).last
+  linked_over : (m : Made) (k : ℕ) (base : Plan) → IsOver h direction on m.last → Only (Faces direction on (direction s)) m.last → IsOver h direction on base → Only (Faces direction on (direction s)) base
+      → has_track (tracks base) (fresh k) ≡ true → IsOver h direction on (linked m (fresh k) base).last
   linked_over m k base first one second two there =
-      over_projected h way on (fresh k) (joined and m.last base) (has_second (tracks m.last) (tracks base) (fresh k) there) (over_joined h way on (way s) and m.last base first one second two)
+      over_projected h direction on (fresh k) (joined and m.last base) (has_second (tracks m.last) (tracks base) (fresh k) there) (over_joined h direction on (direction s) and m.last base first one second two)
 
-  multiple_over : (most : ℕ) (c : ℕ) (x y : Track) (k : ℕ) → on x ≡ s → on y ≡ s → IsOver h way on (multiple most s c x y k).last
-  multiple_over zero c x y k first second = (second, first, one_direction way on (way s) (constant s 0 y) (number s x) (each_among (Faces way on (way s)) (y ∷ []) (ap way second, tt)) (each_among (Faces way on (way s)) (x ∷ []) (ap way first, tt)))
+  multiple_over : (most : ℕ) (c : ℕ) (x y : Track) (k : ℕ) → on x ≡ s → on y ≡ s → IsOver h direction on (multiple most s c x y k).last
+  multiple_over zero c x y k first second = (second, first, one_direction direction on (direction s) (constant s 0 y) (number s x) (each_among (Faces direction on (direction s)) (y ∷ []) (ap direction second, tt)) (each_among (Faces direction on (direction s)) (x ∷ []) (ap direction first, tt)))
   multiple_over (suc most) c x y k first second =
       by_zero (c == 0) (multiple_over most (c / 2) x (fresh k) (k + 1) first (are_on.of_fresh k)) (multiple_over most (c - 1) x (fresh k) (k + 1) first (are_on.of_fresh k)) (c == 1) (c == 2) (c % 2 == 0)
     where
       F : Track → Type 0
-      F = Faces way on (way s)
+      F = Faces direction on (direction s)
 
       here : on (fresh k) ≡ s
       here = are_on.of_fresh k
@@ -180,15 +180,15 @@ module _ (h : Headers) (way : Name → Direction) (on : TrackSystems) (s : Name)
       odd : Plan
       odd = added s (fresh k) x y
 
-      by_zero : (z : Bool) → IsOver h way on half.last → IsOver h way on less.last → (o t e : Bool)
-          → IsOver h way on (if z then no_times s x y k else (if o then record { steps = []; last = compared s equal x y; next = k } else (if t then record { steps = []; last = added s x x y; next = k } else (if e then linked half (fresh k) even else linked less (fresh k) odd)))).last
-      by_zero true a b o t e = (second, first, one_direction way on (way s) (constant s 0 y) (number s x) (each_among F (y ∷ []) (ap way second, tt)) (each_among F (x ∷ []) (ap way first, tt)))
+      by_zero : (z : Bool) → IsOver h direction on half.last → IsOver h direction on less.last → (o t e : Bool)
+          → IsOver h direction on (if z then no_times s x y k else (if o then record { steps = []; last = compared s equal x y; next = k } else (if t then record { steps = []; last = added s x x y; next = k } else (if e then linked half (fresh k) even else linked less (fresh k) odd)))).last
+      by_zero true a b o t e = (second, first, one_direction direction on (direction s) (constant s 0 y) (number s x) (each_among F (y ∷ []) (ap direction second, tt)) (each_among F (x ∷ []) (ap direction first, tt)))
       by_zero false a b true t e = (first, second)
       by_zero false a b false true e = (first, first, second)
-      by_zero false a b false false true = linked_over half k even a (multiple_only F most s (c / 2) x (fresh k) (k + 1) (ap way first) (ap way here)) (here, here, second)
-          (each_among F (fresh k ∷ fresh k ∷ y ∷ []) (ap way here, (ap way here, (ap way second, tt)))) (first_is (fresh k) (fresh k ∷ y ∷ []))
-      by_zero false a b false false false = linked_over less k odd b (multiple_only F most s (c - 1) x (fresh k) (k + 1) (ap way first) (ap way here)) (here, first, second)
-          (each_among F (fresh k ∷ x ∷ y ∷ []) (ap way here, (ap way first, (ap way second, tt)))) (first_is (fresh k) (x ∷ y ∷ []))
+      by_zero false a b false false true = linked_over half k even a (multiple_only F most s (c / 2) x (fresh k) (k + 1) (ap direction first) (ap direction here)) (here, here, second)
+          (each_among F (fresh k ∷ fresh k ∷ y ∷ []) (ap direction here, (ap direction here, (ap direction second, tt)))) (first_is (fresh k) (fresh k ∷ y ∷ []))
+      by_zero false a b false false false = linked_over less k odd b (multiple_only F most s (c - 1) x (fresh k) (k + 1) (ap direction first) (ap direction here)) (here, first, second)
+          (each_among F (fresh k ∷ x ∷ y ∷ []) (ap direction here, (ap direction first, (ap direction second, tt)))) (first_is (fresh k) (x ∷ y ∷ []))
 
   times_stands : (p : TermPlan) (c k : ℕ) → Stands p k → Stands (times_numeral s p c) k
   times_stands p c k stood =
@@ -203,9 +203,9 @@ module _ (h : Headers) (way : Name → Direction) (on : TrackSystems) (s : Name)
       record {
         low = below;
         high = omega (arith, up);
-        over = over_closed h way on (way s) x p.placed.relation base (value_over x p.placed.relation k p.next stood)
+        over = over_closed h direction on (direction s) x p.placed.relation base (value_over x p.placed.relation k p.next stood)
             (multiple_over c c x y (p.next + 1) at_x at_y)
-            (multiple_only (Faces way on (way s)) c s c x y (p.next + 1) (ap way at_x) (ap way at_y));
+            (multiple_only (Faces direction on (direction s)) c s c x y (p.next + 1) (ap direction at_x) (ap direction at_y));
         there = has_closed x p.placed.relation base y (track_apart x p.placed.relation k p.next p.next stood (omega arith)) (multiple_has c s c x y (p.next + 1) (omega arith));
         only = only_closed E x p.placed.relation base (value_only E x p.placed.relation k p.next (λ u is. inl is) stood)
             (multiple_only (OrIs E x) c s c x y (p.next + 1) (inr refl) (inl (inr refl)));
@@ -224,7 +224,7 @@ module _ (h : Headers) (way : Name → Direction) (on : TrackSystems) (s : Name)
     only = each_among (OrIs (IsOwn O) (fresh k)) (fresh k ∷ []) (inr refl, tt);
   }
 
-  sum_over : (sign : Sign) (x y z : Track) → on x ≡ s → on y ≡ s → on z ≡ s → IsOver h way on (sum_relation s sign x y z)
+  sum_over : (sign : Sign) (x y z : Track) → on x ≡ s → on y ≡ s → on z ≡ s → IsOver h direction on (sum_relation s sign x y z)
   sum_over plus x y z first second third = (first, second, third)
   sum_over minus x y z first second third = (second, third, first)
 
@@ -248,16 +248,16 @@ module _ (h : Headers) (way : Name → Direction) (on : TrackSystems) (s : Name)
       let at_z = are_on.of_fresh q.next in
       let base = sum_relation s sign x y z in
       let inside = closed p.placed base in
-      let F = Faces way on (way s) in
+      let F = Faces direction on (direction s) in
       let E = OrIs (IsOwn O) z in
-      let base_faces = sum_only F sign x y z (ap way at_x) (ap way at_y) (ap way at_z) in
+      let base_faces = sum_only F sign x y z (ap direction at_x) (ap direction at_y) (ap direction at_z) in
       let of_p = value_over x p.placed.relation k p.next first in
       record {
         low = omega (arith, low, high);
         high = omega arith;
-        over = over_closed h way on (way s) y q.placed.relation inside (value_over y q.placed.relation p.next q.next second)
-            (over_closed h way on (way s) x p.placed.relation base of_p (sum_over sign x y z at_x at_y at_z) base_faces)
-            (faces_closed h way on (way s) x p.placed.relation base of_p base_faces);
+        over = over_closed h direction on (direction s) y q.placed.relation inside (value_over y q.placed.relation p.next q.next second)
+            (over_closed h direction on (direction s) x p.placed.relation base of_p (sum_over sign x y z at_x at_y at_z) base_faces)
+            (faces_closed h direction on (direction s) x p.placed.relation base of_p base_faces);
         there = has_closed y q.placed.relation inside z (track_apart y q.placed.relation p.next q.next q.next second (omega arith))
             (has_closed x p.placed.relation base z (track_apart x p.placed.relation k p.next q.next first high) (sum_has sign x y z));
         only = only_closed E y q.placed.relation inside (value_only E y q.placed.relation p.next q.next (λ u is. inl is) second)
@@ -278,22 +278,22 @@ module _ (h : Headers) (way : Name → Direction) (on : TrackSystems) (s : Name)
 abbrev pub Occurs : (Occurrence → Type 0) → Name → Binders → Name → Type 0
 Occurs Q s b n = Q (record { name = n; binder = b n; system = s })
 
-module _ (h : Headers) (way : Name → Direction) (on : TrackSystems) (s : Name) (b : Binders) (Q : Occurrence → Type 0) (are_on : AreOn on s (Occurs Q s b)) where
+module _ (h : Headers) (direction : Name → Direction) (on : TrackSystems) (s : Name) (b : Binders) (Q : Occurrence → Type 0) (are_on : AreOn on s (Occurs Q s b)) where
   abbrev O : Name → Type 0
   O = Occurs Q s b
 
   mutual
     pub term_stands : (t : Term) → AllByRecursion Q (term_occurrences s b t) → (k : ℕ)
-        → IsStood h way on O (term_plan s t k).placed.track (term_plan s t k).placed.relation k (term_plan s t k).next
+        → IsStood h direction on O (term_plan s t k).placed.track (term_plan s t k).placed.relation k (term_plan s t k).next
     term_stands (variable n) all k = (all.0, omega arith)
-    term_stands (numeral c) all k = numeral_stands h way on s O are_on c k
-    term_stands (product fs) all k = begun_stands h way on s O are_on (factor_plans s fs).other (factor_plans s fs).numerals k (factors_stand fs all)
+    term_stands (numeral c) all k = numeral_stands h direction on s O are_on c k
+    term_stands (product fs) all k = begun_stands h direction on s O are_on (factor_plans s fs).other (factor_plans s fs).numerals k (factors_stand fs all)
     term_stands (sum ss t) all k =
         let first = all_first Q (addend_occurrences s b ss) (term_occurrences s b t) all in
         let second = all_second Q (addend_occurrences s b ss) (term_occurrences s b t) all in
         sum_stands ss first (term_plan s t) (term_stands t second) k
 
-    factors_stand : (fs : Factors) → AllByRecursion Q (factor_occurrences s b fs) → OtherStands h way on s O are_on (factor_plans s fs).other
+    factors_stand : (fs : Factors) → AllByRecursion Q (factor_occurrences s b fs) → OtherStands h direction on s O are_on (factor_plans s fs).other
     factors_stand no_factors all = tt
     factors_stand (factors fs (times (numeral c))) all = factors_stand fs (all_first Q (factor_occurrences s b fs) [] all)
     factors_stand (factors fs (times (variable n))) all = term_stands (variable n) (all_second Q (factor_occurrences s b fs) (term_occurrences s b (variable n)) all)
@@ -301,11 +301,11 @@ module _ (h : Headers) (way : Name → Direction) (on : TrackSystems) (s : Name)
     factors_stand (factors fs (times (sum ss t))) all = term_stands (sum ss t) (all_second Q (factor_occurrences s b fs) (term_occurrences s b (sum ss t)) all)
 
     sum_stands : (ss : Addends) → AllByRecursion Q (addend_occurrences s b ss) → (last : ℕ → TermPlan)
-        → ((k : ℕ) → IsStood h way on O (last k).placed.track (last k).placed.relation k (last k).next) → (k : ℕ)
-        → IsStood h way on O (sum_plan s ss last k).placed.track (sum_plan s ss last k).placed.relation k (sum_plan s ss last k).next
+        → ((k : ℕ) → IsStood h direction on O (last k).placed.track (last k).placed.relation k (last k).next) → (k : ℕ)
+        → IsStood h direction on O (sum_plan s ss last k).placed.track (sum_plan s ss last k).placed.relation k (sum_plan s ss last k).next
     sum_stands no_addends all last stood k = stood k
     sum_stands (addends ss t sign) all last stood k =
         let p = sum_plan s ss (term_plan s t) k in
         let first = all_first Q (addend_occurrences s b ss) (term_occurrences s b t) all in
         let second = all_second Q (addend_occurrences s b ss) (term_occurrences s b t) all in
-        addend_stands h way on s O are_on sign p (last p.next) k (sum_stands ss first (term_plan s t) (term_stands t second) k) (stood p.next)
+        addend_stands h direction on s O are_on sign p (last p.next) k (sum_stands ss first (term_plan s t) (term_stands t second) k) (stood p.next)

@@ -1,4 +1,4 @@
--- Names tell tracks: a name in decimal is none that begins with a letter, and no two numbers have one decimal.
+-- Names determine tracks: a name in decimal is none that begins with a letter, and no two numbers have one decimal.
 use Rattle.std.proofs.Common.{◌≡◌, ℕ, ◌+◌, ◌%◌, ◌^◌, ◌<◌, Bool, true, false, not, cond, ◌||◌, List, [], ◌∷◌, ◌++◌, decimal, refl, sym, ap, ◌∙◌, subst, arith, if◌then◌else◌}
 use Rattle.std.specs.List.{AllByRecursion}
 use Rattle.std.specs.Str.{bytes_eq}

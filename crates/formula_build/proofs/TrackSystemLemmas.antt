@@ -1,4 +1,4 @@
--- A plan whose tracks stand over systems can be made.
+-- A plan whose tracks are over systems can be made.
 use Rattle.std.proofs.Common.{◌≡◌, ◌≢◌, ℕ, ◌<◌, Bool, true, false, List, [], ◌∷◌, ◌++◌, map, length, get_or, inl, inr, ◌⊎◌, refl, sym, ap, ◌∙◌, subst, arith, if◌then◌else◌}
 use Rattle.std.specs.List.{Contains}
 use Rattle.std.specs.Str.{bytes_eq}
@@ -80,13 +80,13 @@ two_over on y s t first second u found = elim (has_cases s (t ∷ []) u found) [
 three_over : (on : TrackSystems) (y : Name) (s t w : Track) → on s ≡ y → on t ≡ y → on w ≡ y → (u : Track) → has_track (s ∷ t ∷ w ∷ []) u ≡ true → on u ≡ y
 three_over on y s t w first second third u found = elim (has_cases s (t ∷ w ∷ []) u found) [ inl same ↦ ap on (sym same) ∙ first | inr later ↦ two_over on y t w second third u later ]
 
-module _ (l : LibraryValue) (h : Headers) (way : Name → Direction) (fits : Fits l h way) (library : IsLibrary l) where
+module _ (l : LibraryValue) (h : Headers) (read_direction : Name → Direction) (fits : Fits l h read_direction) (library : IsLibrary l) where
   one_system : (y : Name) (s t : SystemValue) → IsSystemIn l y s → IsSystemIn l y t → s ≡ t
   one_system y s t first second = same_Some s t (sym first ∙ second)
 
   -- what may be joined
   may_join : (on : TrackSystems) (p q : Plan) (a b : RelationValue) → AreNamed p → AreNamed q → IsRelation a → IsRelation b → HasTracks l on (tracks p) a → HasTracks l on (tracks q) b
-      → HaveOneDirection way on p q → MayJoin a b
+      → HaveOneDirection read_direction on p q → MayJoin a b
   may_join on p q a b named also is_a is_b first second direction = (agree, one)
     where
       agree : AgreeOnSystems a b
@@ -99,7 +99,7 @@ module _ (l : LibraryValue) (h : Headers) (way : Name → Direction) (fits : Fit
           one_system (on there.0) (relations.system_named a name) (relations.system_named b name) (subst (λ (t : Track). IsSystemIn l (on t) (relations.system_named a name)) same left) right
 
       -- each system is that of a track
-      of_track : (r : RelationValue) (ts : List Track) → IsRelation r → HasTracks l on ts r → (s : SystemValue) → Contains r.systems s → (t : Track) × (has_track ts t ≡ true) × (s.way ≡ way (on t))
+      of_track : (r : RelationValue) (ts : List Track) → IsRelation r → HasTracks l on ts r → (s : SystemValue) → Contains r.systems s → (t : Track) × (has_track ts t ≡ true) × (s.direction ≡ read_direction (on t))
       of_track r ts is has s (i, within, at) =
           let inside : i < length r.names = omega (arith, within, is.count) in
           let name : List ℕ = get_or r.names i [] in
@@ -304,7 +304,7 @@ module _ (l : LibraryValue) (h : Headers) (way : Name → Direction) (fits : Fit
 
   mutual
     -- such a plan can be made
-    pub over_ready : (p : Plan) (on : TrackSystems) → AreNamed p → IsKnown l p → IsOver h way on p → IsReady l p
+    pub over_ready : (p : Plan) (on : TrackSystems) → AreNamed p → IsKnown l p → IsOver h read_direction on p → IsReady l p
     over_ready (compared y r s t) on named known over = known
     over_ready (added y s t u) on named known over = known
     over_ready (number y t) on named known over = known
@@ -312,7 +312,7 @@ module _ (l : LibraryValue) (h : Headers) (way : Name → Direction) (fits : Fit
         let fit = fits.relations n r is in
         (r, is, stand_count l on ts (h.of_automaton n) r.systems fit.each over ∙ sym fit.count, stand_agree l on ts (h.of_automaton n) r.systems fit.each over named)
     over_ready (lettered n ts r b) on named (w, is) over =
-        (w, is, word_count l h way fits library on n w ts is over, stand_agree l on ts (h.of_word n) w.systems (fits.words n w is).each over named)
+        (w, is, word_count l h read_direction fits library on n w ts is over, stand_agree l on ts (h.of_word n) w.systems (fits.words n w is).each over named)
     over_ready (renamed s t p) on named known over = (
       over_ready p (with_system s (on t) on) named.2 known over.1,
       λ a made.
@@ -330,7 +330,7 @@ module _ (l : LibraryValue) (h : Headers) (way : Name → Direction) (fits : Fit
               (over_tracks p on a named.0 known.0 over.0 made) (over_tracks q on b named.1 known.1 over.1 also) over.2,
         )
     over_ready (paired n ts r m us) on named ((v, is), (w, also)) over =
-        (v, w, is, also, pair_may l h way fits library on n m v w ts us is also over.0 over.1 named.0 named.1 over.2)
+        (v, w, is, also, pair_may l h read_direction fits library on n m v w ts us is also over.0 over.1 named.0 named.1 over.2)
     over_ready (complement p) on named known over = over_ready p on named known over
     over_ready (projected t p) on named known over = (
       over_ready p (with_system t over.1.0 on) named.1 known over.1.1,
@@ -338,7 +338,7 @@ module _ (l : LibraryValue) (h : Headers) (way : Name → Direction) (fits : Fit
     )
 
     -- and what it makes has its tracks
-    pub over_tracks : (p : Plan) (on : TrackSystems) (c : RelationValue) → AreNamed p → IsKnown l p → IsOver h way on p → Makes l p c → HasTracks l on (tracks p) c
+    pub over_tracks : (p : Plan) (on : TrackSystems) (c : RelationValue) → AreNamed p → IsKnown l p → IsOver h read_direction on p → Makes l p c → HasTracks l on (tracks p) c
     over_tracks (compared y r s t) on c named known over (system, is, made) =
         tracks_over_one l on (s ∷ t ∷ []) (compared_names (comparison_of r) (track_name s) (track_name t)) c made.names_are (compared_there r s t) (compared_only r s t) y system is made.systems_are
         (two_over on y s t over.0 over.1)
@@ -368,7 +368,7 @@ module _ (l : LibraryValue) (h : Headers) (way : Name → Direction) (fits : Fit
         let is_b = (plan_says l library q b named.1 (over_ready q on named.1 known.1 over.1) also).0 in
         joined_tracks on p q (op_of j) a b c is_a is_b (may_join on p q a b named.0 named.1 is_a is_b first second over.2).0 first second made
     over_tracks (paired n ts r m us) on c named known over (v, w, is, also, made) =
-        pair_tracks l h way fits library on n m v w ts us is also over.0 over.1 named.0 named.1 (comparison_of r) c made
+        pair_tracks l h read_direction fits library on n m v w ts us is also over.0 over.1 named.0 named.1 (comparison_of r) c made
     over_tracks (complement p) on c named known over (a, is, made) = complement_tracks on (tracks p) a c (over_tracks p on a named known over is) made
     over_tracks (projected t p) on c named known over (a, is, made) =
         projected_tracks on t p over.1.0 a c named.0 named.1 (over_tracks p (with_system t over.1.0 on) a named.1 known over.1.1 is) made

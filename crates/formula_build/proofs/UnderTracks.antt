@@ -1,4 +1,4 @@
--- Relations whose tracks stand under the names of tracks, each over its system.
+-- Relations whose tracks are under the names of tracks, each over its system.
 use Rattle.std.proofs.Common.{◌≡◌, ℕ, true, List, [], map, sym, ap, ◌∙◌, subst}
 use Rattle.std.specs.List.{All, Contains}
 use Rattle.std.proofs.lemmas.List.{get_or-map}

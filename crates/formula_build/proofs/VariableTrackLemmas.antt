@@ -30,8 +30,8 @@ use Rattle.number_relations.specs.Relations.{RelationValue, system_named}
 use Rattle.formula_build.specs.KnownNames.{AreKnownIn}
 use Rattle.formula_build.specs.Libraries.{LibraryValue, IsLibrary, IsSystemIn}
 use Rattle.formula_build.specs.Makings.{Makes}
-use Rattle.formula_build.specs.Resolved.{AreWays, plan_headers, system_under, systems_of}
-use Rattle.formula_build.specs.Solutions.{IsFormed, IsResolved, formula_plan, way_named}
+use Rattle.formula_build.specs.Resolved.{AreDirections, plan_headers, system_under, systems_of}
+use Rattle.formula_build.specs.Solutions.{IsFormed, IsResolved, formula_plan, direction_named}
 use Rattle.formula_build.specs.TrackNames.{track_name}
 use Rattle.formula_build.specs.TrackSystems.{Fits}
 use Rattle.formula_build.specs.VariableTracks.{AreSystemsOf, IsOverVariables}
@@ -59,8 +59,8 @@ variable_systems l system (e ∷ es) all = (all.0, variable_systems l system es 
 is_zero : (n : ℕ) → nat_lt n 1 ≡ true → n ≡ 0
 is_zero n below = let low : n < 1 = ltb-true n 1 below in omega (arith, low)
 
-module _ (l : LibraryValue) (h : Headers) (f : Formula) (library : IsLibrary l) (formed : IsFormed f) (ways : AreWays h way_named) (resolved : IsResolved h f) (few : (formula_plan h f).next ≤ 2 ^ 64)
-    (fits : Fits l (plan_headers h) way_named) (known : AreKnownIn l f) where
+module _ (l : LibraryValue) (h : Headers) (f : Formula) (library : IsLibrary l) (formed : IsFormed f) (directions : AreDirections h direction_named) (resolved : IsResolved h f) (few : (formula_plan h f).next ≤ 2 ^ 64)
+    (fits : Fits l (plan_headers h) direction_named) (known : AreKnownIn l f) where
   abbrev all : List Occurrence
   all = all_occurrences h f
 
@@ -113,8 +113,8 @@ module _ (l : LibraryValue) (h : Headers) (f : Formula) (library : IsLibrary l) 
   module _ (c r : RelationValue) (makes : Makes l plan c) (is : IsOrdered c r) where
     has : HasTracks l (systems_of all) (tracks plan) c
     has =
-        over_tracks l (plan_headers h) way_named fits library plan (systems_of all) c (solutions.named l h f library formed ways resolved few fits known)
-        (solutions.known_plan l h f library formed ways resolved few fits known) (solutions.over l h f library formed ways resolved few fits known) makes
+        over_tracks l (plan_headers h) direction_named fits library plan (systems_of all) c (solutions.named l h f library formed directions resolved few fits known)
+        (solutions.known_plan l h f library formed directions resolved few fits known) (solutions.over l h f library formed directions resolved few fits known) makes
 
     joint : AreJoint c.names [] (joint_names c.names [])
     joint = AreJoint-joint_names c.names []
@@ -140,7 +140,7 @@ module _ (l : LibraryValue) (h : Headers) (f : Formula) (library : IsLibrary l) 
     same : joint_names c.names [] ≡ names
     same = same_names (joint_names c.names []) names joint.ordered (names_ordered (found.systems_of (free_of 1 all))) over_names back_names
 
-    -- each stands over its system
+    -- each is over its system
     at_track : (e : Name × Name) → IsTrack e → IsSystemIn l e.1 (system_named c e.0)
     at_track e (there, system) = subst (λ (y : Name). IsSystemIn l y (system_named c e.0)) system (has.over (own e.0) (has_own e.0 there))
 

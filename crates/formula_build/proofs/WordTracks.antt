@@ -7,10 +7,10 @@ use Rattle.digit_tuple.specs.Names.{AreJoint, joint_names}
 use Rattle.digit_tuple.specs.declared.direction.Direction.{Direction}
 use Rattle.digit_tuple.proofs.JointNames.{AreJoint-joint_names}
 use Rattle.num_system.specs.Sealed.{SystemValue}
-use Rattle.num_system.specs.Tracks.{absent_system, AgreeUnder, HaveOneWay, systems_under, way_of}
+use Rattle.num_system.specs.Tracks.{absent_system, AgreeUnder, ShareDirection, systems_under, direction_of}
 use Rattle.num_system.specs.declared.comparison.Comparison.{Comparison}
 use Rattle.number_relations.specs.Relations.{RelationValue}
-use Rattle.number_relations.proofs.JointSystems.{first_ways, second_ways}
+use Rattle.number_relations.proofs.JointSystems.{first_directions, second_directions}
 use Rattle.word_output.specs.Words.{WordValue}
 use Rattle.formula_parse.specs.Tokens.{Name}
 use Rattle.formula_plan.specs.Tracks.{Track, fresh, has_track}
@@ -26,7 +26,7 @@ use Rattle.formula_build.proofs.OneMadeLemmas.{word_is}
 use Rattle.formula_build.proofs.StandLemmas.{AreSystemsIn, has_at, stand_agree, stand_count, stand_over, stands_at, systems_both}
 use Rattle.formula_build.proofs.UnderTracks.{HasTracks, each_of, tracks_under}
 
-module _ (l : LibraryValue) (h : Headers) (way : Name → Direction) (fits : Fits l h way) (library : IsLibrary l) (on : TrackSystems) where
+module _ (l : LibraryValue) (h : Headers) (read_direction : Name → Direction) (fits : Fits l h read_direction) (library : IsLibrary l) (on : TrackSystems) where
   -- a word has as many tracks as its header, over the header's systems
   module _ (n : Name) (w : WordValue) (ts : List Track) (is : IsWordIn l n w) (same : map on ts ≡ h.of_word n) where
     fit : IsWordOverSystems l (h.of_word n) w
@@ -36,7 +36,7 @@ module _ (l : LibraryValue) (h : Headers) (way : Name → Direction) (fits : Fit
     word_count = stand_count l on ts (h.of_word n) w.systems fit.each same ∙ sym fit.count
 
     -- each of its systems is that of a track, and has the track's direction
-    faces : (s : SystemValue) → Contains w.systems s → (t : Track) × (has_track ts t ≡ true) × (s.way ≡ way (on t))
+    faces : (s : SystemValue) → Contains w.systems s → (t : Track) × (has_track ts t ≡ true) × (s.direction ≡ read_direction (on t))
     faces s (i, within, at) =
         let inside : i < length ts = omega (arith, within, word_count) in
         let t : Track = get_or ts i (fresh 0) in
@@ -69,24 +69,24 @@ module _ (l : LibraryValue) (h : Headers) (way : Name → Direction) (fits : Fit
     under_is : map track_name both ≡ under
     under_is = map-append track_name ts us
 
-    one_way : TracksHaveOneDirection way on ts us → HaveOneWay systems
-    one_way direction =
-        all_both (λ (s : SystemValue). s.way ≡ way_of systems) v.systems w.systems
-        (first_ways v.systems w.systems (word_is l n v library is).one_way)
-        (second_ways v.systems w.systems (word_is l m w library also).one_way across)
+    shared_direction : TracksHaveOneDirection read_direction on ts us → ShareDirection systems
+    shared_direction direction =
+        all_both (λ (s : SystemValue). s.direction ≡ direction_of systems) v.systems w.systems
+        (first_directions v.systems w.systems (word_is l n v library is).shared_direction)
+        (second_directions v.systems w.systems (word_is l m w library also).shared_direction across)
       where
-        across : (s t : SystemValue) → Contains v.systems s → Contains w.systems t → s.way ≡ t.way
+        across : (s t : SystemValue) → Contains v.systems s → Contains w.systems t → s.direction ≡ t.direction
         across s t in_v in_w =
             let left = faces n v ts is same s in_v in
             let right = faces m w us also alike t in_w in
             left.2 ∙ direction left.0 right.0 left.1 right.1 ∙ sym right.2
 
-    pub pair_may : TracksHaveOneDirection way on ts us → MayPairWords (placed_on v ts) (placed_on w us)
+    pub pair_may : TracksHaveOneDirection read_direction on ts us → MayPairWords (placed_on v ts) (placed_on w us)
     pair_may direction = record {
       first_count = length-map ts track_name ∙ word_count n v ts is same;
       second_count = length-map us track_name ∙ word_count m w us also alike;
       agree = subst (λ (ns : List (List ℕ)). AgreeUnder ns systems) under_is (stand_agree l on both names systems are same_both all);
-      one_way = one_way direction;
+      shared_direction = shared_direction direction;
     }
 
     -- the tracks of a pair are those of both

@@ -77,12 +77,12 @@ pub record IsBuilt (old : StepLog) (l : LibraryValue) (steps : List Plan) (last 
 
 -- the steps before one of them were done, and that one passes a limit
 pub record IsStopped (old : StepLog) (l : LibraryValue) (steps : List Plan) (new : StepLog) (fault : StepFault) : Type 0 where
-  pub front : List Plan
+  pub prefix : List Plan
   pub here : Plan
   pub rest : List Plan
-  pub steps_are : steps ≡ front ++ here ∷ rest
+  pub steps_are : steps ≡ prefix ++ here ∷ rest
   pub lines : List StepLine
-  pub done : AreSteps old.limit l front lines
+  pub done : AreSteps old.limit l prefix lines
   pub new_is : new ≡ with_lines old lines
   pub refused : IsRefusedBy new (PassesLetters l here) (PassesStates old.limit l here) fault
 

@@ -31,7 +31,7 @@ use Rattle.formula_build.specs.Makings.{Makes, MayJoin, comparison_of, op_of}
 abbrev pub name_of : Track → List ℕ
 name_of t = track_name (track_view t)
 
--- a word whose tracks stand under the names of these
+-- a word whose tracks are under the names of these
 abbrev pub placed_at : WordValue → List Track → PlacedWord
 placed_at w ts = record { word = w; under = map name_of ts }
 

@@ -42,7 +42,7 @@ op_of xor = ops.Xor
 op_of implies = ops.Implies
 op_of iff = ops.Iff
 
--- a word whose tracks stand under the names of these
+-- a word whose tracks are under the names of these
 abbrev pub placed_on : WordValue → List Track → PlacedWord
 placed_on w ts = record { word = w; under = map track_name ts }
 
@@ -60,7 +60,7 @@ Makes l (paired n ts r m us) c = (v : WordValue) × (w : WordValue) × IsWordIn 
 Makes l (complement p) c = (a : RelationValue) × Makes l p a × IsRelationComplement a c
 Makes l (projected t p) c = (a : RelationValue) × Makes l p a × IsRelationProjection (track_name t) a c
 
--- tracks of one name stand over one system, and all have one direction
+-- tracks of one name are over one system, and all have one direction
 abbrev pub MayJoin : RelationValue → RelationValue → Type 0
 MayJoin a b = AgreeOnSystems a b × HaveOneDirection a b
 

@@ -16,7 +16,7 @@ pub record Agree (l m : LibraryValue) : Type 0 where
   pub words : l.words ≡ m.words
   pub systems : (y : Name) (s t : SystemValue) → IsSystemIn l y s → IsSystemIn m y t → s ≡ t
 
--- the steps of a plan have one outcome, but for want of memory: one relation and the same lines, or one refusal
+-- the steps of a plan have one outcome, apart from out of memory: one relation and the same lines, or one refusal
 abbrev pub OneBuilding : Type 0
 OneBuilding = (l m : LibraryValue) (old new now : StepLog) (p : Made) (r s : Result RelationValue StepFault) → IsLibrary l → IsLibrary m → Agree l m
     → BuildsFormula old l p r new → BuildsFormula old m p s now → r ≢ Err faults.Memory → s ≢ Err faults.Memory → (r ≡ s) × (new ≡ now)

@@ -8,7 +8,7 @@ use Rattle.digit_tuple.specs.declared.step_fault.StepFault.{StepFault}
 use Rattle.digit_tuple.specs.declared.steps.StepLine.{StepLine}
 use Rattle.automaton_steps.specs.StepLines.{IsRefused}
 use Rattle.num_system.specs.Sealed.{SystemValue}
-use Rattle.num_system.specs.Tracks.{AgreeUnder, HaveOneWay, systems_under}
+use Rattle.num_system.specs.Tracks.{AgreeUnder, ShareDirection, systems_under}
 use Rattle.num_system.specs.declared.comparison.Comparison.{Comparison}
 use Rattle.number_relations.specs.Relations.{RelationValue, named_of}
 use Rattle.word_output.specs.WordPairs.{IsPair, IsPairStep, PairExceeds, pair_sizes}
@@ -26,7 +26,7 @@ pub record MayPairWords (a b : PlacedWord) : Type 0 where
   pub first_count : length a.under ≡ length a.word.systems
   pub second_count : length b.under ≡ length b.word.systems
   pub agree : AgreeUnder (both_under a b) (both_systems a b)
-  pub one_way : HaveOneWay (both_systems a b)
+  pub shared_direction : ShareDirection (both_systems a b)
 
 -- the systems of the tracks of both, in byte order of their names: each that of the first track of its name
 abbrev pub pair_systems : PlacedWord → PlacedWord → List SystemValue

@@ -1,4 +1,4 @@
--- Words whose tracks stand under names.
+-- Words whose tracks are under names.
 use Rattle.std.specs.Prelude.{ℕ, List}
 use Rattle.word_output.specs.WordPairs.{PlacedLetters}
 use Rattle.word_output.specs.Words.{WordValue}

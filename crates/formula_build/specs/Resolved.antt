@@ -1,4 +1,4 @@
--- What is asked of headers, and over which systems the variables of a formula stand.
+-- What is asked of headers, and over which systems the variables of a formula are.
 use Rattle.std.specs.Prelude.{◌≡◌, ℕ, ◌<◌, List, [], length, slice_index_or, Option, None, Some}
 use Rattle.digit_tuple.specs.declared.direction.Direction.{Direction}
 use Rattle.formula_parse.specs.Tokens.{Name}
@@ -16,14 +16,14 @@ abbrev pub plan_headers : Headers → plans.Headers
 plan_headers h = record { of_automaton = automaton_tracks h; of_word = word_tracks h }
 
 -- all these systems have one direction
-abbrev pub HaveOneWay : (Name → Direction) → List Name → Type 0
-HaveOneWay way ss = (i j : ℕ) → i < length ss → j < length ss → way (slice_index_or ss i []) ≡ way (slice_index_or ss j [])
+abbrev pub ShareDirection : (Name → Direction) → List Name → Type 0
+ShareDirection direction ss = (i j : ℕ) → i < length ss → j < length ss → direction (slice_index_or ss i []) ≡ direction (slice_index_or ss j [])
 
 -- systems have the directions of their names, and those of a header have one
-pub record AreWays (h : Headers) (way : Name → Direction) : Type 0 where
-  pub by_name : (s t : Name) → is_lsd s ≡ is_lsd t → way s ≡ way t
-  pub of_automaton : (n : Name) → HaveOneWay way (automaton_tracks h n)
-  pub of_word : (n : Name) → HaveOneWay way (word_tracks h n)
+pub record AreDirections (h : Headers) (direction : Name → Direction) : Type 0 where
+  pub by_name : (s t : Name) → is_lsd s ≡ is_lsd t → direction s ≡ direction t
+  pub of_automaton : (n : Name) → ShareDirection direction (automaton_tracks h n)
+  pub of_word : (n : Name) → ShareDirection direction (word_tracks h n)
 
 abbrev pub or_none : Option Name → Name
 or_none None = []

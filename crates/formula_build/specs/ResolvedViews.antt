@@ -7,8 +7,8 @@ use Rattle.formula_resolve.specs.Headers.{Headers}
 use Rattle.formula_resolve.specs.Occurrences.{all_occurrences}
 use Rattle.formula_resolve.specs.FreeVariables.{free_variables}
 use Rattle.formula_build.specs.Libraries.{LibraryValue, ReadValue}
-use Rattle.formula_build.specs.Solutions.{IsFormed, IsResolved, formula_plan, way_named}
-use Rattle.formula_build.specs.Resolved.{AreWays}
+use Rattle.formula_build.specs.Solutions.{IsFormed, IsResolved, formula_plan, direction_named}
+use Rattle.formula_build.specs.Resolved.{AreDirections}
 use Rattle.formula_build.specs.declared.resolving.Resolved.{Resolved}
 
 -- the formula, and the headers of its names
@@ -21,7 +21,7 @@ headers_in r = r.names.now.headers
 -- the formula has a resolution, and these are its free variables and its plan
 pub record IsPlanned (r : Resolved) : Type 0 where
   pub formed : IsFormed (formula_of r)
-  pub ways : AreWays (headers_in r) way_named
+  pub directions : AreDirections (headers_in r) direction_named
   pub resolved : IsResolved (headers_in r) (formula_of r)
   pub variables : r.variables.items ≡ free_variables (all_occurrences (headers_in r) (formula_of r))
   pub plan : IsPlanOf r.plan.plans r.plan.last (formula_plan (headers_in r) (formula_of r))

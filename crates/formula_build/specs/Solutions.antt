@@ -15,7 +15,7 @@ use Rattle.formula_resolve.specs.Mentions.{mentions}
 use Rattle.formula_resolve.specs.Arity.{first_misuse}
 use Rattle.formula_resolve.specs.Occurrences.{all_occurrences}
 use Rattle.formula_resolve.specs.Clashes.{first_clash}
-use Rattle.formula_resolve.specs.Directions.{is_lsd, first_turn}
+use Rattle.formula_resolve.specs.Directions.{is_lsd, first_conflict}
 use Rattle.formula_plan.specs.Plans.{Made}
 use Rattle.formula_plan.specs.FormulaPlans.{plan_of}
 use Rattle.formula_plan.specs.Linear.{IsLinearFormula}
@@ -26,9 +26,9 @@ use Rattle.formula_build.specs.Building.{IsBuilt, IsStopped}
 use Rattle.formula_build.specs.Resolved.{plan_headers}
 use Rattle.formula_build.specs.VariableNames.{AreNamedIn}
 
--- the direction that a system's name tells
-abbrev pub way_named : Name → Direction
-way_named s = if is_lsd s then Lsd else Msd
+-- the direction that a system's name says
+abbrev pub direction_named : Name → Direction
+direction_named s = if is_lsd s then Lsd else Msd
 
 -- as formulas that are read are: products have at most one factor that is no numeral, and the names of variables begin with a letter
 abbrev pub IsFormed : Formula → Type 0
@@ -38,7 +38,7 @@ IsFormed f = IsLinearFormula f × AreNamedIn f
 pub record IsResolved (h : Headers) (f : Formula) : Type 0 where
   pub arity : first_misuse h (mentions f) ≡ None
   pub clash : first_clash (all_occurrences h f) ≡ None
-  pub turn : first_turn h f ≡ None
+  pub conflict : first_conflict h f ≡ None
 
 -- the plan of the formula, with fresh tracks from 0 on
 abbrev pub formula_plan : Headers → Formula → Made

@@ -1,4 +1,4 @@
--- Over which systems the tracks of a plan stand.
+-- Over which systems the tracks of a plan are.
 use Rattle.std.specs.Prelude.{◌≡◌, ℕ, ◌<◌, true, List, [], map, length, slice_index_or, if◌then◌else◌}
 use Rattle.digit_tuple.specs.declared.direction.Direction.{Direction}
 use Rattle.num_system.specs.Sealed.{SystemValue}
@@ -21,26 +21,26 @@ with_system t y on = λ u. if same_track t u then y else on u
 
 -- all tracks of the one list have the direction of all tracks of the other
 abbrev pub TracksHaveOneDirection : (Name → Direction) → TrackSystems → List Track → List Track → Type 0
-TracksHaveOneDirection way on ts us = (s t : Track) → has_track ts s ≡ true → has_track us t ≡ true → way (on s) ≡ way (on t)
+TracksHaveOneDirection direction on ts us = (s t : Track) → has_track ts s ≡ true → has_track us t ≡ true → direction (on s) ≡ direction (on t)
 
 -- all tracks of the one plan have the direction of all tracks of the other
 abbrev pub HaveOneDirection : (Name → Direction) → TrackSystems → Plan → Plan → Type 0
-HaveOneDirection way on p q = TracksHaveOneDirection way on (tracks p) (tracks q)
+HaveOneDirection direction on p q = TracksHaveOneDirection direction on (tracks p) (tracks q)
 
--- The tracks of a plan stand over these systems: those of what it is made of do, a dropped track over any; arguments stand over the
--- systems of an automaton's tracks, and indices over those of a word's; what is joined or paired has one direction.
+-- The tracks of a plan are over these systems: those of what it is made of do, a dropped track over any; arguments are over the systems of
+-- an automaton's tracks, and indices over those of a word's; what is joined or paired has one direction.
 abbrev pub IsOver : Headers → (Name → Direction) → TrackSystems → Plan → Type 0
-IsOver h way on (compared y r s t) = (on s ≡ y) × (on t ≡ y)
-IsOver h way on (added y s t u) = (on s ≡ y) × (on t ≡ y) × (on u ≡ y)
-IsOver h way on (number y t) = on t ≡ y
-IsOver h way on (called n ts) = map on ts ≡ h.of_automaton n
-IsOver h way on (lettered n ts r l) = map on ts ≡ h.of_word n
-IsOver h way on (renamed s t p) = (has_track (tracks p) s ≡ true) × IsOver h way (with_system s (on t) on) p
-IsOver h way on (constant y c t) = on t ≡ y
-IsOver h way on (joined j p q) = IsOver h way on p × IsOver h way on q × HaveOneDirection way on p q
-IsOver h way on (paired n ts r w us) = (map on ts ≡ h.of_word n) × (map on us ≡ h.of_word w) × TracksHaveOneDirection way on ts us
-IsOver h way on (complement p) = IsOver h way on p
-IsOver h way on (projected t p) = (has_track (tracks p) t ≡ true) × ((y : Name) × IsOver h way (with_system t y on) p)
+IsOver h direction on (compared y r s t) = (on s ≡ y) × (on t ≡ y)
+IsOver h direction on (added y s t u) = (on s ≡ y) × (on t ≡ y) × (on u ≡ y)
+IsOver h direction on (number y t) = on t ≡ y
+IsOver h direction on (called n ts) = map on ts ≡ h.of_automaton n
+IsOver h direction on (lettered n ts r l) = map on ts ≡ h.of_word n
+IsOver h direction on (renamed s t p) = (has_track (tracks p) s ≡ true) × IsOver h direction (with_system s (on t) on) p
+IsOver h direction on (constant y c t) = on t ≡ y
+IsOver h direction on (joined j p q) = IsOver h direction on p × IsOver h direction on q × HaveOneDirection direction on p q
+IsOver h direction on (paired n ts r w us) = (map on ts ≡ h.of_word n) × (map on us ≡ h.of_word w) × TracksHaveOneDirection direction on ts us
+IsOver h direction on (complement p) = IsOver h direction on p
+IsOver h direction on (projected t p) = (has_track (tracks p) t ≡ true) × ((y : Name) × IsOver h direction (with_system t y on) p)
 
 -- each name of a plan stands for something
 abbrev pub IsKnown : LibraryValue → Plan → Type 0
@@ -66,8 +66,8 @@ pub record IsWordOverSystems (l : LibraryValue) (systems : List Name) (w : WordV
   pub count : length w.systems ≡ length systems
   pub each : (i : ℕ) → i < length systems → IsSystemIn l (slice_index_or systems i []) (slice_index_or w.systems i absent_system)
 
--- relations and words stand over the systems of their headers, and systems have the directions of their names
-pub record Fits (l : LibraryValue) (h : Headers) (way : Name → Direction) : Type 0 where
+-- relations and words are over the systems of their headers, and systems have the directions of their names
+pub record Fits (l : LibraryValue) (h : Headers) (direction : Name → Direction) : Type 0 where
   pub relations : (n : Name) (r : RelationValue) → IsRelationIn l n r → IsOverSystems l (h.of_automaton n) r
   pub words : (n : Name) (w : WordValue) → IsWordIn l n w → IsWordOverSystems l (h.of_word n) w
-  pub directions : (y : Name) (s : SystemValue) → IsSystemIn l y s → s.way ≡ way y
+  pub directions : (y : Name) (s : SystemValue) → IsSystemIn l y s → s.direction ≡ direction y

@@ -18,7 +18,7 @@ pub fn formulas_hold()
     ensures { FormulasHold }
 {}
 
-/// The steps of a plan have one outcome, but for want of memory, whichever of two libraries that agree is used.
+/// The steps of a plan have one outcome, apart from out of memory, whichever of two libraries that agree is used.
 pub fn one_building()
     ensures { OneBuilding }
 {}

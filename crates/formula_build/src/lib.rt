@@ -28,7 +28,7 @@ mod plan_making;
 /// Relations with their tracks in order.
 mod ordering;
 
-/// What the names of a formula stand over.
+/// What the names of a formula are over.
 mod names;
 
 /// Formulas resolved.

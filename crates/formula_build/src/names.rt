@@ -1,4 +1,4 @@
-//! What the names of a formula stand over.
+//! What the names of a formula are over.
 
 use crate::systems::NamedSystems;
 use formula_resolve::Headers;
@@ -7,7 +7,7 @@ use formula_resolve::Headers;
 /// and the default `msd_2` name.
 #[derive(Drop)]
 pub struct Names {
-    /// What the tracks of automata and of words stand over.
+    /// What the tracks of automata and of words are over.
     pub headers: Headers,
     /// The systems by their names.
     pub systems: NamedSystems,

@@ -11,7 +11,7 @@ use number_relations::relation::Relation;
 use std::alloc::Global;
 use std::cmp::Ordering;
 
-/// The relation with its tracks in byte order of their names: itself where they stand so, with no copy of its table.
+/// The relation with its tracks in byte order of their names: itself where they are so, with no copy of its table.
 pub(crate) fn in_order(alloc: Global, relation: Relation) -> Result<Relation, OutOfMemory>
     ensures { IfOk result (IsOrdered relation) }
 {

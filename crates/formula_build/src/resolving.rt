@@ -4,9 +4,9 @@ ghost use Rattle.std.specs.Prelude.{◌≡◌, IfOk};
 ghost use Rattle.formula_parse.specs.Views.{formula_view};
 ghost use Rattle.formula_resolve.specs.Answers.{Tells};
 ghost use Rattle.formula_resolve.specs.Resolving.{fault_of};
-ghost use Rattle.formula_build.specs.Resolved.{AreWays};
+ghost use Rattle.formula_build.specs.Resolved.{AreDirections};
 ghost use Rattle.formula_build.specs.ResolvedViews.{IsPlanned};
-ghost use Rattle.formula_build.specs.Solutions.{IsFormed, way_named};
+ghost use Rattle.formula_build.specs.Solutions.{IsFormed, direction_named};
 
 use crate::names::Names;
 use formula_parse::tree::Formula;
@@ -19,7 +19,7 @@ use std::alloc::Global;
 pub struct Resolved<'a> {
     /// The formula.
     pub formula: &'a Formula,
-    /// What its names stand over.
+    /// What its names are over.
     pub names: &'a Names,
     /// The free variables in byte order, with their systems.
     pub variables: Vec<Variable>,
@@ -40,7 +40,7 @@ pub fn resolve<'a>(
     names: &'a Names,
 ) -> Result<Resolved<'a>, ResolveFault>
     requires formed { IsFormed (formula_view formula.now) }
-    requires ways { AreWays names.now.headers way_named }
+    requires directions { AreDirections names.now.headers direction_named }
     ensures told { Tells (fault_of names.now.headers (formula_view formula.now)) result }
     ensures formula { IfOk result (λ r. r.formula.now ≡ formula.now) }
     ensures names { IfOk result (λ r. r.names.now ≡ names.now) }

@@ -5,7 +5,7 @@ use Rattle.std.proofs.lemmas.Bool.{and_parts}
 use Rattle.std.proofs.lemmas.Str.Ascii.{IsAscii-nil, IsAscii-cons}
 use Rattle.text_grammar.specs.declared.class.Class.TheVariants.{Alphanumeric, NameByte}
 use Rattle.text_grammar.specs.Bytes.{is_alphanumeric, is_name_byte}
-use Rattle.text_grammar.specs.Fronts.{begins_in, front_len}
+use Rattle.text_grammar.specs.Prefixes.{begins_in, prefix_len}
 use Rattle.text_grammar.specs.Systems.{is_direction}
 use Rattle.text_grammar.proofs.SystemLemmas.{direction_is}
 use Rattle.formula_parse.specs.Spots.{system_len}
@@ -17,23 +17,23 @@ name_byte-low b h = grind (arith, tests)
 alphanumeric-low : (b : ℕ) → is_alphanumeric b ≡ true → b < 128
 alphanumeric-low b h = grind (arith, tests)
 
-name_front : (bs : List ℕ) → IsAscii (take (front_len NameByte bs) bs)
-name_front [] = IsAscii-nil
-name_front (b ∷ bs) = pick (is_name_byte b) refl (name_front bs)
+name_prefix : (bs : List ℕ) → IsAscii (take (prefix_len NameByte bs) bs)
+name_prefix [] = IsAscii-nil
+name_prefix (b ∷ bs) = pick (is_name_byte b) refl (name_prefix bs)
   where
-    pick : (q : Bool) → is_name_byte b ≡ q → IsAscii (take (front_len NameByte bs) bs) → IsAscii (take (if q then suc (front_len NameByte bs) else 0) (b ∷ bs))
-    pick true e more = IsAscii-cons b (take (front_len NameByte bs) bs) (name_byte-low b e) more
+    pick : (q : Bool) → is_name_byte b ≡ q → IsAscii (take (prefix_len NameByte bs) bs) → IsAscii (take (if q then suc (prefix_len NameByte bs) else 0) (b ∷ bs))
+    pick true e more = IsAscii-cons b (take (prefix_len NameByte bs) bs) (name_byte-low b e) more
     pick false e more = IsAscii-nil
 
-pub ascii_name : (bs : List ℕ) (n : ℕ) → n ≡ front_len NameByte bs → IsAscii (take n bs)
-ascii_name bs n e = subst (λ k. IsAscii (take k bs)) (sym e) (name_front bs)
+pub ascii_name : (bs : List ℕ) (n : ℕ) → n ≡ prefix_len NameByte bs → IsAscii (take n bs)
+ascii_name bs n e = subst (λ k. IsAscii (take k bs)) (sym e) (name_prefix bs)
 
-alphanumeric_front : (bs : List ℕ) → IsAscii (take (front_len Alphanumeric bs) bs)
-alphanumeric_front [] = IsAscii-nil
-alphanumeric_front (b ∷ bs) = pick (is_alphanumeric b) refl (alphanumeric_front bs)
+alphanumeric_prefix : (bs : List ℕ) → IsAscii (take (prefix_len Alphanumeric bs) bs)
+alphanumeric_prefix [] = IsAscii-nil
+alphanumeric_prefix (b ∷ bs) = pick (is_alphanumeric b) refl (alphanumeric_prefix bs)
   where
-    pick : (q : Bool) → is_alphanumeric b ≡ q → IsAscii (take (front_len Alphanumeric bs) bs) → IsAscii (take (if q then suc (front_len Alphanumeric bs) else 0) (b ∷ bs))
-    pick true e more = IsAscii-cons b (take (front_len Alphanumeric bs) bs) (alphanumeric-low b e) more
+    pick : (q : Bool) → is_alphanumeric b ≡ q → IsAscii (take (prefix_len Alphanumeric bs) bs) → IsAscii (take (if q then suc (prefix_len Alphanumeric bs) else 0) (b ∷ bs))
+    pick true e more = IsAscii-cons b (take (prefix_len Alphanumeric bs) bs) (alphanumeric-low b e) more
     pick false e more = IsAscii-nil
 
 nothing : (bs : List ℕ) (n : ℕ) → n ≡ 0 → IsAscii (take n bs)
@@ -64,16 +64,16 @@ after_four a b c d ds low k rest =
     let more : k + 4 ≡ suc (suc (suc (suc k))) = omega arith in
     subst (λ n. IsAscii (take n (a ∷ b ∷ c ∷ d ∷ ds))) (sym more) all
 
-system_front : (text : List ℕ) → IsAscii (take (system_len text) text)
-system_front [] = nothing [] _ (system_short [] (omega arith))
-system_front (a ∷ []) = nothing (a ∷ []) _ (system_short (a ∷ []) (omega arith))
-system_front (a ∷ b ∷ []) = nothing (a ∷ b ∷ []) _ (system_short (a ∷ b ∷ []) (omega arith))
-system_front (a ∷ b ∷ c ∷ []) = nothing (a ∷ b ∷ c ∷ []) _ (system_short (a ∷ b ∷ c ∷ []) (omega arith))
-system_front (a ∷ b ∷ c ∷ d ∷ ds) = pick (is_direction (a ∷ b ∷ c ∷ d ∷ []) && begins_in Alphanumeric ds) refl
+system_prefix : (text : List ℕ) → IsAscii (take (system_len text) text)
+system_prefix [] = nothing [] _ (system_short [] (omega arith))
+system_prefix (a ∷ []) = nothing (a ∷ []) _ (system_short (a ∷ []) (omega arith))
+system_prefix (a ∷ b ∷ []) = nothing (a ∷ b ∷ []) _ (system_short (a ∷ b ∷ []) (omega arith))
+system_prefix (a ∷ b ∷ c ∷ []) = nothing (a ∷ b ∷ c ∷ []) _ (system_short (a ∷ b ∷ c ∷ []) (omega arith))
+system_prefix (a ∷ b ∷ c ∷ d ∷ ds) = pick (is_direction (a ∷ b ∷ c ∷ d ∷ []) && begins_in Alphanumeric ds) refl
   where
-    pick : (q : Bool) → (is_direction (a ∷ b ∷ c ∷ d ∷ []) && begins_in Alphanumeric ds) ≡ q → IsAscii (take (if q then front_len Alphanumeric ds + 4 else 0) (a ∷ b ∷ c ∷ d ∷ ds))
-    pick true e = after_four a b c d ds (direction_low a b c d (and_parts (is_direction (a ∷ b ∷ c ∷ d ∷ [])) (begins_in Alphanumeric ds) e).0) (front_len Alphanumeric ds) (alphanumeric_front ds)
+    pick : (q : Bool) → (is_direction (a ∷ b ∷ c ∷ d ∷ []) && begins_in Alphanumeric ds) ≡ q → IsAscii (take (if q then prefix_len Alphanumeric ds + 4 else 0) (a ∷ b ∷ c ∷ d ∷ ds))
+    pick true e = after_four a b c d ds (direction_low a b c d (and_parts (is_direction (a ∷ b ∷ c ∷ d ∷ [])) (begins_in Alphanumeric ds) e).0) (prefix_len Alphanumeric ds) (alphanumeric_prefix ds)
     pick false e = IsAscii-nil
 
 pub ascii_system : (text : List ℕ) (n : ℕ) → n ≡ system_len text → IsAscii (take n text)
-ascii_system text n e = subst (λ k. IsAscii (take k text)) (sym e) (system_front text)
+ascii_system text n e = subst (λ k. IsAscii (take k text)) (sym e) (system_prefix text)

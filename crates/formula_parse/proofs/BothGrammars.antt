@@ -37,8 +37,8 @@ goes_on text read more g =
     let u = formula_of text in
     record { spells = sym (spelled_same text u.to u.same) ∙ g.spells; takes_all = u.takes end tt }
 
-begins_derived : (front : List Token) → Begins front → derived.Begins front
-begins_derived front b = record {
+begins_derived : (prefix : List Token) → Begins prefix → derived.Begins prefix
+begins_derived prefix b = record {
   text = (to_derivation b.text b.read b.more b.goes_on).to;
   read = b.read;
   more = b.more;
@@ -47,8 +47,8 @@ begins_derived front b = record {
   allowed = b.allowed;
 }
 
-begins : (front : List Token) → derived.Begins front → Begins front
-begins front b = record {
+begins : (prefix : List Token) → derived.Begins prefix → Begins prefix
+begins prefix b = record {
   text = (formula_of b.text).to;
   read = b.read;
   more = b.more;
@@ -57,20 +57,20 @@ begins front b = record {
   allowed = b.allowed;
 }
 
-pub breaks_derived : (front : List Token) (token : Token) → Breaks front token → derived.Breaks front token
-breaks_derived front token b = record {
-  before = begins_derived front b.before;
+pub breaks_derived : (prefix : List Token) (token : Token) → Breaks prefix token → derived.Breaks prefix token
+breaks_derived prefix token b = record {
+  before = begins_derived prefix b.before;
   there = λ text read more g e. b.there (formula_of text).to read more (goes_on text read more g) e;
 }
 
-pub breaks : (front : List Token) (token : Token) → derived.Breaks front token → Breaks front token
-breaks front token b = record {
-  before = begins front b.before;
+pub breaks : (prefix : List Token) (token : Token) → derived.Breaks prefix token → Breaks prefix token
+breaks prefix token b = record {
+  before = begins prefix b.before;
   there = λ text read more g e. b.there (to_derivation text read more g).to read more (goes_derived text read more g) e;
 }
 
-pub reaches_derived : (front : List Token) (token : Token) (p : Placed) → Reaches front token p → derived.Reaches front token p
-reaches_derived front token p r = record {
+pub reaches_derived : (prefix : List Token) (token : Token) (p : Placed) → Reaches prefix token p → derived.Reaches prefix token p
+reaches_derived prefix token p r = record {
   text = (to_derivation r.text r.read (p ∷ r.more) r.goes_on).to;
   read = r.read;
   more = r.more;
@@ -80,8 +80,8 @@ reaches_derived front token p r = record {
   allowed = r.allowed;
 }
 
-pub reaches : (front : List Token) (token : Token) (p : Placed) → derived.Reaches front token p → Reaches front token p
-reaches front token p r = record {
+pub reaches : (prefix : List Token) (token : Token) (p : Placed) → derived.Reaches prefix token p → Reaches prefix token p
+reaches prefix token p r = record {
   text = (formula_of r.text).to;
   read = r.read;
   more = r.more;
@@ -91,7 +91,7 @@ reaches front token p r = record {
   allowed = r.allowed;
 }
 
--- a whole text, what it is derived by, and what this tells
+-- a whole text, what it is derived by, and what this says
 pub record Whole (ts : List Token) (tree : shapes.Formula) (flaw : Option Flaw) : Type 0 where
   pub text : Formula
   pub derives : Derives ts text

@@ -9,7 +9,7 @@ use Rattle.formula_parse.specs.FormulaTrees.{marks_system}
 use Rattle.formula_parse.proofs.Systems.{tildes_system, core_system, operands_system, chains_system, implications_system, factor_of, factors_of, addends_of, terms_of, core_of, operands_of, chains_of, implications_of, last_of, formula_of}
 use Rattle.formula_parse.specs.Flaws.{Flaw, Product, product_start, noted_factor, none_came, Came}
 use Rattle.formula_parse.proofs.DerivedFlaws.{product_of, is_lone, is_numeral, factor_flaw, factors_flaw, addends_flaw, term_flaw, terms_flaw, came_of, is_implied, core_flaw, operands_flaw, chains_flaw, implications_flaw, last_flaw, formula_flaw}
-use Rattle.formula_parse.specs.Machine.{Front, Body, Frame, Outer, Side, Where, Position, State, left_index, left_letter, first, second, left_side, right_of, place_in, argument, at_operand, at_variable, after_operand, at_factor, after_factor, after_index, at_word, after_letter, at_argument, done, paren, fresh, close, place, start}
+use Rattle.formula_parse.specs.Machine.{Prefix, Body, Frame, Outer, Side, Where, Position, State, left_index, left_letter, first, second, left_side, right_of, place_in, argument, at_operand, at_variable, after_operand, at_factor, after_factor, after_index, at_word, after_letter, at_argument, done, paren, fresh, close, place, start}
 use Rattle.formula_parse.specs.Runs.{after, run}
 
 -- a token after a factor of a term that began where an operand may
@@ -73,11 +73,11 @@ module _ {K : Kinds} (A : Making K) where
   abbrev st : List (Frame K) → Body K → Name → Option Flaw → Position K → State K
   st gs g y w p = record { around = gs; body = g; system = y; flaw = w; position = p }
 
-  abbrev front : K.Implications → K.Chains → K.Operands → Came → Bool → Front K
-  front is hs os c i = record { implications = is; chains = hs; operands = os; came = c; implied = i }
+  abbrev prefix : K.Implications → K.Chains → K.Operands → Came → Bool → Prefix K
+  prefix is hs os c i = record { implications = is; chains = hs; operands = os; came = c; implied = i }
 
-  abbrev group : ℕ → Front K → List Names → Names → Bool → Body K
-  group b r ts ms e = record { base = b; front = r; tildes = ts; marks = ms; touched = e }
+  abbrev group : ℕ → Prefix K → List Names → Names → Bool → Body K
+  group b r ts ms e = record { base = b; prefix = r; tildes = ts; marks = ms; touched = e }
 
   -- a term inside of brackets, parentheses or after a relation
   mutual
@@ -198,11 +198,11 @@ module _ {K : Kinds} (A : Making K) where
   letter_right a true v d r gs g y w x k = refl
   letter_right a false v d r gs g y w x k = refl
 
-  marks_read : (ms : Names) (d : ℕ) (r : List Placed) (gs : List (Frame K)) (b : ℕ) (fr : Front K) (ts : List Names) (e : Bool) (y : Name) (w : Option Flaw) → run A (marks_then ms d r) (st gs (group b fr ts no_names e) y w at_operand) ≡ run A r (st gs (group b fr ts ms (touched_by_marks e ms)) (marks_system y ms) w at_operand)
+  marks_read : (ms : Names) (d : ℕ) (r : List Placed) (gs : List (Frame K)) (b : ℕ) (fr : Prefix K) (ts : List Names) (e : Bool) (y : Name) (w : Option Flaw) → run A (marks_then ms d r) (st gs (group b fr ts no_names e) y w at_operand) ≡ run A r (st gs (group b fr ts ms (touched_by_marks e ms)) (marks_system y ms) w at_operand)
   marks_read no_names d r gs b fr ts e y w = refl
   marks_read (names ms n) d r gs b fr ts e y w = marks_read ms _ _ gs b fr ts e y w
 
-  tildes_read : (ts : List Names) (d : ℕ) (r : List Placed) (gs : List (Frame K)) (b : ℕ) (fr : Front K) (e : Bool) (y : Name) (w : Option Flaw) → run A (tildes_then ts d r) (st gs (group b fr [] no_names e) y w at_operand) ≡ run A r (st gs (group b fr ts no_names (touched_by_tildes e ts)) (tildes_system y ts) w at_operand)
+  tildes_read : (ts : List Names) (d : ℕ) (r : List Placed) (gs : List (Frame K)) (b : ℕ) (fr : Prefix K) (e : Bool) (y : Name) (w : Option Flaw) → run A (tildes_then ts d r) (st gs (group b fr [] no_names e) y w at_operand) ≡ run A r (st gs (group b fr ts no_names (touched_by_tildes e ts)) (tildes_system y ts) w at_operand)
   tildes_read [] d r gs b fr e y w = refl
   tildes_read (ms ∷ ts) d r gs b fr e y w = tildes_read ts _ _ gs b fr e y w ∙ marks_read ms _ _ gs b fr ts _ _ w
 
@@ -233,7 +233,7 @@ module _ {K : Kinds} (A : Making K) where
     letter_stops stop_closing l k n ts t = refl
     letter_stops stop_end l k n ts t = refl
 
-    tilde_stops : (x : Stop) (b : Bool) (ms : Names) (c : K.Core) → run A (here (stop_token x) e ∷ r) (st gs (group g.base g.front (g.marks ∷ g.tildes) ms b) y w (after_operand c)) ≡ run A (here (stop_token x) e ∷ r) (st gs g y w (after_operand (A.not_closed (A.marked ms c))))
+    tilde_stops : (x : Stop) (b : Bool) (ms : Names) (c : K.Core) → run A (here (stop_token x) e ∷ r) (st gs (group g.base g.prefix (g.marks ∷ g.tildes) ms b) y w (after_operand c)) ≡ run A (here (stop_token x) e ∷ r) (st gs g y w (after_operand (A.not_closed (A.marked ms c))))
     tilde_stops (stop_connective k c) b ms d = refl
     tilde_stops (stop_implies c) b ms d = refl
     tilde_stops stop_iff b ms d = refl
@@ -270,30 +270,30 @@ module _ {K : Kinds} (A : Making K) where
         ∙ (arguments_read ts _ _ gs g y w n
         ∙ (addends_read ss _ _ gs g y _ _ [] ∙ (factors_read ps _ _ gs g y _ _ [] _ _ ∙ factor_read f _ _ gs g y _ _ [] _ _ _)))
     core_reads (not_closed (marked ms c)) x d e r gs g y w =
-        marks_read ms _ _ gs g.base g.front (g.marks ∷ g.tildes) true y w
+        marks_read ms _ _ gs g.base g.prefix (g.marks ∷ g.tildes) true y w
         ∙ (core_reads c x _ e r gs _ _ w ∙ tilde_stops e r gs g _ _ x (touched_by_marks true ms) ms _)
     core_reads (grouped f) x d e r gs g y w = formula_reads f by_closing (suc d) d _ (paren g y ∷ gs) (suc (place g)) y w
 
-    operands_read : (os : Operands) (d : ℕ) (r : List Placed) (gs : List (Frame K)) (b : ℕ) (is : K.Implications) (hs : K.Chains) (i : Bool) (e : Bool) (y : Name) (w : Option Flaw) → run A (operands_then os d r) (st gs (group b (front is hs A.no_operands none_came i) [] no_names e) y w at_operand) ≡ run A r (st gs (group b (front is hs (operands_of A y os) (came_of os) i) [] no_names (touched_by_operands e os)) (operands_system y os) (operands_flaw w os) at_operand)
+    operands_read : (os : Operands) (d : ℕ) (r : List Placed) (gs : List (Frame K)) (b : ℕ) (is : K.Implications) (hs : K.Chains) (i : Bool) (e : Bool) (y : Name) (w : Option Flaw) → run A (operands_then os d r) (st gs (group b (prefix is hs A.no_operands none_came i) [] no_names e) y w at_operand) ≡ run A r (st gs (group b (prefix is hs (operands_of A y os) (came_of os) i) [] no_names (touched_by_operands e os)) (operands_system y os) (operands_flaw w os) at_operand)
     operands_read no_operands d r gs b is hs i e y w = refl
     operands_read (operands os (marked ms c) k a) d r gs b is hs i e y w =
         operands_read os _ _ gs b is hs i e y w
         ∙ (marks_read ms _ _ gs b _ [] _ _ _ ∙ core_reads c (stop_connective k a) _ _ r gs _ _ _)
 
-    chains_read : (hs : Chains) (d : ℕ) (r : List Placed) (gs : List (Frame K)) (b : ℕ) (is : K.Implications) (e : Bool) (y : Name) (w : Option Flaw) → run A (chains_then hs d r) (st gs (group b (front is A.no_chains A.no_operands none_came false) [] no_names e) y w at_operand) ≡ run A r (st gs (group b (front is (chains_of A y hs) A.no_operands none_came (is_implied hs)) [] no_names (touched_by_chains e hs)) (chains_system y hs) (chains_flaw w hs) at_operand)
+    chains_read : (hs : Chains) (d : ℕ) (r : List Placed) (gs : List (Frame K)) (b : ℕ) (is : K.Implications) (e : Bool) (y : Name) (w : Option Flaw) → run A (chains_then hs d r) (st gs (group b (prefix is A.no_chains A.no_operands none_came false) [] no_names e) y w at_operand) ≡ run A r (st gs (group b (prefix is (chains_of A y hs) A.no_operands none_came (is_implied hs)) [] no_names (touched_by_chains e hs)) (chains_system y hs) (chains_flaw w hs) at_operand)
     chains_read no_chains d r gs b is e y w = refl
     chains_read (chains hs os (marked ms c) a) d r gs b is e y w =
         chains_read hs _ _ gs b is e y w
         ∙ (operands_read os _ _ gs b is _ _ _ _ _ ∙ (marks_read ms _ _ gs b _ [] _ _ _ ∙ core_reads c (stop_implies a) _ _ r gs _ _ _))
 
-    implications_read : (is : Implications) (d : ℕ) (r : List Placed) (gs : List (Frame K)) (b : ℕ) (e : Bool) (y : Name) (w : Option Flaw) → run A (implications_then is d r) (st gs (group b (front A.no_implications A.no_chains A.no_operands none_came false) [] no_names e) y w at_operand) ≡ run A r (st gs (group b (front (implications_of A y is) A.no_chains A.no_operands none_came false) [] no_names (touched_by_implications e is)) (implications_system y is) (implications_flaw w is) at_operand)
+    implications_read : (is : Implications) (d : ℕ) (r : List Placed) (gs : List (Frame K)) (b : ℕ) (e : Bool) (y : Name) (w : Option Flaw) → run A (implications_then is d r) (st gs (group b (prefix A.no_implications A.no_chains A.no_operands none_came false) [] no_names e) y w at_operand) ≡ run A r (st gs (group b (prefix (implications_of A y is) A.no_chains A.no_operands none_came false) [] no_names (touched_by_implications e is)) (implications_system y is) (implications_flaw w is) at_operand)
     implications_read no_implications d r gs b e y w = refl
     implications_read (implications is hs os (marked ms c)) d r gs b e y w =
         implications_read is _ _ gs b e y w
         ∙ (chains_read hs _ _ gs b _ _ _ _
         ∙ (operands_read os _ _ gs b _ _ _ _ _ _ ∙ (marks_read ms _ _ gs b _ [] _ _ _ ∙ core_reads c stop_iff _ _ r gs _ _ _)))
 
-    last_reads : (l : Last) (x : Ending) (d e : ℕ) (r : List Placed) (gs : List (Frame K)) (b : ℕ) (is : K.Implications) (hs : K.Chains) (os : K.Operands) (k : Came) (i : Bool) (u : Bool) (y : Name) (w : Option Flaw) → run A (last_then l d (here (ending_token x) e ∷ r)) (st gs (group b (front is hs os k i) [] no_names u) y w at_operand) ≡ after (close A (last_flaw w l) gs (A.formula is hs os (last_of A y l)) (ending_token x)) (λ n. run A r n)
+    last_reads : (l : Last) (x : Ending) (d e : ℕ) (r : List Placed) (gs : List (Frame K)) (b : ℕ) (is : K.Implications) (hs : K.Chains) (os : K.Operands) (k : Came) (i : Bool) (u : Bool) (y : Name) (w : Option Flaw) → run A (last_then l d (here (ending_token x) e ∷ r)) (st gs (group b (prefix is hs os k i) [] no_names u) y w at_operand) ≡ after (close A (last_flaw w l) gs (A.formula is hs os (last_of A y l)) (ending_token x)) (λ n. run A r n)
     last_reads (ends (marked ms c)) by_closing d e r gs b is hs os k i u y w = marks_read ms _ _ gs b _ [] _ _ _ ∙ core_reads c stop_closing _ e r gs _ _ _
     last_reads (ends (marked ms c)) by_end d e r gs b is hs os k i u y w = marks_read ms _ _ gs b _ [] _ _ _ ∙ core_reads c stop_end _ e r gs _ _ _
     last_reads (quantified ts ms q ns n f) x d e r gs b is hs os k i u y w =

@@ -3,9 +3,9 @@ use Rattle.std.proofs.Common.{◌≡◌, refl, ◌∙◌, ap, ℕ, suc, true, fa
 use Rattle.formula_parse.specs.Tokens.{Name, equal, Letter, Placed, here, value_of, name, system, called, opening, closing, bracket, unbracket, letter_sign, relation, end}
 use Rattle.formula_parse.specs.Trees.{names}
 use Rattle.formula_parse.proofs.Derivations.{Factor, variable, in_parens, Factors, no_factors, Addends, no_addends, Term, term, Terms, no_terms, index, Core, compare, words, word_letter, letter_word, call_none, call, grouped, marked, Formula, ends, quantified, formula_then, spelled, parts, derivations}
-use Rattle.formula_parse.specs.Machine.{within, Body, Frame, Outer, Aim, Side, Where, Spelling, Position, State, left_index, left_letter, first, second, left_side, right_of, place_in, argument, on_left, on_right, at_operand, at_system, at_variable, after_operand, after_first, at_factor, after_factor, after_index, at_word, at_bracket, at_letter, at_value, after_letter, at_called, at_call, at_argument, done, paren, scope, fresh, whole, closed, within_where, within_outer}
+use Rattle.formula_parse.specs.Machine.{within, Body, Frame, Outer, Aim, Side, Where, Representation, Position, State, left_index, left_letter, first, second, left_side, right_of, place_in, argument, on_left, on_right, at_operand, at_system, at_variable, after_operand, after_first, at_factor, after_factor, after_index, at_word, at_bracket, at_letter, at_value, after_letter, at_called, at_call, at_argument, done, paren, scope, fresh, whole, closed, within_where, within_outer}
 use Rattle.formula_parse.specs.Flaws.{Product, product_start}
-use Rattle.formula_parse.proofs.Sound.{nesting, front_then, body_then, frames_then, state_then, at, wrapped_then}
+use Rattle.formula_parse.proofs.Sound.{nesting, prefix_then, body_then, frames_then, state_then, at, wrapped_then}
 
 -- tokens that may follow, and the text that is then whole
 pub record Completed (s : State parts) : Type 0 where
@@ -19,30 +19,30 @@ record Closes (gs : List (Frame parts)) (f : Formula) : Type 0 where
   text : Formula
   spells : spelled text ≡ frames_then gs (formula_then f (nesting gs) more)
 
-close_paren : (h : Body parts) (hs : List (Frame parts)) (f : Formula) (c : Closes hs (whole derivations h.front (ends (closed derivations h (grouped f))))) → spelled c.text ≡ frames_then hs (body_then h (nesting hs) (here opening (suc (within h.tildes (nesting hs))) ∷ formula_then f (suc (within h.tildes (nesting hs))) (here closing (within h.tildes (nesting hs)) ∷ c.more)))
+close_paren : (h : Body parts) (hs : List (Frame parts)) (f : Formula) (c : Closes hs (whole derivations h.prefix (ends (closed derivations h (grouped f))))) → spelled c.text ≡ frames_then hs (body_then h (nesting hs) (here opening (suc (within h.tildes (nesting hs))) ∷ formula_then f (suc (within h.tildes (nesting hs))) (here closing (within h.tildes (nesting hs)) ∷ c.more)))
 close_paren h hs f c =
-    c.spells ∙ ap (λ z. frames_then hs (front_then h.front (nesting hs) z)) (wrapped_then h.tildes (marked h.marks (grouped f)) (nesting hs) c.more)
+    c.spells ∙ ap (λ z. frames_then hs (prefix_then h.prefix (nesting hs) z)) (wrapped_then h.tildes (marked h.marks (grouped f)) (nesting hs) c.more)
 
 closes : (gs : List (Frame parts)) (f : Formula) → Closes gs f
 closes [] f = record { more = here end 0 ∷ []; text = f; spells = refl }
 closes (paren h y ∷ hs) f =
-    let c = closes hs (whole derivations h.front (ends (closed derivations h (grouped f)))) in
+    let c = closes hs (whole derivations h.prefix (ends (closed derivations h (grouped f)))) in
     record { more = here closing (within h.tildes (nesting hs)) ∷ c.more; text = c.text; spells = close_paren h hs f c }
 closes (scope k ns n h ∷ hs) f =
-    let c = closes hs (whole derivations h.front (quantified h.tildes h.marks k ns n f)) in
+    let c = closes hs (whole derivations h.prefix (quantified h.tildes h.marks k ns n f)) in
     record { more = c.more; text = c.text; spells = c.spells }
 
 -- an operand ends the text
 operand : (s : State parts) (c : Core) → Completed (at s (after_operand c))
 operand s c =
-    let f = closes s.around (whole derivations s.body.front (ends (closed derivations s.body c))) in
+    let f = closes s.around (whole derivations s.body.prefix (ends (closed derivations s.body c))) in
     record {
       more = f.more;
       text = f.text;
       spells =
           f.spells
           ∙ ap
-          (λ z. frames_then s.around (front_then s.body.front (nesting s.around) z))
+          (λ z. frames_then s.around (prefix_then s.body.prefix (nesting s.around) z))
           (wrapped_then s.body.tildes (marked s.body.marks c) (nesting s.around) f.more);
     }
 
@@ -59,7 +59,7 @@ x_term = term no_addends no_factors (variable x_name)
 abbrev zero_letter : ℕ → Letter
 zero_letter b = record { at = b; negative = false; value = 0 }
 
--- the nesting of the operand at which a state stands
+-- the nesting of the operand at which a state is
 abbrev level : State parts → ℕ
 level s = within s.body.tildes (nesting s.around)
 
@@ -72,7 +72,7 @@ operand_begins s =
       spells = c.spells;
     }
 
-letter_ends : (s : State parts) (c : Spelling parts) (l : Letter) → Completed (at s (after_letter l))
+letter_ends : (s : State parts) (c : Representation parts) (l : Letter) → Completed (at s (after_letter l))
 letter_ends s c l =
     let c = operand s (letter_word l equal (index x_name no_terms x_term)) in
     let d = level s in
@@ -82,14 +82,14 @@ letter_ends s c l =
       spells = c.spells;
     }
 
-letter_begins : (s : State parts) (c : Spelling parts) (b : ℕ) → Completed (at s (at_letter c b))
+letter_begins : (s : State parts) (c : Representation parts) (b : ℕ) → Completed (at s (at_letter c b))
 letter_begins s on_left b = then_token (value_of (zero_letter b) (level s)) (λ q. refl) (letter_ends s on_left (zero_letter b))
 letter_begins s (on_right x k) b = then_token (value_of (zero_letter b) (level s)) (λ q. refl) (operand s (word_letter x k (zero_letter b)))
 
 abbrev minus_letter : ℕ → Letter
 minus_letter b = record { at = b; negative = true; value = 0 }
 
-value_begins : (s : State parts) (c : Spelling parts) (b : ℕ) → Completed (at s (at_value c b))
+value_begins : (s : State parts) (c : Representation parts) (b : ℕ) → Completed (at s (at_value c b))
 value_begins s on_left b = then_token (value_of (minus_letter b) (level s)) (λ q. refl) (letter_ends s on_left (minus_letter b))
 value_begins s (on_right x k) b = then_token (value_of (minus_letter b) (level s)) (λ q. refl) (operand s (word_letter x k (minus_letter b)))
 
@@ -108,7 +108,7 @@ index_ends s (second (left_letter l k)) n ts t =
     let c = operand s (letter_word l k (index n ts t)) in
     record { more = c.more; text = c.text; spells = c.spells }
 
--- a whole term, by where it stands
+-- a whole term, by where it is
 whole_ends : (s : State parts) (h : Where parts) (ss : Addends) (ps : Factors) (p : Product) (f : Factor) (q : _) → Completed (at s (after_factor h [] ss ps p f q))
 whole_ends s left_side ss ps p f q =
     let c = operand s (compare (term ss ps f) equal x_term) in

@@ -14,11 +14,11 @@ use Rattle.text_grammar.specs.Spots.{Spot, tokens}
 use Rattle.formula_parse.specs.Spots.{spots}
 use Rattle.formula_parse.specs.Parsing.{Cut}
 use Rattle.formula_parse.proofs.Complete.{final}
-use Rattle.formula_parse.proofs.Places.{made_again, read_places, number_shallow, first_state, placed_from}
+use Rattle.formula_parse.proofs.Places.{made_again, read_places, number_shallow, initial_state, placed_from}
 
 -- tokens are spelled by one derivation
 pub one_derivation : (f g : Formula) → map token_of (spelled f) ≡ map token_of (spelled g) → f ≡ g
-one_derivation f g e = one (formula_flaw None f) (formula_flaw None g) (sym (made_again f) ∙ (ap (λ ts. run_tokens derivations ts first_state) e ∙ made_again g))
+one_derivation f g e = one (formula_flaw None f) (formula_flaw None g) (sym (made_again f) ∙ (ap (λ ts. run_tokens derivations ts initial_state) e ∙ made_again g))
   where
     one : (u w : Option Flaw) → Some (final derivations f u) ≡ Some (final derivations g w) → f ≡ g
     one u w h =
@@ -30,44 +30,44 @@ one_derivation f g e = one (formula_flaw None f) (formula_flaw None g) (sym (mad
 one_place : (text other : Formula) (read more reads mores : List Placed) → GoesOn text read more → GoesOn other reads mores → map token_of read ≡ map token_of reads → read ≡ reads
 one_place text other read more reads mores g h e =
     sym (read_places text read more g)
-    ∙ (ap (λ ts. placed_from first_state ts) e ∙ read_places other reads mores h)
+    ∙ (ap (λ ts. placed_from initial_state ts) e ∙ read_places other reads mores h)
 
 -- no text goes on through a token, within the limits
-pub record Stops (front : List Token) (token : Token) : Type 0 where
-  pub before : Begins front
-  pub there : (text : Formula) (read more : List Placed) → GoesOn text read more → map token_of read ≡ front ++ token ∷ [] → AllByRecursion IsAllowed read → ⊥
+pub record Stops (prefix : List Token) (token : Token) : Type 0 where
+  pub before : Begins prefix
+  pub there : (text : Formula) (read more : List Placed) → GoesOn text read more → map token_of read ≡ prefix ++ token ∷ [] → AllByRecursion IsAllowed read → ⊥
 
 all_last : (P : Placed → Type 0) (ps : List Placed) (p : Placed) → AllByRecursion P (ps ++ p ∷ []) → P p
 all_last P [] p a = a.0
 all_last P (q ∷ ps) p a = all_last P ps p a.1
 
-all_front : (P : Placed → Type 0) (ps qs : List Placed) → AllByRecursion P (ps ++ qs) → AllByRecursion P ps
-all_front P [] qs a = tt
-all_front P (p ∷ ps) qs a = (a.0, all_front P ps qs a.1)
+all_prefix : (P : Placed → Type 0) (ps qs : List Placed) → AllByRecursion P (ps ++ qs) → AllByRecursion P ps
+all_prefix P [] qs a = tt
+all_prefix P (p ∷ ps) qs a = (a.0, all_prefix P ps qs a.1)
 
 -- the token that is reached has been read
-record Through (front : List Token) (token : Token) (place : Placed) (r : Reaches front token place) : Type 0 where
+record Through (prefix : List Token) (token : Token) (place : Placed) (r : Reaches prefix token place) : Type 0 where
   goes_on : GoesOn r.text (r.read ++ place ∷ []) r.more
-  tokens_are : map token_of (r.read ++ place ∷ []) ≡ front ++ token ∷ []
+  tokens_are : map token_of (r.read ++ place ∷ []) ≡ prefix ++ token ∷ []
 
-through : (front : List Token) (token : Token) (place : Placed) (r : Reaches front token place) → Through front token place r
-through front token place r = record {
+through : (prefix : List Token) (token : Token) (place : Placed) (r : Reaches prefix token place) → Through prefix token place r
+through prefix token place r = record {
   goes_on = record { spells = r.goes_on.spells ∙ sym (append_assoc r.read (place ∷ []) r.more) };
   tokens_are =
-      map-append token_of r.read (place ∷ []) ∙ (ap (λ ts. ts ++ token_of place ∷ []) r.tokens_are ∙ ap (λ t. front ++ t ∷ []) r.token_is);
+      map-append token_of r.read (place ∷ []) ∙ (ap (λ ts. ts ++ token_of place ∷ []) r.tokens_are ∙ ap (λ t. prefix ++ t ∷ []) r.token_is);
 }
 
-reaches_begins : (front : List Token) (token : Token) (place : Placed) → Reaches front token place → Begins front
-reaches_begins front token place r = record { text = r.text; read = r.read; more = place ∷ r.more; goes_on = r.goes_on; tokens_are = r.tokens_are; allowed = r.allowed }
+reaches_begins : (prefix : List Token) (token : Token) (place : Placed) → Reaches prefix token place → Begins prefix
+reaches_begins prefix token place r = record { text = r.text; read = r.read; more = place ∷ r.more; goes_on = r.goes_on; tokens_are = r.tokens_are; allowed = r.allowed }
 
-pub breaks_stop : (front : List Token) (token : Token) → Breaks front token → Stops front token
-breaks_stop front token b = record { before = b.before; there = λ text read more g e a. b.there text read more g e }
+pub breaks_stop : (prefix : List Token) (token : Token) → Breaks prefix token → Stops prefix token
+breaks_stop prefix token b = record { before = b.before; there = λ text read more g e a. b.there text read more g e }
 
-pub reaches_stop : (front : List Token) (token : Token) (place : Placed) → Reaches front token place → (IsAllowed place → ⊥) → Stops front token
-reaches_stop front token place r h =
-    let t = through front token place r in
+pub reaches_stop : (prefix : List Token) (token : Token) (place : Placed) → Reaches prefix token place → (IsAllowed place → ⊥) → Stops prefix token
+reaches_stop prefix token place r h =
+    let t = through prefix token place r in
     record {
-      before = reaches_begins front token place r;
+      before = reaches_begins prefix token place r;
       there = λ text read more g e a.
           let same : r.read ++ place ∷ [] ≡ read =
           one_place r.text text (r.read ++ place ∷ []) r.more read more t.goes_on g (t.tokens_are ∙ sym e) in
@@ -75,16 +75,16 @@ reaches_stop front token place r h =
     }
 
 -- a token that breaks is not reached
-pub breaks_reaches : (front : List Token) (token : Token) (place : Placed) → Breaks front token → Reaches front token place → ⊥
-breaks_reaches front token place b r =
-    let t = through front token place r in
+pub breaks_reaches : (prefix : List Token) (token : Token) (place : Placed) → Breaks prefix token → Reaches prefix token place → ⊥
+breaks_reaches prefix token place b r =
+    let t = through prefix token place r in
     b.there r.text (r.read ++ place ∷ []) r.more t.goes_on t.tokens_are
 
 -- a token is reached in one place
-pub one_reached : (front : List Token) (token : Token) (p q : Placed) → Reaches front token p → Reaches front token q → p ≡ q
-one_reached front token p q r s =
-    let t = through front token p r in
-    let u = through front token q s in
+pub one_reached : (prefix : List Token) (token : Token) (p q : Placed) → Reaches prefix token p → Reaches prefix token q → p ≡ q
+one_reached prefix token p q r s =
+    let t = through prefix token p r in
+    let u = through prefix token q s in
     (same_from_push
     r.read
     s.read
@@ -93,44 +93,44 @@ one_reached front token p q r s =
     (one_place r.text s.text (r.read ++ p ∷ []) r.more (s.read ++ q ∷ []) s.more t.goes_on u.goes_on (t.tokens_are ∙ sym u.tokens_are))).1
 
 -- tokens out of their range are numerals, and not too deep
-pub not_deep : (front : List Token) (token : Token) (p : Placed) → Reaches front token p → (IsInRange p → ⊥) → 128 < nesting_of p → ⊥
-not_deep front token p r h d = by p r h d
+pub not_deep : (prefix : List Token) (token : Token) (p : Placed) → Reaches prefix token p → (IsInRange p → ⊥) → 128 < nesting_of p → ⊥
+not_deep prefix token p r h d = by p r h d
   where
-    by : (p : Placed) → Reaches front token p → (IsInRange p → ⊥) → 128 < nesting_of p → ⊥
+    by : (p : Placed) → Reaches prefix token p → (IsInRange p → ⊥) → 128 < nesting_of p → ⊥
     by (here (number n) e) r h d =
-        let low = number_shallow r.text r.read r.more (here (number n) e) n (through front token (here (number n) e) r).goes_on r.allowed refl in
+        let low = number_shallow r.text r.read r.more (here (number n) e) n (through prefix token (here (number n) e) r).goes_on r.allowed refl in
         omega arith
     by (value_of l e) r h d =
-        let low = number_shallow r.text r.read r.more (value_of l e) l.value (through front token (value_of l e) r).goes_on r.allowed refl in
+        let low = number_shallow r.text r.read r.more (value_of l e) l.value (through prefix token (value_of l e) r).goes_on r.allowed refl in
         omega arith
     by (here t e) r h d = h tt
 
--- the front of what was read
-record Front (read : List Placed) (ts : List Token) : Type 0 where
-  front : List Placed
+-- the prefix of what was read
+record Prefix (read : List Placed) (ts : List Token) : Type 0 where
+  prefix : List Placed
   rest : List Placed
-  is : read ≡ front ++ rest
-  tokens_are : map token_of front ≡ ts
+  is : read ≡ prefix ++ rest
+  tokens_are : map token_of prefix ≡ ts
 
-front_of : (read : List Placed) (ts us : List Token) → map token_of read ≡ ts ++ us → Front read ts
-front_of read [] us e = record { front = []; rest = read; is = refl; tokens_are = refl }
-front_of [] (t ∷ ts) us e = absurd cc
-front_of (p ∷ ps) (t ∷ ts) us e =
-    let f = front_of ps ts us (let h : map token_of ps ≡ ts ++ us = cc in h) in
+prefix_of : (read : List Placed) (ts us : List Token) → map token_of read ≡ ts ++ us → Prefix read ts
+prefix_of read [] us e = record { prefix = []; rest = read; is = refl; tokens_are = refl }
+prefix_of [] (t ∷ ts) us e = absurd cc
+prefix_of (p ∷ ps) (t ∷ ts) us e =
+    let f = prefix_of ps ts us (let h : map token_of ps ≡ ts ++ us = cc in h) in
     let one : token_of p ≡ t = cc in
-    record { front = p ∷ f.front; rest = f.rest; is = ap (λ z. p ∷ z) f.is; tokens_are = cc (f.tokens_are, one) }
+    record { prefix = p ∷ f.prefix; rest = f.rest; is = ap (λ z. p ∷ z) f.is; tokens_are = cc (f.tokens_are, one) }
 
 -- tokens that go on past a token at which none goes on
-stops_before : (front : List Token) (token : Token) (rest : List Token) → Stops front token → Begins (front ++ token ∷ rest) → ⊥
-stops_before front token rest s b =
-    let f = front_of b.read (front ++ token ∷ []) rest (b.tokens_are ∙ sym (append_assoc front (token ∷ []) rest)) in
+stops_before : (prefix : List Token) (token : Token) (rest : List Token) → Stops prefix token → Begins (prefix ++ token ∷ rest) → ⊥
+stops_before prefix token rest s b =
+    let f = prefix_of b.read (prefix ++ token ∷ []) rest (b.tokens_are ∙ sym (append_assoc prefix (token ∷ []) rest)) in
     s.there
     b.text
-    f.front
+    f.prefix
     (f.rest ++ b.more)
-    (record { spells = b.goes_on.spells ∙ (ap (λ z. z ++ b.more) f.is ∙ append_assoc f.front f.rest b.more) })
+    (record { spells = b.goes_on.spells ∙ (ap (λ z. z ++ b.more) f.is ∙ append_assoc f.prefix f.rest b.more) })
     f.tokens_are
-    (all_front IsAllowed f.front f.rest (subst (AllByRecursion IsAllowed) f.is b.allowed))
+    (all_prefix IsAllowed f.prefix f.rest (subst (AllByRecursion IsAllowed) f.is b.allowed))
 
 -- two places in one list
 data Sides (f : List (Spot Token)) (s : Spot Token) (g : List (Spot Token)) (t : Spot Token) : Type 0 where
@@ -153,32 +153,32 @@ tokens_split : (f : List (Spot Token)) (s : Spot Token) (x : List (Spot Token)) 
 tokens_split f s x = map-append (λ (z : Spot Token). z.token) f (s ∷ x)
 
 pub record SameCut {text : List ℕ} (c d : Cut text) : Type 0 where
-  pub front : c.front ≡ d.front
+  pub prefix : c.prefix ≡ d.prefix
   pub spot : c.spot ≡ d.spot
 
 never_past : (f : List (Spot Token)) (s : Spot Token) (g x : List (Spot Token)) → Stops (tokens f) s.token → Begins (tokens g) → g ≡ f ++ s ∷ x → ⊥
 never_past f s g x a b e =
     stops_before (tokens f) s.token (tokens x) a (subst Begins (ap (λ ss. tokens ss) e ∙ tokens_split f s x) b)
 
-pub same_cut : (text : List ℕ) (c d : Cut text) → Stops (tokens c.front) c.spot.token → Stops (tokens d.front) d.spot.token → SameCut c d
-same_cut text c d a b = by (sides c.front c.spot c.rest d.front d.spot d.rest (sym c.is ∙ d.is))
+pub same_cut : (text : List ℕ) (c d : Cut text) → Stops (tokens c.prefix) c.spot.token → Stops (tokens d.prefix) d.spot.token → SameCut c d
+same_cut text c d a b = by (sides c.prefix c.spot c.rest d.prefix d.spot d.rest (sym c.is ∙ d.is))
   where
-    by : Sides c.front c.spot d.front d.spot → SameCut c d
-    by (at_one h k) = record { front = h; spot = k }
-    by (before_it x h) = absurd (never_past c.front c.spot d.front x a b.before h)
-    by (after_it x h) = absurd (never_past d.front d.spot c.front x b a.before h)
+    by : Sides c.prefix c.spot d.prefix d.spot → SameCut c d
+    by (at_one h k) = record { prefix = h; spot = k }
+    by (before_it x h) = absurd (never_past c.prefix c.spot d.prefix x a b.before h)
+    by (after_it x h) = absurd (never_past d.prefix d.spot c.prefix x b a.before h)
 
 -- a whole text has no such cut
-pub whole_stops : (text : List ℕ) (d : Formula) (c : Cut text) → Derives (tokens (spots text)) d → Stops (tokens c.front) c.spot.token → ⊥
+pub whole_stops : (text : List ℕ) (d : Formula) (c : Cut text) → Derives (tokens (spots text)) d → Stops (tokens c.prefix) c.spot.token → ⊥
 whole_stops text d c s a =
     stops_before
-    (tokens c.front)
+    (tokens c.prefix)
     c.spot.token
     (tokens c.rest)
     a
     (subst
     Begins
-    (ap (λ ss. tokens ss) c.is ∙ tokens_split c.front c.spot c.rest)
+    (ap (λ ss. tokens ss) c.is ∙ tokens_split c.prefix c.spot c.rest)
     (record {
       text = d;
       read = spelled d;

@@ -1,4 +1,4 @@
--- Derivations as the machine reads them, and the tokens that they spell. The last operand of a formula is told from those before it.
+-- Derivations as the machine reads them, and the tokens that they spell. The last operand of a formula is determined from those before it.
 use Rattle.std.specs.Prelude.{ℕ, suc, List, [], ◌∷◌}
 use Rattle.formula_parse.specs.Tokens.{Name, Relation, Quantifier, Connective, Sign, Letter, Placed, here, name, number, called, call_sign, negation, quantifier, comma, opening, closing, bracket, unbracket, sign, times, relation, connective, implies, iff, end}
 use Rattle.formula_parse.specs.Trees.{Names, no_names, names}

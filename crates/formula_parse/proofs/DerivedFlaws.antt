@@ -28,7 +28,7 @@ abbrev mutual
   factor_flaw w (numeral n) = w
   factor_flaw w (in_parens t) = term_flaw w t
 
-  -- after a factor, and what stands before it in its product
+  -- after a factor, and what comes before it in its product
   pub factors_flaw : Option Flaw → Bool → Factors → Option Flaw
   factors_flaw w l no_factors = w
   factors_flaw w l (factors ps f b) = noted_factor (product_of l ps) (is_numeral f) (factor_flaw (factors_flaw w l ps) f)

@@ -23,25 +23,25 @@ pub record GoesOn (text : derivations.Formula) (read more : List Placed) : Type 
   pub spells : spelled text ≡ read ++ more
 
 -- tokens that begin a text and keep the limits
-pub record Begins (front : List Token) : Type 0 where
+pub record Begins (prefix : List Token) : Type 0 where
   pub text : derivations.Formula
   pub read : List Placed
   pub more : List Placed
   pub goes_on : GoesOn text read more
-  pub tokens_are : map token_of read ≡ front
+  pub tokens_are : map token_of read ≡ prefix
   pub allowed : AllByRecursion IsAllowed read
 
 -- the first token at which no text goes on
-pub record Breaks (front : List Token) (token : Token) : Type 0 where
-  pub before : Begins front
-  pub there : (text : derivations.Formula) (read more : List Placed) → GoesOn text read more → map token_of read ≡ front ++ token ∷ [] → ⊥
+pub record Breaks (prefix : List Token) (token : Token) : Type 0 where
+  pub before : Begins prefix
+  pub there : (text : derivations.Formula) (read more : List Placed) → GoesOn text read more → map token_of read ≡ prefix ++ token ∷ [] → ⊥
 
 -- a text goes on at a token, placed so, and all before it keep the limits
-pub record Reaches (front : List Token) (token : Token) (place : Placed) : Type 0 where
+pub record Reaches (prefix : List Token) (token : Token) (place : Placed) : Type 0 where
   pub text : derivations.Formula
   pub read : List Placed
   pub more : List Placed
   pub goes_on : GoesOn text read (place ∷ more)
-  pub tokens_are : map token_of read ≡ front
+  pub tokens_are : map token_of read ≡ prefix
   pub token_is : token_of place ≡ token
   pub allowed : AllByRecursion IsAllowed read

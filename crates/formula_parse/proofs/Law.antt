@@ -22,14 +22,14 @@ use Rattle.formula_parse.specs.Grammar as grammar
 use Rattle.formula_parse.proofs.BothGrammars.{breaks, reaches, WholeDerived, Whole, whole}
 
 -- a run over tokens that keep the limits
-pub record Walks (front : List Token) (s : State made) : Type 0 where
-  pub runs : run_tokens trees front (start trees default_system) ≡ Some s
+pub record Walks (prefix : List Token) (s : State made) : Type 0 where
+  pub runs : run_tokens trees prefix (start trees default_system) ≡ Some s
   pub state : State parts
   pub same : bare state ≡ bare s
   pub sane : Sane state
   pub read : List Placed
   pub spells : (q : List Placed) → state_then state q ≡ read ++ q
-  pub tokens_are : map token_of read ≡ front
+  pub tokens_are : map token_of read ≡ prefix
   pub allowed : AllByRecursion IsAllowed read
 
 pub walks_start : Walks [] (start trees default_system)
@@ -91,16 +91,16 @@ bare_depth : (m : State parts) (n : State made) → Sane m → bare m ≡ bare n
 bare_depth m n a e = deep_depth m a ∙ (sym (depth_same derivations m) ∙ (ap (λ (z : State nothing). depth z) e ∙ depth_same trees n))
 
 -- a step of the walk: the token is placed as the state says
-pub record Walked (front : List Token) (s : State made) (t : Token) (n : State made) : Type 0 where
+pub record Walked (prefix : List Token) (s : State made) (t : Token) (n : State made) : Type 0 where
   pub state : State parts
   pub same : bare state ≡ bare n
   pub sane : Sane state
   pub read : List Placed
   pub spells : (q : List Placed) → state_then state q ≡ read ++ (placed s.position t (depth n) ∷ q)
-  pub tokens_are : map token_of read ≡ front
+  pub tokens_are : map token_of read ≡ prefix
   pub allowed : AllByRecursion IsAllowed read
 
-walked_from : {front : List Token} {s : State made} {t : Token} {n : State made} (w : Walks front s) (o : Option (State parts)) → ReadsFrom o (state_then w.state) (placed w.state.position t) → bared o ≡ Some (bare n) → Walked front s t n
+walked_from : {prefix : List Token} {s : State made} {t : Token} {n : State made} (w : Walks prefix s) (o : Option (State parts)) → ReadsFrom o (state_then w.state) (placed w.state.position t) → bared o ≡ Some (bare n) → Walked prefix s t n
 walked_from w None h e = absurd cc
 walked_from {s = s} {t = t} {n = n} w (Some m) h e =
     let same : bare m ≡ bare n = cc in
@@ -117,7 +117,7 @@ walked_from {s = s} {t = t} {n = n} w (Some m) h e =
       allowed = w.allowed;
     }
 
-walked : {front : List Token} {s : State made} {t : Token} {n : State made} → Walks front s → step trees s t ≡ Some n → Walked front s t n
+walked : {prefix : List Token} {s : State made} {t : Token} {n : State made} → Walks prefix s → step trees s t ≡ Some n → Walked prefix s t n
 walked {s = s} {t = t} {n = n} w e =
     walked_from
     w
@@ -125,13 +125,13 @@ walked {s = s} {t = t} {n = n} w e =
     (step_goes w.state t w.sane)
     (sym (step_same derivations w.state t) ∙ (ap (λ (z : State nothing). step none z t) w.same ∙ (step_same trees s t ∙ ap bared e)))
 
-pub walks_step : (front : List Token) (s : State made) (t : Token) (n : State made) → Walks front s → step trees s t ≡ Some n → IsAllowed (placed s.position t (depth n)) → Walks (front ++ t ∷ []) n
-walks_step front s t n w e a =
+pub walks_step : (prefix : List Token) (s : State made) (t : Token) (n : State made) → Walks prefix s → step trees s t ≡ Some n → IsAllowed (placed s.position t (depth n)) → Walks (prefix ++ t ∷ []) n
+walks_step prefix s t n w e a =
     let v = walked {n = n} w e in
     let p = placed s.position t (depth n) in
     record {
       runs =
-          run_append trees front (t ∷ []) (start trees default_system)
+          run_append trees prefix (t ∷ []) (start trees default_system)
           ∙ (ap (λ (z : Option (State made)). after z (λ m. run_tokens trees (t ∷ []) m)) w.runs ∙ (after_one (step trees s t) ∙ e));
       state = v.state;
       same = v.same;
@@ -139,13 +139,13 @@ walks_step front s t n w e a =
       read = v.read ++ p ∷ [];
       spells = λ q. v.spells q ∙ sym (append_assoc v.read (p ∷ []) q);
       tokens_are =
-          tokens_append v.read (p ∷ []) ∙ (ap (λ z. z ++ token_of p ∷ []) v.tokens_are ∙ ap (λ z. front ++ z ∷ []) (token_of-placed s.position t (depth n)));
+          tokens_append v.read (p ∷ []) ∙ (ap (λ z. z ++ token_of p ∷ []) v.tokens_are ∙ ap (λ z. prefix ++ z ∷ []) (token_of-placed s.position t (depth n)));
       allowed = all_append IsAllowed v.read p v.allowed a;
     }
 
--- the front begins a text
-walks_begins : (front : List Token) (s : State made) → Walks front s → Begins front
-walks_begins front s w =
+-- the prefix begins a text
+walks_begins : (prefix : List Token) (s : State made) → Walks prefix s → Begins prefix
+walks_begins prefix s w =
     let c = completed w.state in
     record {
       text = c.text;
@@ -157,15 +157,15 @@ walks_begins front s w =
     }
 
 -- a token at which the machine stops goes on in no text
-breaks_derived : (front : List Token) (s : State made) (t : Token) → Walks front s → step trees s t ≡ None → Breaks front t
-breaks_derived front s t w e = record {
-  before = walks_begins front s w;
+breaks_derived : (prefix : List Token) (s : State made) (t : Token) → Walks prefix s → step trees s t ≡ None → Breaks prefix t
+breaks_derived prefix s t w e = record {
+  before = walks_begins prefix s w;
   there = λ text read more g h.
       let first = start trees default_system in
       let stops : run trees read first ≡ None =
       sym (run_placed trees read first)
       ∙ (ap (λ ts. run_tokens trees ts first) h
-      ∙ (run_append trees front (t ∷ []) first
+      ∙ (run_append trees prefix (t ∷ []) first
       ∙ (ap (λ (z : Option (State made)). after z (λ m. run_tokens trees (t ∷ []) m)) w.runs ∙ (after_one (step trees s t) ∙ e)))) in
       let goes : run trees (spelled text) first ≡ None =
       ap (λ ps. run trees ps first) g.spells
@@ -174,11 +174,11 @@ breaks_derived front s t w e = record {
       cc;
 }
 
-pub walks_breaks : (front : List Token) (s : State made) (t : Token) → Walks front s → step trees s t ≡ None → grammar.Breaks front t
-walks_breaks front s t w e = breaks front t (breaks_derived front s t w e)
+pub walks_breaks : (prefix : List Token) (s : State made) (t : Token) → Walks prefix s → step trees s t ≡ None → grammar.Breaks prefix t
+walks_breaks prefix s t w e = breaks prefix t (breaks_derived prefix s t w e)
 
-reach_derived : (front : List Token) (s : State made) (t : Token) (n : State made) → Walks front s → step trees s t ≡ Some n → Reaches front t (placed s.position t (depth n))
-reach_derived front s t n w e =
+reach_derived : (prefix : List Token) (s : State made) (t : Token) (n : State made) → Walks prefix s → step trees s t ≡ Some n → Reaches prefix t (placed s.position t (depth n))
+reach_derived prefix s t n w e =
     let v = walked {n = n} w e in
     let c = completed v.state in
     record {
@@ -191,8 +191,8 @@ reach_derived front s t n w e =
       allowed = v.allowed;
     }
 
-pub walks_reach : (front : List Token) (s : State made) (t : Token) (n : State made) → Walks front s → step trees s t ≡ Some n → grammar.Reaches front t (placed s.position t (depth n))
-walks_reach front s t n w e = reaches front t (placed s.position t (depth n)) (reach_derived front s t n w e)
+pub walks_reach : (prefix : List Token) (s : State made) (t : Token) (n : State made) → Walks prefix s → step trees s t ≡ Some n → grammar.Reaches prefix t (placed s.position t (depth n))
+walks_reach prefix s t n w e = reaches prefix t (placed s.position t (depth n)) (reach_derived prefix s t n w e)
 
 -- a text that was read to its end
 done_of : (p : Position parts) → bare_position p ≡ done tt → (g : Formula) × (p ≡ done g)

@@ -17,17 +17,17 @@ use Rattle.formula_parse.specs.declared.tree.Formula.TheVariants as formula
 use Rattle.formula_parse.specs.declared.tree.Operand.{Operand}
 use Rattle.formula_parse.proofs.ViewSteps.{view_product, view_times, view_sum, view_chain, view_marked}
 
--- the front of a list with an item more at its end, and that item
+-- the prefix of a list with an item more at its end, and that item
 record Snoc {X : Type 0} (xs : List X) : Type 0 where
-  front : List X
+  prefix : List X
   last : X
-  is : xs ≡ front ++ last ∷ []
+  is : xs ≡ prefix ++ last ∷ []
 
 snoc : {X : Type 0} (x : X) (xs : List X) → Snoc (x ∷ xs)
-snoc x [] = record { front = []; last = x; is = refl }
+snoc x [] = record { prefix = []; last = x; is = refl }
 snoc x (y ∷ ys) =
     let s = snoc y ys in
-    record { front = x ∷ s.front; last = s.last; is = ap (λ zs. x ∷ zs) s.is }
+    record { prefix = x ∷ s.prefix; last = s.last; is = ap (λ zs. x ∷ zs) s.is }
 
 fold_snoc : {X Y : Type 0} (f : Y → X → Y) (a : Y) (xs : List X) (x : X) → fold f a (xs ++ x ∷ []) ≡ f (fold f a xs) x
 fold_snoc f a [] x = refl
@@ -63,11 +63,11 @@ pub multiplied_more : (all : Vec Factor Global) (ps : List Factor) (t : Term) �
 multiplied_more all [] t h e = absurd (h refl)
 multiplied_more all (x ∷ xs) t h e =
     let s = snoc x xs in
-    let front = ap factors_view s.is ∙ factors_snoc s.front s.last in
+    let prefix = ap factors_view s.is ∙ factors_snoc s.prefix s.last in
     view_product all
     ∙ (ap (λ z. trees.product (factors_view z)) e
     ∙ (ap trees.product (times_snoc (x ∷ xs) t)
-    ∙ (ap (λ z. trees.product (trees.factors z (trees.times (term_view t)))) front ∙ ap (λ z. multiplied z (term_view t)) (sym front))))
+    ∙ (ap (λ z. trees.product (trees.factors z (trees.times (term_view t)))) prefix ∙ ap (λ z. multiplied z (term_view t)) (sym prefix))))
 
 pub summed_none : (ss : List Addend) (t : trees.Term) → length ss ≡ 0 → t ≡ summed (addends_view ss) t
 summed_none [] t e = refl
@@ -80,8 +80,8 @@ summed_more all b h = view_sum all b ∙ summed_list all.items (term_view b.valu
     summed_list [] t h = absurd (h refl)
     summed_list (x ∷ xs) t h =
         let s = snoc x xs in
-        let front = ap addends_view s.is ∙ addends_snoc s.front s.last in
-        ap (λ z. trees.sum z t) front ∙ ap (λ z. summed z t) (sym front)
+        let prefix = ap addends_view s.is ∙ addends_snoc s.prefix s.last in
+        ap (λ z. trees.sum z t) prefix ∙ ap (λ z. summed z t) (sym prefix)
 
 pub chained_none : (os : List Operand) (f : trees.Formula) → length os ≡ 0 → f ≡ chained (operands_view os) f
 chained_none [] f e = refl
@@ -94,8 +94,8 @@ chained_more all b h = view_chain all b ∙ chained_list all.items (formula_view
     chained_list [] f h = absurd (h refl)
     chained_list (x ∷ xs) f h =
         let s = snoc x xs in
-        let front = ap operands_view s.is ∙ operands_snoc s.front s.last in
-        ap (λ z. trees.chain z f) front ∙ ap (λ z. chained z f) (sym front)
+        let prefix = ap operands_view s.is ∙ operands_snoc s.prefix s.last in
+        ap (λ z. trees.chain z f) prefix ∙ ap (λ z. chained z f) (sym prefix)
 
 pub marks_none : (ms : List Name) (f : trees.Formula) → length ms ≡ 0 → f ≡ under_marks (names_view ms) f
 marks_none [] f e = refl
@@ -108,5 +108,5 @@ marks_more all b h = view_marked all b ∙ marks_list all.items (formula_view b.
     marks_list [] f h = absurd (h refl)
     marks_list (x ∷ xs) f h =
         let s = snoc x xs in
-        let front = ap names_view s.is ∙ names_snoc s.front s.last in
-        ap (λ z. trees.marked z f) front ∙ ap (λ z. under_marks z f) (sym front)
+        let prefix = ap names_view s.is ∙ names_snoc s.prefix s.last in
+        ap (λ z. trees.marked z f) prefix ∙ ap (λ z. under_marks z f) (sym prefix)

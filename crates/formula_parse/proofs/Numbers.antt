@@ -1,4 +1,4 @@
--- Where a numeral may stand, and where not.
+-- Where a numeral may be, and where not.
 use Rattle.std.proofs.Common.{◌≡◌, refl, ℕ, Bool, true, false, List, [], ◌∷◌, Option, None}
 use Rattle.formula_parse.specs.Tokens.{number}
 use Rattle.formula_parse.specs.Making.{Kinds, Making}

@@ -20,7 +20,7 @@ use Rattle.formula_parse.specs.Grammar.{Reads}
 use Rattle.formula_parse.proofs.BothGrammars.{breaks_derived, reaches_derived, WholeDerived, whole_derived}
 use Rattle.formula_parse.proofs.Cuts.{one_derivation, Stops, breaks_stop, reaches_stop, breaks_reaches, one_reached, not_deep, SameCut, same_cut, whole_stops}
 
--- what a derivation of a whole text tells
+-- what a derivation of a whole text says
 abbrev flawed : Option Flaw → trees.Formula → Result trees.Formula ParseFault
 flawed None f = Ok f
 flawed (Some (mixed_chain b)) f = Err (faults.MixedChain b)
@@ -29,12 +29,12 @@ flawed (Some (not_linear b)) f = Err (faults.NotLinear b)
 abbrev answer_of : Formula → Result trees.Formula ParseFault
 answer_of d = flawed (formula_flaw None d) (tree_of d)
 
--- why the grammar tells this of a text
+-- why the grammar says this of a text
 data Tells (text : List ℕ) (x : Result trees.Formula ParseFault) : Type 0 where
   to_the_end : (d : Formula) → Derives (tokens (spots text)) d → answer_of d ≡ x → Tells text x
-  at_break : (c : Cut text) → Breaks (tokens c.front) c.spot.token → Err (faults.Syntax c.spot.at) ≡ x → Tells text x
-  at_number : (c : Cut text) (p : Placed) → Reaches (tokens c.front) c.spot.token p → (IsInRange p → ⊥) → Err (faults.Number (told_at p c.spot.at)) ≡ x → Tells text x
-  at_depth : (c : Cut text) (p : Placed) → Reaches (tokens c.front) c.spot.token p → 128 < nesting_of p → Err (faults.Depth c.spot.at) ≡ x → Tells text x
+  at_break : (c : Cut text) → Breaks (tokens c.prefix) c.spot.token → Err (faults.Syntax c.spot.at) ≡ x → Tells text x
+  at_number : (c : Cut text) (p : Placed) → Reaches (tokens c.prefix) c.spot.token p → (IsInRange p → ⊥) → Err (faults.Number (told_at p c.spot.at)) ≡ x → Tells text x
+  at_depth : (c : Cut text) (p : Placed) → Reaches (tokens c.prefix) c.spot.token p → 128 < nesting_of p → Err (faults.Depth c.spot.at) ≡ x → Tells text x
 
 tells : (text : List ℕ) (f : Result Tree ParseFault) → IsOfTheText f → Parses text f → Tells text (told f)
 tells text (Ok f) i p =
@@ -46,19 +46,19 @@ tells text (Ok f) i p =
     (record { text = p.text; derives = p.derives; tree_is = p.tree_is; flaw_is = p.flawless }) in
     to_the_end w.text w.derives (ap (λ z. flawed z (tree_of w.text)) w.flaw_is ∙ ap Ok w.tree_is)
 tells text (Err (faults.Syntax at)) i p =
-    at_break p.cut (breaks_derived (tokens p.cut.front) p.cut.spot.token p.breaks) (ap (λ b. Err (faults.Syntax b)) p.at_is)
+    at_break p.cut (breaks_derived (tokens p.cut.prefix) p.cut.spot.token p.breaks) (ap (λ b. Err (faults.Syntax b)) p.at_is)
 tells text (Err (faults.Number at)) i p =
     at_number
     p.cut
     p.passes.place
-    (reaches_derived (tokens p.cut.front) p.cut.spot.token p.passes.place p.passes.reaches)
+    (reaches_derived (tokens p.cut.prefix) p.cut.spot.token p.passes.place p.passes.reaches)
     p.passes.out
     (ap (λ b. Err (faults.Number b)) p.passes.told)
 tells text (Err (faults.Depth at)) i p =
     at_depth
     p.cut
     p.passes.place
-    (reaches_derived (tokens p.cut.front) p.cut.spot.token p.passes.place p.passes.reaches)
+    (reaches_derived (tokens p.cut.prefix) p.cut.spot.token p.passes.place p.passes.reaches)
     p.passes.deep
     (ap (λ b. Err (faults.Depth b)) p.at_is)
 tells text (Err (faults.MixedChain at)) i p =
@@ -79,30 +79,30 @@ tells text (Err (faults.NotLinear at)) i p =
     to_the_end w.text w.derives (ap (λ z. flawed z (tree_of w.text)) w.flaw_is)
 tells text (Err faults.Memory) i p = absurd i
 
-number_stops : (front : List Token) (t : Token) (p : Placed) → Reaches front t p → (IsInRange p → ⊥) → Stops front t
-number_stops front t p r h = reaches_stop front t p r (λ a. h a.1)
+number_stops : (prefix : List Token) (t : Token) (p : Placed) → Reaches prefix t p → (IsInRange p → ⊥) → Stops prefix t
+number_stops prefix t p r h = reaches_stop prefix t p r (λ a. h a.1)
 
-depth_stops : (front : List Token) (t : Token) (p : Placed) → Reaches front t p → 128 < nesting_of p → Stops front t
-depth_stops front t p r h = reaches_stop front t p r (λ a. let low = a.0 in omega arith)
+depth_stops : (prefix : List Token) (t : Token) (p : Placed) → Reaches prefix t p → 128 < nesting_of p → Stops prefix t
+depth_stops prefix t p r h = reaches_stop prefix t p r (λ a. let low = a.0 in omega arith)
 
 module _ (text : List ℕ) where
   -- a token that is reached in one text, cut so, is reached in the other
-  moved : (c d : Cut text) (p : Placed) → SameCut c d → Reaches (tokens c.front) c.spot.token p → Reaches (tokens d.front) d.spot.token p
+  moved : (c d : Cut text) (p : Placed) → SameCut c d → Reaches (tokens c.prefix) c.spot.token p → Reaches (tokens d.prefix) d.spot.token p
   moved c d p e r =
       subst
-      (λ t. Reaches (tokens d.front) t p)
+      (λ t. Reaches (tokens d.prefix) t p)
       (ap (λ s. s.token) e.spot)
-      (subst (λ f. Reaches (tokens f) c.spot.token p) e.front r)
+      (subst (λ f. Reaches (tokens f) c.spot.token p) e.prefix r)
 
-  never_reached : (c d : Cut text) (p : Placed) → SameCut c d → Breaks (tokens d.front) d.spot.token → Reaches (tokens c.front) c.spot.token p → ⊥
-  never_reached c d p e b r = breaks_reaches (tokens d.front) d.spot.token p b (moved c d p e r)
+  never_reached : (c d : Cut text) (p : Placed) → SameCut c d → Breaks (tokens d.prefix) d.spot.token → Reaches (tokens c.prefix) c.spot.token p → ⊥
+  never_reached c d p e b r = breaks_reaches (tokens d.prefix) d.spot.token p b (moved c d p e r)
 
-  one_number : (c d : Cut text) (p q : Placed) → SameCut c d → Reaches (tokens c.front) c.spot.token p → Reaches (tokens d.front) d.spot.token q → p ≡ q
-  one_number c d p q e r s = one_reached (tokens d.front) d.spot.token p q (moved c d p e r) s
+  one_number : (c d : Cut text) (p q : Placed) → SameCut c d → Reaches (tokens c.prefix) c.spot.token p → Reaches (tokens d.prefix) d.spot.token q → p ≡ q
+  one_number c d p q e r s = one_reached (tokens d.prefix) d.spot.token p q (moved c d p e r) s
 
-  number_or_depth : (c d : Cut text) (p q : Placed) → SameCut c d → Reaches (tokens c.front) c.spot.token p → (IsInRange p → ⊥) → Reaches (tokens d.front) d.spot.token q → 128 < nesting_of q → ⊥
+  number_or_depth : (c d : Cut text) (p q : Placed) → SameCut c d → Reaches (tokens c.prefix) c.spot.token p → (IsInRange p → ⊥) → Reaches (tokens d.prefix) d.spot.token q → 128 < nesting_of q → ⊥
   number_or_depth c d p q e r h s l =
-      not_deep (tokens c.front) c.spot.token p r h (subst (λ z. 128 < nesting_of z) (sym (one_number c d p q e r s)) l)
+      not_deep (tokens c.prefix) c.spot.token p r h (subst (λ z. 128 < nesting_of z) (sym (one_number c d p q e r s)) l)
 
   one_tells : (x y : Result trees.Formula ParseFault) → Tells text x → Tells text y → x ≡ y
   one_tells x y (to_the_end d a e) (to_the_end f b h) = sym e ∙ (ap answer_of (one_derivation d f (a.spells ∙ sym b.spells)) ∙ h)

@@ -5,14 +5,14 @@ use Rattle.formula_parse.specs.Tokens.{Name}
 use Rattle.formula_parse.specs.Trees as trees
 use Rattle.formula_parse.specs.Flaws.{Product, product_start}
 use Rattle.formula_parse.specs.Made.{made, trees as making}
-use Rattle.formula_parse.specs.Machine.{Front, Outer, Where, left_side, argument, close, whole, leave_closed, leave_product, leave_factor, leave_first, enter_factor, enter_argument}
+use Rattle.formula_parse.specs.Machine.{Prefix, Outer, Where, left_side, argument, close, whole, leave_closed, leave_product, leave_factor, leave_first, enter_factor, enter_argument}
 use Rattle.formula_parse.specs.StateViews.{Machine, token_view}
 use Rattle.formula_parse.specs.declared.tree.Sign.{Sign}
 use Rattle.formula_parse.specs.declared.token.ChainSign.{ChainSign}
 use Rattle.formula_parse.specs.declared.token.Token.{Token}
 use Rattle.formula_parse.specs.declared.token.Token.TheVariants as token
 
-pub leave_closed_other : (s : Machine) (r : Front made) (c : trees.Formula) (t : Token) → ((k : ChainSign) (b : ℕ) → t ≡ token.Connective k b → ⊥) → ((b : ℕ) → t ≡ token.Implies b → ⊥) → (t ≡ token.Iff → ⊥) → leave_closed making s r c (token_view t) ≡ close making s.flaw s.around (whole making r c) (token_view t)
+pub leave_closed_other : (s : Machine) (r : Prefix made) (c : trees.Formula) (t : Token) → ((k : ChainSign) (b : ℕ) → t ≡ token.Connective k b → ⊥) → ((b : ℕ) → t ≡ token.Implies b → ⊥) → (t ≡ token.Iff → ⊥) → leave_closed making s r c (token_view t) ≡ close making s.flaw s.around (whole making r c) (token_view t)
 leave_closed_other s r c (token.Connective k b) f g h = absurd (f k b refl)
 leave_closed_other s r c (token.Implies b) f g h = absurd (g b refl)
 leave_closed_other s r c token.Iff f g h = absurd (h refl)

@@ -32,26 +32,26 @@ use Rattle.formula_parse.proofs.SpotSteps.{NotEnd, unless_end_token}
 
 -- the machine has read the tokens before a byte
 pub record AtPlace (text : List ℕ) (m : Mode) (at : ℕ) (s : Machine) : Type 0 where
-  pub front : List (Spot tokens.Token)
-  pub split : spots text ≡ front ++ spots_from lexing m at 0 (drop at text)
-  pub walks : Walks (tokens_of front) s
+  pub prefix : List (Spot tokens.Token)
+  pub split : spots text ≡ prefix ++ spots_from lexing m at 0 (drop at text)
+  pub walks : Walks (tokens_of prefix) s
   pub within : at ≤ length text
 
 pub place_start : (text : List ℕ) (s : Machine) → s ≡ start making default_system → AtPlace text plain 0 s
-place_start text s e = subst (λ (n : Machine). AtPlace text plain 0 n) (sym e) (record { front = []; split = refl; walks = walks_start; within = omega arith })
+place_start text s e = subst (λ (n : Machine). AtPlace text plain 0 n) (sym e) (record { prefix = []; split = refl; walks = walks_start; within = omega arith })
 
 abbrev spot_of : Read → Spot tokens.Token
 spot_of r = record { token = lexed_view r.lexed; at = r.at; after = r.end }
 
 abbrev cut_of : (text : List ℕ) (m : Mode) (at : ℕ) (s : Machine) (r : Read) → AtPlace text m at s → IsNext m text at r → Cut text
-cut_of text m at s r p n = record { front = p.front; spot = spot_of r; rest = _; is = p.split ∙ ap (λ ss. p.front ++ ss) n.spots_are }
+cut_of text m at s r p n = record { prefix = p.prefix; spot = spot_of r; rest = _; is = p.split ∙ ap (λ ss. p.prefix ++ ss) n.spots_are }
 
-walks_more : (front : List (Spot tokens.Token)) (r : Read) (s n : Machine) → Walks (tokens_of front) s → step making s (lexed_view r.lexed) ≡ Some n → IsAllowed (placed s.position (lexed_view r.lexed) (depth n)) → Walks (tokens_of (front ++ spot_of r ∷ [])) n
-walks_more front r s n w e a =
+walks_more : (prefix : List (Spot tokens.Token)) (r : Read) (s n : Machine) → Walks (tokens_of prefix) s → step making s (lexed_view r.lexed) ≡ Some n → IsAllowed (placed s.position (lexed_view r.lexed) (depth n)) → Walks (tokens_of (prefix ++ spot_of r ∷ [])) n
+walks_more prefix r s n w e a =
     subst
     (λ ts. Walks ts n)
-    (sym (map-append (λ (x : Spot tokens.Token). x.token) front (spot_of r ∷ [])))
-    (walks_step (tokens_of front) s (lexed_view r.lexed) n w e a)
+    (sym (map-append (λ (x : Spot tokens.Token). x.token) prefix (spot_of r ∷ [])))
+    (walks_step (tokens_of prefix) s (lexed_view r.lexed) n w e a)
 
 pub place_next : (text : List ℕ) (m k : Mode) (at : ℕ) (s : Machine) (r : Read) (n : State) → AtPlace text m at s → IsNext m text at r → Advances s (lexed_view r.lexed) r.at (Ok n) → k ≡ mode_after (lexed_view r.lexed) → (lexed_view r.lexed ≡ tokens.end → ⊥) → AtPlace text k r.end (state_view n)
 place_next text m k at s r n p x a e not_end =
@@ -60,12 +60,12 @@ place_next text m k at s r n p x a e not_end =
     (λ j. AtPlace text j r.end (state_view n))
     (sym e)
     (record {
-      front = p.front ++ spot_of r ∷ [];
+      prefix = p.prefix ++ spot_of r ∷ [];
       split =
           p.split
-          ∙ (ap (λ ss. p.front ++ ss) (x.spots_are ∙ ap (λ ss. spot_of r ∷ ss) (unless_end_token (lexed_view r.lexed) rest (differs (lexed_view r.lexed) not_end)))
-          ∙ sym (append_assoc p.front (spot_of r ∷ []) rest));
-      walks = walks_more p.front r s (state_view n) p.walks a.0 a.1;
+          ∙ (ap (λ ss. p.prefix ++ ss) (x.spots_are ∙ ap (λ ss. spot_of r ∷ ss) (unless_end_token (lexed_view r.lexed) rest (differs (lexed_view r.lexed) not_end)))
+          ∙ sym (append_assoc p.prefix (spot_of r ∷ []) rest));
+      walks = walks_more p.prefix r s (state_view n) p.walks a.0 a.1;
       within = x.within;
     })
   where
@@ -73,13 +73,13 @@ place_next text m k at s r n p x a e not_end =
     differs tokens.end h = h refl
     differs t h = tt
 
-number_from : (text : List ℕ) (s : Machine) (b : ℕ) (c : Cut text) (o : Option Machine) → step making s c.spot.token ≡ o → Walks (tokens_of c.front) s → IsSomeAnd o (λ n. (IsInRange (placed s.position c.spot.token (depth n)) → ⊥) × (told_at (placed s.position c.spot.token (depth n)) c.spot.at ≡ b)) → IsNumberAt text b
+number_from : (text : List ℕ) (s : Machine) (b : ℕ) (c : Cut text) (o : Option Machine) → step making s c.spot.token ≡ o → Walks (tokens_of c.prefix) s → IsSomeAnd o (λ n. (IsInRange (placed s.position c.spot.token (depth n)) → ⊥) × (told_at (placed s.position c.spot.token (depth n)) c.spot.at ≡ b)) → IsNumberAt text b
 number_from text s b c None e w h = absurd h
 number_from text s b c (Some n) e w h = record {
   cut = c;
   passes = record {
     place = placed s.position c.spot.token (depth n);
-    reaches = walks_reach (tokens_of c.front) s c.spot.token n w e;
+    reaches = walks_reach (tokens_of c.prefix) s c.spot.token n w e;
     out = h.0;
     told = h.1;
   };
@@ -90,7 +90,7 @@ nesting_of-placed (machine.at_letter c b) (tokens.number v) d = refl
 nesting_of-placed (machine.at_value c b) (tokens.number v) d = refl
 nesting_of-placed p t d = refl
 
-depth_from : (text : List ℕ) (s : Machine) (b : ℕ) (c : Cut text) (o : Option Machine) → step making s c.spot.token ≡ o → Walks (tokens_of c.front) s → IsSomeAnd o (λ n. 128 < depth n) → c.spot.at ≡ b → IsDepthAt text b
+depth_from : (text : List ℕ) (s : Machine) (b : ℕ) (c : Cut text) (o : Option Machine) → step making s c.spot.token ≡ o → Walks (tokens_of c.prefix) s → IsSomeAnd o (λ n. 128 < depth n) → c.spot.at ≡ b → IsDepthAt text b
 depth_from text s b c None e w h k = absurd h
 depth_from text s b c (Some n) e w h k =
     let nest = nesting_of-placed s.position c.spot.token (depth n) in
@@ -98,7 +98,7 @@ depth_from text s b c (Some n) e w h k =
       cut = c;
       passes = record {
         place = placed s.position c.spot.token (depth n);
-        reaches = walks_reach (tokens_of c.front) s c.spot.token n w e;
+        reaches = walks_reach (tokens_of c.prefix) s c.spot.token n w e;
         deep = omega (arith, nest, h);
       };
       at_is = k;
@@ -107,7 +107,7 @@ depth_from text s b c (Some n) e w h k =
 -- a fault at a token
 pub place_fault : (text : List ℕ) (m : Mode) (at : ℕ) (s : Machine) (r : Read) (e : ParseFault) → AtPlace text m at s → IsNext m text at r → Advances s (lexed_view r.lexed) r.at (Err e) → Parses text (Err e)
 place_fault text m at s r (faults.Syntax b) p x a =
-    record { cut = cut_of text m at s r p x; breaks = walks_breaks (tokens_of p.front) s (lexed_view r.lexed) p.walks a.0; at_is = sym a.1 }
+    record { cut = cut_of text m at s r p x; breaks = walks_breaks (tokens_of p.prefix) s (lexed_view r.lexed) p.walks a.0; at_is = sym a.1 }
 place_fault text m at s r (faults.Number b) p x a = number_from text s b (cut_of text m at s r p x) _ refl p.walks a
 place_fault text m at s r (faults.Depth b) p x a = depth_from text s b (cut_of text m at s r p x) _ refl p.walks a.0 (sym a.1)
 place_fault text m at s r (faults.MixedChain b) p x a = absurd a
@@ -152,13 +152,13 @@ pub place_finish : (text : List ℕ) (m : Mode) (at : ℕ) (s : Machine) (r : Re
 place_finish text m at s r n result p x e a h =
     let rest = spots_from lexing (mode_after (lexed_view r.lexed)) r.end 0 (drop r.end text) in
     let last : unless_end (lexed_view r.lexed) rest ≡ [] = ap (λ t. unless_end t rest) e in
-    let all : spots text ≡ p.front ++ spot_of r ∷ [] = p.split ∙ ap (λ ss. p.front ++ ss) (x.spots_are ∙ ap (λ ss. spot_of r ∷ ss) last) in
+    let all : spots text ≡ p.prefix ++ spot_of r ∷ [] = p.split ∙ ap (λ ss. p.prefix ++ ss) (x.spots_are ∙ ap (λ ss. spot_of r ∷ ss) last) in
     finished
     text
     n
     n.position
     result
     refl
-    (subst (λ ss. Walks (tokens_of ss) (state_view n)) (sym all) (walks_more p.front r s (state_view n) p.walks a.0 a.1))
+    (subst (λ ss. Walks (tokens_of ss) (state_view n)) (sym all) (walks_more p.prefix r s (state_view n) p.walks a.0 a.1))
     (place_done s (lexed_view r.lexed) r.at n e a)
     h

@@ -1,4 +1,4 @@
--- The tokens of a text are placed in one way: the tokens before one tell its nesting, and which letter a numeral belongs to.
+-- The tokens of a text are placed in one way: the tokens before one determine its nesting, and which letter a numeral belongs to.
 use Rattle.std.proofs.Common.{◌≡◌, refl, sym, ◌∙◌, ap, subst, ℕ, ◌≤◌, List, [], ◌∷◌, ◌++◌, map, Option, None, Some, arith}
 use Rattle.std.proofs.lemmas.List.{append-nil}
 use Rattle.std.specs.List.{AllByRecursion}
@@ -26,8 +26,8 @@ abbrev pub placed_from : State parts → List Token → List Placed
 placed_from s [] = []
 placed_from s (t ∷ ts) = placed_first s t (step derivations s t) (λ n. placed_from n ts)
 
-abbrev pub first_state : State parts
-first_state = start derivations default_system
+abbrev pub initial_state : State parts
+initial_state = start derivations default_system
 
 -- a state reads what its tokens are placed as
 record Reads (s n : State parts) (ps : List Placed) : Type 0 where
@@ -45,42 +45,42 @@ reads [] s n a e =
     subst (λ (z : State parts). Reads s z []) same (record { spells = λ q. refl })
 reads (t ∷ ts) s n a e = step_reads s n t ts (step derivations s t) (step_goes s t a) (λ m b h. reads ts m n b h) e
 
-sane_start : Sane first_state
+sane_start : Sane initial_state
 sane_start = record { body = record { based = refl; empty = λ e. refl }; frames = tt }
 
 -- the machine makes a text's derivation again
-pub made_again : (f : Formula) → run_tokens derivations (map token_of (spelled f)) first_state ≡ Some (final derivations f (formula_flaw None f))
+pub made_again : (f : Formula) → run_tokens derivations (map token_of (spelled f)) initial_state ≡ Some (final derivations f (formula_flaw None f))
 made_again f =
-    run_placed derivations (spelled f) first_state
+    run_placed derivations (spelled f) initial_state
     ∙ (complete derivations f default_system ∙ ap (λ (g : Formula). Some (final derivations g (formula_flaw None f))) (formula_remade default_system f))
 
 -- the tokens of a text are placed as it spells them
-spelled_places : (f : Formula) → placed_from first_state (map token_of (spelled f)) ≡ spelled f
+spelled_places : (f : Formula) → placed_from initial_state (map token_of (spelled f)) ≡ spelled f
 spelled_places f =
-    let r = reads (map token_of (spelled f)) first_state (final derivations f (formula_flaw None f)) sane_start (made_again f) in
-    sym (append-nil (placed_from first_state (map token_of (spelled f)))) ∙ sym (r.spells [])
+    let r = reads (map token_of (spelled f)) initial_state (final derivations f (formula_flaw None f)) sane_start (made_again f) in
+    sym (append-nil (placed_from initial_state (map token_of (spelled f)))) ∙ sym (r.spells [])
 
-front_step : (s : State parts) (p : Placed) (ps qs : List Placed) (o : Option (State parts)) → ((m : State parts) → placed_from m (map token_of (ps ++ qs)) ≡ ps ++ qs → placed_from m (map token_of ps) ≡ ps) → placed_first s (token_of p) o (λ m. placed_from m (map token_of (ps ++ qs))) ≡ p ∷ (ps ++ qs) → placed_first s (token_of p) o (λ m. placed_from m (map token_of ps)) ≡ p ∷ ps
-front_step s p ps qs None k e = absurd cc
-front_step s p ps qs (Some m) k e =
+prefix_step : (s : State parts) (p : Placed) (ps qs : List Placed) (o : Option (State parts)) → ((m : State parts) → placed_from m (map token_of (ps ++ qs)) ≡ ps ++ qs → placed_from m (map token_of ps) ≡ ps) → placed_first s (token_of p) o (λ m. placed_from m (map token_of (ps ++ qs))) ≡ p ∷ (ps ++ qs) → placed_first s (token_of p) o (λ m. placed_from m (map token_of ps)) ≡ p ∷ ps
+prefix_step s p ps qs None k e = absurd cc
+prefix_step s p ps qs (Some m) k e =
     let rest : placed_from m (map token_of (ps ++ qs)) ≡ ps ++ qs = cc in
     let head : placed s.position (token_of p) (deep m) ≡ p = cc in
     cc (k m rest, head)
 
-front_places : (ps qs : List Placed) (s : State parts) → placed_from s (map token_of (ps ++ qs)) ≡ ps ++ qs → placed_from s (map token_of ps) ≡ ps
-front_places [] qs s e = refl
-front_places (p ∷ ps) qs s e = front_step s p ps qs (step derivations s (token_of p)) (λ m h. front_places ps qs m h) e
+prefix_places : (ps qs : List Placed) (s : State parts) → placed_from s (map token_of (ps ++ qs)) ≡ ps ++ qs → placed_from s (map token_of ps) ≡ ps
+prefix_places [] qs s e = refl
+prefix_places (p ∷ ps) qs s e = prefix_step s p ps qs (step derivations s (token_of p)) (λ m h. prefix_places ps qs m h) e
 
--- so are those of its front
-pub read_places : (text : Formula) (read more : List Placed) → GoesOn text read more → placed_from first_state (map token_of read) ≡ read
+-- so are those of its prefix
+pub read_places : (text : Formula) (read more : List Placed) → GoesOn text read more → placed_from initial_state (map token_of read) ≡ read
 read_places text read more g =
-    front_places
+    prefix_places
     read
     more
-    first_state
-    (subst (λ ps. placed_from first_state (map token_of ps) ≡ ps) g.spells (spelled_places text))
+    initial_state
+    (subst (λ ps. placed_from initial_state (map token_of ps) ≡ ps) g.spells (spelled_places text))
 
--- A numeral stands within what stands before it.
+-- A numeral is within what comes before it.
 abbrev Keeps : State parts → Position parts → Option (State parts) → Type 0
 Keeps s p None = Unit {0}
 Keeps s p (Some n) = deep n ≡ within_position p (within s.body.tildes (nesting s.around))
@@ -100,7 +100,7 @@ nesting_of-placed (at_letter c b) (number v) d = refl
 nesting_of-placed (at_value c b) (number v) d = refl
 nesting_of-placed p t d = refl
 
--- a numeral that stands after allowed tokens is not too deep
+-- a numeral that comes after allowed tokens is not too deep
 last_step : (s : State parts) (p : Placed) (v : ℕ) (o : Option (State parts)) → Keeps s s.position o → deep s ≤ 128 → token_of p ≡ number v → placed_first s (token_of p) o (λ m. []) ≡ p ∷ [] → nesting_of p ≤ 128
 last_step s p v None h d t e = absurd cc
 last_step s p v (Some n) h d t e =
@@ -131,4 +131,4 @@ shallow (q ∷ ps) p v s d a t e =
     shallow_step s q p ps (step derivations s (token_of q)) a.0 (λ m b h. shallow ps p v m b a.1 t h) e
 
 pub number_shallow : (text : Formula) (read more : List Placed) (p : Placed) (v : ℕ) → GoesOn text (read ++ p ∷ []) more → AllByRecursion IsAllowed read → token_of p ≡ number v → nesting_of p ≤ 128
-number_shallow text read more p v g a t = shallow read p v first_state (omega arith) a t (read_places text (read ++ p ∷ []) more g)
+number_shallow text read more p v g a t = shallow read p v initial_state (omega arith) a t (read_places text (read ++ p ∷ []) more g)

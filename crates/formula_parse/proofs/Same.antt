@@ -4,7 +4,7 @@ use Rattle.formula_parse.specs.Tokens.{Name, Quantifier, Token, name, number, sy
 use Rattle.formula_parse.specs.Trees.{Names}
 use Rattle.formula_parse.specs.Making.{Kinds, Making}
 use Rattle.formula_parse.specs.Flaws.{Flaw, Product, product_start}
-use Rattle.formula_parse.specs.Machine.{Front, Body, Frame, Outer, Aim, Side, Where, Spelling, Position, State, left_index, left_letter, first, second, left_side, right_of, place_in, argument, on_left, on_right, at_operand, at_system, at_variable, after_operand, after_first, at_factor, after_factor, after_index, at_word, at_bracket, at_letter, at_value, after_letter, at_called, at_call, at_argument, done, paren, scope, close, whole, closed, leave_closed, leave, close_term, leave_whole, leave_product, leave_factor, leave_first, leave_side, leave_index, enter_word, enter_bracket, enter_letter, enter_value, leave_letter, enter_called, enter_call, enter_factor, enter_argument, next_variable, enter, enter_system, enter_variable, step, step_at, place, within_where, within_outer, within_position, depth}
+use Rattle.formula_parse.specs.Machine.{Prefix, Body, Frame, Outer, Aim, Side, Where, Representation, Position, State, left_index, left_letter, first, second, left_side, right_of, place_in, argument, on_left, on_right, at_operand, at_system, at_variable, after_operand, after_first, at_factor, after_factor, after_index, at_word, at_bracket, at_letter, at_value, after_letter, at_called, at_call, at_argument, done, paren, scope, close, whole, closed, leave_closed, leave, close_term, leave_whole, leave_product, leave_factor, leave_first, leave_side, leave_index, enter_word, enter_bracket, enter_letter, enter_value, leave_letter, enter_called, enter_call, enter_factor, enter_argument, next_variable, enter, enter_system, enter_variable, step, step_at, place, within_where, within_outer, within_position, depth}
 use Rattle.formula_parse.specs.Runs.{placed}
 
 -- nothing is made
@@ -61,11 +61,11 @@ none = record {
 }
 
 module _ {K : Kinds} where
-  abbrev pub bare_front : Front K → Front nothing
-  bare_front r = record { implications = tt; chains = tt; operands = tt; came = r.came; implied = r.implied }
+  abbrev pub bare_prefix : Prefix K → Prefix nothing
+  bare_prefix r = record { implications = tt; chains = tt; operands = tt; came = r.came; implied = r.implied }
 
   abbrev pub bare_body : Body K → Body nothing
-  bare_body g = record { base = g.base; front = bare_front g.front; tildes = g.tildes; marks = g.marks; touched = g.touched }
+  bare_body g = record { base = g.base; prefix = bare_prefix g.prefix; tildes = g.tildes; marks = g.marks; touched = g.touched }
 
   abbrev pub bare_frames : List (Frame K) → List (Frame nothing)
   bare_frames [] = []
@@ -90,9 +90,9 @@ module _ {K : Kinds} where
   bare_where (place_in a n ts) = place_in (bare_side a) n tt
   bare_where (argument n ts) = argument n tt
 
-  abbrev pub bare_spelling : Spelling K → Spelling nothing
-  bare_spelling on_left = on_left
-  bare_spelling (on_right x e) = on_right tt e
+  abbrev pub bare_representation : Representation K → Representation nothing
+  bare_representation on_left = on_left
+  bare_representation (on_right x e) = on_right tt e
 
   abbrev pub bare_position : Position K → Position nothing
   bare_position at_operand = at_operand
@@ -105,8 +105,8 @@ module _ {K : Kinds} where
   bare_position (after_index a n ts t) = after_index (bare_side a) n tt tt
   bare_position (at_word a) = at_word (bare_aim a)
   bare_position (at_bracket a n) = at_bracket (bare_aim a) n
-  bare_position (at_letter c b) = at_letter (bare_spelling c) b
-  bare_position (at_value c b) = at_value (bare_spelling c) b
+  bare_position (at_letter c b) = at_letter (bare_representation c) b
+  bare_position (at_value c b) = at_value (bare_representation c) b
   bare_position (after_letter l) = after_letter tt
   bare_position at_called = at_called
   bare_position (at_call n) = at_call n
@@ -126,16 +126,16 @@ module _ {K : Kinds} (A : Making K) where
   close_same w [] f _ = refl
   close_same w (paren h y ∷ hs) f closing = refl
   close_same w (paren h y ∷ hs) f _ = refl
-  close_same w (scope k ns n h ∷ hs) f t = close_same w hs (whole A h.front (A.quantified h.tildes h.marks k ns n f)) t
+  close_same w (scope k ns n h ∷ hs) f t = close_same w hs (whole A h.prefix (A.quantified h.tildes h.marks k ns n f)) t
 
-  closed_same : (s : State K) (r : Front K) (c : K.Closed) (t : Token) → leave_closed none (bare s) (bare_front r) tt t ≡ bared (leave_closed A s r c t)
+  closed_same : (s : State K) (r : Prefix K) (c : K.Closed) (t : Token) → leave_closed none (bare s) (bare_prefix r) tt t ≡ bared (leave_closed A s r c t)
   closed_same s r c (connective k b) = refl
   closed_same s r c (implies b) = refl
   closed_same s r c iff = refl
   closed_same s r c t = close_same s.flaw s.around (whole A r (A.ends c)) t
 
   leave_same : (s : State K) (c : K.Core) (t : Token) → leave none (bare s) tt t ≡ bared (leave A s c t)
-  leave_same s c t = closed_same s s.body.front (closed A s.body c) t
+  leave_same s c t = closed_same s s.body.prefix (closed A s.body c) t
 
   close_term_same : (s : State K) (gs : List (Frame K)) (b : Bool) (t : K.Term) (q : Bool) → close_term none (bare s) (bare_frames gs) b tt q ≡ bared (close_term A s gs b t q)
   close_term_same s (paren h y ∷ hs) false t q = refl
@@ -188,13 +188,13 @@ module _ {K : Kinds} (A : Making K) where
   bracket_same s a n bracket = refl
   bracket_same s a n _ = refl
 
-  letter_same : (s : State K) (c : Spelling K) (b : ℕ) (u : Token) → enter_letter none (bare s) (bare_spelling c) b u ≡ bared (enter_letter A s c b u)
+  letter_same : (s : State K) (c : Representation K) (b : ℕ) (u : Token) → enter_letter none (bare s) (bare_representation c) b u ≡ bared (enter_letter A s c b u)
   letter_same s on_left b (number v) = refl
   letter_same s (on_right x k) b (number v) = refl
   letter_same s c b (sign minus) = refl
   letter_same s c b _ = refl
 
-  value_same : (s : State K) (c : Spelling K) (b : ℕ) (u : Token) → enter_value none (bare s) (bare_spelling c) b u ≡ bared (enter_value A s c b u)
+  value_same : (s : State K) (c : Representation K) (b : ℕ) (u : Token) → enter_value none (bare s) (bare_representation c) b u ≡ bared (enter_value A s c b u)
   value_same s on_left b (number v) = refl
   value_same s (on_right x k) b (number v) = refl
   value_same s c b _ = refl

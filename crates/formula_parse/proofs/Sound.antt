@@ -4,7 +4,7 @@ use Rattle.formula_parse.specs.Tokens.{Name, Quantifier, Letter, Token, Placed, 
 use Rattle.formula_parse.specs.Trees.{Names}
 use Rattle.formula_parse.proofs.Derivations.{Factor, variable, Factors, no_factors, Addends, no_addends, Term, term, Terms, no_terms, index, Core, compare, words, letter_word, not_closed, Closed, marked, ends, quantified, Formula, factor_then, factors_then, addends_then, term_then, arguments_then, places_then, index_then, variables_then, tildes_then, core_then, closed_then, operands_then, chains_then, implications_then, formula_then, parts, derivations}
 use Rattle.formula_parse.specs.Formulas.{letter_then, marks_then}
-use Rattle.formula_parse.specs.Machine.{within, Front, Body, Frame, Outer, Aim, Side, Where, Spelling, Position, State, left_index, left_letter, first, second, left_side, right_of, place_in, argument, on_left, on_right, at_operand, at_system, at_variable, after_operand, after_first, at_factor, after_factor, after_index, at_word, at_bracket, at_letter, at_value, after_letter, at_called, at_call, at_argument, done, paren, scope, fresh, close, whole, wrapped, closed, leave_closed, leave, close_term, leave_whole, leave_product, leave_factor, leave_first, leave_side, leave_index, enter_word, enter_bracket, enter_letter, enter_value, leave_letter, enter_called, enter_call, enter_factor, enter_argument, next_variable, enter, enter_system, enter_variable, step, step_at, within_where, within_outer, within_position}
+use Rattle.formula_parse.specs.Machine.{within, Prefix, Body, Frame, Outer, Aim, Side, Where, Representation, Position, State, left_index, left_letter, first, second, left_side, right_of, place_in, argument, on_left, on_right, at_operand, at_system, at_variable, after_operand, after_first, at_factor, after_factor, after_index, at_word, at_bracket, at_letter, at_value, after_letter, at_called, at_call, at_argument, done, paren, scope, fresh, close, whole, wrapped, closed, leave_closed, leave, close_term, leave_whole, leave_product, leave_factor, leave_first, leave_side, leave_index, enter_word, enter_bracket, enter_letter, enter_value, leave_letter, enter_called, enter_call, enter_factor, enter_argument, next_variable, enter, enter_system, enter_variable, step, step_at, within_where, within_outer, within_position}
 use Rattle.formula_parse.specs.Flaws.{Flaw, Product, product_start}
 use Rattle.formula_parse.specs.Runs.{placed}
 
@@ -14,11 +14,11 @@ nesting [] = 0
 nesting (paren h y ∷ hs) = suc (within h.tildes (nesting hs))
 nesting (scope q ns n h ∷ hs) = suc (within h.tildes (nesting hs))
 
-abbrev pub front_then : Front parts → ℕ → List Placed → List Placed
-front_then r d q = implications_then r.implications d (chains_then r.chains d (operands_then r.operands d q))
+abbrev pub prefix_then : Prefix parts → ℕ → List Placed → List Placed
+prefix_then r d q = implications_then r.implications d (chains_then r.chains d (operands_then r.operands d q))
 
 abbrev pub body_then : Body parts → ℕ → List Placed → List Placed
-body_then g d q = front_then g.front d (tildes_then g.tildes d (marks_then g.marks (within g.tildes d) q))
+body_then g d q = prefix_then g.prefix d (tildes_then g.tildes d (marks_then g.marks (within g.tildes d) q))
 
 abbrev pub frames_then : List (Frame parts) → List Placed → List Placed
 frames_then [] q = q
@@ -46,9 +46,9 @@ outer_then [] d q = q
 outer_then (x ∷ o) d q =
     outer_then o d (addends_then x.addends (within_outer o d) (factors_then x.factors (within_outer o d) (here opening (suc (within_outer o d)) ∷ q)))
 
-abbrev pub spelling_then : Spelling parts → ℕ → List Placed → List Placed
-spelling_then on_left d q = q
-spelling_then (on_right x k) d q = index_then x d (here (relation k) d ∷ q)
+abbrev pub representation_then : Representation parts → ℕ → List Placed → List Placed
+representation_then on_left d q = q
+representation_then (on_right x k) d q = index_then x d (here (relation k) d ∷ q)
 
 abbrev pub position_then : Position parts → ℕ → List Placed → List Placed
 position_then at_operand d q = q
@@ -65,8 +65,8 @@ position_then (after_factor h o ss ps p f b) d q =
 position_then (after_index s n ts t) d q = where_then (place_in s n ts) d (term_then t (suc d) (here unbracket d ∷ q))
 position_then (at_word a) d q = aim_then a d q
 position_then (at_bracket a n) d q = aim_then a d (here (name n) d ∷ q)
-position_then (at_letter c b) d q = spelling_then c d (here (letter_sign b) d ∷ q)
-position_then (at_value c b) d q = spelling_then c d (here (letter_sign b) d ∷ here (sign minus) d ∷ q)
+position_then (at_letter c b) d q = representation_then c d (here (letter_sign b) d ∷ q)
+position_then (at_value c b) d q = representation_then c d (here (letter_sign b) d ∷ here (sign minus) d ∷ q)
 position_then (after_letter l) d q = letter_then l d q
 position_then at_called d q = here call_sign d ∷ q
 position_then (at_call n) d q = here call_sign d ∷ here (called n) d ∷ q
@@ -124,17 +124,17 @@ close_goes w [] f end a = goes (record { body = record { based = refl; empty = �
 close_goes w [] f _ a = tt
 close_goes w (paren h y ∷ hs) f closing a = goes (record { body = a.0; frames = a.1 }) (λ q. refl)
 close_goes w (paren h y ∷ hs) f _ a = tt
-close_goes w (scope k ns n h ∷ hs) f t a = close_goes w hs (whole derivations h.front (quantified h.tildes h.marks k ns n f)) t a.1
+close_goes w (scope k ns n h ∷ hs) f t a = close_goes w hs (whole derivations h.prefix (quantified h.tildes h.marks k ns n f)) t a.1
 
 -- a state with another position
 abbrev pub at : State parts → Position parts → State parts
 at s p = record s { position = p }
 
-closed_goes : (s : State parts) (c : Closed) (t : Token) → Sane s → GoesOn (leave_closed derivations s s.body.front c t) (λ q. frames_then s.around (front_then s.body.front (nesting s.around) (closed_then c (nesting s.around) q))) (here t)
+closed_goes : (s : State parts) (c : Closed) (t : Token) → Sane s → GoesOn (leave_closed derivations s s.body.prefix c t) (λ q. frames_then s.around (prefix_then s.body.prefix (nesting s.around) (closed_then c (nesting s.around) q))) (here t)
 closed_goes s c (connective k b) a = goes (record { body = record { based = a.body.based; empty = λ e. true_false e }; frames = a.frames }) (λ q. refl)
 closed_goes s c (implies b) a = goes (record { body = record { based = a.body.based; empty = λ e. true_false e }; frames = a.frames }) (λ q. refl)
 closed_goes s c iff a = goes (record { body = record { based = a.body.based; empty = λ e. true_false e }; frames = a.frames }) (λ q. refl)
-closed_goes s c t a = close_goes s.flaw s.around (whole derivations s.body.front (ends c)) t a.frames
+closed_goes s c t a = close_goes s.flaw s.around (whole derivations s.body.prefix (ends c)) t a.frames
 
 -- what was spelled before may be spelled otherwise
 respelled : (o : Option (State parts)) (k j : List Placed → List Placed) (c : ℕ → Placed) → ((q : List Placed) → k q ≡ j q) → GoesOn o k c → GoesOn o j c
@@ -148,7 +148,7 @@ leave_goes s c t a =
     _
     (state_then (at s (after_operand c)))
     (here t)
-    (λ q. ap (λ z. frames_then s.around (front_then s.body.front (nesting s.around) z)) (wrapped_then s.body.tildes (marked s.body.marks c) (nesting s.around) q))
+    (λ q. ap (λ z. frames_then s.around (prefix_then s.body.prefix (nesting s.around) z)) (wrapped_then s.body.tildes (marked s.body.marks c) (nesting s.around) q))
     (closed_goes s (closed derivations s.body c) t a)
 
 -- the body stays as it is
@@ -214,13 +214,13 @@ bracket_goes : (s : State parts) (m : Aim parts) (n : Name) (u : Token) → Sane
 bracket_goes s m n bracket a = goes (stays _ a) (λ r. refl)
 bracket_goes s m n _ a = tt
 
-letter_goes : (s : State parts) (c : Spelling parts) (b : ℕ) (u : Token) → Sane s → GoesOn (enter_letter derivations s c b u) (state_then (at s (at_letter c b))) (placed (at_letter c b) u)
+letter_goes : (s : State parts) (c : Representation parts) (b : ℕ) (u : Token) → Sane s → GoesOn (enter_letter derivations s c b u) (state_then (at s (at_letter c b))) (placed (at_letter c b) u)
 letter_goes s on_left b (number v) a = goes (stays _ a) (λ r. refl)
 letter_goes s (on_right x k) b (number v) a = goes (stays _ a) (λ r. refl)
 letter_goes s c b (sign minus) a = goes (stays _ a) (λ r. refl)
 letter_goes s c b _ a = tt
 
-value_goes : (s : State parts) (c : Spelling parts) (b : ℕ) (u : Token) → Sane s → GoesOn (enter_value derivations s c b u) (state_then (at s (at_value c b))) (placed (at_value c b) u)
+value_goes : (s : State parts) (c : Representation parts) (b : ℕ) (u : Token) → Sane s → GoesOn (enter_value derivations s c b u) (state_then (at s (at_value c b))) (placed (at_value c b) u)
 value_goes s on_left b (number v) a = goes (stays _ a) (λ r. refl)
 value_goes s (on_right x k) b (number v) a = goes (stays _ a) (λ r. refl)
 value_goes s c b _ a = tt

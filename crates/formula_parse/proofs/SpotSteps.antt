@@ -7,10 +7,10 @@ use Rattle.std.specs.Prelude.{if◌then◌else◌, slice_index, nat_le, ◌==◌
 use Rattle.formula_parse.specs.Tokens.{Token, name, called, iff, end}
 use Rattle.text_grammar.specs.declared.class.Class.TheVariants.{Alphanumeric, Digit, NameByte}
 use Rattle.text_grammar.specs.Bytes.{is_blank, is_digit, is_letter, is_name_byte}
-use Rattle.text_grammar.specs.Fronts.{begins_in, front_len}
+use Rattle.text_grammar.specs.Prefixes.{begins_in, prefix_len}
 use Rattle.text_grammar.specs.Spots.{Lexeme, lexeme_of, Spot, spot_of, spots_from}
 use Rattle.text_grammar.specs.Systems.{is_direction}
-use Rattle.text_grammar.proofs.FrontLemmas.{front_len_le, front_begins}
+use Rattle.text_grammar.proofs.PrefixLemmas.{prefix_len_le, prefix_begins}
 use Rattle.text_grammar.proofs.SpotLemmas.{spots_token}
 use Rattle.text_grammar.proofs.SystemLemmas.{direction_is}
 use Rattle.formula_parse.specs.Spots.{Mode, plain, after_mark, after_call, mode_after, no_lexeme, name_lexeme, letter_lexeme, sign_token, sign_lexeme, plain_lexeme, system_len, system_lexeme, lexeme, lexing}
@@ -53,8 +53,8 @@ none_fine n = record { begins = omega arith; within = omega arith; not_end = tt 
 
 name_fine : (make : List ℕ → Token) (h : (n : List ℕ) → NotEnd (make n)) (b : ℕ) (bs : List ℕ) → is_letter b ≡ true → IsFine (suc (length bs)) (name_lexeme make (b ∷ bs))
 name_fine make h b bs e =
-    fine_if (nat_le (front_len NameByte (b ∷ bs)) 64) _ _ _
-    (λ k. record { begins = front_begins NameByte b bs (letter_name b e); within = front_len_le NameByte (b ∷ bs); not_end = h _ })
+    fine_if (nat_le (prefix_len NameByte (b ∷ bs)) 64) _ _ _
+    (λ k. record { begins = prefix_begins NameByte b bs (letter_name b e); within = prefix_len_le NameByte (b ∷ bs); not_end = h _ })
     (λ k. none_fine _)
 
 letter_fine : (b : ℕ) (bs : List ℕ) → is_letter b ≡ true → IsFine (suc (length bs)) (letter_lexeme (b ∷ bs))
@@ -105,7 +105,7 @@ sign_fine at b bs =
 plain_fine : (at b : ℕ) (bs : List ℕ) → IsFine (suc (length bs)) (plain_lexeme at (b ∷ bs))
 plain_fine at b bs =
     fine_if (is_digit b) _ _ _
-    (λ e. record { begins = front_begins Digit b bs e; within = front_len_le Digit (b ∷ bs); not_end = tt })
+    (λ e. record { begins = prefix_begins Digit b bs e; within = prefix_len_le Digit (b ∷ bs); not_end = tt })
     (λ e. fine_if (is_letter b) _ _ _ (λ e. letter_fine b bs e) (λ e. sign_fine at b bs))
 
 le_if : (p : Bool) (n x y : ℕ) → (p ≡ true → x ≤ n) → (p ≡ false → y ≤ n) → (if p then x else y) ≤ n
@@ -121,14 +121,14 @@ direction_long text h =
 
 system_len_le : (text : List ℕ) → system_len text ≤ length text
 system_len_le text =
-    le_if (is_direction (take 4 text) && begins_in Alphanumeric (drop 4 text)) (length text) (front_len Alphanumeric (drop 4 text) + 4) 0
-    (λ e. let less = direction_long text (and_parts (is_direction (take 4 text)) _ e).0 in omega (arith, less, front_len_le Alphanumeric (drop 4 text), length-drop 4 text))
+    le_if (is_direction (take 4 text) && begins_in Alphanumeric (drop 4 text)) (length text) (prefix_len Alphanumeric (drop 4 text) + 4) 0
+    (λ e. let less = direction_long text (and_parts (is_direction (take 4 text)) _ e).0 in omega (arith, less, prefix_len_le Alphanumeric (drop 4 text), length-drop 4 text))
     (λ e. omega arith)
 
 pub system_short : (text : List ℕ) → length text < 4 → system_len text ≡ 0
 system_short text h = pick (is_direction (take 4 text) && begins_in Alphanumeric (drop 4 text)) (λ e. direction_long text (and_parts (is_direction (take 4 text)) _ e).0)
   where
-    pick : (q : Bool) → (q ≡ true → 4 ≤ length text) → (if q then front_len Alphanumeric (drop 4 text) + 4 else 0) ≡ 0
+    pick : (q : Bool) → (q ≡ true → 4 ≤ length text) → (if q then prefix_len Alphanumeric (drop 4 text) + 4 else 0) ≡ 0
     pick true k =
         let more = k refl in
         absurd (omega (arith, more, h))

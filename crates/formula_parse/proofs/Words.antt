@@ -5,7 +5,7 @@ use Rattle.std.specs.List.{fold}
 use Rattle.std.specs.declared.alloc.Global.{Global}
 use Rattle.formula_parse.specs.Trees as trees
 use Rattle.formula_parse.specs.Trees.{Names}
-use Rattle.formula_parse.specs.Machine.{within, Front, State, place, fresh, wrapped, leave_closed}
+use Rattle.formula_parse.specs.Machine.{within, Prefix, State, place, fresh, wrapped, leave_closed}
 use Rattle.formula_parse.specs.Tokens.{Name, Token, connective, implies, iff}
 use Rattle.formula_parse.specs.Making.{Kinds, Making}
 use Rattle.formula_parse.specs.Made.{trees as making}
@@ -19,7 +19,7 @@ wrapped_trees [] f = refl
 wrapped_trees (ms ∷ st) f = wrapped_trees st (under_marks ms (trees.negated f))
 
 -- of the body that an operand is left in, its nesting alone matters
-pub leave_based : {K : Kinds} (A : Making K) (s : State K) (r : Front K) (c : K.Closed) (t : Token) → leave_closed A (record s { body = fresh A s.body.base }) r c t ≡ leave_closed A s r c t
+pub leave_based : {K : Kinds} (A : Making K) (s : State K) (r : Prefix K) (c : K.Closed) (t : Token) → leave_closed A (record s { body = fresh A s.body.base }) r c t ≡ leave_closed A s r c t
 leave_based A s r c (connective k b) = refl
 leave_based A s r c (implies b) = refl
 leave_based A s r c iff = refl
@@ -38,6 +38,6 @@ pub length-tildes_view : (ts : List (Vec Name Global)) → length (tildes_view t
 length-tildes_view ts = stack_length ts [] ∙ omega arith
 
 -- the nesting of the operand that comes
-pub inside : (b : Body') → place (body_view b) ≡ b.front.base + length b.before.tildes.items
+pub inside : (b : Body') → place (body_view b) ≡ b.prefix.base + length b.before.tildes.items
 inside b =
-    within-length (tildes_view b.before.tildes.items) b.front.base ∙ ap (λ n. b.front.base + n) (length-tildes_view b.before.tildes.items)
+    within-length (tildes_view b.before.tildes.items) b.prefix.base ∙ ap (λ n. b.prefix.base + n) (length-tildes_view b.before.tildes.items)

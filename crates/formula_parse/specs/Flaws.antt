@@ -23,7 +23,7 @@ abbrev pub noted_if : Bool → Flaw → Option Flaw → Option Flaw
 noted_if true g w = noted g w
 noted_if false g w = w
 
--- what stands before a factor in its term
+-- what comes before a factor in its term
 pub record Product : Type 0 where
   -- nothing does
   pub lone : Bool

@@ -125,7 +125,7 @@ abbrev mutual
 abbrev pub formula_tree : Name → Formula → trees.Formula
 formula_tree y f = chained (before_imp y f) (last_imp y f)
 
--- the system where no mark stands: `msd_2`
+-- the system where no mark is: `msd_2`
 abbrev pub default_system : Name
 default_system = 109 ∷ 115 ∷ 100 ∷ 95 ∷ 50 ∷ []
 

@@ -1,4 +1,4 @@
--- Limits: a numeral is below 2 ^ 64, a letter is a signed 32-bit number, and no token stands within more than 128.
+-- Limits: a numeral is below 2 ^ 64, a letter is a signed 32-bit number, and no token is within more than 128.
 use Rattle.std.specs.Prelude.{ℕ, ◌+◌, ◌^◌, ◌<◌, ◌≤◌, Bool, true, false, ⊤}
 use Rattle.formula_parse.specs.Tokens.{number, Placed, here, value_of, nesting_of}
 
@@ -14,7 +14,7 @@ IsInRange (here _ d) = ⊤
 abbrev pub IsAllowed : Placed → Type 0
 IsAllowed p = (nesting_of p ≤ 128) × IsInRange p
 
--- where a number out of its range is told: a numeral at its byte, a letter at its `@`
+-- where a number out of its range is reported: a numeral at its byte, a letter at its `@`
 abbrev pub told_at : Placed → ℕ → ℕ
 told_at (here t d) b = b
 told_at (value_of l d) b = l.at

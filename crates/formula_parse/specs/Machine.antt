@@ -5,18 +5,18 @@ use Rattle.formula_parse.specs.Trees.{Names, no_names, names}
 use Rattle.formula_parse.specs.Making.{Kinds, Making}
 use Rattle.formula_parse.specs.Flaws.{Flaw, mixed_chain, Product, product_start, product_next, noted_if, noted_factor, Came, none_came, came_next, mixes}
 
--- what stands before the next operand of a formula
-pub record Front (K : Kinds) : Type 0 where
+-- what comes before the next operand of a formula
+pub record Prefix (K : Kinds) : Type 0 where
   pub implications : K.Implications
   pub chains : K.Chains
   pub operands : K.Operands
   pub came : Came
   pub implied : Bool
 
--- A formula that is being read: its nesting, its front, the marks and `~` before the operand that comes; whether anything has come.
+-- A formula that is being read: its nesting, its prefix, the marks and `~` before the operand that comes; whether anything has come.
 pub record Body (K : Kinds) : Type 0 where
   pub base : ℕ
-  pub front : Front K
+  pub prefix : Prefix K
   pub tildes : List Names
   pub marks : Names
   pub touched : Bool
@@ -33,7 +33,7 @@ pub record Outer (K : Kinds) : Type 0 where
   pub factors : K.Factors
   pub product : Product
 
--- what stands before the index on the right
+-- what comes before the index on the right
 pub data Aim (K : Kinds) : Type 0 where
   left_index : K.Index → Relation → Aim K
   left_letter : K.Letter → Relation → Aim K
@@ -43,17 +43,17 @@ pub data Side (K : Kinds) : Type 0 where
   first : Side K
   second : Aim K → Side K
 
--- where a term stands
+-- where a term is
 pub data Where (K : Kinds) : Type 0 where
   left_side : Where K
   right_of : K.Term → Relation → Where K
   place_in : Side K → Name → K.Terms → Where K
   argument : Name → K.Terms → Where K
 
--- where a letter stands
-pub data Spelling (K : Kinds) : Type 0 where
-  on_left : Spelling K
-  on_right : K.Index → Relation → Spelling K
+-- where a letter is
+pub data Representation (K : Kinds) : Type 0 where
+  on_left : Representation K
+  on_right : K.Index → Relation → Representation K
 
 pub data Position (K : Kinds) : Type 0 where
   at_operand : Position K
@@ -62,15 +62,15 @@ pub data Position (K : Kinds) : Type 0 where
   after_operand : K.Core → Position K
   -- a name that begins an operand: a variable or a word
   after_first : Name → Position K
-  -- where the term stands, the terms around, the products and the factors before, what they are
+  -- where the term is, the terms around, the products and the factors before, what they are
   at_factor : Where K → List (Outer K) → K.Addends → K.Factors → Product → Position K
   -- and a factor, and whether it is a numeral
   after_factor : Where K → List (Outer K) → K.Addends → K.Factors → Product → K.Factor → Bool → Position K
   after_index : Side K → Name → K.Terms → K.Term → Position K
   at_word : Aim K → Position K
   at_bracket : Aim K → Name → Position K
-  at_letter : Spelling K → ℕ → Position K
-  at_value : Spelling K → ℕ → Position K
+  at_letter : Representation K → ℕ → Position K
+  at_value : Representation K → ℕ → Position K
   after_letter : K.Letter → Position K
   at_called : Position K
   at_call : Name → Position K
@@ -127,27 +127,27 @@ abbrev pub depth : {K : Kinds} → State K → ℕ
 depth s = within_position s.position (place s.body)
 
 module _ {K : Kinds} (A : Making K) where
-  abbrev pub empty_front : Front K
-  empty_front =
+  abbrev pub empty_prefix : Prefix K
+  empty_prefix =
       record { implications = A.no_implications; chains = A.no_chains; operands = A.no_operands; came = none_came; implied = false }
 
   -- a formula of which nothing has come
   abbrev pub fresh : ℕ → Body K
-  fresh d = record { base = d; front = empty_front; tildes = []; marks = no_names; touched = false }
+  fresh d = record { base = d; prefix = empty_prefix; tildes = []; marks = no_names; touched = false }
 
-  -- a formula with a front, before the operand that comes
-  abbrev pub with_front : Body K → Front K → Body K
-  with_front g r = record { base = g.base; front = r; tildes = []; marks = no_names; touched = true }
+  -- a formula with a prefix, before the operand that comes
+  abbrev pub with_prefix : Body K → Prefix K → Body K
+  with_prefix g r = record { base = g.base; prefix = r; tildes = []; marks = no_names; touched = true }
 
   abbrev pub wrapped : List Names → K.Closed → K.Closed
   wrapped [] c = c
   wrapped (ms ∷ st) c = wrapped st (A.marked ms (A.not_closed c))
 
-  -- an operand with what stands before it
+  -- an operand with what comes before it
   abbrev pub closed : Body K → K.Core → K.Closed
   closed g c = wrapped g.tildes (A.marked g.marks c)
 
-  abbrev pub whole : Front K → K.Last → K.Formula
+  abbrev pub whole : Prefix K → K.Last → K.Formula
   whole r l = A.formula r.implications r.chains r.operands l
 
   abbrev pub moved : State K → Position K → Option (State K)
@@ -160,13 +160,13 @@ module _ {K : Kinds} (A : Making K) where
   close w (paren h y ∷ hs) f closing =
       Some (record { around = hs; body = h; system = y; flaw = w; position = after_operand (A.grouped f) })
   close w (paren h y ∷ hs) f t = None
-  close w (scope q ns n h ∷ hs) f t = close w hs (whole h.front (A.quantified h.tildes h.marks q ns n f)) t
+  close w (scope q ns n h ∷ hs) f t = close w hs (whole h.prefix (A.quantified h.tildes h.marks q ns n f)) t
 
-  abbrev pub joined : State K → Front K → Option Flaw → Option (State K)
-  joined s r w = Some (record { around = s.around; body = with_front s.body r; system = s.system; flaw = w; position = at_operand })
+  abbrev pub joined : State K → Prefix K → Option Flaw → Option (State K)
+  joined s r w = Some (record { around = s.around; body = with_prefix s.body r; system = s.system; flaw = w; position = at_operand })
 
   -- a token after a closed operand
-  abbrev pub leave_closed : State K → Front K → K.Closed → Token → Option (State K)
+  abbrev pub leave_closed : State K → Prefix K → K.Closed → Token → Option (State K)
   leave_closed s r c (connective k b) =
       joined s (record r { operands = A.operands r.operands c k b; came = came_next k r.came }) (noted_if (mixes k r.came) (mixed_chain b) s.flaw)
   leave_closed s r c (implies b) =
@@ -188,7 +188,7 @@ module _ {K : Kinds} (A : Making K) where
   leave_closed s r c t = close s.flaw s.around (whole r (A.ends c)) t
 
   abbrev pub leave : State K → K.Core → Token → Option (State K)
-  leave s c t = leave_closed s s.body.front (closed s.body c) t
+  leave s c t = leave_closed s s.body.prefix (closed s.body c) t
 
   -- a factor was read
   abbrev pub with_factor : State K → Where K → List (Outer K) → K.Addends → K.Factors → Product → K.Factor → Bool → State K
@@ -261,16 +261,16 @@ module _ {K : Kinds} (A : Making K) where
   enter_bracket s a n bracket = at_term s (place_in (second a) n A.no_terms)
   enter_bracket s a n _ = None
 
-  abbrev pub with_letter : State K → Spelling K → Letter → Option (State K)
+  abbrev pub with_letter : State K → Representation K → Letter → Option (State K)
   with_letter s on_left l = moved s (after_letter (A.letter l))
   with_letter s (on_right x e) l = moved s (after_operand (A.word_letter s.system x e (A.letter l)))
 
-  abbrev pub enter_letter : State K → Spelling K → ℕ → Token → Option (State K)
+  abbrev pub enter_letter : State K → Representation K → ℕ → Token → Option (State K)
   enter_letter s c b (number v) = with_letter s c (record { at = b; negative = false; value = v })
   enter_letter s c b (sign minus) = moved s (at_value c b)
   enter_letter s c b _ = None
 
-  abbrev pub enter_value : State K → Spelling K → ℕ → Token → Option (State K)
+  abbrev pub enter_value : State K → Representation K → ℕ → Token → Option (State K)
   enter_value s c b (number v) = with_letter s c (record { at = b; negative = true; value = v })
   enter_value s c b _ = None
 

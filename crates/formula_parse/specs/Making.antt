@@ -48,7 +48,7 @@ pub record Making (K : Kinds) : Type 0 where
   pub not_closed : K.Closed → K.Core
   pub grouped : K.Formula → K.Core
   pub marked : Names → K.Core → K.Closed
-  -- chain, imp, formula: what stands before the last operand
+  -- chain, imp, formula: what comes before the last operand
   pub no_operands : K.Operands
   pub operands : K.Operands → K.Closed → Connective → ℕ → K.Operands
   pub no_chains : K.Chains

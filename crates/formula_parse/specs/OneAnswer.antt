@@ -10,12 +10,12 @@ use Rattle.formula_parse.specs.declared.tree.Formula.{Formula}
 use Rattle.formula_parse.specs.declared.fault.ParseFault.{ParseFault}
 use Rattle.formula_parse.specs.declared.fault.ParseFault.TheVariants as faults
 
--- what an answer tells: a tree, or a fault with its byte
+-- what an answer reports: a tree, or a fault with its byte
 abbrev pub told : Result Formula ParseFault → Result trees.Formula ParseFault
 told (Ok f) = Ok (formula_view f)
 told (Err e) = Err e
 
--- every answer but want of memory
+-- every answer but out of memory
 abbrev pub IsOfTheText : Result Formula ParseFault → Type 0
 IsOfTheText (Err faults.Memory) = ⊥
 IsOfTheText _ = ⊤

@@ -12,26 +12,26 @@ use Rattle.formula_parse.specs.declared.fault.ParseFault.TheVariants as faults
 
 -- one of the tokens of a text
 pub record Cut (text : List ℕ) : Type 0 where
-  pub front : List (Spot Token)
+  pub prefix : List (Spot Token)
   pub spot : Spot Token
   pub rest : List (Spot Token)
-  pub is : spots text ≡ front ++ spot ∷ rest
+  pub is : spots text ≡ prefix ++ spot ∷ rest
 
 -- the first token at which no text of the grammar goes on begins at a byte
 pub record IsSyntaxAt (text : List ℕ) (at : ℕ) : Type 0 where
   pub cut : Cut text
-  pub breaks : Breaks (tokens cut.front) cut.spot.token
+  pub breaks : Breaks (tokens cut.prefix) cut.spot.token
   pub at_is : cut.spot.at ≡ at
 
--- the first token that passes a limit is a number, told at a byte
+-- the first token that passes a limit is a number, reported at a byte
 pub record IsNumberAt (text : List ℕ) (at : ℕ) : Type 0 where
   pub cut : Cut text
-  pub passes : IsNumber (tokens cut.front) cut.spot.token cut.spot.at at
+  pub passes : IsNumber (tokens cut.prefix) cut.spot.token cut.spot.at at
 
 -- the first token that passes a limit opens nesting 129, and begins at a byte
 pub record IsDepthAt (text : List ℕ) (at : ℕ) : Type 0 where
   pub cut : Cut text
-  pub passes : IsDepth (tokens cut.front) cut.spot.token
+  pub passes : IsDepth (tokens cut.prefix) cut.spot.token
   pub at_is : cut.spot.at ≡ at
 
 abbrev pub Parses : List ℕ → Result Formula ParseFault → Type 0

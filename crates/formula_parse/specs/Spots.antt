@@ -2,13 +2,13 @@
 use Rattle.std.specs.Prelude.{ℕ, ◌+◌, ◌^◌, min, nat_le, ◌==◌, ◌&&◌, if◌then◌else◌, List, [], ◌∷◌, take, drop, slice_index}
 use Rattle.text_grammar.specs.declared.class.Class.TheVariants.{Alphanumeric, Digit, NameByte}
 use Rattle.text_grammar.specs.Bytes.{is_blank, is_digit, is_letter}
-use Rattle.text_grammar.specs.Fronts.{begins_in, front_len, front_of}
+use Rattle.text_grammar.specs.Prefixes.{begins_in, prefix_len, prefix_of}
 use Rattle.text_grammar.specs.Numbers.{value_of}
 use Rattle.text_grammar.specs.Systems.{is_direction}
 use Rattle.text_grammar.specs.Spots.{Lexeme, lexeme_of, Lexing, Spot, spots_from}
 use Rattle.formula_parse.specs.Tokens.{Name, Token, name, number, system, called, mark, call_sign, negation, quantifier, some, every, comma, opening, closing, bracket, unbracket, letter_sign, sign, plus, minus, times, relation, equal, unequal, less, greater, at_most, at_least, connective, and, or, xor, implies, iff, other, end}
 
--- What stands before a token: a system may follow `?`, and a name `$`.
+-- What comes before a token: a system may follow `?`, and a name `$`.
 pub data Mode : Type 0 where
   plain : Mode
   after_mark : Mode
@@ -26,13 +26,13 @@ no_lexeme = lexeme_of other 1
 -- the letters, digits and `_` at the front: a name of at most 64 bytes
 abbrev pub name_lexeme : (Name → Token) → List ℕ → Lexeme Token
 name_lexeme make text =
-    if nat_le (front_len NameByte text) 64
-    then lexeme_of (make (front_of NameByte text)) (front_len NameByte text)
+    if nat_le (prefix_len NameByte text) 64
+    then lexeme_of (make (prefix_of NameByte text)) (prefix_len NameByte text)
     else no_lexeme
 
 -- the digits at the front: a numeral; 2 ^ 64 stands for each that is no less
 abbrev pub number_lexeme : List ℕ → Lexeme Token
-number_lexeme text = lexeme_of (number (min (value_of (front_of Digit text)) (2 ^ 64))) (front_len Digit text)
+number_lexeme text = lexeme_of (number (min (value_of (prefix_of Digit text)) (2 ^ 64))) (prefix_len Digit text)
 
 -- `E`, `A`, or a variable or a word
 abbrev pub letter_lexeme : List ℕ → Lexeme Token
@@ -107,16 +107,16 @@ plain_lexeme at text =
     then letter_lexeme text
     else sign_lexeme at (slice_index text 0) (slice_index text 1) (slice_index text 2)
 
--- how many bytes a system `msd_..` or `lsd_..` at the front has; 0 where none stands there
+-- how many bytes a system `msd_..` or `lsd_..` at the front has; 0 where none is there
 abbrev pub system_len : List ℕ → ℕ
-system_len text = if is_direction (take 4 text) && begins_in Alphanumeric (drop 4 text) then front_len Alphanumeric (drop 4 text) + 4 else 0
+system_len text = if is_direction (take 4 text) && begins_in Alphanumeric (drop 4 text) then prefix_len Alphanumeric (drop 4 text) + 4 else 0
 
 -- a system of at most 62 bytes
 abbrev pub system_lexeme : List ℕ → Lexeme Token
 system_lexeme text =
     if nat_le (system_len text) 62 then lexeme_of (system (take (system_len text) text)) (system_len text) else no_lexeme
 
--- the token that stands first in the rest of a text, which begins at a byte
+-- the token that comes first in the rest of a text, which begins at a byte
 abbrev pub lexeme : Mode → ℕ → List ℕ → Lexeme Token
 lexeme plain at text = plain_lexeme at text
 lexeme after_mark at text = if system_len text == 0 then plain_lexeme at text else system_lexeme text

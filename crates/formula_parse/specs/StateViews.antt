@@ -16,7 +16,7 @@ use Rattle.formula_parse.specs.declared.flaw.Flaw.{Flaw}
 use Rattle.formula_parse.specs.declared.flaw.Flaw.TheVariants as flaw
 use Rattle.formula_parse.specs.declared.flaw.Product.{Product}
 use Rattle.formula_parse.specs.declared.flaw.Came.{Came}
-use Rattle.formula_parse.specs.declared.state.Front.{Front}
+use Rattle.formula_parse.specs.declared.state.Prefix.{Prefix}
 use Rattle.formula_parse.specs.declared.state.Body.{Body}
 use Rattle.formula_parse.specs.declared.state.Frame.{Frame}
 use Rattle.formula_parse.specs.declared.state.Frame.TheVariants as frames
@@ -27,8 +27,8 @@ use Rattle.formula_parse.specs.declared.state.Side.{Side}
 use Rattle.formula_parse.specs.declared.state.Side.TheVariants as sides
 use Rattle.formula_parse.specs.declared.state.Place.{Place}
 use Rattle.formula_parse.specs.declared.state.Place.TheVariants as places
-use Rattle.formula_parse.specs.declared.state.Spelling.{Spelling}
-use Rattle.formula_parse.specs.declared.state.Spelling.TheVariants as spellings
+use Rattle.formula_parse.specs.declared.state.Representation.{Representation}
+use Rattle.formula_parse.specs.declared.state.Representation.TheVariants as representations
 use Rattle.formula_parse.specs.declared.state.Position.{Position}
 use Rattle.formula_parse.specs.declared.state.Position.TheVariants as positions
 use Rattle.formula_parse.specs.declared.state.Context.{Context}
@@ -77,8 +77,8 @@ product_view p = record { lone = p.lone; unknown = p.unknown; star = p.star }
 abbrev pub came_view : Came → flaws.Came
 came_view c = record { or_came = c.or_came; xor_came = c.xor_came }
 
-abbrev pub front_view : Front → machine.Front made
-front_view f = record {
+abbrev pub prefix_view : Prefix → machine.Prefix made
+prefix_view f = record {
   implications = operands_view f.implications.items;
   chains = operands_view f.chains.items;
   operands = operands_view f.operands.items;
@@ -92,8 +92,8 @@ tildes_view ts = fold (λ (st : List trees.Names) (ms : Vec tokens.Name Global).
 
 abbrev pub body_view : Body → machine.Body made
 body_view b = record {
-  base = b.front.base;
-  front = front_view b.front;
+  base = b.prefix.base;
+  prefix = prefix_view b.prefix;
   tildes = tildes_view b.before.tildes.items;
   marks = names_view b.before.marks.items;
   touched = b.touched;
@@ -127,9 +127,9 @@ place_view (places.RightOf t r) = machine.right_of (term_view t) (relation_view 
 place_view (places.PlaceIn p) = machine.place_in (side_view p.side) p.word (terms_view p.places.items)
 place_view (places.Argument a) = machine.argument a.name (terms_view a.terms.items)
 
-abbrev pub spelling_view : Spelling → machine.Spelling made
-spelling_view spellings.OnLeft = machine.on_left
-spelling_view (spellings.OnRight x r) = machine.on_right (index_view x) (relation_view r)
+abbrev pub representation_view : Representation → machine.Representation made
+representation_view representations.OnLeft = machine.on_left
+representation_view (representations.OnRight x r) = machine.on_right (index_view x) (relation_view r)
 
 abbrev pub position_view : Position → machine.Position made
 position_view positions.AtOperand = machine.at_operand
@@ -142,8 +142,8 @@ position_view (positions.AfterFactor r p) = machine.after_factor (place_view r.n
 position_view (positions.AfterIndex p t) = machine.after_index (side_view p.side) p.word (terms_view p.places.items) (term_view t)
 position_view (positions.AtWord a) = machine.at_word (aim_view a)
 position_view (positions.AtBracket a n) = machine.at_bracket (aim_view a) n
-position_view (positions.AtLetter c b) = machine.at_letter (spelling_view c) b
-position_view (positions.AtValue c b) = machine.at_value (spelling_view c) b
+position_view (positions.AtLetter c b) = machine.at_letter (representation_view c) b
+position_view (positions.AtValue c b) = machine.at_value (representation_view c) b
 position_view (positions.AfterLetter l) = machine.after_letter l
 position_view positions.AtCalled = machine.at_called
 position_view (positions.AtCall n) = machine.at_call n

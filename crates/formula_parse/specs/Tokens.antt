@@ -26,7 +26,7 @@ pub data Sign : Type 0 where
   plus : Sign
   minus : Sign
 
--- A token. Those at which a fault of the second pass may stand, and the `@`, keep their byte.
+-- A token. Those at which a fault of the second pass may be, and the `@`, keep their byte.
 pub data Token : Type 0 where
   -- a variable or a word
   name : Name → Token
@@ -62,7 +62,7 @@ pub record Letter : Type 0 where
   pub negative : Bool
   pub value : ℕ
 
--- A token, and the nesting at which it stands. What opens stands within what it opens; the numeral of a letter is told apart.
+-- A token, and the nesting at which it is. What opens is within what it opens; the numeral of a letter is distinguished.
 pub data Placed : Type 0 where
   here : Token → ℕ → Placed
   value_of : Letter → ℕ → Placed

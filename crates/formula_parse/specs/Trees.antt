@@ -2,7 +2,7 @@
 use Rattle.std.specs.Prelude.{ℕ, ℤ}
 use Rattle.formula_parse.specs.Tokens.{Name, Relation, Quantifier, Sign}
 
--- names in the order in which they stand; a list grows at its end
+-- names in the order in which they are; a list grows at its end
 pub data Names : Type 0 where
   no_names : Names
   names : Names → Name → Names
@@ -63,7 +63,7 @@ mutual
     negated : Formula → Formula
     chain : Operands → Formula → Formula
     quantified : Quantifier → Names → Formula → Formula
-    -- `?` marks, and the operand that they stand before
+    -- `?` marks, and the operand that they come before
     marked : Names → Formula → Formula
 
   pub data Operands : Type 0 where

@@ -57,7 +57,7 @@ pub(crate) fn big_fault(position: &Position, at: usize) -> ParseFault
     }
 }
 
-/// The state that a token in its range gives, or the fault at its byte where it stands too deep.
+/// The state that a token in its range gives, or the fault at its byte where it is too deep.
 fn within_limit(state: State, at: usize) -> Result<State, ParseFault>
     ensures { (s : Machine) (t : tokens.Token) → IsInRange (tokens.here t 0) → Steps s.position t (Ok state) (machine.step trees s t) → Advances s t at result }
 {

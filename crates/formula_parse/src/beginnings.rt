@@ -10,7 +10,7 @@ ghost use Rattle.formula_parse.specs.Stops.{Gives};
 
 use crate::fault::Stop;
 use crate::state::{
-    Around, Before, Body, Context, Frame, Place, Position, Reading, Scope, Spelling, State,
+    Around, Before, Body, Context, Frame, Place, Position, Reading, Representation, Scope, State,
 };
 use crate::terms::{after_factor, numeral};
 use crate::token::Token;
@@ -71,7 +71,7 @@ fn negate(alloc: Global, context: Context) -> Result<State, Stop>
     let Context { around, body } = context;
     let before = body.before.negated(alloc)?;
     let body = Body {
-        front: body.front,
+        prefix: body.prefix,
         before,
         touched: true,
     };
@@ -150,7 +150,7 @@ pub(crate) fn enter(alloc: Global, context: Context, token: Token) -> Result<Sta
         Token::Number(value) => Ok(enter_numeral(alloc, context, value)),
         Token::LetterSign(at) => Ok(State {
             context,
-            position: Position::AtLetter(Spelling::OnLeft, at),
+            position: Position::AtLetter(Representation::OnLeft, at),
         }),
         Token::CallSign => Ok(State {
             context,
@@ -208,7 +208,7 @@ fn quantify(alloc: Global, context: Context, scope: Scope) -> Result<State, Stop
     opened(alloc, around, Frame::Quantified(scope, body), base)
 }
 
-/// A token where a quantifier's variable stands.
+/// A token where a quantifier's variable is.
 pub(crate) fn enter_variable(
     alloc: Global,
     context: Context,

@@ -4,7 +4,7 @@ ghost use Rattle.std.specs.Prelude.{◌≡◌, [], ◌∷◌, IfOk};
 ghost use Rattle.formula_parse.specs.Made.{trees};
 ghost use Rattle.formula_parse.specs.Machine as machine;
 ghost use Rattle.formula_parse.specs.Views.{term_view, formula_view, names_view, quantifier_view};
-ghost use Rattle.formula_parse.specs.StateViews.{token_view, noted_view, tildes_view, front_view, body_view, frames_view, context_view};
+ghost use Rattle.formula_parse.specs.StateViews.{token_view, noted_view, tildes_view, prefix_view, body_view, frames_view, context_view};
 ghost use Rattle.formula_parse.specs.Stops.{Gives};
 
 use crate::fault::Stop;
@@ -56,7 +56,7 @@ fn finished(alloc: Global, flaw: Option<Flaw>, formula: Formula) -> Result<State
     })
 }
 
-/// A `)` or the end of the text after a formula that stands in no other.
+/// A `)` or the end of the text after a formula that is in no other.
 fn close_text(
     alloc: Global,
     flaw: Option<Flaw>,
@@ -99,12 +99,12 @@ fn scope_closed(
     body: Body,
     formula: Formula,
 ) -> Result<Formula, OutOfMemory>
-    ensures { IfOk result (λ f. formula_view f ≡ machine.whole trees (front_view body.front) (trees.quantified
+    ensures { IfOk result (λ f. formula_view f ≡ machine.whole trees (prefix_view body.prefix) (trees.quantified
         (tildes_view body.before.tildes.items) (names_view body.before.marks.items)
         (quantifier_view scope.quantifier) (names_view scope.names.items) scope.last (formula_view formula))) }
 {
     let core = quantified(alloc, body.before, scope, formula)?;
-    body.front.whole(alloc, core)
+    body.prefix.whole(alloc, core)
 }
 
 /// A `)` or the end of the text after a formula. The quantifiers that it ends are closed one after the other.

@@ -43,7 +43,7 @@ pub(crate) fn noted_if(met: bool, flaw: Flaw, least: Option<Flaw>) -> Option<Fla
     }
 }
 
-/// What stands before a factor in its term.
+/// What comes before a factor in its term.
 #[derive(Clone, Copy)]
 pub(crate) struct Product {
     /// Nothing does.

@@ -10,14 +10,14 @@ ghost use Rattle.formula_parse.specs.Stops.{Gives};
 use crate::fault::Stop;
 use crate::making::index;
 use crate::operands::leave_atom;
-use crate::state::{Aim, Context, Place, Places, Position, Side, Spelling, State};
+use crate::state::{Aim, Context, Place, Places, Position, Representation, Side, State};
 use crate::terms::at_term;
 use crate::token::Token;
 use crate::tree::{Fact, Index, Term};
 use digit_tuple::name::Name;
 use std::alloc::Global;
 
-/// A token where the word on the right stands, or a letter.
+/// A token where the word on the right is, or a letter.
 pub(crate) fn enter_word(context: Context, aim: Aim, token: Token) -> Result<State, Stop>
     ensures { Gives result (machine.enter_word trees (context_view context) (aim_view aim) (token_view token)) }
 {
@@ -30,7 +30,7 @@ pub(crate) fn enter_word(context: Context, aim: Aim, token: Token) -> Result<Sta
             Aim::LeftIndex(index, relation) => {
                 Ok(State {
                     context,
-                    position: Position::AtLetter(Spelling::OnRight(index, relation), at),
+                    position: Position::AtLetter(Representation::OnRight(index, relation), at),
                 })
             }
             Aim::LeftLetter(_, _) => {

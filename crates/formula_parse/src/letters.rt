@@ -5,12 +5,12 @@ ghost use Rattle.formula_parse.specs.Building as building;
 ghost use Rattle.formula_parse.specs.Limits.{letter_bound};
 ghost use Rattle.formula_parse.specs.Made.{trees};
 ghost use Rattle.formula_parse.specs.Machine as machine;
-ghost use Rattle.formula_parse.specs.StateViews.{token_view, spelling_view, context_view};
+ghost use Rattle.formula_parse.specs.StateViews.{token_view, representation_view, context_view};
 ghost use Rattle.formula_parse.specs.Stops.{Gives, GivesLetter};
 
 use crate::fault::Stop;
 use crate::making::atom;
-use crate::state::{Aim, Context, Letter, Position, Spelling, State};
+use crate::state::{Aim, Context, Letter, Position, Representation, State};
 use crate::token::Token;
 use crate::tree::{Fact, Sign};
 use std::alloc::Global;
@@ -36,23 +36,23 @@ fn signed(negative: bool, value: u64) -> Option<i32>
 fn with_letter(
     alloc: Global,
     context: Context,
-    spelling: Spelling,
+    representation: Representation,
     letter: Letter,
 ) -> Result<State, Stop>
     ensures { GivesLetter letter.at letter.negative (token_view (Token.Number letter.value)) result
-        (machine.with_letter trees (context_view context) (spelling_view spelling) (record { at = letter.at; negative = letter.negative; value = letter.value })) }
+        (machine.with_letter trees (context_view context) (representation_view representation) (record { at = letter.at; negative = letter.negative; value = letter.value })) }
 {
     let Some(number) = signed(letter.negative, letter.value) else {
         drop(context);
-        drop(spelling);
+        drop(representation);
         return Err(Stop::Letter(letter.at));
     };
-    match spelling {
-        Spelling::OnLeft => Ok(State {
+    match representation {
+        Representation::OnLeft => Ok(State {
             context,
             position: Position::AfterLetter(number),
         }),
-        Spelling::OnRight(index, relation) => {
+        Representation::OnRight(index, relation) => {
             let fact = Fact::WordLetter(index, relation, number);
             let Ok(core) = atom(alloc, &context.around.system, fact) else {
                 drop(context);
@@ -70,11 +70,11 @@ fn with_letter(
 pub(crate) fn enter_letter(
     alloc: Global,
     context: Context,
-    spelling: Spelling,
+    representation: Representation,
     at: usize,
     token: Token,
 ) -> Result<State, Stop>
-    ensures { GivesLetter at false (token_view token) result (machine.enter_letter trees (context_view context) (spelling_view spelling) at (token_view token)) }
+    ensures { GivesLetter at false (token_view token) result (machine.enter_letter trees (context_view context) (representation_view representation) at (token_view token)) }
 {
     match token {
         Token::Number(value) => {
@@ -83,15 +83,15 @@ pub(crate) fn enter_letter(
                 negative: false,
                 value,
             };
-            with_letter(alloc, context, spelling, letter)
+            with_letter(alloc, context, representation, letter)
         }
         Token::Sign(Sign::Minus) => Ok(State {
             context,
-            position: Position::AtValue(spelling, at),
+            position: Position::AtValue(representation, at),
         }),
         _ => {
             drop(context);
-            drop(spelling);
+            drop(representation);
             Err(Stop::Syntax)
         }
     }
@@ -101,11 +101,11 @@ pub(crate) fn enter_letter(
 pub(crate) fn enter_value(
     alloc: Global,
     context: Context,
-    spelling: Spelling,
+    representation: Representation,
     at: usize,
     token: Token,
 ) -> Result<State, Stop>
-    ensures { GivesLetter at true (token_view token) result (machine.enter_value trees (context_view context) (spelling_view spelling) at (token_view token)) }
+    ensures { GivesLetter at true (token_view token) result (machine.enter_value trees (context_view context) (representation_view representation) at (token_view token)) }
 {
     match token {
         Token::Number(value) => {
@@ -114,11 +114,11 @@ pub(crate) fn enter_value(
                 negative: true,
                 value,
             };
-            with_letter(alloc, context, spelling, letter)
+            with_letter(alloc, context, representation, letter)
         }
         _ => {
             drop(context);
-            drop(spelling);
+            drop(representation);
             Err(Stop::Syntax)
         }
     }

@@ -13,12 +13,12 @@ use digit_tuple::faults::OutOfMemory;
 use digit_tuple::name::Name;
 use std::alloc::Global;
 use std::str;
-use text_grammar::{Class, LONGEST_SYSTEM, begins_in, front_len, is_direction, value_within};
+use text_grammar::{Class, LONGEST_SYSTEM, begins_in, is_direction, prefix_len, value_within};
 
 /// The greatest length of a name.
 const LONGEST_NAME: usize = 64;
 
-/// What stands before a token: a system may follow `?`, and a name `$`.
+/// What comes before a token: a system may follow `?`, and a name `$`.
 #[derive(Clone, Copy)]
 pub(crate) enum Mode {
     Plain,
@@ -91,7 +91,7 @@ fn name_of(alloc: Global, bytes: &[u8]) -> Result<Name, OutOfMemory>
 fn name_lexeme(alloc: Global, called: bool, rest: &[u8]) -> Result<Lexeme, OutOfMemory>
     ensures { IfOk result (λ l. lexeme_view l ≡ spots.name_lexeme (name_maker called) rest.now) }
 {
-    let len = front_len(Class::NameByte, rest);
+    let len = prefix_len(Class::NameByte, rest);
     if len > LONGEST_NAME {
         return Ok(Lexeme::none());
     }
@@ -111,7 +111,7 @@ fn name_lexeme(alloc: Global, called: bool, rest: &[u8]) -> Result<Lexeme, OutOf
 fn number_lexeme(rest: &[u8]) -> Lexeme
     ensures { lexeme_view result ≡ spots.number_lexeme rest.now }
 {
-    let len = front_len(Class::Digit, rest);
+    let len = prefix_len(Class::Digit, rest);
     let lexed = match value_within(u64::MAX, &rest[..len]) {
         Some(value) => Lexed::Token(Token::Number(value)),
         None => Lexed::Big,
@@ -197,7 +197,7 @@ fn plain_lexeme(alloc: Global, at: usize, rest: &[u8]) -> Result<Lexeme, OutOfMe
     Ok(sign_lexeme(at, first, byte_at(rest, 1), byte_at(rest, 2)))
 }
 
-/// How many bytes the system at the front has, or 0 where none stands there.
+/// How many bytes the system at the front has, or 0 where none is there.
 #[tactic(auto, using(crate::proofs::SpotSteps::system_short))]
 fn system_len(rest: &[u8]) -> usize
     ensures len { result ≡ spots.system_len rest.now }
@@ -208,13 +208,13 @@ fn system_len(rest: &[u8]) -> usize
     }
     let (direction, others) = rest.split_at(4);
     if is_direction(direction) && begins_in(Class::Alphanumeric, others) {
-        front_len(Class::Alphanumeric, others) + 4
+        prefix_len(Class::Alphanumeric, others) + 4
     } else {
         0
     }
 }
 
-/// A system of at most 62 bytes, or what stands there where none does.
+/// A system of at most 62 bytes, or what is there where none does.
 #[tactic(auto, using(crate::proofs::Ascii::ascii_system))]
 fn system_lexeme(alloc: Global, at: usize, rest: &[u8]) -> Result<Lexeme, OutOfMemory>
     ensures { IfOk result (λ l. lexeme_view l ≡ spots.lexeme spots.after_mark at rest.now) }
@@ -233,7 +233,7 @@ fn system_lexeme(alloc: Global, at: usize, rest: &[u8]) -> Result<Lexeme, OutOfM
     })
 }
 
-/// The token that stands first in the rest of a text, which begins at the byte `at`.
+/// The token that comes first in the rest of a text, which begins at the byte `at`.
 fn token_at(alloc: Global, mode: Mode, at: usize, rest: &[u8]) -> Result<Lexeme, OutOfMemory>
     ensures { IfOk result (λ l. lexeme_view l ≡ spots.lexeme (mode_view mode) at rest.now) }
 {
@@ -258,7 +258,7 @@ fn blanks_end(text: &[u8], start: usize) -> usize
     ensures spots { (m : spots.Mode) → spots_from spots.lexing m start 0 (drop start text.now) ≡ spots_from spots.lexing m result 0 (drop result text.now) }
     ensures stops { result < length text.now → is_blank (slice_index text.now result) ≡ false }
 {
-    start + front_len(Class::Blank, &text[start..])
+    start + prefix_len(Class::Blank, &text[start..])
 }
 
 /// The token at or after `start`.

@@ -1,4 +1,4 @@
-//! The formula language: its grammar, and one exact parser. A text has a tree exactly where the grammar relates one to
+//! The formula language: its grammar, and one exact parser. A text has a tree if and only if the grammar relates one to
 //! it, and never two; otherwise it has one fault, with its byte. The text is read once, token by token, by a machine
 //! whose states hold the trees made so far. Calls go no deeper than the nesting, which is at most 128, so long sums and
 //! chains cost no stack.
@@ -28,8 +28,8 @@ mod making;
 /// The states of the machine that reads a formula.
 mod state;
 
-/// What stands before the next operand of a formula.
-mod front;
+/// What comes before the next operand of a formula.
+mod prefix;
 
 /// The machine at a `)` or the end of the text, after a formula or a term.
 mod closings;

@@ -6,20 +6,20 @@ ghost use Rattle.formula_parse.specs.Building as building;
 ghost use Rattle.formula_parse.specs.Made.{trees};
 ghost use Rattle.formula_parse.specs.Machine as machine;
 ghost use Rattle.formula_parse.specs.Views.{fact_view, formula_view, names_view};
-ghost use Rattle.formula_parse.specs.StateViews.{token_view, tildes_view, flaw_view, noted_view, front_view, frames_view, context_view, state_view};
+ghost use Rattle.formula_parse.specs.StateViews.{token_view, tildes_view, flaw_view, noted_view, prefix_view, frames_view, context_view, state_view};
 ghost use Rattle.formula_parse.specs.Stops.{Gives};
 
 use crate::closings::close;
 use crate::fault::Stop;
 use crate::flaw::{Flaw, noted_if};
 use crate::making::{atom, under_marks, under_tildes};
-use crate::state::{Around, Before, Body, Context, Front, Position, State};
+use crate::state::{Around, Before, Body, Context, Position, Prefix, State};
 use crate::token::Token;
 use crate::tree::{Fact, Formula};
 use digit_tuple::faults::OutOfMemory;
 use std::alloc::Global;
 
-/// An operand with what stands before its core.
+/// An operand with what comes before its core.
 #[tactic(auto, using(crate::proofs::Words::wrapped_trees))]
 fn closed(alloc: Global, before: Before, core: Formula) -> Result<Formula, OutOfMemory>
     ensures { IfOk result (λ f. formula_view f ≡ machine.wrapped trees (tildes_view before.tildes.items)
@@ -45,11 +45,11 @@ impl Around {
     }
 }
 
-/// A formula with a front, where an operand comes.
-fn joined(alloc: Global, around: Around, front: Front) -> State
+/// A formula with a prefix, where an operand comes.
+fn joined(alloc: Global, around: Around, prefix: Prefix) -> State
     ensures { state_view result ≡ record {
       around = frames_view around.frames.items;
-      body = machine.with_front trees (machine.fresh trees front.base) (front_view front);
+      body = machine.with_prefix trees (machine.fresh trees prefix.base) (prefix_view prefix);
       system = around.system;
       flaw = noted_view around.flaw;
       position = machine.at_operand;
@@ -58,7 +58,7 @@ fn joined(alloc: Global, around: Around, front: Front) -> State
     State {
         context: Context {
             around,
-            body: Body::with_front(alloc, front),
+            body: Body::with_prefix(alloc, prefix),
         },
         position: Position::AtOperand,
     }
@@ -68,13 +68,13 @@ fn joined(alloc: Global, around: Around, front: Front) -> State
 fn leave_last(
     alloc: Global,
     around: Around,
-    front: Front,
+    prefix: Prefix,
     last: Formula,
     token: Token,
 ) -> Result<State, Stop>
-    ensures { Gives result (machine.close trees (noted_view around.flaw) (frames_view around.frames.items) (machine.whole trees (front_view front) (formula_view last)) (token_view token)) }
+    ensures { Gives result (machine.close trees (noted_view around.flaw) (frames_view around.frames.items) (machine.whole trees (prefix_view prefix) (formula_view last)) (token_view token)) }
 {
-    let whole = front.whole(alloc, last)?;
+    let whole = prefix.whole(alloc, last)?;
     close(alloc, around, whole, token)
 }
 
@@ -82,30 +82,30 @@ fn leave_last(
 fn leave_closed(
     alloc: Global,
     around: Around,
-    front: Front,
+    prefix: Prefix,
     closed: Formula,
     token: Token,
 ) -> Result<State, Stop>
     ensures { Gives result (machine.leave_closed trees
-        (record { around = frames_view around.frames.items; body = machine.fresh trees front.base; system = around.system; flaw = noted_view around.flaw; position = machine.at_operand })
-        (front_view front) (formula_view closed) (token_view token)) }
+        (record { around = frames_view around.frames.items; body = machine.fresh trees prefix.base; system = around.system; flaw = noted_view around.flaw; position = machine.at_operand })
+        (prefix_view prefix) (formula_view closed) (token_view token)) }
 {
     match token {
         Token::Connective(sign, at) => {
-            let around = around.noted_if(front.came.mixes(sign), Flaw::MixedChain(at));
-            let front = front.connected(closed, sign)?;
-            Ok(joined(alloc, around, front))
+            let around = around.noted_if(prefix.came.mixes(sign), Flaw::MixedChain(at));
+            let prefix = prefix.connected(closed, sign)?;
+            Ok(joined(alloc, around, prefix))
         }
         Token::Implies(at) => {
-            let around = around.noted_if(front.implied, Flaw::MixedChain(at));
-            let front = front.implied(alloc, closed)?;
-            Ok(joined(alloc, around, front))
+            let around = around.noted_if(prefix.implied, Flaw::MixedChain(at));
+            let prefix = prefix.implied(alloc, closed)?;
+            Ok(joined(alloc, around, prefix))
         }
         Token::Iff => {
-            let front = front.equated(alloc, closed)?;
-            Ok(joined(alloc, around, front))
+            let prefix = prefix.equated(alloc, closed)?;
+            Ok(joined(alloc, around, prefix))
         }
-        _ => leave_last(alloc, around, front, closed, token),
+        _ => leave_last(alloc, around, prefix, closed, token),
     }
 }
 
@@ -120,7 +120,7 @@ pub(crate) fn leave(
 {
     let Context { around, body } = context;
     let closed = closed(alloc, body.before, core)?;
-    leave_closed(alloc, around, body.front, closed, token)
+    leave_closed(alloc, around, body.prefix, closed, token)
 }
 
 /// A fact that was read, in the system in force.

@@ -45,7 +45,7 @@ impl State {
 }
 
 impl Lexed {
-    /// What stands before the next token.
+    /// What comes before the next token.
     fn mode_after(&self) -> Mode
         ensures { mode_view result ≡ mode_after (lexed_view self.now) }
     {
@@ -115,8 +115,8 @@ fn finish(state: State) -> Result<Formula, ParseFault>
     }
 }
 
-/// The tree of a text, where the grammar relates one to it. Any bytes are a text; a formula that names no system stands
-/// in `msd_2`.
+/// The tree of a text, where the grammar relates one to it. Any bytes are a text; a formula that names no system is in
+/// `msd_2`.
 ///
 /// Otherwise `Syntax`, `Number` or `Depth` at the first token that decides; where none does, `MixedChain` or `NotLinear`
 /// at the least byte. `Memory` where a growth was refused.

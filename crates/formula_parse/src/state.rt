@@ -1,4 +1,4 @@
-//! The states of the machine that reads a formula: what is open, what was read, and where it stands.
+//! The states of the machine that reads a formula: what is open, what was read, and where it is.
 
 use crate::flaw::{Came, Flaw, Product};
 use crate::tree::{Addend, Factor, Formula, Index, Operand, Quantifier, Relation, Term};
@@ -7,9 +7,9 @@ use digit_tuple::name::Name;
 /// The greatest nesting.
 pub(crate) const LIMIT: usize = 128;
 
-/// What stands before the next operand of a formula, and the formula's nesting.
+/// What comes before the next operand of a formula, and the formula's nesting.
 #[derive(Drop)]
-pub(crate) struct Front {
+pub(crate) struct Prefix {
     pub base: u8,
     pub implications: Vec<Operand>,
     pub chains: Vec<Operand>,
@@ -18,17 +18,17 @@ pub(crate) struct Front {
     pub implied: bool,
 }
 
-/// What stands before the core of an operand: the marks before each of its `~`, and those after them.
+/// What comes before the core of an operand: the marks before each of its `~`, and those after them.
 #[derive(Drop)]
 pub(crate) struct Before {
     pub tildes: Vec<Vec<Name>>,
     pub marks: Vec<Name>,
 }
 
-/// A formula that is being read: what stands before the operand and the core that come, and whether anything has come.
+/// A formula that is being read: what comes before the operand and the core that come, and whether anything has come.
 #[derive(Drop)]
 pub(crate) struct Body {
-    pub front: Front,
+    pub prefix: Prefix,
     pub before: Before,
     pub touched: bool,
 }
@@ -50,7 +50,7 @@ pub(crate) enum Frame {
     Quantified(Scope, Body),
 }
 
-/// What stands before the next factor of a term: the products before its own, and the factors before it.
+/// What comes before the next factor of a term: the products before its own, and the factors before it.
 #[derive(Drop)]
 pub(crate) struct Sum {
     pub addends: Vec<Addend>,
@@ -58,7 +58,7 @@ pub(crate) struct Sum {
     pub product: Product,
 }
 
-/// What stands on the left of the index that comes.
+/// What is on the left of the index that comes.
 #[derive(Drop)]
 pub(crate) enum Aim {
     LeftIndex(Index, Relation),
@@ -87,7 +87,7 @@ pub(crate) struct Arguments {
     pub terms: Vec<Term>,
 }
 
-/// Where a term stands.
+/// Where a term is.
 #[derive(Drop)]
 pub(crate) enum Place {
     LeftSide,
@@ -96,14 +96,14 @@ pub(crate) enum Place {
     Argument(Arguments),
 }
 
-/// Where a term stands, and the terms around it, each with a parenthesis open.
+/// Where a term is, and the terms around it, each with a parenthesis open.
 #[derive(Drop)]
 pub(crate) struct Nest {
     pub place: Place,
     pub outer: Vec<Sum>,
 }
 
-/// A term that is being read: where it stands, and what of it stands before the factor that comes.
+/// A term that is being read: where it is, and what of it comes before the factor that comes.
 #[derive(Drop)]
 pub(crate) struct Reading {
     pub nest: Nest,
@@ -117,9 +117,9 @@ pub(crate) struct ReadTerm {
     pub numeral: bool,
 }
 
-/// Where a letter stands.
+/// Where a letter is.
 #[derive(Drop)]
-pub(crate) enum Spelling {
+pub(crate) enum Representation {
     OnLeft,
     OnRight(Index, Relation),
 }
@@ -132,7 +132,7 @@ pub(crate) struct Letter {
     pub value: u64,
 }
 
-/// Where the machine stands, with what was read since the last operand.
+/// Where the machine is, with what was read since the last operand.
 #[derive(Drop)]
 pub(crate) enum Position {
     AtOperand,
@@ -146,8 +146,8 @@ pub(crate) enum Position {
     AfterIndex(Places, Term),
     AtWord(Aim),
     AtBracket(Aim, Name),
-    AtLetter(Spelling, usize),
-    AtValue(Spelling, usize),
+    AtLetter(Representation, usize),
+    AtValue(Representation, usize),
     AfterLetter(i32),
     AtCalled,
     AtCall(Name),

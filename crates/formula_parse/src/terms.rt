@@ -47,7 +47,7 @@ pub(crate) fn after_factor(mut context: Context, reading: Reading, read: ReadTer
 }
 
 impl Reading {
-    /// The term that comes after a parenthesis, where a factor may stand.
+    /// The term that comes after a parenthesis, where a factor may be.
     fn opened(self, alloc: Global) -> Result<Reading, OutOfMemory>
         ensures place { IfOk result (λ r. r.nest.place ≡ self.nest.place) }
         ensures outer { IfOk result (λ r. outers_view r.nest.outer.items ≡ outer_view self.sum ∷ outers_view self.nest.outer.items) }
@@ -278,7 +278,7 @@ fn leave_parens(
     }
 }
 
-/// A token after a term that may stand in parentheses of another one.
+/// A token after a term that may be in parentheses of another one.
 fn leave_term(
     alloc: Global,
     context: Context,

@@ -37,7 +37,7 @@ pub enum Sign {
     Minus,
 }
 
-/// What stands between two operands.
+/// What is between two operands.
 #[derive(Clone, Copy, Debug, PartialEq, Eq)]
 pub enum Connective {
     /// `&`
@@ -129,7 +129,7 @@ pub enum Formula {
     Chain(Vec<Operand>, Box<Formula>),
     /// A quantifier with its variables, one at least, and what it takes.
     Quantified(Quantifier, Vec<Name>, Box<Formula>),
-    /// The systems of some `?` marks, one at least, and the operand that they stand before.
+    /// The systems of some `?` marks, one at least, and the operand that they come before.
     Marked(Vec<Name>, Box<Formula>),
 }
 

@@ -49,7 +49,7 @@ named_back m s n v (fresh j) (Some r) k next stands a is = stands.back (with_num
 named_back m s n v (own x) (Some r) k next stands a is = absurd stands.placed
 named_back m s n v (fresh j) None k next stands a is = absurd stands.placed
 
--- the form tells what stands beside the relation
+-- the form says what is beside the relation
 abbrev IsForm : Form → Term → Relation → Term → Type 0
 IsForm long t r u = ⊤
 IsForm (variable_left n) t r u = (t ≡ variable n) × (r ≡ equal)

@@ -19,16 +19,16 @@ use Rattle.formula_plan.specs.declared.planner.Placed as found
 use Rattle.formula_plan.proofs.PlanningLemmas.{adds_none, adds_then, within_later, placed_later}
 
 -- terms, one more at a time
-count_all : (front : Terms) (ts : List Term) → count (fold terms front ts) ≡ count front + length ts
-count_all front [] = omega arith
-count_all front (t ∷ ts) = let rest = count_all (terms front t) ts in omega (arith, rest)
+count_all : (prefix : Terms) (ts : List Term) → count (fold terms prefix ts) ≡ count prefix + length ts
+count_all prefix [] = omega arith
+count_all prefix (t ∷ ts) = let rest = count_all (terms prefix t) ts in omega (arith, rest)
 
 length_map : (ts : List parsed.Term) → length (map term_view ts) ≡ length ts
 length_map [] = refl
 length_map (t ∷ ts) = ap suc (length_map ts)
 
-count_front : (ts : List parsed.Term) (i : ℕ) → length (take i ts) ≡ i → count (terms_view (take i ts)) ≡ i
-count_front ts i far = let all = count_all no_terms (map term_view (take i ts)) in let same = length_map (take i ts) in omega (arith, all, same, far)
+count_prefix : (ts : List parsed.Term) (i : ℕ) → length (take i ts) ≡ i → count (terms_view (take i ts)) ≡ i
+count_prefix ts i far = let all = count_all no_terms (map term_view (take i ts)) in let same = length_map (take i ts) in omega (arith, all, same, far)
 
 pub terms_more : (ts : List parsed.Term) (i : ℕ) (d : parsed.Term) → i < length ts → terms_view (take (i + 1) ts) ≡ terms (terms_view (take i ts)) (term_view (get_or ts i d))
 terms_more ts i d within =
@@ -62,19 +62,19 @@ pub arguments_more : (ss : List Name) (ts : List parsed.Term) (i : ℕ) (t : par
     → DoesTerms old mid ps (argument_plans ss (terms_view (take i ts)) old.next) → DoesTerm mid new v (term_plan (get_or ss i []) (term_view t) mid.next) → qs ≡ ps ++ v ∷ []
     → DoesTerms old new qs (argument_plans ss (terms_view (take (i + 1) ts)) old.next)
 arguments_more ss ts i t old mid new ps qs v within at far first second more =
-    let front : TermPlans = argument_plans ss (terms_view (take i ts)) old.next in
-    let one : TermPlan = term_plan (get_or ss i []) (term_view t) front.next in
+    let prefix : TermPlans = argument_plans ss (terms_view (take i ts)) old.next in
+    let one : TermPlan = term_plan (get_or ss i []) (term_view t) prefix.next in
     let here : DoesTerm mid new v one = subst (λ k. DoesTerm mid new v (term_plan (get_or ss i []) (term_view t) k)) first.next second in
-    let whole : DoesTerms old new (ps ++ v ∷ []) (and_term front one) = record {
-      adds = adds_then old.plans mid.plans new.plans front.steps one.steps first.adds here.adds;
+    let whole : DoesTerms old new (ps ++ v ∷ []) (and_term prefix one) = record {
+      adds = adds_then old.plans mid.plans new.plans prefix.steps one.steps first.adds here.adds;
       within = are_within_more new.plans ps v (are_within_later mid.plans new.plans one.steps ps here.adds first.within) here.within;
       places_are = places_end new.plans ps v ∙ ap (λ q. places q (placed_at new.plans v)) (places_later mid.plans new.plans one.steps ps here.adds first.within ∙ first.places_are)
-          ∙ ap (λ q. places front.placed q) here.placed_is;
+          ∙ ap (λ q. places prefix.placed q) here.placed_is;
       next = here.next;
     } in
     subst (λ l. DoesTerms old new l (argument_plans ss (terms_view (take (i + 1) ts)) old.next)) (sym more)
     (subst (λ x. DoesTerms old new (ps ++ v ∷ []) (argument_plans ss x old.next)) (sym (terms_more ts i t within ∙ ap (λ x. terms (terms_view (take i ts)) (term_view x)) (sym at)))
-    (subst (λ n. DoesTerms old new (ps ++ v ∷ []) (and_term front (term_plan (get_or ss n []) (term_view t) front.next))) (sym (count_front ts i far)) whole))
+    (subst (λ n. DoesTerms old new (ps ++ v ∷ []) (and_term prefix (term_plan (get_or ss n []) (term_view t) prefix.next))) (sym (count_prefix ts i far)) whole))
 
 pub arguments_none : (ss : List Name) (old : Planner) (ps : List found.Placed) → ps ≡ [] → DoesTerms old old ps (argument_plans ss no_terms old.next)
 arguments_none ss old ps none = subst (λ l. DoesTerms old old l (argument_plans ss no_terms old.next)) (sym none) (record {
@@ -89,9 +89,9 @@ pub arguments_all : (ss : List Name) (ts : List parsed.Term) (i : ℕ) (old new 
 arguments_all ss ts i old new ps far does = subst (λ l. DoesTerms old new ps (argument_plans ss (terms_view l) old.next)) (take_all i ts far) does
 
 -- the tracks of places
-tracks_after : (plans : List Plan) (front : Places) (ps : List found.Placed) → tracks_of (fold places front (map (placed_at plans) ps)) ≡ tracks_of front ++ tracks_in ps
-tracks_after plans front [] = sym (append-nil (tracks_of front))
-tracks_after plans front (p ∷ ps) = tracks_after plans (places front (placed_at plans p)) ps ∙ append_assoc (tracks_of front) (track_view p.track ∷ []) (tracks_in ps)
+tracks_after : (plans : List Plan) (prefix : Places) (ps : List found.Placed) → tracks_of (fold places prefix (map (placed_at plans) ps)) ≡ tracks_of prefix ++ tracks_in ps
+tracks_after plans prefix [] = sym (append-nil (tracks_of prefix))
+tracks_after plans prefix (p ∷ ps) = tracks_after plans (places prefix (placed_at plans p)) ps ∙ append_assoc (tracks_of prefix) (track_view p.track ∷ []) (tracks_in ps)
 
 pub tracks_there : (plans : List Plan) (ps : List found.Placed) → tracks_of (places_at plans ps) ≡ tracks_in ps
 tracks_there plans ps = tracks_after plans no_places ps

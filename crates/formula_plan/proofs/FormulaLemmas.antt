@@ -38,10 +38,10 @@ mutual
   chain_says (operands os f j) m h k linear p P decided says = λ a.
       let ps = operand_plans h os k in
       let q = (plan_of h f ps.next).last in
-      let front = chain_says os m h k linear.0 q (Holds m f) decided.1 (λ d. formula_says f m h ps.next linear.1 d) a in
+      let prefix = chain_says os m h k linear.0 q (Holds m f) decided.1 (λ d. formula_says f m h ps.next linear.1 d) a in
       let last = says decided.2 a in (
-        joined_same j (Means m (chained ps.operands q) a) (Means m p a) (ChainHolds m os (of_variables a) (Holds m f (of_variables a))) (P (of_variables a)) front.0 front.1 last.0 last.1,
-        joined_same j (ChainHolds m os (of_variables a) (Holds m f (of_variables a))) (P (of_variables a)) (Means m (chained ps.operands q) a) (Means m p a) front.1 front.0 last.1 last.0,
+        joined_same j (Means m (chained ps.operands q) a) (Means m p a) (ChainHolds m os (of_variables a) (Holds m f (of_variables a))) (P (of_variables a)) prefix.0 prefix.1 last.0 last.1,
+        joined_same j (ChainHolds m os (of_variables a) (Holds m f (of_variables a))) (P (of_variables a)) (Means m (chained ps.operands q) a) (Means m p a) prefix.1 prefix.0 last.1 last.0,
       )
 
 pub plans_mean : PlansMean

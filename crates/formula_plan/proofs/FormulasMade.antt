@@ -16,101 +16,101 @@ use Rattle.formula_plan.specs.FormulaPlans.{MadeOperands, none_made, made, chain
 use Rattle.formula_plan.specs.OwnNames.{has_name, has_any, without_name, without_all, own_of, own_operands, HaveSame}
 use Rattle.formula_plan.specs.Makings.{plan_at}
 use Rattle.formula_plan.specs.Planning.{Adds, Does, base_made, step_made}
-use Rattle.formula_plan.specs.FormulaPlanning.{with_made, operand_at, operands_at, AreOperandsWithin, IsFrontWithin, joined_front, chained_made, IsFrontOf, DoesOperands, AgreeOn, projected_where}
+use Rattle.formula_plan.specs.FormulaPlanning.{with_made, operand_at, operands_at, AreOperandsWithin, IsPrefixWithin, joined_prefix, chained_made, IsPrefixOf, DoesOperands, AgreeOn, projected_where}
 use Rattle.formula_plan.specs.declared.planner.Planner.{Planner}
-use Rattle.formula_plan.specs.declared.chains.Front.{Front}
+use Rattle.formula_plan.specs.declared.chains.Prefix.{Prefix}
 use Rattle.formula_plan.proofs.PlanningLemmas.{adds_none, adds_then, adds_more, at_later, does_none, does_then}
 use Rattle.formula_plan.proofs.OwnTracks.{without_none}
 use Rattle.formula_plan.proofs.SameNames.{same_after, same_without_all, added_then, agrees_same}
 use Rattle.formula_plan.proofs.OwnFormulas.{projected_agrees, kept_none, kept_some, formula_own}
 
 -- chains
-operands_at_more : (plans : List Plan) (fs : List Front) (i : ℕ) (f : Front) → i < length fs → f ≡ get_or fs i f
+operands_at_more : (plans : List Plan) (fs : List Prefix) (i : ℕ) (f : Prefix) → i < length fs → f ≡ get_or fs i f
     → operands_at plans (take (i + 1) fs) ≡ made (operands_at plans (take i fs)) (plan_at plans f.place) (connective_view f.connective)
 operands_at_more plans fs i f within at =
     ap (operands_at plans) (take_more fs i f within)
     ∙ ap (fold with_made none_made) (map-append (operand_at plans) (take i fs) (get_or fs i f ∷ []))
     ∙ fold-append with_made none_made (map (operand_at plans) (take i fs)) (operand_at plans (get_or fs i f) ∷ [])
-    ∙ ap (λ (g : Front). made (operands_at plans (take i fs)) (plan_at plans g.place) (connective_view g.connective)) (sym at)
+    ∙ ap (λ (g : Prefix). made (operands_at plans (take i fs)) (plan_at plans g.place) (connective_view g.connective)) (sym at)
 
-pub front_within : (os : MadeOperands) (old mid : Planner) (front : Option Front) → IsFrontOf os old mid front → IsFrontWithin mid.plans front
-front_within os old mid None is = tt
-front_within os old mid (Some f) is = is.3.last.within
+pub prefix_within : (os : MadeOperands) (old mid : Planner) (prefix : Option Prefix) → IsPrefixOf os old mid prefix → IsPrefixWithin mid.plans prefix
+prefix_within os old mid None is = tt
+prefix_within os old mid (Some f) is = is.3.last.within
 
-front_adds : (os : MadeOperands) (old mid : Planner) (front : Option Front) → IsFrontOf os old mid front → (ss : List Plan) × Adds old.plans mid.plans ss
-front_adds os old mid None is = ([], subst (λ (m : Planner). Adds old.plans m.plans []) (sym is.1) (adds_none old.plans))
-front_adds os old mid (Some f) is = (chaining is.0 is.1, is.3.adds)
+prefix_adds : (os : MadeOperands) (old mid : Planner) (prefix : Option Prefix) → IsPrefixOf os old mid prefix → (ss : List Plan) × Adds old.plans mid.plans ss
+prefix_adds os old mid None is = ([], subst (λ (m : Planner). Adds old.plans m.plans []) (sym is.1) (adds_none old.plans))
+prefix_adds os old mid (Some f) is = (chaining is.0 is.1, is.3.adds)
 
-pub place_within : (os : MadeOperands) (old mid : Planner) (front : Option Front) (i : ℕ) → IsFrontOf os old mid front → i < length old.plans → i < length mid.plans
-place_within os old mid front i is within = let adds = front_adds os old mid front is in let more = adds_more old.plans mid.plans adds.0 adds.1 in omega (arith, more, within)
+pub place_within : (os : MadeOperands) (old mid : Planner) (prefix : Option Prefix) (i : ℕ) → IsPrefixOf os old mid prefix → i < length old.plans → i < length mid.plans
+place_within os old mid prefix i is within = let adds = prefix_adds os old mid prefix is in let more = adds_more old.plans mid.plans adds.0 adds.1 in omega (arith, more, within)
 
-pub operand_within : (os : MadeOperands) (old mid : Planner) (front : Option Front) (fs : List Front) (i : ℕ) (f : Front) → IsFrontOf os old mid front → AreOperandsWithin old.plans fs → i < length fs → f ≡ get_or fs i f → f.place < length mid.plans
-operand_within os old mid front fs i f is are within at = place_within os old mid front f.place is (subst (λ (g : Front). g.place < length old.plans) (sym at) (are i f within))
+pub operand_within : (os : MadeOperands) (old mid : Planner) (prefix : Option Prefix) (fs : List Prefix) (i : ℕ) (f : Prefix) → IsPrefixOf os old mid prefix → AreOperandsWithin old.plans fs → i < length fs → f ≡ get_or fs i f → f.place < length mid.plans
+operand_within os old mid prefix fs i f is are within at = place_within os old mid prefix f.place is (subst (λ (g : Prefix). g.place < length old.plans) (sym at) (are i f within))
 
-pub front_then : (os : MadeOperands) (old mid new : Planner) (front : Option Front) (i j : ℕ) → i < length old.plans → IsFrontOf os old mid front
-    → Does mid new j (joined_front mid.plans front (plan_at mid.plans i) mid.next) → Does old new j (chained_made old.next os (plan_at old.plans i))
-front_then os old mid new None i j within is second =
+pub prefix_then : (os : MadeOperands) (old mid new : Planner) (prefix : Option Prefix) (i j : ℕ) → i < length old.plans → IsPrefixOf os old mid prefix
+    → Does mid new j (joined_prefix mid.plans prefix (plan_at mid.plans i) mid.next) → Does old new j (chained_made old.next os (plan_at old.plans i))
+prefix_then os old mid new None i j within is second =
     subst (λ x. Does old new j (chained_made old.next x (plan_at old.plans i))) (sym is.0) (subst (λ (m : Planner). Does m new j (base_made (plan_at m.plans i) m.next)) is.1 second)
-front_then os old mid new (Some f) i j within is second =
-    let front : MadeOperands = is.0 in
+prefix_then os old mid new (Some f) i j within is second =
+    let prefix : MadeOperands = is.0 in
     let p : Plan = is.1 in
-    let first : Does old mid f.place (chained_made old.next front p) = is.3 in
-    let later : plan_at mid.plans i ≡ plan_at old.plans i = at_later old.plans mid.plans (chaining front p) i first.adds within in
-    let whole : Plan = joined (connective_view f.connective) (chained front p) (plan_at old.plans i) in
+    let first : Does old mid f.place (chained_made old.next prefix p) = is.3 in
+    let later : plan_at mid.plans i ≡ plan_at old.plans i = at_later old.plans mid.plans (chaining prefix p) i first.adds within in
+    let whole : Plan = joined (connective_view f.connective) (chained prefix p) (plan_at old.plans i) in
     let here : Does mid new j (step_made whole old.next) =
     subst (λ k. Does mid new j (step_made whole k)) first.next
-    (subst (λ q. Does mid new j (step_made (joined (connective_view f.connective) (chained front p) q) mid.next)) later
+    (subst (λ q. Does mid new j (step_made (joined (connective_view f.connective) (chained prefix p) q) mid.next)) later
     (subst (λ q. Does mid new j (step_made (joined (connective_view f.connective) q (plan_at mid.plans i)) mid.next)) first.last.is second)) in
     subst (λ x. Does old new j (chained_made old.next x (plan_at old.plans i))) (sym is.2)
-    (does_then old mid new f.place j (chained_made old.next front p) (step_made whole old.next) first here)
+    (does_then old mid new f.place j (chained_made old.next prefix p) (step_made whole old.next) first here)
 
-pub front_more : (fs : List Front) (i : ℕ) (f : Front) (old mid new : Planner) (front : Option Front) (j : ℕ) → i < length fs → f ≡ get_or fs i f → AreOperandsWithin old.plans fs
-    → IsFrontOf (operands_at old.plans (take i fs)) old mid front → Does mid new j (joined_front mid.plans front (plan_at mid.plans f.place) mid.next)
-    → IsFrontOf (operands_at old.plans (take (i + 1) fs)) old new (Some (record { place = j; connective = f.connective }))
-front_more fs i f old mid new front j within at are is second = (
+pub prefix_more : (fs : List Prefix) (i : ℕ) (f : Prefix) (old mid new : Planner) (prefix : Option Prefix) (j : ℕ) → i < length fs → f ≡ get_or fs i f → AreOperandsWithin old.plans fs
+    → IsPrefixOf (operands_at old.plans (take i fs)) old mid prefix → Does mid new j (joined_prefix mid.plans prefix (plan_at mid.plans f.place) mid.next)
+    → IsPrefixOf (operands_at old.plans (take (i + 1) fs)) old new (Some (record { place = j; connective = f.connective }))
+prefix_more fs i f old mid new prefix j within at are is second = (
   operands_at old.plans (take i fs),
   plan_at old.plans f.place,
   operands_at_more old.plans fs i f within at,
-  front_then (operands_at old.plans (take i fs)) old mid new front f.place j (subst (λ (g : Front). g.place < length old.plans) (sym at) (are i f within)) is second,
+  prefix_then (operands_at old.plans (take i fs)) old mid new prefix f.place j (subst (λ (g : Prefix). g.place < length old.plans) (sym at) (are i f within)) is second,
 )
 
-pub front_all : (fs : List Front) (i last j : ℕ) (old mid new : Planner) (front : Option Front) → length fs ≤ i → last < length old.plans
-    → IsFrontOf (operands_at old.plans (take i fs)) old mid front → Does mid new j (joined_front mid.plans front (plan_at mid.plans last) mid.next)
+pub prefix_all : (fs : List Prefix) (i last j : ℕ) (old mid new : Planner) (prefix : Option Prefix) → length fs ≤ i → last < length old.plans
+    → IsPrefixOf (operands_at old.plans (take i fs)) old mid prefix → Does mid new j (joined_prefix mid.plans prefix (plan_at mid.plans last) mid.next)
     → Does old new j (chained_made old.next (operands_at old.plans fs) (plan_at old.plans last))
-front_all fs i last j old mid new front far within is second =
+prefix_all fs i last j old mid new prefix far within is second =
     subst (λ l. Does old new j (chained_made old.next (operands_at old.plans l) (plan_at old.plans last))) (take_all i fs far)
-    (front_then (operands_at old.plans (take i fs)) old mid new front last j within is second)
+    (prefix_then (operands_at old.plans (take i fs)) old mid new prefix last j within is second)
 
 -- the operands of a chain
-operands_later : (xs ys ss : List Plan) (fs : List Front) → Adds xs ys ss → AreOperandsWithin xs fs → operands_at ys fs ≡ operands_at xs fs
+operands_later : (xs ys ss : List Plan) (fs : List Prefix) → Adds xs ys ss → AreOperandsWithin xs fs → operands_at ys fs ≡ operands_at xs fs
 operands_later xs ys ss fs adds are = ap (fold with_made none_made) (same fs are)
   where
-    same : (gs : List Front) → AreOperandsWithin xs gs → map (operand_at ys) gs ≡ map (operand_at xs) gs
+    same : (gs : List Prefix) → AreOperandsWithin xs gs → map (operand_at ys) gs ≡ map (operand_at xs) gs
     same [] inside = refl
     same (g ∷ gs) inside =
         ap (λ p. let o : Plan × Joint = (p, connective_view g.connective) in o ∷ map (operand_at ys) gs) (at_later xs ys ss g.place adds (inside 0 g (omega arith)))
         ∙ ap (λ l. operand_at xs g ∷ l) (same gs (λ i d below. inside (suc i) d (omega (arith, below))))
 
-operands_within_later : (xs ys ss : List Plan) (fs : List Front) → Adds xs ys ss → AreOperandsWithin xs fs → AreOperandsWithin ys fs
+operands_within_later : (xs ys ss : List Plan) (fs : List Prefix) → Adds xs ys ss → AreOperandsWithin xs fs → AreOperandsWithin ys fs
 operands_within_later xs ys ss fs adds are = λ i d below. let more = adds_more xs ys ss adds in let here = are i d below in omega (arith, more, here)
 
-operands_within_more : (plans : List Plan) (fs : List Front) (f : Front) → AreOperandsWithin plans fs → f.place < length plans → AreOperandsWithin plans (fs ++ f ∷ [])
+operands_within_more : (plans : List Plan) (fs : List Prefix) (f : Prefix) → AreOperandsWithin plans fs → f.place < length plans → AreOperandsWithin plans (fs ++ f ∷ [])
 operands_within_more plans fs f are here i d below =
-    below_more (λ j. (e : Front) → (get_or (fs ++ f ∷ []) j e).place < length plans) (length fs)
-    (λ j inside e. subst (λ (g : Front). g.place < length plans) (sym (get_or_append_left fs (f ∷ []) e j inside)) (are j e inside))
-    (λ e. subst (λ (g : Front). g.place < length plans) (sym (get_or-append_seam fs f [] e)) here)
+    below_more (λ j. (e : Prefix) → (get_or (fs ++ f ∷ []) j e).place < length plans) (length fs)
+    (λ j inside e. subst (λ (g : Prefix). g.place < length plans) (sym (get_or_append_left fs (f ∷ []) e j inside)) (are j e inside))
+    (λ e. subst (λ (g : Prefix). g.place < length plans) (sym (get_or-append_seam fs f [] e)) here)
     i (omega (arith, length-append fs (f ∷ []), below)) d
 
-operands_end : (plans : List Plan) (fs : List Front) (f : Front) → operands_at plans (fs ++ f ∷ []) ≡ made (operands_at plans fs) (plan_at plans f.place) (connective_view f.connective)
+operands_end : (plans : List Plan) (fs : List Prefix) (f : Prefix) → operands_at plans (fs ++ f ∷ []) ≡ made (operands_at plans fs) (plan_at plans f.place) (connective_view f.connective)
 operands_end plans fs f = ap (fold with_made none_made) (map-append (operand_at plans) fs (f ∷ [])) ∙ fold-append with_made none_made (map (operand_at plans) fs) (operand_at plans f ∷ [])
 
-pub operands_then : (h : Headers) (os : List Operand) (i : ℕ) (o : Operand) (old mid new : Planner) (fs gs : List Front) (j : ℕ) → i < length os → o ≡ get_or os i o
+pub operands_then : (h : Headers) (os : List Operand) (i : ℕ) (o : Operand) (old mid new : Planner) (fs gs : List Prefix) (j : ℕ) → i < length os → o ≡ get_or os i o
     → DoesOperands old mid fs (operand_plans h (operands_view (take i os)) old.next) → Does mid new j (plan_of h (formula_view o.formula) mid.next)
     → gs ≡ fs ++ record { place = j; connective = o.connective } ∷ [] → DoesOperands old new gs (operand_plans h (operands_view (take (i + 1) os)) old.next)
 operands_then h os i o old mid new fs gs j within at first second more =
     let ps : OperandPlans = operand_plans h (operands_view (take i os)) old.next in
     let m : Made = plan_of h (formula_view o.formula) ps.next in
-    let f : Front = record { place = j; connective = o.connective } in
+    let f : Prefix = record { place = j; connective = o.connective } in
     let here : Does mid new j m = subst (λ k. Does mid new j (plan_of h (formula_view o.formula) k)) first.next second in
     let whole : DoesOperands old new (fs ++ f ∷ []) (record { steps = ps.steps ++ m.steps; operands = made ps.operands m.last (connective_view o.connective); next = m.next }) = record {
       adds = adds_then old.plans mid.plans new.plans ps.steps m.steps first.adds here.adds;
@@ -123,7 +123,7 @@ operands_then h os i o old mid new fs gs j within at first second more =
     subst (λ l. DoesOperands old new l (operand_plans h (operands_view (take (i + 1) os)) old.next)) (sym more)
     (subst (λ x. DoesOperands old new (fs ++ f ∷ []) (operand_plans h x old.next)) (sym (operands_more os i o within ∙ ap (λ x. with_operand (operands_view (take i os)) (operand_view x)) (sym at))) whole)
 
-pub chain_does : (h : Headers) (whole f : Formula) (os qs : List Operand) (i j k : ℕ) (old mid last new : Planner) (fs ds : List Front)
+pub chain_does : (h : Headers) (whole f : Formula) (os qs : List Operand) (i j k : ℕ) (old mid last new : Planner) (fs ds : List Prefix)
     → whole ≡ chain (operands_view qs) f → os ≡ qs → length os ≤ i → ds ≡ fs
     → DoesOperands old mid fs (operand_plans h (operands_view (take i os)) old.next) → Does mid last j (plan_of h f mid.next)
     → Does last new k (chained_made last.next (operands_at last.plans ds) (plan_at last.plans j)) → Does old new k (plan_of h whole old.next)
@@ -144,7 +144,7 @@ chain_does h whole f os qs i j k old mid last new fs ds seen same far same_ds so
       next = products.next;
     })
 
-pub chain_within : (h : Headers) (old mid last : Planner) (fs ds : List Front) (i : ℕ) (ps : OperandPlans) (m : Made) → ds ≡ fs → DoesOperands old mid fs ps → Does mid last i m → AreOperandsWithin last.plans ds
+pub chain_within : (h : Headers) (old mid last : Planner) (fs ds : List Prefix) (i : ℕ) (ps : OperandPlans) (m : Made) → ds ≡ fs → DoesOperands old mid fs ps → Does mid last i m → AreOperandsWithin last.plans ds
 chain_within h old mid last fs ds i ps m same first second = subst (AreOperandsWithin last.plans) (sym same) (operands_within_later mid.plans last.plans m.steps fs second.adds first.within)
 
 -- quantified variables
@@ -169,29 +169,29 @@ projected_does old mid new to up m n false first second =
 names_end : (vs : List Name) (n : Name) → names_view (vs ++ n ∷ []) ≡ names (names_view vs) n
 names_end vs n = fold-append names no_names vs (n ∷ [])
 
-pub projected_more : (old mid new : Planner) (to up : ℕ) (p : Plan) (all : Names) (rest front : List Name) (n : Name) (ms ns ls : List Name) → rest ≡ front ++ n ∷ []
+pub projected_more : (old mid new : Planner) (to up : ℕ) (p : Plan) (all : Names) (rest prefix : List Name) (n : Name) (ms ns ls : List Name) → rest ≡ prefix ++ n ∷ []
     → IsProjectedSoFar old mid to p all (names_view rest) ms ns → Does mid new up (projected_where (has_name ns n) n (plan_at mid.plans to) mid.next) → HaveSame ls (without_name n ns)
-    → IsProjectedSoFar old new up p all (names_view front) ms ls
-projected_more old mid new to up p all rest front n ms ns ls same so_far second less =
+    → IsProjectedSoFar old new up p all (names_view prefix) ms ls
+projected_more old mid new to up p all rest prefix n ms ns ls same so_far second less =
     by (has_name ns n) (so_far.3.agree n) (projected_does old mid new to up m n (has_name ns n) so_far.1 second)
   where
     m : Made
     m = so_far.0
 
-    seen : names_view rest ≡ names (names_view front) n
-    seen = ap names_view same ∙ names_end front n
+    seen : names_view rest ≡ names (names_view prefix) n
+    seen = ap names_view same ∙ names_end prefix n
 
-    names_left : HaveSame (without_all (names_view front) ls) (without_all all ms)
-    names_left k = same_without_all (names_view front) ls (without_name n ns) less k ∙ ap (λ v. has_name (without_all v ns) k) (sym seen) ∙ so_far.4 k
+    names_left : HaveSame (without_all (names_view prefix) ls) (without_all all ms)
+    names_left k = same_without_all (names_view prefix) ls (without_name n ns) less k ∙ ap (λ v. has_name (without_all v ns) k) (sym seen) ∙ so_far.4 k
 
     by : (b : Bool) → has_track (tracks m.last) (own n) ≡ b
         → Does old new up (if b then record { steps = m.steps ++ projected (own n) m.last ∷ []; last = projected (own n) m.last; next = m.next } else record { steps = m.steps ++ []; last = m.last; next = m.next })
-        → IsProjectedSoFar old new up p all (names_view front) ms ls
+        → IsProjectedSoFar old new up p all (names_view prefix) ms ls
     by true has does =
         let q : Plan = projected (own n) m.last in
-        let left : List Name = kept (names_view front) (without (own n) (tracks m.last)) in
+        let left : List Name = kept (names_view prefix) (without (own n) (tracks m.last)) in
         let keeps : kept (names_view rest) (tracks m.last) ≡ n ∷ left =
-        ap (λ v. kept v (tracks m.last)) seen ∙ ap (λ b. if b then n ∷ left else kept (names_view front) (tracks m.last)) has in (
+        ap (λ v. kept v (tracks m.last)) seen ∙ ap (λ b. if b then n ∷ left else kept (names_view prefix) (tracks m.last)) has in (
           record { steps = m.steps ++ q ∷ []; last = q; next = m.next },
           does,
           ap (λ l. let x : Made = record { steps = l; last = projected_all left q; next = m.next } in x) (append_assoc m.steps (q ∷ []) (projecting left q)) ∙ sym (ap (λ k. for_some k m) keeps) ∙ so_far.2,
@@ -199,9 +199,9 @@ projected_more old mid new to up p all rest front n ms ns ls same so_far second 
           names_left,
         )
     by false none does =
-        let left : List Name = kept (names_view front) (tracks m.last) in
+        let left : List Name = kept (names_view prefix) (tracks m.last) in
         let keeps : kept (names_view rest) (tracks m.last) ≡ left =
-        ap (λ v. kept v (tracks m.last)) seen ∙ ap (λ b. if b then n ∷ kept (names_view front) (without (own n) (tracks m.last)) else left) none in (
+        ap (λ v. kept v (tracks m.last)) seen ∙ ap (λ b. if b then n ∷ kept (names_view prefix) (without (own n) (tracks m.last)) else left) none in (
           record { steps = m.steps ++ []; last = m.last; next = m.next },
           does,
           ap (λ l. let x : Made = record { steps = l ++ projecting left m.last; last = projected_all left m.last; next = m.next } in x) (append-nil m.steps) ∙ sym (ap (λ k. for_some k m) keeps) ∙ so_far.2,
@@ -236,11 +236,11 @@ every_does old one two new i j k p vs ms on has first second third =
     })
 
 -- a quantifier after what it takes
-quantified_front : (q : Quantifier) (ns : List Name) (m : Made)
+quantified_prefix : (q : Quantifier) (ns : List Name) (m : Made)
     → quantified_made q ns m ≡ record { steps = m.steps ++ (quantified_made q ns (base_made m.last m.next)).steps; last = (quantified_made q ns (base_made m.last m.next)).last; next = m.next }
-quantified_front some ns m = refl
-quantified_front every [] m = ap (λ l. let x : Made = record { steps = l; last = m.last; next = m.next } in x) (sym (append-nil m.steps))
-quantified_front every (n ∷ ns) m =
+quantified_prefix some ns m = refl
+quantified_prefix every [] m = ap (λ l. let x : Made = record { steps = l; last = m.last; next = m.next } in x) (sym (append-nil m.steps))
+quantified_prefix every (n ∷ ns) m =
     let inside : Plan = complement m.last in
     let middle : List Plan = projecting (n ∷ ns) inside in
     let outside : Plan = complement (projected_all (n ∷ ns) inside) in
@@ -258,7 +258,7 @@ quantified_does h whole f q vs ws old mid new i j seen same first second =
     (subst (λ p. Does mid new j (quantified_made q (kept (names_view vs) (tracks p)) (base_made p mid.next))) first.last.is
     (subst (λ l. Does mid new j (quantified_made q (kept (names_view l) (tracks (plan_at mid.plans i))) (base_made (plan_at mid.plans i) mid.next))) same second)) in
     subst (λ x. Does old new j (plan_of h x old.next)) (sym seen)
-    (subst (λ x. Does old new j x) (sym (quantified_front q left m)) (record {
+    (subst (λ x. Does old new j x) (sym (quantified_prefix q left m)) (record {
       adds = adds_then old.plans mid.plans new.plans m.steps (quantified_made q left (base_made m.last m.next)).steps first.adds here.adds;
       last = here.last;
       next = here.next ∙ next_same q left m;

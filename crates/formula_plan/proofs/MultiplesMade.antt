@@ -144,7 +144,7 @@ times_more old mid new v w s p cs i c within at first second =
     } in
     subst (λ r. DoesTerm old new w r) (sym (ap (times_numerals s p) (take_more cs i 0 within ∙ ap (λ d. take i cs ++ d ∷ []) (sym at)) ∙ times_end s p (take i cs) c)) whole
 
--- what is made at last stands in a list with more plans
+-- what is made at last is in a list with more plans
 pub within_after : (old mid new : Planner) (i j : ℕ) (m n : Made) → Does old mid i m → Does mid new j n → i < length new.plans
 within_after old mid new i j m n one two = (is_at_later mid.plans new.plans n.steps i m.last two.adds one.last).within
 
@@ -165,15 +165,15 @@ twice_answers (Ok place) old new s c x y two does = λ most within. subst (λ m.
 twice_answers (Err e) old new s c x y two does = does
 
 -- a product of a value that is made first
-times_front : (s : Name) (p : TermPlan) (cs : List ℕ)
+times_prefix : (s : Name) (p : TermPlan) (cs : List ℕ)
     → times_numerals s p cs ≡ record { steps = p.steps ++ (times_numerals s (standing p.placed p.next) cs).steps; placed = (times_numerals s (standing p.placed p.next) cs).placed; next = (times_numerals s (standing p.placed p.next) cs).next }
-times_front s p [] = ap (λ l. let q : TermPlan = record { steps = l; placed = p.placed; next = p.next } in q) (sym (append-nil p.steps))
-times_front s p (c ∷ cs) =
+times_prefix s p [] = ap (λ l. let q : TermPlan = record { steps = l; placed = p.placed; next = p.next } in q) (sym (append-nil p.steps))
+times_prefix s p (c ∷ cs) =
     let one : TermPlan = times_numeral s (standing p.placed p.next) c in
     let rest : TermPlan = times_numerals s (standing one.placed one.next) cs in
     let whole : TermPlan = times_numerals s one cs in
-    let from : whole ≡ record { steps = one.steps ++ rest.steps; placed = rest.placed; next = rest.next } = times_front s one cs in
-    times_front s (times_numeral s p c) cs
+    let from : whole ≡ record { steps = one.steps ++ rest.steps; placed = rest.placed; next = rest.next } = times_prefix s one cs in
+    times_prefix s (times_numeral s p c) cs
     ∙ ap (λ l. let q : TermPlan = record { steps = l; placed = rest.placed; next = rest.next } in q) (append_assoc p.steps one.steps rest.steps)
     ∙ sym (ap (λ (w : TermPlan). let q : TermPlan = record { steps = p.steps ++ w.steps; placed = w.placed; next = w.next } in q) from)
 
@@ -183,7 +183,7 @@ times_after old mid new v w s p cs first second =
     let later : DoesTerm mid new w (times_numerals s (standing p.placed p.next) cs) =
     subst (λ l. DoesTerm mid new w (times_numerals s (standing p.placed l) cs)) first.next
     (subst (λ z. DoesTerm mid new w (times_numerals s (standing z mid.next) cs)) first.placed_is second) in
-    subst (λ r. DoesTerm old new w r) (sym (times_front s p cs)) (record {
+    subst (λ r. DoesTerm old new w r) (sym (times_prefix s p cs)) (record {
       adds = adds_then old.plans mid.plans new.plans p.steps (times_numerals s (standing p.placed p.next) cs).steps first.adds later.adds;
       within = later.within;
       placed_is = later.placed_is;

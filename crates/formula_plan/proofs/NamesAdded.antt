@@ -17,9 +17,9 @@ use Rattle.formula_plan.proofs.SameNames.{added_none, added_then}
 names_more : (vs : List Name) (i : ℕ) (d : Name) → i < length vs → names_view (take (i + 1) vs) ≡ names (names_view (take i vs)) (get_or vs i d)
 names_more vs i d within = ap names_view (take_more vs i d within) ∙ fold-append names no_names (take i vs) (get_or vs i d ∷ [])
 
-any_kept : (front : Names) (vs ms : List Name) → has_any front ms ≡ true → has_any (fold names front vs) ms ≡ true
-any_kept front [] ms some = some
-any_kept front (v ∷ vs) ms some = any_kept (names front v) vs ms (ap (λ b. b || has_name ms v) some)
+any_kept : (prefix : Names) (vs ms : List Name) → has_any prefix ms ≡ true → has_any (fold names prefix vs) ms ≡ true
+any_kept prefix [] ms some = some
+any_kept prefix (v ∷ vs) ms some = any_kept (names prefix v) vs ms (ap (λ b. b || has_name ms v) some)
 
 or_true : (a : Bool) → (a || true) ≡ true
 or_true true = refl

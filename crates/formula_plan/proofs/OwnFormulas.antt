@@ -181,9 +181,9 @@ mutual
   operands_own h (operands os f j) k p ms on =
       let ps = operand_plans h os k in
       let q : Plan = (plan_of h f ps.next).last in
-      let front = operands_own h os k q (own_of f) (formula_own h f ps.next) in
+      let prefix = operands_own h os k q (own_of f) (formula_own h f ps.next) in
       record {
-        agree = λ n. has_both (tracks (chained ps.operands q)) (tracks p) (own n) ∙ ap (λ b. b || has_track (tracks p) (own n)) (front.agree n)
+        agree = λ n. has_both (tracks (chained ps.operands q)) (tracks p) (own n) ∙ ap (λ b. b || has_track (tracks p) (own n)) (prefix.agree n)
             ∙ ap (λ b. has_name (own_operands os ++ own_of f) n || b) (on.agree n) ∙ sym (named_both (own_operands os ++ own_of f) ms n);
       }
 

@@ -56,13 +56,13 @@ without_fresh j (fresh i ∷ xs) n = by (j == i) (without_fresh j xs n)
 eq_back : (m n : Name) → bytes_eq m n ≡ false → bytes_eq n m ≡ false
 eq_back m n apart = false_from_ne_true (bytes_eq n m) (λ same. false≢true (sym apart ∙ (bytes_eq-Decides m n).1 (sym ((bytes_eq-Decides n m).0 same))))
 
-step_same : (m l n : Name) (rest front : Bool) → bytes_eq m l ≡ true → rest ≡ (not (bytes_eq m n) && front) → rest ≡ (not (bytes_eq m n) && (bytes_eq l n || front))
-step_same m l n rest front same is = is ∙ absorb (bytes_eq m n) front ∙ ap (λ k. not (bytes_eq m n) && (bytes_eq k n || front)) ((bytes_eq-Decides m l).0 same)
+step_same : (m l n : Name) (rest prefix : Bool) → bytes_eq m l ≡ true → rest ≡ (not (bytes_eq m n) && prefix) → rest ≡ (not (bytes_eq m n) && (bytes_eq l n || prefix))
+step_same m l n rest prefix same is = is ∙ absorb (bytes_eq m n) prefix ∙ ap (λ k. not (bytes_eq m n) && (bytes_eq k n || prefix)) ((bytes_eq-Decides m l).0 same)
 
-step_apart : (m l n : Name) (rest front : Bool) → bytes_eq m l ≡ false → rest ≡ (not (bytes_eq m n) && front) → (bytes_eq l n || rest) ≡ (not (bytes_eq m n) && (bytes_eq l n || front))
-step_apart m l n rest front apart is = ap (λ b. bytes_eq l n || b) is ∙ by (bytes_eq m n) refl
+step_apart : (m l n : Name) (rest prefix : Bool) → bytes_eq m l ≡ false → rest ≡ (not (bytes_eq m n) && prefix) → (bytes_eq l n || rest) ≡ (not (bytes_eq m n) && (bytes_eq l n || prefix))
+step_apart m l n rest prefix apart is = ap (λ b. bytes_eq l n || b) is ∙ by (bytes_eq m n) refl
   where
-    by : (b : Bool) → bytes_eq m n ≡ b → (bytes_eq l n || (not b && front)) ≡ (not b && (bytes_eq l n || front))
+    by : (b : Bool) → bytes_eq m n ≡ b → (bytes_eq l n || (not b && prefix)) ≡ (not b && (bytes_eq l n || prefix))
     by true same = ap (λ k. bytes_eq l k || false) (sym ((bytes_eq-Decides m n).0 same)) ∙ ap (λ b. b || false) (eq_back m l apart)
     by false none = refl
 
@@ -100,7 +100,7 @@ without_none m (l ∷ xs) none = by (bytes_eq m l) refl (without_none m xs (seco
     by true same rest = absurd (false≢true (sym (eq_back l m (first_no (bytes_eq l m) (has_name xs m) none)) ∙ same))
     by false apart rest = ap (λ ys. l ∷ ys) rest
 
--- a value with a relation stands at a fresh track
+-- a value with a relation is at a fresh track
 abbrev pub IsClosable : Track → Option Plan → Type 0
 IsClosable (own n) None = ⊤
 IsClosable (own n) (Some r) = ⊥

@@ -27,7 +27,7 @@ adds_then xs ys zs ss ts one two = record {
 pub adds_more : (xs ys ss : List Plan) → Adds xs ys ss → length xs ≤ length ys
 adds_more xs ys ss adds = let long = ap length adds.grown ∙ length-append xs adds.more in omega (arith, long)
 
--- what stands at a place stays there
+-- what is at a place stays there
 pub at_later : (xs ys ss : List Plan) (i : ℕ) → Adds xs ys ss → i < length xs → plan_at ys i ≡ plan_at xs i
 at_later xs ys ss i adds within = ap (λ l. plan_at l i) adds.grown ∙ at_grown xs adds.more i within
 
@@ -74,15 +74,15 @@ pub close_more : (old mid new : Planner) (ps : List found.Placed) (i b j : ℕ) 
     → Does mid new j (closed_made mid.next (placed_at mid.plans p) (plan_at mid.plans b))
     → Does old new j (closed_all_made old.next (places_at old.plans (take (i + 1) ps)) base)
 close_more old mid new ps i b j p base within at are one two =
-    let front : Places = places_at old.plans (take i ps) in
+    let prefix : Places = places_at old.plans (take i ps) in
     let inside : IsWithin old.plans p.relation = subst (λ (q : found.Placed). IsWithin old.plans q.relation) (sym at) (are i p within) in
-    let place = placed_later old.plans mid.plans (closing_all front base) p one.adds inside in
-    let second : Does mid new j (closed_made old.next (placed_at old.plans p) (closed_all front base)) =
-    subst (λ k. Does mid new j (closed_made k (placed_at old.plans p) (closed_all front base))) one.next
-    (subst (λ q. Does mid new j (closed_made mid.next q (closed_all front base))) place
+    let place = placed_later old.plans mid.plans (closing_all prefix base) p one.adds inside in
+    let second : Does mid new j (closed_made old.next (placed_at old.plans p) (closed_all prefix base)) =
+    subst (λ k. Does mid new j (closed_made k (placed_at old.plans p) (closed_all prefix base))) one.next
+    (subst (λ q. Does mid new j (closed_made mid.next q (closed_all prefix base))) place
     (subst (λ q. Does mid new j (closed_made mid.next (placed_at mid.plans p) q)) one.last.is two)) in
     subst (λ qs. Does old new j (closed_all_made old.next qs base)) (sym (places_more old.plans ps i p within at))
-    (does_then old mid new b j (closed_all_made old.next front base) (closed_made old.next (placed_at old.plans p) (closed_all front base)) one second)
+    (does_then old mid new b j (closed_all_made old.next prefix base) (closed_made old.next (placed_at old.plans p) (closed_all prefix base)) one second)
 
 -- the value of a later planner is within
 pub close_within : (old mid : Planner) (ps : List found.Placed) (i : ℕ) (p : found.Placed) (ss : List Plan) → i < length ps → p ≡ get_or ps i p → AreWithin old.plans ps

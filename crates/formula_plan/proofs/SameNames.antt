@@ -9,8 +9,8 @@ use Rattle.formula_plan.specs.FormulaPlanning.{AgreeOn}
 use Rattle.formula_plan.proofs.OwnTracks.{named_both, without_named}
 
 -- with others before or after them
-pub same_front : (xs ys zs : List Name) → HaveSame xs ys → HaveSame (xs ++ zs) (ys ++ zs)
-same_front xs ys zs same n = named_both xs zs n ∙ ap (λ b. b || has_name zs n) (same n) ∙ sym (named_both ys zs n)
+pub same_prefix : (xs ys zs : List Name) → HaveSame xs ys → HaveSame (xs ++ zs) (ys ++ zs)
+same_prefix xs ys zs same n = named_both xs zs n ∙ ap (λ b. b || has_name zs n) (same n) ∙ sym (named_both ys zs n)
 
 pub same_after : (xs ys zs : List Name) → HaveSame ys zs → HaveSame (xs ++ ys) (xs ++ zs)
 same_after xs ys zs same n = named_both xs ys n ∙ ap (λ b. has_name xs n || b) (same n) ∙ sym (named_both xs zs n)
@@ -28,7 +28,7 @@ pub added_none : (old : List Name) → HaveSame old (old ++ [])
 added_none old n = ap (λ l. has_name l n) (sym (append-nil old))
 
 pub added_then : (old mid new more again : List Name) → HaveSame mid (old ++ more) → HaveSame new (mid ++ again) → HaveSame new (old ++ (more ++ again))
-added_then old mid new more again first second n = second n ∙ same_front mid (old ++ more) again first n ∙ ap (λ l. has_name l n) (append_assoc old more again)
+added_then old mid new more again first second n = second n ∙ same_prefix mid (old ++ more) again first n ∙ ap (λ l. has_name l n) (append_assoc old more again)
 
 -- the own tracks of a plan
 pub agrees_same : (p : Plan) (xs ys : List Name) → HaveSame ys xs → AgreeOn p xs → AgreeOn p ys

@@ -1,5 +1,5 @@
--- Where values stand: at a variable's own track, or at a fresh one with a relation that holds where the value is there. A base over
--- such tracks, once they are closed, says of the values what it said of the tracks.
+-- Where values are: at a variable's own track, or at a fresh one with a relation that holds where the value is there. A base over such
+-- tracks, once they are closed, says of the values what it said of the tracks.
 use Rattle.std.specs.Prelude.{⊤}
 use Rattle.std.proofs.Common.{◌≡◌, ℕ, ◌<◌, ◌≤◌, List, [], ◌∷◌, ◌++◌, map, Option, None, Some, refl, sym, ◌∙◌, ap, subst, arith}
 use Rattle.std.proofs.lemmas.Option.{same_Some}
@@ -36,7 +36,7 @@ abbrev pub Relates : Meanings → Option Plan → Numbers → Type 0
 Relates m None a = ⊤
 Relates m (Some r) a = Means m r a
 
--- the value stands at the track
+-- the value is at the track
 pub record StandsAt (m : Meanings) (v : Value) (t : Track) (r : Option Plan) (k next : ℕ) : Type 0 where
   pub there : (a : Numbers) → Relates m r a → v (of_variables a) ≡ Some (a t)
   pub back : (a : Numbers) → v (of_variables a) ≡ Some (a t) → Relates m r a
@@ -104,7 +104,7 @@ abbrev pub read_all : Values → Assignment → Option (List ℕ)
 read_all no_values b = Some []
 read_all (listed vs v) b = and_value (read_all vs b) (v b)
 
--- each stands at its place, and their fresh tracks come one after another
+-- each is at its place, and their fresh tracks come one after another
 abbrev pub StandAll : Meanings → Values → Places → ℕ → ℕ → Type 0
 StandAll m no_values no_places k next = k ≤ next
 StandAll m (listed vs v) (places ps p) k next = (mid : ℕ) × StandAll m vs ps k mid × Stands m v p mid next
@@ -172,17 +172,17 @@ reads_at m vs ps k mid stand a b reads (fresh j) (Some r) next is = reads_outsid
 reads_at m vs ps k mid stand a b reads (own n) (Some r) next is = absurd is
 reads_at m vs ps k mid stand a b reads (fresh j) None next is = absurd is
 
--- the values are the numbers that then stand at the tracks
+-- the values are the numbers that then are at the tracks
 pub reads_values : (m : Meanings) (vs : Values) (ps : Places) (k next : ℕ) → StandAll m vs ps k next → (a b : Numbers) → Reads vs ps a b
     → read_all vs (of_variables a) ≡ Some (map b (tracks_of ps))
 reads_values m no_values no_places k next stand a b reads = refl
 reads_values m (listed vs v) (places ps p) k next stand a b reads =
-    let front : read_all vs (of_variables a) ≡ Some (map b (tracks_of ps)) =
+    let prefix : read_all vs (of_variables a) ≡ Some (map b (tracks_of ps)) =
     ap (read_all vs) (sym (set_variables p.track p.relation stand.0 next stand.2.placed reads.0 a)) ∙ reads_values m vs ps k stand.0 stand.1 (set_on p reads.0 a) b reads.2 in
     let here : b p.track ≡ reads.0 =
     reads_at m vs ps k stand.0 stand.1 (set_on p reads.0 a) b reads.2 p.track p.relation next stand.2.placed
     ∙ set_here m v p.track p.relation stand.0 next stand.2 a reads.0 reads.1 in
-    and_at (read_all vs (of_variables a)) (v (of_variables a)) (map b (tracks_of ps)) reads.0 front reads.1
+    and_at (read_all vs (of_variables a)) (v (of_variables a)) (map b (tracks_of ps)) reads.0 prefix reads.1
     ∙ ap Some (ap (λ x. map b (tracks_of ps) ++ x ∷ []) (sym here) ∙ sym (map-append b (tracks_of ps) (p.track ∷ [])))
 reads_values m no_values (places ps p) k next stand a b reads = absurd stand
 reads_values m (listed vs v) no_places k next stand a b reads = absurd stand

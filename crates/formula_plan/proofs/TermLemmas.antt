@@ -1,4 +1,4 @@
--- The value of a term stands where its plan places it.
+-- The value of a term is where its plan places it.
 use Rattle.std.proofs.Common.{◌≡◌, ◌↔◌, ℕ, zero, suc, ◌+◌, ◌-◌, ◌*◌, ◌/◌, ◌%◌, ◌==◌, ◌≤◌, Bool, true, false, if◌then◌else◌, List, [], ◌∷◌, ◌++◌, map, slice_index_or, Option, None, Some, refl, sym, ◌∙◌, ap, subst, arith}
 use Rattle.std.proofs.lemmas.Option.{none-some, same_Some}
 use Rattle.formula_parse.specs.Tokens.{Name, Sign, plus, minus, equal}
@@ -186,7 +186,7 @@ times_swapped n c (Some x) = ap Some (swapped n c x)
     swapped : (n c x : ℕ) → n * c * x ≡ n * x * c
     swapped n c x = grind arith
 
--- a factor after some numbers may stand before them
+-- a factor after some numbers may come before them
 times_all_swapped : (cs : List ℕ) (n : ℕ) (x : Option ℕ) → both multiplied (times_all (Some n) cs) x ≡ times_all (both multiplied (Some n) x) cs
 times_all_swapped [] n x = refl
 times_all_swapped (c ∷ cs) n x = times_all_swapped cs (n * c) x ∙ ap (λ y. times_all y cs) (times_swapped n c x)

@@ -74,12 +74,12 @@ sum_does old taken one two new b v w i j k r s inside within here next same firs
     let half : Does one two j (closed_made one.next p base) =
     subst (λ x. Does one two j (closed_made one.next x base)) (placed_later old.plans one.plans [] b.sum adds inside)
     (subst (λ x. Does one two j (closed_made one.next (placed_at one.plans b.sum) x)) made.last.is second) in
-    let front : Adds old.plans two.plans (closing p base) = adds_then old.plans one.plans two.plans [] (closing p base) adds half.adds in
+    let prefix : Adds old.plans two.plans (closing p base) = adds_then old.plans one.plans two.plans [] (closing p base) adds half.adds in
     let whole : Does two new k (closed_made two.next q (closed p base)) =
-    subst (λ x. Does two new k (closed_made two.next x (closed p base))) (placed_later old.plans two.plans (closing p base) v front within)
+    subst (λ x. Does two new k (closed_made two.next x (closed p base))) (placed_later old.plans two.plans (closing p base) v prefix within)
     (subst (λ x. Does two new k (closed_made two.next (placed_at two.plans v) x)) half.last.is third) in
     record {
-      adds = adds_then old.plans two.plans new.plans (closing p base) (closing q (closed p base)) front whole.adds;
+      adds = adds_then old.plans two.plans new.plans (closing p base) (closing q (closed p base)) prefix whole.adds;
       within = fits;
       placed_is = stands ∙ ap (λ x. let z : Placed = record { track = fresh x; relation = Some (plan_at new.plans k) } in z) here
           ∙ ap (λ x. let z : Placed = record { track = fresh old.next; relation = Some x } in z) whole.last.is;
@@ -141,7 +141,7 @@ sum_answers_all (Ok w) s whole t ss ts i old mid one new before v seen same long
     (sum_then s (addends_view ts) old mid one new before v w (term_plan s t) (subst (λ l. IsSumSoFar s (addends_view l) old mid before) (take_all i ss long ∙ same) so_far) value after)
 sum_answers_all (Err e) s whole t ss ts i old mid one new before v seen same long so_far value after = after
 
--- a variable's value stands at its own track
+-- a variable's value is at its own track
 pub variable_does : (s : Name) (whole : Term) (old : Planner) (w : found.Placed) (n : Name) → whole ≡ variable n → w.relation ≡ None → placed_at old.plans w ≡ record { track = own n; relation = None }
     → DoesTerm old old w (term_plan s whole old.next)
 variable_does s whole old w n seen bare stands =

@@ -10,7 +10,7 @@ use Rattle.formula_plan.specs.declared.comparisons.Short.{Short}
 use Rattle.formula_resolve.specs.Headers as resolved
 use Rattle.formula_plan.specs.FactPlans as plans
 
--- the systems of tracks, as headers tell them
+-- the systems of tracks, as headers say them
 abbrev pub headers_of : resolved.Headers → plans.Headers
 headers_of h = record { of_automaton = resolved.automaton_tracks h; of_word = resolved.word_tracks h }
 

@@ -58,8 +58,8 @@ count (terms ts t) = suc (count ts)
 abbrev pub argument_plans : List Name → Terms → ℕ → TermPlans
 argument_plans ss no_terms k = record { steps = []; placed = no_places; next = k }
 argument_plans ss (terms ts t) k =
-    let front = argument_plans ss ts k in
-    and_term front (term_plan (slice_index_or ss (count ts) []) t front.next)
+    let prefix = argument_plans ss ts k in
+    and_term prefix (term_plan (slice_index_or ss (count ts) []) t prefix.next)
 
 abbrev pub as_variable : Term → Option Name
 as_variable (variable n) = Some n

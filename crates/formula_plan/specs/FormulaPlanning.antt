@@ -11,29 +11,29 @@ use Rattle.formula_plan.specs.Makings.{plan_at}
 use Rattle.formula_plan.specs.OwnNames.{has_name}
 use Rattle.formula_plan.specs.Planning.{Adds, Does}
 use Rattle.formula_plan.specs.declared.planner.Planner.{Planner}
-use Rattle.formula_plan.specs.declared.chains.Front.{Front}
+use Rattle.formula_plan.specs.declared.chains.Prefix.{Prefix}
 
--- what stands at the places of operands
+-- what is at the places of operands
 abbrev pub with_made : MadeOperands → (Plan × Joint) → MadeOperands
 with_made os o = made os o.0 o.1
 
-abbrev pub operand_at : List Plan → Front → Plan × Joint
+abbrev pub operand_at : List Plan → Prefix → Plan × Joint
 operand_at plans f = (plan_at plans f.place, connective_view f.connective)
 
-abbrev pub operands_at : List Plan → List Front → MadeOperands
+abbrev pub operands_at : List Plan → List Prefix → MadeOperands
 operands_at plans fs = fold with_made none_made (map (operand_at plans) fs)
 
-abbrev pub AreOperandsWithin : List Plan → List Front → Type 0
-AreOperandsWithin plans fs = (i : ℕ) (d : Front) → i < length fs → (slice_index_or fs i d).place < length plans
+abbrev pub AreOperandsWithin : List Plan → List Prefix → Type 0
+AreOperandsWithin plans fs = (i : ℕ) (d : Prefix) → i < length fs → (slice_index_or fs i d).place < length plans
 
-abbrev pub IsFrontWithin : List Plan → Option Front → Type 0
-IsFrontWithin plans None = ⊤
-IsFrontWithin plans (Some f) = f.place < length plans
+abbrev pub IsPrefixWithin : List Plan → Option Prefix → Type 0
+IsPrefixWithin plans None = ⊤
+IsPrefixWithin plans (Some f) = f.place < length plans
 
 -- an operand after what came before it
-abbrev pub joined_front : List Plan → Option Front → Plan → ℕ → Made
-joined_front plans None p k = record { steps = []; last = p; next = k }
-joined_front plans (Some f) p k = record {
+abbrev pub joined_prefix : List Plan → Option Prefix → Plan → ℕ → Made
+joined_prefix plans None p k = record { steps = []; last = p; next = k }
+joined_prefix plans (Some f) p k = record {
   steps = joined (connective_view f.connective) (plan_at plans f.place) p ∷ [];
   last = joined (connective_view f.connective) (plan_at plans f.place) p;
   next = k;
@@ -43,13 +43,13 @@ abbrev pub chained_made : ℕ → MadeOperands → Plan → Made
 chained_made k os p = record { steps = chaining os p; last = chained os p; next = k }
 
 -- the products of some operands are there, for what comes after them
-abbrev pub IsFrontOf : MadeOperands → Planner → Planner → Option Front → Type 0
-IsFrontOf os old new None = (os ≡ none_made) × (new ≡ old)
-IsFrontOf os old new (Some f) =
-    (front : MadeOperands) × (p : Plan) × (os ≡ made front p (connective_view f.connective)) × Does old new f.place (chained_made old.next front p)
+abbrev pub IsPrefixOf : MadeOperands → Planner → Planner → Option Prefix → Type 0
+IsPrefixOf os old new None = (os ≡ none_made) × (new ≡ old)
+IsPrefixOf os old new (Some f) =
+    (prefix : MadeOperands) × (p : Plan) × (os ≡ made prefix p (connective_view f.connective)) × Does old new f.place (chained_made old.next prefix p)
 
--- all that operands make is added, and stands so
-pub record DoesOperands (old new : Planner) (fs : List Front) (ps : OperandPlans) : Type 0 where
+-- all that operands make is added, and is so
+pub record DoesOperands (old new : Planner) (fs : List Prefix) (ps : OperandPlans) : Type 0 where
   pub adds : Adds old.plans new.plans ps.steps
   pub within : AreOperandsWithin new.plans fs
   pub operands_are : operands_at new.plans fs ≡ ps.operands

@@ -1,4 +1,4 @@
--- How the plans of a list are made of earlier ones, which stand by their places.
+-- How the plans of a list are made of earlier ones, which are given by their places.
 use Rattle.std.specs.Prelude.{◌≡◌, ℕ, ◌<◌, List, [], ◌∷◌, ◌++◌, map, length, slice_index_or, Option, None, Some, ⊤}
 use Rattle.std.specs.List.{fold}
 use Rattle.digit_tuple.specs.declared.kind.Kind.{Kind}
@@ -33,7 +33,7 @@ plan_by plans (Paired n ts r w us) = paired n (map track_view ts.items) (relatio
 plan_by plans (Complement p) = complement (plan_at plans p)
 plan_by plans (Projected t p) = projected (track_view t) (plan_at plans p)
 
--- it is made of what stands at places below this one
+-- it is made of what is at places below this one
 abbrev pub IsOf : ℕ → Making → Type 0
 IsOf k (Compared y r s t) = ⊤
 IsOf k (Added y s t u) = ⊤

@@ -18,12 +18,12 @@ pub record Adds (old new steps : List Plan) : Type 0 where
   pub grown : new ≡ old ++ more
   pub are_steps : filter is_step more ≡ steps
 
--- the plan stands at the place
+-- the plan is at the place
 pub record IsAt (plans : List Plan) (i : ℕ) (p : Plan) : Type 0 where
   pub within : i < length plans
   pub is : plan_at plans i ≡ p
 
--- all that is made is added, and what is made at last stands at the place
+-- all that is made is added, and what is made at last is at the place
 pub record Does (old new : Planner) (place : ℕ) (m : Made) : Type 0 where
   pub adds : Adds old.plans new.plans m.steps
   pub last : IsAt new.plans place m.last
@@ -41,7 +41,7 @@ linked_at r base t k = record {
   next = k;
 }
 
--- where a value stands, its relation being in the list
+-- where a value is, its relation being in the list
 abbrev pub relation_at : List Plan → Option ℕ → Option Plan
 relation_at plans None = None
 relation_at plans (Some i) = Some (plan_at plans i)
@@ -66,14 +66,14 @@ closed_made k p base = record { steps = closing p base; last = closed p base; ne
 abbrev pub closed_all_made : ℕ → Places → Plan → Made
 closed_all_made k ps base = record { steps = closing_all ps base; last = closed_all ps base; next = k }
 
--- all that a term makes is added, and its value stands so
+-- all that a term makes is added, and its value is so
 pub record DoesTerm (old new : Planner) (placed : found.Placed) (p : TermPlan) : Type 0 where
   pub adds : Adds old.plans new.plans p.steps
   pub within : IsWithin new.plans placed.relation
   pub placed_is : placed_at new.plans placed ≡ p.placed
   pub next : new.next ≡ p.next
 
--- a value that stands already
+-- a value that is there already
 abbrev pub standing : Placed → ℕ → TermPlan
 standing p k = record { steps = []; placed = p; next = k }
 
@@ -91,7 +91,7 @@ constant_made s c t k = record { steps = constant s c t ∷ []; last = constant 
 abbrev pub tracks_in : List found.Placed → List Track
 tracks_in ps = map (λ p. track_view p.track) ps
 
--- all that several terms make is added, and their values stand so
+-- all that several terms make is added, and their values are so
 pub record DoesTerms (old new : Planner) (placed : List found.Placed) (ps : TermPlans) : Type 0 where
   pub adds : Adds old.plans new.plans ps.steps
   pub within : AreWithin new.plans placed

@@ -4,7 +4,7 @@ use Rattle.formula_parse.specs.Tokens.{Name, Relation}
 use Rattle.formula_parse.specs.Trees.{Joint}
 use Rattle.formula_plan.specs.Tracks.{Track, without}
 
--- A system, an automaton and a word stand by their names.
+-- A system, an automaton and a word are given by their names.
 pub data Plan : Type 0 where
   -- two numbers of a system, compared
   compared : Name → Relation → Track → Track → Plan

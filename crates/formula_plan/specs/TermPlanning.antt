@@ -37,7 +37,7 @@ abbrev pub IsSumWithin : List Plan → Option Before → Type 0
 IsSumWithin plans None = ⊤
 IsSumWithin plans (Some b) = IsWithin plans b.sum.relation
 
--- a value after what came before it, which stands already
+-- a value after what came before it, which is there already
 abbrev pub sum_of : Name → List Plan → Option Before → Placed → ℕ → TermPlan
 sum_of s plans None p k = standing p k
 sum_of s plans (Some b) p k = with_addend s (sign_view b.sign) (standing (placed_at plans b.sum) k) (standing p k)

@@ -1,4 +1,4 @@
--- The plans of terms: a track on which a term's value stands, and where it is fresh, the relation of the term's variables and its value.
+-- The plans of terms: a track on which a term's value is, and where it is fresh, the relation of the term's variables and its value.
 use Rattle.std.specs.Prelude.{ℕ, zero, suc, ◌+◌, ◌-◌, ◌/◌, ◌%◌, ◌==◌, List, [], ◌∷◌, ◌++◌, Option, None, Some, if◌then◌else◌}
 use Rattle.formula_parse.specs.Tokens.{Name, Sign, plus, minus, equal}
 use Rattle.formula_parse.specs.Trees.{Term, variable, numeral, product, sum, Factors, no_factors, factors, times, Addends, no_addends, addends, and}

@@ -12,8 +12,7 @@ use digit_tuple::faults::OutOfMemory;
 use digit_tuple::name::Name;
 use formula_parse::tree::Term;
 
-/// The plan of a term in the system at an index. Past the last system, the system without a name
-/// stands.
+/// The plan of a term in the system at an index. Past the last system, the system without a name is.
 fn argument(
     planner: &mut Planner,
     systems: &[Name],

@@ -7,7 +7,7 @@ ghost use Rattle.formula_plan.specs.OwnNames.{own_of, HaveSame};
 ghost use Rattle.formula_plan.specs.Planning.{Does};
 ghost use Rattle.formula_plan.specs.FactPlanning.{headers_of};
 
-use crate::chains::{Front, chained};
+use crate::chains::{Prefix, chained};
 use crate::facts::stated;
 use crate::free_names::FreeNames;
 use crate::names::add_fact;
@@ -43,7 +43,7 @@ pub(crate) fn planned(
             let mut made = Vec::new(planner.alloc);
             for operand in operands {
                 let place = planned(planner, headers, &operand.formula, free)?;
-                made.push(Front {
+                made.push(Prefix {
                     place,
                     connective: operand.connective,
                 })?;

@@ -9,7 +9,7 @@ use digit_tuple::faults::OutOfMemory;
 use std::alloc::Global;
 use std::marker::Model;
 
-/// Plans, seen as the list of them, each told by how it is made of earlier ones.
+/// Plans, seen as the list of them, each determined by how it is made of earlier ones.
 #[derive(Drop)]
 pub struct PlanList {
     makings: Vec<Making>,

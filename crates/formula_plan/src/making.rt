@@ -10,8 +10,8 @@ use digit_tuple::kind::Kind;
 use digit_tuple::name::Name;
 use formula_parse::tree::{Connective, Relation};
 
-/// How a relation is made: without a step, or by a step. A system, an automaton and a word stand by
-/// their names, and the relations that it is made of by their places in a list.
+/// How a relation is made: without a step, or by a step. A system, an automaton and a word are given by their names,
+/// and the relations that it is made of by their places in a list.
 #[derive(Drop)]
 pub enum Making {
     /// Two numbers of a system, compared.

@@ -19,7 +19,7 @@ pub(crate) struct Planner {
     pub next: u64,
 }
 
-/// Where the value of a term stands: its track, and where that is fresh, the place of its relation.
+/// Where the value of a term is: its track, and where that is fresh, the place of its relation.
 #[derive(Drop)]
 pub(crate) struct Placed {
     pub track: Track,

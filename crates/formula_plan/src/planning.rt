@@ -18,21 +18,21 @@ use std::alloc::Global;
 /// The plan of a formula: a list of plans, and the place of that which the formula has.
 #[derive(Drop)]
 pub struct FormulaPlan {
-    /// The plans, each made of earlier ones. Those that are steps stand in the order of the steps.
+    /// The plans, each made of earlier ones. Those that are steps are in the order of the steps.
     pub plans: PlanList,
     /// The place of what is made at last.
     pub last: usize,
 }
 
-/// The plan of a formula, where the tracks of automata and words have these systems. A track that the
-/// headers do not tell of has the system without a name.
+/// The plan of a formula, where the tracks of automata and words have these systems. A track that the headers do not
+/// say of has the system without a name.
 ///
 /// It takes time in proportion to the length of the formula times its nesting times the logarithm of the
 /// number of its variables, and memory in proportion to the length times the nesting. Calls go no deeper
 /// than the nesting of the formula, and 128 deep for the multiples of a number.
 ///
 /// # Errors
-/// None but for want of memory.
+/// None apart from out of memory.
 pub fn plan(alloc: Global, formula: &Formula, headers: &Headers) -> Result<FormulaPlan, OutOfMemory>
     ensures plan { IfOk result (λ p. IsPlanOf p.plans p.last (plan_of (headers_of headers.now) (formula_view formula.now) 0)) }
     ensures few { IfOk result (λ p. (plan_of (headers_of headers.now) (formula_view formula.now) 0).next < 2 ^ 64) }

@@ -132,7 +132,7 @@ fn term_of_factor(
     }
 }
 
-/// The plan of a term: where its value stands. Calls go no deeper than the nesting of the term.
+/// The plan of a term: where its value is. Calls go no deeper than the nesting of the term.
 #[cycle(terms)]
 pub(crate) fn term(
     planner: &mut Planner,

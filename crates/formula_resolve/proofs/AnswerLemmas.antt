@@ -1,17 +1,17 @@
--- What answers tell of the first of several faults.
+-- What answers report of the first of several faults.
 use Rattle.std.proofs.Common.{◌≡◌, ap, Option, Err, refl, None, Some}
 use Rattle.std.specs.Option.{option_or}
 use Rattle.formula_resolve.specs.Answers.{Tells}
 use Rattle.formula_resolve.specs.declared.fault.ResolveFault.{ResolveFault}
 use Rattle.formula_resolve.specs.declared.fault.ResolveFault.TheVariants as faults
 
--- a fault that is told first is told of all
-pub tells_front : (X Y : Type 0) (x y : Option ResolveFault) (e : ResolveFault) → Tells {X = X} x (Err e) → Tells {X = Y} (option_or x y) (Err e)
-tells_front X Y x y (faults.Plain n) told = ap (λ o. option_or o y) told
-tells_front X Y x y (faults.Arity n tracks given) told = ap (λ o. option_or o y) told
-tells_front X Y x y (faults.Clash n s t) told = ap (λ o. option_or o y) told
-tells_front X Y x y (faults.Direction s t) told = ap (λ o. option_or o y) told
-tells_front X Y x y faults.Memory told = told
+-- a fault that is reported first is reported of all
+pub tells_prefix : (X Y : Type 0) (x y : Option ResolveFault) (e : ResolveFault) → Tells {X = X} x (Err e) → Tells {X = Y} (option_or x y) (Err e)
+tells_prefix X Y x y (faults.Plain n) told = ap (λ o. option_or o y) told
+tells_prefix X Y x y (faults.Arity n tracks given) told = ap (λ o. option_or o y) told
+tells_prefix X Y x y (faults.Clash n s t) told = ap (λ o. option_or o y) told
+tells_prefix X Y x y (faults.Direction s t) told = ap (λ o. option_or o y) told
+tells_prefix X Y x y faults.Memory told = told
 
 -- where neither of two faults is there
 pub none_of_both : (x y : Option ResolveFault) → option_or x y ≡ None → (x ≡ None) × (y ≡ None)

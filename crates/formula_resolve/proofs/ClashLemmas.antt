@@ -16,13 +16,13 @@ use Rattle.formula_resolve.specs.declared.occurrence.Occurrence.{Occurrence}
 abbrev Entries : Type 0
 Entries = List (List ℕ × Name)
 
--- what is found in the front
-find_front : (es more : Entries) (q : List ℕ) (t : Name) → find (slice_cmp nat_cmp) q es ≡ Some t → find (slice_cmp nat_cmp) q (es ++ more) ≡ Some t
-find_front [] more q t there = cc
-find_front (e ∷ es) more q t there =
+-- what is found in the prefix
+find_prefix : (es more : Entries) (q : List ℕ) (t : Name) → find (slice_cmp nat_cmp) q es ≡ Some t → find (slice_cmp nat_cmp) q (es ++ more) ≡ Some t
+find_prefix [] more q t there = cc
+find_prefix (e ∷ es) more q t there =
     elim (eq_by_cmp (slice_cmp nat_cmp) q e.0) as (λ b. cond b (Some e.1) (find (slice_cmp nat_cmp) q es) ≡ Some t → cond b (Some e.1) (find (slice_cmp nat_cmp) q (es ++ more)) ≡ Some t) [
       | true ↦ λ found. found
-      | false ↦ λ found. find_front es more q t found
+      | false ↦ λ found. find_prefix es more q t found
     ] there
 
 -- another key than the last one
@@ -37,7 +37,7 @@ find_there es key s t q there =
       | true ↦ λ same.
           let key_is : q ≡ key = (bytes_eq-Decides q key).0 (sym (is_eq-slice_cmp q key) ∙ same) in
           let here : find (slice_cmp nat_cmp) q es ≡ Some t = ap (λ k. find (slice_cmp nat_cmp) k es) key_is ∙ there in
-          find_front es ((key, s) ∷ []) q t here ∙ sym here
+          find_prefix es ((key, s) ∷ []) q t here ∙ sym here
       | false ↦ λ apart. find_apart es key s q apart
     ] refl
 
@@ -58,7 +58,7 @@ firsts_more os i o m new within at before is =
     ∙ ap (λ p. firsts_of (take i os ++ p ∷ [])) at
     ∙ ap firsts_of (sym (take_more os i o within))
 
--- the map tells the first system
+-- the map determines the first system
 pub firsts_tell : (os : List Occurrence) (p : Occurrence) → get (firsts_of os) (binding p) ≡ first_system os p
 firsts_tell os p = get-from_entries nat_list_cmp_total (map (λ o. (binding o, o.system)) os) (binding p) ∙ found os
   where
@@ -76,10 +76,10 @@ pub clash_step : (os : List Occurrence) (i : ℕ) (o : Occurrence) (m : Named Na
 clash_step os i o m within at firsts before =
     before
     ∙ ap (clash_after (take i os)) (drop_more os i o within ∙ ap (λ p. p ∷ drop (i + 1) os) (sym at))
-    ∙ (λ k. option_or (clash_with (told k) o) (clash_after (front k) (drop (i + 1) os)))
+    ∙ (λ k. option_or (clash_with (told k) o) (clash_after (prefix k) (drop (i + 1) os)))
   where
     told : first_system (take i os) o ≡ get m (binding o)
     told = sym (firsts_tell (take i os) o) ∙ ap (λ n. get n (binding o)) (sym firsts)
 
-    front : take i os ++ o ∷ [] ≡ take (i + 1) os
-    front = ap (λ p. take i os ++ p ∷ []) at ∙ sym (take_more os i o within)
+    prefix : take i os ++ o ∷ [] ≡ take (i + 1) os
+    prefix = ap (λ p. take i os ++ p ∷ []) at ∙ sym (take_more os i o within)

@@ -15,7 +15,7 @@ use Rattle.formula_resolve.specs.declared.fault.ResolveFault.TheVariants.{Clash}
 use Rattle.formula_resolve.proofs.AnswerLemmas.{none_of_both}
 use Rattle.formula_resolve.proofs.ClashLemmas.{firsts_tell}
 
-first_system-append : (front rest : List Occurrence) (p : Occurrence) → first_system (front ++ rest) p ≡ option_or (first_system front p) (first_system rest p)
+first_system-append : (prefix rest : List Occurrence) (p : Occurrence) → first_system (prefix ++ rest) p ≡ option_or (first_system prefix p) (first_system rest p)
 first_system-append [] rest p = refl
 first_system-append (o ∷ os) rest p =
     elim (is_same_binding o p) as (λ t. cond t (Some o.system) (first_system (os ++ rest) p) ≡ option_or (cond t (Some o.system) (first_system os p)) (first_system rest p)) [ true ↦ refl | false ↦ first_system-append os rest p ]
@@ -35,14 +35,14 @@ at_first (Some s) o rest none =
       | false ↦ λ apart h. absurd (not_clash (Clash o.name s o.system) h)
     ] refl none
 
-told_in : (front rest : List Occurrence) → clash_after front rest ≡ None → (p : Occurrence) → Contains rest p → first_system (front ++ rest) p ≡ Some p.system
-told_in front [] none p there = absurd (Contains-none p there)
-told_in front (o ∷ os) none p there =
+told_in : (prefix rest : List Occurrence) → clash_after prefix rest ≡ None → (p : Occurrence) → Contains rest p → first_system (prefix ++ rest) p ≡ Some p.system
+told_in prefix [] none p there = absurd (Contains-none p there)
+told_in prefix (o ∷ os) none p there =
     elim (Contains-cases o os p there) [
-      | inl same ↦ subst (λ (q : Occurrence). first_system (front ++ o ∷ os) q ≡ Some q.system) same
-          (first_system-append front (o ∷ os) o ∙ at_first (first_system front o) o os (none_of_both (clash_with (first_system front o) o) (clash_after (front ++ o ∷ []) os) none).0)
-      | inr later ↦ ap (λ qs. first_system qs p) (sym (append_assoc front (o ∷ []) os))
-          ∙ told_in (front ++ o ∷ []) os (none_of_both (clash_with (first_system front o) o) (clash_after (front ++ o ∷ []) os) none).1 p later
+      | inl same ↦ subst (λ (q : Occurrence). first_system (prefix ++ o ∷ os) q ≡ Some q.system) same
+          (first_system-append prefix (o ∷ os) o ∙ at_first (first_system prefix o) o os (none_of_both (clash_with (first_system prefix o) o) (clash_after (prefix ++ o ∷ []) os) none).0)
+      | inr later ↦ ap (λ qs. first_system qs p) (sym (append_assoc prefix (o ∷ []) os))
+          ∙ told_in (prefix ++ o ∷ []) os (none_of_both (clash_with (first_system prefix o) o) (clash_after (prefix ++ o ∷ []) os) none).1 p later
     ]
 
 same_some : (s t : Name) → Some s ≡ Some t → s ≡ t

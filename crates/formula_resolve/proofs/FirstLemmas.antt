@@ -55,7 +55,7 @@ pub kept_old : (names : List (List ℕ)) (seen new : List (List ℕ)) (key name 
 kept_old names seen new key name number same is numbered other =
     sym (ap (λ b. cond b names (names ++ name ∷ [])) ((λ i. has bytes_eq (sym same i) (sym is i)) ∙ (numbered_old seen new key number numbered (λ at. other (at ∙ ap length same))).1))
 
--- files are told apart by their keys
+-- files are distinguished by their keys
 same_file_key : (f g : File) → is_same_file f g ≡ bytes_eq (file_key f) (file_key g)
 same_file_key (Automaton m) (Automaton n) = refl
 same_file_key (Automaton m) (Word n) = refl
@@ -83,21 +83,21 @@ file_there files seen new key f number same is numbered other =
 
 -- one more that is none of those before it
 with_other : (files : List File) (x : File) → IsOnce files → has is_same_file files x ≡ false → IsOnce (files ++ x ∷ [])
-with_other files x once other i file within at = elim (cases_lt i (length files)) [ inl less ↦ before less | inr not ↦ behind not ]
+with_other files x once other i file within at = elim (cases_lt i (length files)) [ inl less ↦ before less | inr not ↦ suffix not ]
   where
     longer : length (files ++ x ∷ []) ≡ length files + 1
     longer = length-append files (x ∷ [])
 
     before : i < length files → has is_same_file (take i (files ++ x ∷ [])) file ≡ false
     before less =
-        ap (λ front. has is_same_file front file) (take-append-le i files (x ∷ []) (omega (arith, less)))
+        ap (λ prefix. has is_same_file prefix file) (take-append-le i files (x ∷ []) (omega (arith, less)))
         ∙ once i file less (at ∙ get_or_append_left files (x ∷ []) file i less)
 
-    behind : length files ≤ i → has is_same_file (take i (files ++ x ∷ [])) file ≡ false
-    behind not =
+    suffix : length files ≤ i → has is_same_file (take i (files ++ x ∷ [])) file ≡ false
+    suffix not =
         let last : i ≡ length files = omega (arith, not, within, longer) in
         let same : file ≡ x = at ∙ ap (λ j. get_or (files ++ x ∷ []) j file) last ∙ get_or-append_seam files x [] file in
-        (λ k. has is_same_file (take (last k) (files ++ x ∷ [])) (same k)) ∙ ap (λ front. has is_same_file front x) (take-append_seam files (x ∷ [])) ∙ other
+        (λ k. has is_same_file (take (last k) (files ++ x ∷ [])) (same k)) ∙ ap (λ prefix. has is_same_file prefix x) (take-append_seam files (x ∷ [])) ∙ other
 
 -- and one that may be among them
 with_once : (files : List File) (x : File) → IsOnce files → IsOnce (with_new is_same_file files x)

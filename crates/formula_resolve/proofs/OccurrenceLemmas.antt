@@ -22,7 +22,7 @@ track_absent tracks b k j t same past =
     ap (λ n. track_occurrences tracks b n t) same
     ∙ ap (λ c. cond c (term_occurrences (get_or tracks j []) b t) []) (le-ltb j (length tracks) past)
 
--- as many places stand before it
+-- as many places come before it
 before_place : (ts : List Term) (i : ℕ) → i < length ts → count (terms_view (take i ts)) ≡ i
 before_place ts i within = count_view (take i ts) ∙ length-take-le i ts (omega arith)
 

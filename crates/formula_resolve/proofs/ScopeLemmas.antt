@@ -39,16 +39,16 @@ bound_more m new ns n k b is before =
 abbrev pub restored : trees.Names → Binders → Binders → Binders
 restored ns b c = λ m. if is_listed m ns then b m else c m
 
-named_turn : (x y : Bool) (k z w : ℕ) → (y ≡ true → k ≡ z) → (if y then k else (if x then z else w)) ≡ (if x || y then z else w)
-named_turn true true k z w same = same refl
-named_turn true false k z w same = refl
-named_turn false true k z w same = same refl
-named_turn false false k z w same = refl
+named_conflict : (x y : Bool) (k z w : ℕ) → (y ≡ true → k ≡ z) → (if y then k else (if x then z else w)) ≡ (if x || y then z else w)
+named_conflict true true k z w same = same refl
+named_conflict true false k z w same = refl
+named_conflict false true k z w same = same refl
+named_conflict false false k z w same = refl
 
 pub restored_more : (m new : Named ℕ) (ns : trees.Names) (n : Name) (b c : Binders) → new ≡ insert m n (b n) → binders_of m ≡ restored ns b c → binders_of new ≡ restored (trees.names ns n) b c
 restored_more m new ns n b c is before =
     ap binders_of is ∙ one_bound m n (b n) ∙ (λ i q. if bytes_eq q n then b n else before i q)
-    ∙ (λ i q. named_turn (is_listed q ns) (bytes_eq q n) (b n) (b q) (c q) (λ same. ap b (sym ((bytes_eq-Decides q n).0 same))) i)
+    ∙ (λ i q. named_conflict (is_listed q ns) (bytes_eq q n) (b n) (b q) (c q) (λ same. ap b (sym ((bytes_eq-Decides q n).0 same))) i)
 
 -- the number that was kept for a variable of the list
 pub binder_at : (ns : List Name) (ks : List ℕ) (i : ℕ) (n : Name) (b : Binders) → ks ≡ map b ns → i < length ns → n ≡ get_or ns i n → get_or ks i 0 ≡ b n

@@ -1,9 +1,9 @@
--- What an answer tells of a fault.
+-- What an answer reports of a fault.
 use Rattle.std.specs.Prelude.{◌≡◌, Option, None, Some, Result, Ok, Err}
 use Rattle.formula_resolve.specs.declared.fault.ResolveFault.{ResolveFault}
 use Rattle.formula_resolve.specs.declared.fault.ResolveFault.TheVariants as faults
 
--- an answer that is Ok exactly where there is no fault, and else this fault; memory may run out
+-- an answer that is Ok if and only if there is no fault, and else this fault; memory may run out
 abbrev pub Tells : {X : Type 0} → Option ResolveFault → Result X ResolveFault → Type 0
 Tells fault (Ok x) = fault ≡ None
 Tells fault (Err (faults.Plain n)) = fault ≡ Some (faults.Plain n)

@@ -23,8 +23,8 @@ clash_with (Some s) p = if bytes_eq s p.system then None else Some (Clash p.name
 
 -- after these occurrences the first that differs from the first one under its binding
 abbrev pub clash_after : List Occurrence → List Occurrence → Option ResolveFault
-clash_after front [] = None
-clash_after front (o ∷ os) = option_or (clash_with (first_system front o) o) (clash_after (front ++ o ∷ []) os)
+clash_after prefix [] = None
+clash_after prefix (o ∷ os) = option_or (clash_with (first_system prefix o) o) (clash_after (prefix ++ o ∷ []) os)
 
 abbrev pub first_clash : List Occurrence → Option ResolveFault
 first_clash os = clash_after [] os

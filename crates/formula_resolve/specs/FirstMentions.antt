@@ -24,7 +24,7 @@ has same (y ∷ ys) x = same y x || has same ys x
 abbrev pub with_new : {X : Type 0} → (X → X → Bool) → List X → X → List X
 with_new same ys x = if has same ys x then ys else ys ++ x ∷ []
 
--- each of them once, where it stands first
+-- each of them once, where it comes first
 abbrev pub each_once : {X : Type 0} → (X → X → Bool) → List X → List X
 each_once same xs = fold (with_new same) [] xs
 
@@ -50,7 +50,7 @@ first_systems h ms = each_once bytes_eq (flat_map (mentioned_systems h) ms)
 abbrev pub IsOnce : List File → Type 0
 IsOnce files = (i : ℕ) (file : File) → i < length files → file ≡ slice_index_or files i file → has is_same_file (take i files) file ≡ false
 
--- what tells files apart
+-- what distinguishes files
 abbrev pub file_key : File → List ℕ
 file_key (Automaton n) = 0 ∷ n
 file_key (Word n) = 1 ∷ n

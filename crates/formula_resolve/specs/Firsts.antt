@@ -5,7 +5,7 @@ use Rattle.formula_parse.specs.Tokens.{Name}
 use Rattle.formula_resolve.specs.Headers.{Named}
 use Rattle.formula_resolve.specs.declared.occurrence.Occurrence.{Occurrence}
 
--- what tells a binding of a variable: the quantifier's number, and the name
+-- what determines a binding of a variable: the quantifier's number, and the name
 abbrev pub binding : Occurrence → List ℕ
 binding o = o.binder ∷ o.name
 

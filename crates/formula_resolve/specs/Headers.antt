@@ -1,4 +1,4 @@
--- What the tracks of automata and words stand over.
+-- What the tracks of automata and words are over.
 use Rattle.std.specs.Prelude.{List, [], Option, None, Some, Bool, true, false, refl}
 use Rattle.std.specs.Ordering.{nat_cmp}
 use Rattle.std.specs.Cmp.Lexicographic.{slice_cmp}

@@ -18,7 +18,7 @@ abbrev pub said : Result Resolved ResolveFault → Result (List Variable) Resolv
 said (Ok r) = Ok r.variables.items
 said (Err e) = Err e
 
--- a formula has one answer with some headers, but for want of memory
+-- a formula has one answer with some headers, apart from out of memory
 abbrev pub OneResolution : Type 0
 OneResolution = (h : Headers) (f : Formula) (r s : Result Resolved ResolveFault) → Resolves h f r → Resolves h f s → r ≢ Err Memory → s ≢ Err Memory → said r ≡ said s
 

@@ -2,19 +2,19 @@
 use Rattle.std.specs.Prelude.{◌≡◌, Bool, true, List, Option, None, Some}
 use Rattle.std.specs.Option.{option_map, option_or}
 use Rattle.formula_parse.specs.Tokens.{Name}
-use Rattle.formula_resolve.specs.Directions.{is_other_way, least, turned, first_met, other_met}
+use Rattle.formula_resolve.specs.Directions.{is_other_direction, least, opposed, first_met, other_met}
 use Rattle.formula_resolve.specs.declared.occurrence.Occurrence.{Occurrence}
 use Rattle.formula_resolve.specs.declared.meeting.Meeting.{Meeting}
 
 -- those over a system of the other direction than this one; all, where none is given
 abbrev pub away_from : Option Name → List Occurrence → List Occurrence
 away_from None os = os
-away_from (Some s) os = turned s os
+away_from (Some s) os = opposed s os
 
 -- whether it is one of those
 abbrev pub counts : Option Name → Occurrence → Bool
 counts None o = true
-counts (Some s) o = is_other_way s o.system
+counts (Some s) o = is_other_direction s o.system
 
 -- the system that is met first
 abbrev pub met_in : Option Name → List Occurrence → Option Name

@@ -30,7 +30,7 @@ abbrev mutual
   mentions (negated f) = mentions f
   mentions (chain os f) = mentions_among os ++ mentions f
   mentions (quantified q ns f) = mentions f
-  -- a mark stands before its operand
+  -- a mark comes before its operand
   mentions (marked ms f) = marks ms ++ mentions f
 
   pub mentions_among : Operands → List Mention

@@ -69,18 +69,18 @@ abbrev mutual
   occurrences h b k (atom x) = record { list = fact_occurrences h b x.system x.fact; next = k }
   occurrences h b k (negated f) = occurrences h b k f
   occurrences h b k (chain os f) =
-      let front = occurrences_among h b k os in
-      let last = occurrences h b front.next f in
-      record { list = front.list ++ last.list; next = last.next }
+      let prefix = occurrences_among h b k os in
+      let last = occurrences h b prefix.next f in
+      record { list = prefix.list ++ last.list; next = last.next }
   occurrences h b k (quantified q ns f) = occurrences h (bound_by k ns b) (k + 1) f
   occurrences h b k (marked ms f) = occurrences h b k f
 
   pub occurrences_among : Headers → Binders → ℕ → Operands → PartOccurrences
   occurrences_among h b k no_operands = record { list = []; next = k }
   occurrences_among h b k (operands os f j) =
-      let front = occurrences_among h b k os in
-      let last = occurrences h b front.next f in
-      record { list = front.list ++ last.list; next = last.next }
+      let prefix = occurrences_among h b k os in
+      let last = occurrences h b prefix.next f in
+      record { list = prefix.list ++ last.list; next = last.next }
 
 -- those of a part that no quantifier of the part binds, where its first quantifier has this number
 abbrev pub free_of : ℕ → List Occurrence → List Occurrence

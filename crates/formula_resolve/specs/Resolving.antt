@@ -7,22 +7,22 @@ use Rattle.formula_resolve.specs.Mentions.{mentions}
 use Rattle.formula_resolve.specs.Arity.{first_misuse}
 use Rattle.formula_resolve.specs.Occurrences.{all_occurrences}
 use Rattle.formula_resolve.specs.Clashes.{first_clash}
-use Rattle.formula_resolve.specs.Directions.{first_turn}
+use Rattle.formula_resolve.specs.Directions.{first_conflict}
 use Rattle.formula_resolve.specs.Answers.{Tells}
 use Rattle.formula_resolve.specs.FreeVariables.{free_variables}
-use Rattle.formula_resolve.specs.declared.direction.Turn.{Turn}
+use Rattle.formula_resolve.specs.declared.direction.Conflict.{Conflict}
 use Rattle.formula_resolve.specs.declared.resolution.Resolved.{Resolved}
 use Rattle.formula_resolve.specs.declared.fault.ResolveFault.{ResolveFault}
 use Rattle.formula_resolve.specs.declared.fault.ResolveFault.TheVariants as faults
 
-abbrev pub direction_fault : Turn → ResolveFault
+abbrev pub direction_fault : Conflict → ResolveFault
 direction_fault t = faults.Direction t.first t.other
 
 -- the fault of a formula: a name that is misused, else a clash, else two directions
 abbrev pub fault_of : Headers → Formula → Option ResolveFault
-fault_of h f = option_or (first_misuse h (mentions f)) (option_or (first_clash (all_occurrences h f)) (option_map direction_fault (first_turn h f)))
+fault_of h f = option_or (first_misuse h (mentions f)) (option_or (first_clash (all_occurrences h f)) (option_map direction_fault (first_conflict h f)))
 
--- what an answer tells of a formula; Ok has the free variables in byte order with their systems
+-- what an answer reports of a formula; Ok has the free variables in byte order with their systems
 pub record Resolves (h : Headers) (f : Formula) (result : Result Resolved ResolveFault) : Type 0 where
   pub told : Tells (fault_of h f) result
   pub variables : IfOk result (λ r. r.variables.items ≡ free_variables (all_occurrences h f))

@@ -105,7 +105,7 @@ fn check_same(alloc: Global, first: &Name, occurrence: &Occurrence) -> Result<()
     ))
 }
 
-/// What tells the binding of an occurrence.
+/// What determines the binding of an occurrence.
 fn binding(alloc: Global, occurrence: &Occurrence) -> Result<Vec<u64>, OutOfMemory>
     ensures { IfOk result (λ key. key.items ≡ binding_of occurrence.now) }
 {

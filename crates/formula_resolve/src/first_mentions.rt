@@ -158,7 +158,7 @@ impl FirstFiles {
     }
 }
 
-/// What tells a file apart, as a key.
+/// What distinguishes a file, as a key.
 fn file_key(alloc: Global, file: &File) -> Result<Vec<u32>, OutOfMemory>
     ensures { IfOk result (λ key. key.items ≡ file_key_of file.now) }
 {

@@ -9,8 +9,8 @@ use std::alloc::Global;
 use std::collections::BTreeMap;
 use std::marker::Model;
 
-/// What the tracks of automata and words stand over: for each name that was added the systems of its
-/// tracks, or that an automaton is over sets. A search takes the logarithm of the number of names.
+/// What the tracks of automata and words are over: for each name that was added the systems of its tracks, or that an
+/// automaton is over sets. A search takes the logarithm of the number of names.
 #[derive(Drop)]
 pub struct Headers {
     alloc: Global,

@@ -2,12 +2,12 @@
 
 ghost use Rattle.formula_resolve.specs.Laws.{FreeIsUnbound, NoClashIsConsistent, OneResolution};
 
-/// A formula has one answer with some headers, but for want of memory.
+/// A formula has one answer with some headers, apart from out of memory.
 pub fn one_resolution()
     ensures { OneResolution }
 {}
 
-/// The occurrences that the numbers of quantifiers tell to be free are those that no quantifier binds.
+/// The occurrences that the numbers of quantifiers determine to be free are those that no quantifier binds.
 pub fn free_is_unbound()
     ensures { FreeIsUnbound }
 {}

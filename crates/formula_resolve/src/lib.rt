@@ -8,7 +8,7 @@
 //!
 //! The definitions are functions on formulas (`specs/Mentions.antt`, `Arity`, `Occurrences`, `Clashes`, `Directions`,
 //! `FreeVariables`), which `specs/Resolving.antt` joins. Quantifiers are numbered in the order of the text, so an
-//! occurrence is free in a part exactly where its quantifier's number is below that of the part's first one.
+//! occurrence is free in a part if and only if its quantifier's number is below that of the part's first one.
 //!
 //! Calls go no deeper than the nesting of the formula. The time is that of its length times its nesting, and the logarithm
 //! of the number of names. What a formula says of numbers plays no part here.

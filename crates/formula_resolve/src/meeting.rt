@@ -4,10 +4,10 @@
 ghost use Rattle.std.specs.Prelude.{◌≡◌, None, Some, IfOk};
 ghost use Rattle.std.specs.Option.{option_copied, option_or};
 ghost use Rattle.formula_resolve.specs.Occurrences.{free_of};
-ghost use Rattle.formula_resolve.specs.Directions.{lesser as lesser_of, least as least_of, turn_between};
+ghost use Rattle.formula_resolve.specs.Directions.{lesser as lesser_of, least as least_of, conflict_between};
 ghost use Rattle.formula_resolve.specs.Meetings.{away_from, counts as counts_of, met_in, other_in, IsMet};
 
-use crate::direction::{Turn, is_other_way};
+use crate::direction::{Conflict, is_other_direction};
 use crate::occurrence::Occurrence;
 use digit_tuple::faults::OutOfMemory;
 use digit_tuple::name::Name;
@@ -50,11 +50,11 @@ impl Meeting {
     }
 
     /// The two systems, where two are met.
-    pub fn turn(self) -> Option<Turn>
-        ensures { result ≡ turn_between self.first self.other }
+    pub fn conflict(self) -> Option<Conflict>
+        ensures { result ≡ conflict_between self.first self.other }
     {
         match (self.first, self.other) {
-            (Some(first), Some(other)) => Some(Turn { first, other }),
+            (Some(first), Some(other)) => Some(Conflict { first, other }),
             _ => None,
         }
     }
@@ -133,7 +133,7 @@ fn counts(occurrence: &Occurrence, away: Option<&Name>) -> bool
 {
     match away {
         None => true,
-        Some(system) => is_other_way(system, &occurrence.system),
+        Some(system) => is_other_direction(system, &occurrence.system),
     }
 }
 

@@ -6,12 +6,12 @@ ghost use Rattle.std.specs.FinMap as finite;
 ghost use Rattle.formula_parse.specs.Views.{formula_view};
 ghost use Rattle.formula_resolve.specs.Answers.{Tells};
 ghost use Rattle.formula_resolve.specs.Occurrences.{all_occurrences};
-ghost use Rattle.formula_resolve.specs.Directions.{first_turn};
+ghost use Rattle.formula_resolve.specs.Directions.{first_conflict};
 ghost use Rattle.formula_resolve.specs.Resolving.{direction_fault, Resolves};
 
 use crate::arity::check_uses;
 use crate::clash::check_systems;
-use crate::direction::Turn;
+use crate::direction::Conflict;
 use crate::fault::ResolveFault;
 use crate::headers::Headers;
 use crate::mention::mentions;
@@ -52,11 +52,11 @@ pub fn resolve(
     check_uses(alloc, &mentioned, headers)?;
     let Walk {
         occurrences,
-        turn,
+        conflict,
         ..
     } = walk_whole(alloc, formula, headers)?;
     check_systems(alloc, &occurrences)?;
-    check_directions(turn)?;
+    check_directions(conflict)?;
     let variables = free_variables(alloc, &occurrences)?;
     Ok(Resolved { variables })
 }
@@ -64,24 +64,24 @@ pub fn resolve(
 /// The walk through a whole formula.
 fn walk_whole(alloc: Global, formula: &Formula, headers: &Headers) -> Result<Walk, OutOfMemory>
     ensures occurrences { IfOk result (λ w. w.occurrences.items ≡ all_occurrences headers.now (formula_view formula.now)) }
-    ensures turn { IfOk result (λ w. w.turn ≡ first_turn headers.now (formula_view formula.now)) }
+    ensures conflict { IfOk result (λ w. w.conflict ≡ first_conflict headers.now (formula_view formula.now)) }
 {
     let mut walk = Walk {
         scope: Scope::new(alloc),
         next: 1,
         occurrences: Vec::new(alloc),
-        turn: None,
+        conflict: None,
     };
     walk_formula(alloc, formula, headers, &mut walk)?;
     Ok(walk)
 }
 
 /// Ok where no two directions meet.
-fn check_directions(turn: Option<Turn>) -> Result<(), ResolveFault>
-    ensures { Tells (option_map direction_fault turn) result }
+fn check_directions(conflict: Option<Conflict>) -> Result<(), ResolveFault>
+    ensures { Tells (option_map direction_fault conflict) result }
 {
-    match turn {
-        Some(Turn { first, other }) => Err(ResolveFault::Direction(first, other)),
+    match conflict {
+        Some(Conflict { first, other }) => Err(ResolveFault::Direction(first, other)),
         None => Ok(()),
     }
 }

@@ -10,7 +10,7 @@ ghost use Rattle.formula_resolve.specs.Scopes.{binders_of};
 ghost use Rattle.formula_resolve.specs.Meetings.{IsMet};
 ghost use Rattle.formula_resolve.specs.Walks.{Walked};
 
-use crate::direction::{Turn, fact_turn};
+use crate::direction::{Conflict, fact_conflict};
 use crate::headers::Headers;
 use crate::meeting::Meeting;
 use crate::occurrence::{Occurrence, add_atom};
@@ -27,7 +27,7 @@ pub(crate) struct Walk {
     /// The number of the next quantifier.
     pub next: u64,
     pub occurrences: Vec<Occurrence>,
-    pub turn: Option<Turn>,
+    pub conflict: Option<Conflict>,
 }
 
 /// Where a part of a formula begins.
@@ -63,7 +63,7 @@ impl Walk {
         ensures scope { OnOk result (binders_of self.new.scope ≡ bound_by self.old.next (names_view names.now) (binders_of self.old.scope)) }
         ensures next { OnOk result (self.new.next ≡ self.old.next + 1) }
         ensures occurrences { OnOk result (self.new.occurrences ≡ self.old.occurrences) }
-        ensures turn { OnOk result (self.new.turn ≡ self.old.turn) }
+        ensures conflict { OnOk result (self.new.conflict ≡ self.old.conflict) }
     {
         let outside = self.scope.binders(alloc, names)?;
         let number = self.next;
@@ -75,15 +75,15 @@ impl Walk {
         Ok(outside)
     }
 
-    /// Keeps a turn, unless there was one before.
-    fn keep(&mut self, turn: Option<Turn>)
+    /// Keeps a conflict, unless there was one before.
+    fn keep(&mut self, conflict: Option<Conflict>)
         ensures scope { self.new.scope ≡ self.old.scope }
         ensures next { self.new.next ≡ self.old.next }
         ensures occurrences { self.new.occurrences ≡ self.old.occurrences }
-        ensures turn { self.new.turn ≡ option_or self.old.turn turn }
+        ensures conflict { self.new.conflict ≡ option_or self.old.conflict conflict }
     {
-        if self.turn.is_none() {
-            self.turn = turn;
+        if self.conflict.is_none() {
+            self.conflict = conflict;
         }
     }
 }
@@ -98,8 +98,8 @@ fn walk_atom(
     ensures { OnOk result (Walked headers.now (atom_of (atom_view atom.now)) walk.old walk.new) }
 {
     add_atom(alloc, atom, headers, &walk.scope, &mut walk.occurrences)?;
-    let turn = fact_turn(alloc, &atom.fact, headers)?;
-    walk.keep(turn);
+    let conflict = fact_conflict(alloc, &atom.fact, headers)?;
+    walk.keep(conflict);
     Ok(())
 }
 
@@ -125,7 +125,7 @@ pub(crate) fn walk_formula(
             let start = walk.start();
             walk_formula(alloc, last, headers, walk)?;
             let whole = walk.met(alloc, start, meeting)?;
-            walk.keep(whole.turn());
+            walk.keep(whole.conflict());
             Ok(())
         }
         Formula::Quantified(_, names, inside) => {

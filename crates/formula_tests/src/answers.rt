@@ -67,7 +67,7 @@ fn number_text(alloc: Global, number: usize) -> Result<String, NoAnswer> {
     Ok(number.to_string(alloc)?)
 }
 
-/// What a long text gives, behind its length.
+/// What a long text gives, after its length.
 pub(crate) fn long_answer(alloc: Global, asked: Asked, text: &str) -> Result<String, NoAnswer> {
     let found = answer(alloc, asked, text)?;
     Ok(format!(in alloc; "{} bytes: {found}", text.len())?)
@@ -111,7 +111,7 @@ pub(crate) fn expect_answers(rt: &impl Abort, alloc: Global, asked: Asked, rows:
     }
 }
 
-/// A part, how often it stands, what follows once and what then follows as often; and what this text gives, behind its length.
+/// A part, how often it is, what follows once and what then follows as often; and what this text gives, after its length.
 pub(crate) type Repeated = (
     &'static str,
     usize,
@@ -120,7 +120,7 @@ pub(crate) type Repeated = (
     &'static str,
 );
 
-// What the text of a row gives, behind its length.
+// What the text of a row gives, after its length.
 fn repeated_answer(alloc: Global, asked: Asked, row: &Repeated) -> Result<String, NoAnswer> {
     let (part, times, middle, closing, _) = row;
     let text = repeated(alloc, part, *times, middle, closing)?;

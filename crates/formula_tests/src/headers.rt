@@ -61,7 +61,7 @@ fn add_word(
     Ok(headers.add_word(&name, &systems)?)
 }
 
-// The headers of the names in the rows. The last header added of a name stands: `ab` is over sets.
+// The headers of the names in the rows. The last header added of a name is: `ab` is over sets.
 pub(crate) fn headers(alloc: Global) -> Result<Headers, NoAnswer> {
     let mut headers = Headers::new(alloc);
     for (name, tracks) in AUTOMATA {

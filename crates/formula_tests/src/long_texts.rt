@@ -28,7 +28,7 @@ pub(crate) fn string_of(alloc: Global, bytes: &[u8]) -> Result<String, AllocErro
     Ok(text)
 }
 
-// How many operands stand before a chain's last, or addends before the last of an atom's left side.
+// How many operands come before a chain's last, or addends before the last of an atom's left side.
 pub(crate) fn parts_in(formula: &Formula) -> usize {
     match formula {
         Formula::Chain(operands, _) => operands.len(),
@@ -37,7 +37,7 @@ pub(crate) fn parts_in(formula: &Formula) -> usize {
     }
 }
 
-// How many addends stand before the last of a fact's left side.
+// How many addends come before the last of a fact's left side.
 fn addends_of(fact: &Fact) -> usize {
     match fact {
         Fact::Compare(Term::Sum(addends, _), _, _) => addends.len(),
@@ -45,7 +45,7 @@ fn addends_of(fact: &Fact) -> usize {
     }
 }
 
-// A chain and a sum, each with how many parts stand before its last.
+// A chain and a sum, each with how many parts come before its last.
 static LONG: [Repeated; 2] = [
     ("x=1&", 16383, "x=12", "", "65536 bytes: 16383"),
     ("x+", 32766, "x=12", "", "65536 bytes: 32766"),
@@ -63,7 +63,7 @@ fn deep_text(alloc: Global) -> Result<String, AllocError> {
     repeated(alloc, &part, 252, "x=1234567 & y=12", "")
 }
 
-// How many operands stand before the last of theirs.
+// How many operands come before the last of theirs.
 fn deep_parts(alloc: Global) -> Result<String, NoAnswer> {
     long_answer(alloc, Asked::Parts, &deep_text(alloc)?)
 }

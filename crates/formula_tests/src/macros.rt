@@ -184,7 +184,7 @@ pub(crate) fn expansion_length(alloc: Global, text: &str) -> Result<String, NoAn
     })
 }
 
-// Some calls within one another: what they open with, how many they are, what stands inside and what closes them; and how
+// Some calls within one another: what they open with, how many they are, what is inside and what closes them; and how
 // many bytes they expand to, or a fault.
 static NESTED: [Repeated; 8] = [
     ("#one(", 16, "x", ")", "97 bytes: 1"),
@@ -248,7 +248,7 @@ fn names_have_64_bytes(rt: HostRuntime) {
 // Macros of which one is added twice.
 static TWICE: [(&str, &str); 3] = [("f", "x=1"), ("g", "x=2"), ("f", "x=3")];
 
-// The text that stands under a name, or none.
+// The text that is under a name, or none.
 fn kept(alloc: Global, name: &str) -> Result<String, NoAnswer> {
     match added(alloc, &TWICE)?.text_of(name.as_bytes()) {
         Some(text) => Ok(string_of(alloc, text)?),
@@ -256,7 +256,7 @@ fn kept(alloc: Global, name: &str) -> Result<String, NoAnswer> {
     }
 }
 
-// Their names, and what stands under each.
+// Their names, and what is under each.
 static KEPT: [(&str, &str); 3] = [("f", "x=3"), ("g", "x=2"), ("h", "none")];
 
 // The expansion by them.

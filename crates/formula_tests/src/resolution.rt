@@ -204,7 +204,7 @@ fn nested_text(alloc: Global) -> Result<String, AllocError> {
     Ok(text)
 }
 
-// Their resolution, behind their length.
+// Their resolution, after their length.
 fn nested_answer(alloc: Global) -> Result<String, NoAnswer> {
     long_answer(alloc, Asked::Resolution, &nested_text(alloc)?)
 }

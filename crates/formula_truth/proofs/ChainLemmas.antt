@@ -6,7 +6,7 @@ use Rattle.formula_parse.specs.Trees.{Joint, Formula, Operands, no_operands, ope
 use Rattle.formula_truth.specs.Assignments.{Assignment}
 use Rattle.formula_truth.specs.Truth.{Meanings, Joins, Holds, ChainHolds}
 use Rattle.formula_truth.specs.Bounded.{AfterChain}
-use Rattle.formula_truth.specs.declared.deciding.Front.{Front}
+use Rattle.formula_truth.specs.declared.deciding.Prefix.{Prefix}
 use Rattle.formula_truth.proofs.MeaningLemmas.{joined_same}
 
 -- equivalent last statements give equivalent chains
@@ -18,10 +18,10 @@ chain_last m (operands os f j) a P Q same = (
 )
 
 -- one operand more: its truth after those before it is the truth of the chain so far
-pub chain_more : (m : Meanings) (os : Operands) (f : Formula) (j : Joint) (a : Assignment) (front : Option Front) (is holds : Bool)
-    → ((p : Bool) → ChainHolds m os a (IsTrue p) ↔ AfterChain front (IsTrue p)) → IsTrue is ↔ Holds m f a → IsTrue holds ↔ AfterChain front (IsTrue is)
+pub chain_more : (m : Meanings) (os : Operands) (f : Formula) (j : Joint) (a : Assignment) (prefix : Option Prefix) (is holds : Bool)
+    → ((p : Bool) → ChainHolds m os a (IsTrue p) ↔ AfterChain prefix (IsTrue p)) → IsTrue is ↔ Holds m f a → IsTrue holds ↔ AfterChain prefix (IsTrue is)
     → (p : Bool) → ChainHolds m (operands os f j) a (IsTrue p) ↔ Joins j (IsTrue holds) (IsTrue p)
-chain_more m os f j a front is holds so_far here now p = (
+chain_more m os f j a prefix is holds so_far here now p = (
   joined_same j (ChainHolds m os a (Holds m f a)) (IsTrue p) (IsTrue holds) (IsTrue p) told.0 told.1 (λ h. h) (λ h. h),
   joined_same j (IsTrue holds) (IsTrue p) (ChainHolds m os a (Holds m f a)) (IsTrue p) told.1 told.0 (λ h. h) (λ h. h),
 )
@@ -29,16 +29,16 @@ chain_more m os f j a front is holds so_far here now p = (
     told : ChainHolds m os a (Holds m f a) ↔ IsTrue holds
     told = iff_trans (ChainHolds m os a (Holds m f a)) (ChainHolds m os a (IsTrue is)) (IsTrue holds)
         (chain_last m os a (Holds m f a) (IsTrue is) (iff_sym (IsTrue is) (Holds m f a) here))
-        (iff_trans (ChainHolds m os a (IsTrue is)) (AfterChain front (IsTrue is)) (IsTrue holds) (so_far is) (iff_sym (IsTrue holds) (AfterChain front (IsTrue is)) now))
+        (iff_trans (ChainHolds m os a (IsTrue is)) (AfterChain prefix (IsTrue is)) (IsTrue holds) (so_far is) (iff_sym (IsTrue holds) (AfterChain prefix (IsTrue is)) now))
 
 -- the last operand
-pub chain_end : (m : Meanings) (os : Operands) (f : Formula) (a : Assignment) (front : Option Front) (is holds : Bool)
-    → ((p : Bool) → ChainHolds m os a (IsTrue p) ↔ AfterChain front (IsTrue p)) → IsTrue is ↔ Holds m f a → IsTrue holds ↔ AfterChain front (IsTrue is)
+pub chain_end : (m : Meanings) (os : Operands) (f : Formula) (a : Assignment) (prefix : Option Prefix) (is holds : Bool)
+    → ((p : Bool) → ChainHolds m os a (IsTrue p) ↔ AfterChain prefix (IsTrue p)) → IsTrue is ↔ Holds m f a → IsTrue holds ↔ AfterChain prefix (IsTrue is)
     → IsTrue holds ↔ ChainHolds m os a (Holds m f a)
-chain_end m os f a front is holds so_far here now =
-    iff_trans (IsTrue holds) (AfterChain front (IsTrue is)) (ChainHolds m os a (Holds m f a)) now
-    (iff_trans (AfterChain front (IsTrue is)) (ChainHolds m os a (IsTrue is)) (ChainHolds m os a (Holds m f a))
-    (iff_sym (ChainHolds m os a (IsTrue is)) (AfterChain front (IsTrue is)) (so_far is))
+chain_end m os f a prefix is holds so_far here now =
+    iff_trans (IsTrue holds) (AfterChain prefix (IsTrue is)) (ChainHolds m os a (Holds m f a)) now
+    (iff_trans (AfterChain prefix (IsTrue is)) (ChainHolds m os a (IsTrue is)) (ChainHolds m os a (Holds m f a))
+    (iff_sym (ChainHolds m os a (IsTrue is)) (AfterChain prefix (IsTrue is)) (so_far is))
     (chain_last m os a (IsTrue is) (Holds m f a) here))
 
 pub none_true : (p : Bool) → IsTrue (not p) ↔ (¬ IsTrue p)

@@ -10,7 +10,7 @@ use Rattle.formula_parse.specs.declared.tree.Operand.{Operand}
 use Rattle.formula_truth.specs.Assignments.{Assignment, with_value}
 use Rattle.formula_truth.specs.Truth.{Joins, Holds, ChainHolds}
 use Rattle.formula_truth.specs.Bounded.{nothing, bounded, bounded_among, each_below, AfterChain}
-use Rattle.formula_truth.specs.declared.deciding.Front.{Front}
+use Rattle.formula_truth.specs.declared.deciding.Prefix.{Prefix}
 use Rattle.formula_truth.specs.declared.fault.Undecided.{Undecided}
 use Rattle.formula_truth.proofs.ChainLemmas.{none_true, chain_more, chain_end}
 use Rattle.formula_truth.proofs.ViewLemmas.{operands_more, names_back}
@@ -33,24 +33,24 @@ negated_is bound f g a is same says =
     (λ h held. (none_true is).0 h (says.1 held), λ denied. (none_true is).1 (λ h. denied (says.0 h)))
 
 -- one operand more
-pub operand_more : (bound : ℕ) (os : List Operand) (i : ℕ) (o : Operand) (a : Assignment) (front : Option Front) (is after : Bool) → i < length os → o ≡ get_or os i o
-    → ((p : Bool) → ChainHolds nothing (bounded_among bound (operands_view (take i os))) a (IsTrue p) ↔ AfterChain front (IsTrue p))
-    → IsTrue is ↔ IsSo bound (formula_view o.formula) a → IsTrue after ↔ AfterChain front (IsTrue is)
+pub operand_more : (bound : ℕ) (os : List Operand) (i : ℕ) (o : Operand) (a : Assignment) (prefix : Option Prefix) (is after : Bool) → i < length os → o ≡ get_or os i o
+    → ((p : Bool) → ChainHolds nothing (bounded_among bound (operands_view (take i os))) a (IsTrue p) ↔ AfterChain prefix (IsTrue p))
+    → IsTrue is ↔ IsSo bound (formula_view o.formula) a → IsTrue after ↔ AfterChain prefix (IsTrue is)
     → (p : Bool) → ChainHolds nothing (bounded_among bound (operands_view (take (i + 1) os))) a (IsTrue p) ↔ Joins (connective_view o.connective) (IsTrue after) (IsTrue p)
-operand_more bound os i o a front is after within at so_far here now p =
+operand_more bound os i o a prefix is after within at so_far here now p =
     subst (λ s. ChainHolds nothing (bounded_among bound s) a (IsTrue p) ↔ Joins (connective_view o.connective) (IsTrue after) (IsTrue p))
     (sym (operands_more os i o within ∙ ap (λ x. with_operand (operands_view (take i os)) (operand_view x)) (sym at)))
-    (chain_more nothing (bounded_among bound (operands_view (take i os))) (bounded bound (formula_view o.formula)) (connective_view o.connective) a front is after so_far here now p)
+    (chain_more nothing (bounded_among bound (operands_view (take i os))) (bounded bound (formula_view o.formula)) (connective_view o.connective) a prefix is after so_far here now p)
 
 -- the last operand
-pub chain_is : (bound : ℕ) (f g : trees.Formula) (os qs : List Operand) (i : ℕ) (a : Assignment) (front : Option Front) (is after : Bool)
+pub chain_is : (bound : ℕ) (f g : trees.Formula) (os qs : List Operand) (i : ℕ) (a : Assignment) (prefix : Option Prefix) (is after : Bool)
     → f ≡ trees.chain (operands_view os) g → qs ≡ os → length qs ≤ i
-    → ((p : Bool) → ChainHolds nothing (bounded_among bound (operands_view (take i qs))) a (IsTrue p) ↔ AfterChain front (IsTrue p))
-    → IsTrue is ↔ IsSo bound g a → IsTrue after ↔ AfterChain front (IsTrue is) → IsTrue after ↔ IsSo bound f a
-chain_is bound f g os qs i a front is after same items long so_far here now =
+    → ((p : Bool) → ChainHolds nothing (bounded_among bound (operands_view (take i qs))) a (IsTrue p) ↔ AfterChain prefix (IsTrue p))
+    → IsTrue is ↔ IsSo bound g a → IsTrue after ↔ AfterChain prefix (IsTrue is) → IsTrue after ↔ IsSo bound f a
+chain_is bound f g os qs i a prefix is after same items long so_far here now =
     subst (λ s. IsTrue after ↔ IsSo bound s a) (sym same)
-    (chain_end nothing (bounded_among bound (operands_view os)) (bounded bound g) a front is after
-    (subst (λ ps. (p : Bool) → ChainHolds nothing (bounded_among bound (operands_view ps)) a (IsTrue p) ↔ AfterChain front (IsTrue p)) (take_all i qs long ∙ items) so_far)
+    (chain_end nothing (bounded_among bound (operands_view os)) (bounded bound g) a prefix is after
+    (subst (λ ps. (p : Bool) → ChainHolds nothing (bounded_among bound (operands_view ps)) a (IsTrue p) ↔ AfterChain prefix (IsTrue p)) (take_all i qs long ∙ items) so_far)
     here now)
 
 -- numbers tried for the variables of a list

@@ -14,8 +14,8 @@ pub record MeanTheSame (m n : Meanings) : Type 0 where
   pub letter_there : (name : Name) (ns : List ℕ) (b : ℤ) → m.has_letter name ns b → n.has_letter name ns b
   pub letter_back : (name : Name) (ns : List ℕ) (b : ℤ) → n.has_letter name ns b → m.has_letter name ns b
 
-pub other_way : (m n : Meanings) → MeanTheSame m n → MeanTheSame n m
-other_way m n same = record {
+pub other_direction : (m n : Meanings) → MeanTheSame m n → MeanTheSame n m
+other_direction m n same = record {
   holds_there = same.holds_back;
   holds_back = same.holds_there;
   letter_there = same.letter_back;
@@ -51,8 +51,8 @@ fact_moved (words x r y) m n same a h = (h.0, h.1, letter_moved m n same x a h.0
 mutual
   pub moved : (f : Formula) (m n : Meanings) → MeanTheSame m n → (a : Assignment) → Holds m f a → Holds n f a
   moved (atom x) m n same a h = fact_moved x.fact m n same a h
-  moved (negated f) m n same a h = λ held. h (moved f n m (other_way m n same) a held)
-  moved (chain os f) m n same a h = chain_moved os m n same a (Holds m f a) (Holds n f a) (moved f m n same a) (moved f n m (other_way m n same) a) h
+  moved (negated f) m n same a h = λ held. h (moved f n m (other_direction m n same) a held)
+  moved (chain os f) m n same a h = chain_moved os m n same a (Holds m f a) (Holds n f a) (moved f m n same a) (moved f n m (other_direction m n same) a) h
   moved (quantified some ns f) m n same a h = some_moved ns (Holds m f) (Holds n f) (moved f m n same) a h
   moved (quantified every ns f) m n same a h = every_moved ns (Holds m f) (Holds n f) (moved f m n same) a h
   moved (marked ms f) m n same a h = moved f m n same a h
@@ -61,13 +61,13 @@ mutual
   chain_moved no_operands m n same a P Q there back h = there h
   chain_moved (operands os f j) m n same a P Q there back h =
       joined_same j (ChainHolds m os a (Holds m f a)) P (ChainHolds n os a (Holds n f a)) Q
-      (chain_moved os m n same a (Holds m f a) (Holds n f a) (moved f m n same a) (moved f n m (other_way m n same) a))
-      (chain_moved os n m (other_way m n same) a (Holds n f a) (Holds m f a) (moved f n m (other_way m n same) a) (moved f m n same a))
+      (chain_moved os m n same a (Holds m f a) (Holds n f a) (moved f m n same a) (moved f n m (other_direction m n same) a))
+      (chain_moved os n m (other_direction m n same) a (Holds n f a) (Holds m f a) (moved f n m (other_direction m n same) a) (moved f m n same a))
       there back h
 
 -- equivalent meanings give equivalent truth
 pub meanings_matter : (m n : Meanings) → MeanTheSame m n → (f : Formula) (a : Assignment) → Holds m f a ↔ Holds n f a
-meanings_matter m n same f a = (moved f m n same a, moved f n m (other_way m n same) a)
+meanings_matter m n same f a = (moved f m n same a, moved f n m (other_direction m n same) a)
 
 pub tests_matter : MeaningsMatter
 tests_matter t u f a same = meanings_matter (tested t) (tested u) same_meanings f a

@@ -5,7 +5,7 @@ use Rattle.formula_parse.specs.Trees.{Names, no_names, names, variable, numeral,
 use Rattle.formula_parse.specs.Views.{connective_view}
 use Rattle.formula_truth.specs.Truth.{Meanings, Joins}
 use Rattle.formula_truth.specs.Tests.{tested}
-use Rattle.formula_truth.specs.declared.deciding.Front.{Front}
+use Rattle.formula_truth.specs.declared.deciding.Prefix.{Prefix}
 
 -- no automaton holds of anything, and no word has a letter
 abbrev pub nothing : Meanings
@@ -43,6 +43,6 @@ abbrev mutual
   bounded_among bound (operands os f j) = operands (bounded_among bound os) (bounded bound f) j
 
 -- a statement after the truth of a chain so far with its connective, or after nothing
-abbrev pub AfterChain : Option Front → Type 0 → Type 0
+abbrev pub AfterChain : Option Prefix → Type 0 → Type 0
 AfterChain None P = P
 AfterChain (Some b) P = Joins (connective_view b.connective) (IsTrue b.holds) P

@@ -12,7 +12,7 @@ pub record TestTheSame (t u : Tests) : Type 0 where
   pub passes : (n : Name) (ns : List ℕ) → t.passes n ns ≡ u.passes n ns
   pub letter : (n : Name) (ns : List ℕ) → t.letter n ns ≡ u.letter n ns
 
--- truth depends on what names mean, and not on how that is told
+-- truth depends on what names mean, and not on how that is reported
 abbrev pub MeaningsMatter : Type 0
 MeaningsMatter = (t u : Tests) (f : Formula) (a : Assignment) → TestTheSame t u → Holds (tested t) f a ↔ Holds (tested u) f a
 

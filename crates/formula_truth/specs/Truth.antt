@@ -32,7 +32,7 @@ ComparesLetters at_least b c = c ≤ℤ b
 abbrev pub HasLetterAt : Meanings → Index → Assignment → ℤ → Type 0
 HasLetterAt m x a b = (ns : List ℕ) × (values x.places a ≡ Some ns) × m.has_letter x.word ns b
 
--- what an atom says is true where its terms have values, and its words letters, that stand so
+-- what an atom says is true where its terms have values, and its words letters, that are so
 abbrev pub FactHolds : Meanings → Fact → Assignment → Type 0
 FactHolds m (compare t r u) a = (x : ℕ) × (y : ℕ) × (value t a ≡ Some x) × (value u a ≡ Some y) × Compares r x y
 FactHolds m (call n ts) a = (ns : List ℕ) × (values ts a ≡ Some ns) × m.holds_of n ns

@@ -18,7 +18,7 @@ const MOST_LEVELS: u32 = 1_000;
 
 /// The truth of a chain so far, and the connective after it.
 #[derive(Clone, Copy)]
-pub(crate) struct Front {
+pub(crate) struct Prefix {
     pub holds: bool,
     pub connective: Connective,
 }
@@ -49,12 +49,12 @@ pub fn holds_below(
 }
 
 /// The truth after what came before it in a chain.
-fn after(front: Option<Front>, holds: bool) -> bool
-    ensures { IsTrue result ↔ AfterChain front (IsTrue holds) }
+fn after(prefix: Option<Prefix>, holds: bool) -> bool
+    ensures { IsTrue result ↔ AfterChain prefix (IsTrue holds) }
 {
-    match front {
+    match prefix {
         None => holds,
-        Some(front) => joins(front.connective, front.holds, holds),
+        Some(prefix) => joins(prefix.connective, prefix.holds, holds),
     }
 }
 
@@ -78,16 +78,16 @@ fn holds(
             Ok(!is)
         }
         Formula::Chain(operands, last) => {
-            let mut front = None;
+            let mut prefix = None;
             for operand in operands {
                 let is = holds(alloc, &operand.formula, given, bound, levels - 1)?;
-                front = Some(Front {
-                    holds: after(front, is),
+                prefix = Some(Prefix {
+                    holds: after(prefix, is),
                     connective: operand.connective,
                 });
             }
             let is = holds(alloc, last, given, bound, levels - 1)?;
-            Ok(after(front, is))
+            Ok(after(prefix, is))
         }
         Formula::Quantified(quantifier, names, inside) => {
             let trial = Trial {

@@ -2,7 +2,7 @@
 
 ghost use Rattle.formula_truth.specs.Laws.{FreeVariablesMatter, MeaningsMatter};
 
-/// Truth depends on what names mean, and not on how that is told.
+/// Truth depends on what names mean, and not on how that is reported.
 pub fn meanings_matter()
     ensures { MeaningsMatter }
 {}

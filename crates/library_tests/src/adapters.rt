@@ -149,7 +149,7 @@ fn expect_inside(rt: &impl Abort, store: &mut FolderStore<'_, HostRuntime>, into
     expect_kept(rt, store, (Folder::Automata, "../a"), b"one", refused);
 }
 
-// Asserts that a store fails where a file stands in the place of its folder.
+// Asserts that a store fails where a file is in the place of its folder.
 fn expect_failed(rt: &impl Abort, store: &mut FolderStore<'_, HostRuntime>, into: &mut Vec<u8>) {
     let place = (Folder::Results, "a");
     expect_found(rt, store, place, Found::Failed, into);

@@ -167,7 +167,7 @@ fn files_accept_these_words(rt: HostRuntime) {
     }
 }
 
-// What stands in a short file: how many states, or the line of the fault.
+// What is in a short file: how many states, or the line of the fault.
 fn states_in(alloc: Global, text: &[u8]) -> Result<usize, u64> {
     if text.len() >= 1000 {
         return Err(0);

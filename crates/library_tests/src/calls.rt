@@ -1,7 +1,7 @@
 //! Calls under a limit of states: each is made at its width, and refused below it.
 
-use crate::least::{of_sets, turned};
 use crate::matches::built;
+use crate::minimal::{of_sets, turned};
 use crate::orders::{equal, ordered};
 use crate::outcomes::{below_width_of, expect, width_of};
 use crate::paddings::padded;
@@ -53,7 +53,9 @@ pub fn outcome_of(alloc: Global, call: &Call, limit: u32) -> Result<String, RowF
             alloc, *base, *direction, *number, limit,
         ),
         Call::Product(row) => joined(alloc, row, limit),
-        Call::Restricted(way, line, valid) => restricted(alloc, *way, line, valid, limit),
+        Call::Restricted(direction, line, valid) => restricted(
+            alloc, *direction, line, valid, limit,
+        ),
         Call::Chain(order) => chain(alloc, order, limit),
         Call::Between(line, direction) => between(alloc, line, *direction, limit),
         Call::Next(order, line) => next(alloc, order, line, limit),

@@ -123,7 +123,7 @@ const IN_MSD_3: Listed = Listed::File(b"msd_3\n0 1\n* -> 0\n", Direction::Msd, &
 
 const IN_MSD_FIB: Listed = Listed::File(b"msd_fib\n0 1\n* -> 0\n", Direction::Msd, &[None]);
 
-// The spellings of 0 to 6 in msd_2. In msd_fib 11 and 110 spell no number.
+// The representations of 0 to 6 in msd_2. In msd_fib 11 and 110 spell no number.
 const NUMBERS: &[&[u32]] = &[
     &[],
     &[1],
@@ -134,7 +134,7 @@ const NUMBERS: &[&[u32]] = &[
     &[0, 1, 1, 0],
 ];
 
-// The spellings of (0, 0), (0, 1), (1, 0), (2, 3), (3, 2) and (1, 2).
+// The representations of (0, 0), (0, 1), (1, 0), (2, 3), (3, 2) and (1, 2).
 const PAIRS: &[&[u32]] = &[&[], &[1], &[2], &[3, 1], &[3, 2], &[1, 2]];
 
 static WORDS: [Row; 9] = [
@@ -171,7 +171,7 @@ static WORDS: [Row; 9] = [
         words: NUMBERS,
         wanted: "combine 5 5,  0 0 0 -9 -9 0 0",
     },
-    // the width counts what no letter tells
+    // the width counts what no letter says
     Row {
         name: "one letter",
         list: &[(BELOW_3, 0)],
@@ -189,7 +189,7 @@ static WORDS: [Row; 9] = [
         words: PAIRS,
         wanted: "combine 3 3,  0 5 0 5 0 5",
     },
-    // other words than spellings have no letter
+    // other words than representations have no letter
     Row {
         name: "any number in msd_fib",
         list: &[(IN_MSD_FIB, 4)],

@@ -6,8 +6,8 @@ use crate::table_texts::listed;
 use digit_tuple::alphabet::Alphabet;
 use digit_tuple::dense::Dense;
 use digit_tuple::dfa::{Dfa, DfaState};
-use digit_tuple::edges::Edge;
 use digit_tuple::table::{Table, accepts_by};
+use digit_tuple::transitions::Transition;
 use std::alloc::Global;
 
 // The automaton of the words of 1s.
@@ -16,13 +16,13 @@ const ONES: &str = "x:2 = /! 1>0";
 // The dense table of one state from which 1 leads to it again.
 fn dense(alloc: Global) -> Result<Dense, RowFault> {
     let alphabet = Alphabet::new(alloc, &[2])?;
-    let again = Edge {
+    let again = Transition {
         letter: 1,
         target: 0,
     };
     let state = DfaState {
         accepting: true,
-        edges: vec![in alloc; again]?,
+        transitions: vec![in alloc; again]?,
     };
     Ok(Dense::from_states(alphabet, vec![in alloc; state]?))
 }
@@ -32,16 +32,16 @@ fn accepts_ones<T: Table>(table: &T) -> bool {
     accepts_by(table, &[1, 1]) && !accepts_by(table, &[1, 0])
 }
 
-// Whether the dense table does, and has the one edge.
+// Whether the dense table does, and has the one transition.
 fn dense_accepts_ones(alloc: Global) -> Result<bool, RowFault> {
     let dense = dense(alloc)?;
-    Ok(accepts_ones(&dense) && dense.edges(0).len() == 1)
+    Ok(accepts_ones(&dense) && dense.transitions(0).len() == 1)
 }
 
-// Whether the automaton of the dense table does, and has the one edge.
+// Whether the automaton of the dense table does, and has the one transition.
 fn made_accepts_ones(alloc: Global) -> Result<bool, RowFault> {
     let made = Dfa::of_dense(alloc, &dense(alloc)?)?;
-    Ok(accepts_ones(&made) && made.edges() == 1)
+    Ok(accepts_ones(&made) && made.transitions() == 1)
 }
 
 // Whether the automaton of the line does.

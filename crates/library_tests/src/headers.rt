@@ -58,7 +58,7 @@ fn texts_of(alloc: Global, names: &[Name]) -> Result<String, RowFault> {
     Ok(text)
 }
 
-// Whether no name stands twice.
+// Whether no name is twice.
 fn have_no_pair(alloc: Global, texts: &[&str]) -> Result<bool, RowFault> {
     Ok(are_distinct(&names_of(alloc, texts)?))
 }
@@ -105,7 +105,7 @@ fn names_are_joined_in_byte_order(rt: HostRuntime) {
     expect(&rt, "but for x", &rest, "y B ");
 }
 
-// The set of these members, if they are in order and none stands twice.
+// The set of these members, if they are in order and none is twice.
 fn set_of(alloc: Global, members: &[i32]) -> Result<Option<LetterSet>, RowFault> {
     Ok(LetterSet::try_new(members.to_vec(alloc)?))
 }

@@ -109,7 +109,7 @@ static READ: [(&[u8], usize); 57] = [
     ),
     // a state named as another's output
     (b"msd_2\n5 5\n", 1),
-    // no line leads from the first state
+    // no line leads from the initial state
     (b"msd_2\n0 1\n1 1\n0 -> 0\n", 2),
     // the digits of one track may be larger than those of another
     (b"msd_3 msd_2\n0 1\n2 1 -> 0\n", 1),
@@ -155,7 +155,7 @@ static BROKEN: [(&[u8], u64); 124] = [
     (b"msd_2\n# only\r\n \n", 4),
     (b"msd_2\n# only\r\n ", 4),
     (b"{0}", 2),
-    // below `true` and `false` stands nothing
+    // below `true` and `false` is nothing
     (b"true\nfalse\n", 2),
     (b"true\ntrue", 2),
     (b"true\n0 1\n", 2),
@@ -294,7 +294,7 @@ static MISSING: [(&[u8], u64); 9] = [
     (b"msd_2\n0 1\n0 -> 5\n1 -> 6\n", 3),
     // each target but the last of line 4 is given below
     (b"msd_2\n0 1\n0 -> 1\n1 -> 0 1 2\n1 0\n* -> 3\n", 4),
-    // what is out of form comes before a target that is no state, wherever it stands
+    // what is out of form comes before a target that is no state, wherever it is
     (b"msd_2\n0 1\n0 -> 5\n1 -> 0 x\n", 4),
     (b"msd_2\n0 1\n0 -> 5\n0 0\n", 4),
     (b"msd_2\n0 1\n0 -> 4294967295\n0 -> 4294967296\n", 4),
@@ -344,9 +344,9 @@ fn files_break_at_their_lines(rt: HostRuntime) {
     expect_value(&rt, "bytes", &bytes, &BYTES.len());
 }
 
-// A front, a part so many times, and an end, and the line at which they break the format, or None where they are read.
+// A prefix, a part so many times, and an end, and the line at which they break the format, or None where they are read.
 struct LongFile {
-    front: &'static str,
+    prefix: &'static str,
     part: &'static str,
     times: usize,
     end: &'static str,
@@ -355,49 +355,49 @@ struct LongFile {
 
 static LONG: [LongFile; 10] = [
     LongFile {
-        front: "",
+        prefix: "",
         part: "\n",
         times: 1_000_000,
         end: "x",
         line: Some(1_000_001),
     },
     LongFile {
-        front: "",
+        prefix: "",
         part: "\n",
         times: 1_000_000,
         end: "",
         line: Some(1_000_001),
     },
     LongFile {
-        front: "",
+        prefix: "",
         part: "\r\n",
         times: 1_000_000,
         end: "true",
         line: None,
     },
     LongFile {
-        front: "true\n",
+        prefix: "true\n",
         part: "\n",
         times: 1_000_000,
         end: "true",
         line: Some(1_000_002),
     },
     LongFile {
-        front: "msd_2\n",
+        prefix: "msd_2\n",
         part: "\n",
         times: 1_000_000,
         end: "",
         line: Some(1_000_002),
     },
     LongFile {
-        front: "msd_2\n",
+        prefix: "msd_2\n",
         part: "\n",
         times: 1_000_000,
         end: "0 1\n0 -> 1",
         line: Some(1_000_003),
     },
     LongFile {
-        front: "msd_2\n",
+        prefix: "msd_2\n",
         part: "#\n",
         times: 100_000,
         end: "0 1\n0 -> 0",
@@ -405,21 +405,21 @@ static LONG: [LongFile; 10] = [
     },
     // a comment, a number of a state, and targets
     LongFile {
-        front: "#",
+        prefix: "#",
         part: "#",
         times: 100_000,
         end: "\ntrue",
         line: None,
     },
     LongFile {
-        front: "msd_2\n",
+        prefix: "msd_2\n",
         part: "0",
         times: 100_000,
         end: "7 1\n0 -> 7\n",
         line: None,
     },
     LongFile {
-        front: "msd_2\n0 1\n0 -> 0",
+        prefix: "msd_2\n0 1\n0 -> 0",
         part: " 0",
         times: 100_000,
         end: " 1",
@@ -429,7 +429,7 @@ static LONG: [LongFile; 10] = [
 
 // The text of a long file.
 fn text_of(alloc: Global, file: &LongFile) -> Result<String, RowFault> {
-    let mut text = String::from_str(alloc, file.front)?;
+    let mut text = String::from_str(alloc, file.prefix)?;
     text.push_str(&file.part.repeat(alloc, file.times)?)?;
     text.push_str(file.end)?;
     Ok(text)

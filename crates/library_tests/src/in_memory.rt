@@ -122,7 +122,7 @@ fn expect_sent(rt: &impl Abort, sink: &mut MemSink) {
 }
 
 #[test]
-fn pieces_are_sent_whole_or_a_front_of_them(rt: HostRuntime) -> Result<(), RowFault> {
+fn pieces_are_sent_whole_or_a_prefix_of_them(rt: HostRuntime) -> Result<(), RowFault> {
     let mut sink = sink_of(rt.alloc(), &[1, 2], 6)?;
     expect_sent(&rt, &mut sink);
     Ok(())

@@ -37,13 +37,13 @@ mod tables;
 #[cfg(test)]
 mod dense_tables;
 
-// edges and cells of automata
+// transitions and cells of automata
 #[cfg(test)]
-mod edge_counts;
+mod transition_counts;
 
-// the subset construction, the reversal and the least automaton
+// the subset construction, the reversal and the minimal automaton
 #[cfg(test)]
-mod least;
+mod minimal;
 
 // texts of expressions, with their trees and faults
 #[cfg(test)]

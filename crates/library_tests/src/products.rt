@@ -59,7 +59,7 @@ static PRODUCTS: [(Call, &str); 6] = [
         }),
         "4 x:2 = / 0>0 1>1/ 0>1 1>2/! 0>0 1>1",
     ),
-    // the tracks stand in byte order
+    // the tracks are in byte order
     (
         Call::Product(ProductRow {
             a: "y:2 = (0|10*1)*",
@@ -337,13 +337,13 @@ pub enum Restriction {
 // The complement or the valid part of an automaton under a limit, if there is a language for each track.
 fn made(
     alloc: Global,
-    way: Restriction,
+    direction: Restriction,
     a: &Tracked,
     languages: &[Rc<Dfa>],
     limit: u32,
 ) -> Result<Result<Stepped<Tracked>, OpFault>, RowFault> {
     if are_languages(alloc, a.dfa().alphabet().sizes(), languages)? {
-        Ok(match way {
+        Ok(match direction {
             Restriction::Complement => complement_in(alloc, a, languages, limit),
             Restriction::ValidPart => valid_part(alloc, a, languages, limit),
         })
@@ -355,25 +355,25 @@ fn made(
 // The same of the automaton and the languages of lines.
 fn made_of(
     alloc: Global,
-    way: Restriction,
+    direction: Restriction,
     line: &str,
     valid: &[&str],
     limit: u32,
 ) -> Result<Result<Stepped<Tracked>, OpFault>, RowFault> {
     let a = tracked(alloc, line)?;
     let languages = languages(alloc, valid)?;
-    made(alloc, way, &a, &languages, limit)
+    made(alloc, direction, &a, &languages, limit)
 }
 
 /// The complement or the valid part under a limit, or why there is none.
 pub fn restricted(
     alloc: Global,
-    way: Restriction,
+    direction: Restriction,
     line: &str,
     valid: &[&str],
     limit: u32,
 ) -> Result<String, RowFault> {
-    outcome(alloc, made_of(alloc, way, line, valid, limit)?)
+    outcome(alloc, made_of(alloc, direction, line, valid, limit)?)
 }
 
 // Of the automaton `ENDS`.
@@ -410,12 +410,16 @@ static VALID_WORDS: [(&str, &[&str], usize, usize, usize); 3] = [
 // How many words up to a length are in the complement or the valid part.
 fn restricted_count(
     alloc: Global,
-    way: Restriction,
+    direction: Restriction,
     line: &str,
     valid: &[&str],
     longest: usize,
 ) -> Result<usize, RowFault> {
-    accepted_in(alloc, made_of(alloc, way, line, valid, 1000)?, longest)
+    accepted_in(
+        alloc,
+        made_of(alloc, direction, line, valid, 1000)?,
+        longest,
+    )
 }
 
 // How many are in the complement, and how many in the valid part.

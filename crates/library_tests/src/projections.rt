@@ -29,7 +29,7 @@ static PROJECTIONS: [(Call, &str); 8] = [
         Call::Projected(DOUBLES_LSD, "y", Direction::Lsd),
         "2 x:2 = /! 0>0 1>0",
     ),
-    // The halves of even numbers: the last digit read, and the first one, tells whether the number is even.
+    // The halves of even numbers: the last digit read, and the first one, says whether the number is even.
     (
         Call::Projected(DOUBLES_MSD, "x", Direction::Msd),
         "2 y:2 = /! 0>0 1>1/ 0>0 1>1",

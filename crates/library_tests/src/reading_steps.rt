@@ -2,8 +2,8 @@
 
 ghost use Rattle.std.specs.Prelude.{◌≡◌, IsTrue, map};
 ghost use Rattle.std.specs.Rc.{rc_value};
-ghost use Rattle.numeration.specs.Spelling.{sizes_of};
-ghost use Rattle.num_system.specs.Tracks.{HaveOneWay, systems_of};
+ghost use Rattle.numeration.specs.Representation.{sizes_of};
+ghost use Rattle.num_system.specs.Tracks.{ShareDirection, systems_of};
 
 use crate::outcomes::expect_value;
 use crate::row_fault::RowFault;
@@ -42,29 +42,30 @@ fn with_digits(alloc: Global, listed: &Listed, digits: &[u32]) -> Result<Nfa, Ro
     }
 }
 
-// How many edges the first state has, or None where there are too many letters.
-fn edges_of(alloc: Global, text: &[u8], digits: &[u32]) -> Result<Option<usize>, RowFault> {
+// How many transitions the initial state has, or None where there are too many letters.
+fn transitions_of(alloc: Global, text: &[u8], digits: &[u32]) -> Result<Option<usize>, RowFault> {
     match branching(alloc, text, digits) {
-        Ok(table) => Ok(Some(first_edges(&table))),
+        Ok(table) => Ok(Some(first_transitions(&table))),
         Err(RowFault::Call(OpFault::Letters)) => Ok(None),
         Err(fault) => Err(fault),
     }
 }
 
-// How many edges the first state of a table has.
-fn first_edges(table: &Nfa) -> usize {
+// How many transitions the initial state of a table has.
+fn first_transitions(table: &Nfa) -> usize {
     if table.states() == 0 {
         return 0;
     }
-    table.edges(0).len()
+    table.transitions(0).len()
 }
 
-// Files, the digits of their systems, and the edges of the first state, or None where there are too many letters.
-static EDGES: [(&[u8], &[u32], Option<usize>); 13] = [
+// Files, the digits of their systems, and the transitions of the initial state, or None where there are too many
+// letters.
+static TRANSITIONS: [(&[u8], &[u32], Option<usize>); 13] = [
     (b"{5,-3,1}\n0 1\n* -> 0\n", &[], Some(3)),
     (b"{5,-3,1}\n0 1\n5 -> 0\n", &[], Some(1)),
     (b"{0,1} {4}\n0 1\n* * -> 0 1\n1 4\n", &[], Some(4)),
-    // an edge that is listed twice is one
+    // a transition that is listed twice is one
     (b"{0,1}\n0 1\n0 -> 0 0\n* -> 0\n", &[], Some(2)),
     // the lines of a digit that the system has not are never taken
     (
@@ -103,11 +104,12 @@ static EDGES: [(&[u8], &[u32], Option<usize>); 13] = [
     (b"msd_X msd_Y\n0 1\n65535 0 -> 0\n", &[65536, 1], Some(1)),
 ];
 
-// The number of the first of these files whose first state has not so many edges, counted from 0; how many they are, if each has.
+// The number of the first of these files whose first state has not so many transitions, counted from 0; how many they are, if
+// each has.
 fn first_other(alloc: Global, rows: &[(&[u8], &[u32], Option<usize>)]) -> Result<usize, RowFault> {
     let mut count: usize = 0;
-    for (text, digits, edges) in rows {
-        if edges_of(alloc, text, digits)? != *edges {
+    for (text, digits, transitions) in rows {
+        if transitions_of(alloc, text, digits)? != *transitions {
             return Ok(count);
         }
         count = count.saturating_add(1);
@@ -116,9 +118,9 @@ fn first_other(alloc: Global, rows: &[(&[u8], &[u32], Option<usize>)]) -> Result
 }
 
 #[test]
-fn files_have_these_edges(rt: HostRuntime) {
-    let found = first_other(rt.alloc(), &EDGES).ok();
-    expect_value(&rt, "files", &found, &Some(EDGES.len()));
+fn files_have_these_transitions(rt: HostRuntime) {
+    let found = first_other(rt.alloc(), &TRANSITIONS).ok();
+    expect_value(&rt, "files", &found, &Some(TRANSITIONS.len()));
 }
 
 /// A system: the base of this number, or the Fibonacci system where it is None.
@@ -192,7 +194,7 @@ static ROWS: [Row; 11] = [
         accepted: &[&[], &[1, 0, 1]],
         refused: &[&[1, 1], &[0, 1, 1, 0]],
     },
-    // the number 0, by its spelling 0 alone
+    // the number 0, by its representation 0 alone
     Row {
         name: "zero in lsd_2",
         text: b"lsd_2\n0 0\n0 -> 1\n1 1\n",
@@ -224,7 +226,7 @@ static ROWS: [Row; 11] = [
         accepted: &[],
         refused: &[&[], &[0], &[1]],
     },
-    // the number 1, by its spelling 01 alone, with an output below 0
+    // the number 1, by its representation 01 alone, with an output below 0
     Row {
         name: "one",
         text: b"msd_2\n0 0\n0 -> 1\n1 0\n1 -> 2\n2 -7\n",
@@ -292,10 +294,10 @@ fn digits_of(alloc: Global, systems: &[Rc<System>]) -> Result<Vec<u32>, RowFault
     Ok(digits)
 }
 
-// Whether tracks of these sizes may stand over one or two systems of one direction.
+// Whether tracks of these sizes may be over one or two systems of one direction.
 fn may_stand(sizes: &[u32], systems: &[Rc<System>]) -> bool
     ensures sizes { IsTrue result → sizes.now ≡ sizes_of (systems_of (map rc_value systems.now)) }
-    ensures direction { IsTrue result → HaveOneWay (map rc_value systems.now) }
+    ensures direction { IsTrue result → ShareDirection (map rc_value systems.now) }
 {
     match (sizes, systems) {
         ([size], [only]) => only.as_ref().digits() == *size,

@@ -412,7 +412,7 @@ fn multiple(
     }
 }
 
-// Whether the multiple of a number alone is told, of some numbers and of its multiple.
+// Whether the multiple of a number alone is reported, of some numbers and of its multiple.
 fn is_multiple_of(
     alloc: Global,
     shared: &Shared,

@@ -96,7 +96,7 @@ static SCRIPTS: [(&str, &str); 30] = [
     (";;a;;b\"\n;\n\";", "1;a|1;b\"\n;\n\"|"),
     ("a\"b\"c;d\"", "1;a\"b\"c|1!2|"),
     ("\n a \";\n:\" \n;#\";\nb::", "2;a \";\n:\" \n|5:b|"),
-    // comments stand before commands, and inside them `#` is a byte as others
+    // comments come before commands, and inside them `#` is a byte as others
     ("# a;\n", ""),
     ("# a;b", ""),
     ("# a;\n;:::; #", ""),
@@ -183,8 +183,8 @@ fn length_of(item: Result<Cut, CutFault>) -> usize {
     }
 }
 
-// The items behind the first of two long commands, if that has its length.
-fn items_behind(alloc: Global, length: usize) -> Result<String, RowFault> {
+// The items after the first of two long commands, if that has its length.
+fn items_after(alloc: Global, length: usize) -> Result<String, RowFault> {
     let script = two_long(alloc, length)?;
     let mut source = in_pieces(alloc, script.as_bytes(), 5000)?;
     let mut cutter = Cutter::new(alloc);
@@ -198,7 +198,7 @@ fn items_behind(alloc: Global, length: usize) -> Result<String, RowFault> {
 
 #[test]
 fn a_long_command_is_passed_over(rt: HostRuntime) {
-    let items = items_behind(rt.alloc(), TEXT_LIMIT);
+    let items = items_after(rt.alloc(), TEXT_LIMIT);
     expect(&rt, "two long commands", &items, "2*|2;z|");
 }
 

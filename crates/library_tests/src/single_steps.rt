@@ -49,7 +49,7 @@ fn done(alloc: Global, step: Step, steps: &mut Steps) -> Result<String, RowFault
         Step::Read(line) => read(alloc, line, steps),
         Step::Reverse(line) => reverse(alloc, line, steps),
         Step::Pad(direction, line) => pad(alloc, direction, line, steps),
-        Step::Restricted(way, valid, line) => restrict(alloc, way, valid, line, steps),
+        Step::Restricted(direction, valid, line) => restrict(alloc, direction, valid, line, steps),
         Step::Order(direction, line) => order(alloc, direction, line, steps),
         Step::Const(direction, number) => number_in(alloc, direction, number, steps),
         Step::Product(op, a, b) => product(alloc, op, a, b, steps),
@@ -96,26 +96,26 @@ fn pad(
 // The valid part or the complement of a line's automaton, if there is a language for each track.
 fn restrict(
     alloc: Global,
-    way: Restriction,
+    direction: Restriction,
     valid: &[&str],
     line: &str,
     steps: &mut Steps,
 ) -> Result<String, RowFault> {
     let a = tracked(alloc, line)?;
     let languages = languages(alloc, valid)?;
-    restricted(alloc, way, &a, &languages, steps)
+    restricted(alloc, direction, &a, &languages, steps)
 }
 
 // The same of an automaton.
 fn restricted(
     alloc: Global,
-    way: Restriction,
+    direction: Restriction,
     a: &Tracked,
     languages: &[Rc<Dfa>],
     steps: &mut Steps,
 ) -> Result<String, RowFault> {
     if are_languages(alloc, a.dfa().alphabet().sizes(), languages)? {
-        let made = match way {
+        let made = match direction {
             Restriction::Complement => complement_step(alloc, a, languages, steps),
             Restriction::ValidPart => valid_step(alloc, a, languages, steps),
         };

@@ -1,8 +1,8 @@
 //! Automata as lines of text, in and out.
 //!
 //! A line has the tracks, each its name, `:` and how many digits it has, then `=`, then an expression of the words or a
-//! table: `/` for each state, `!` after it where it accepts, and its edges, each a letter, `>` and a state. So
-//! `x:2 = 0*1` and `x:2 = / 0>0 1>1/!` are one automaton. A width may stand in front, and is not read.
+//! table: `/` for each state, `!` after it where it accepts, and its transitions, each a letter, `>` and a state. So
+//! `x:2 = 0*1` and `x:2 = / 0>0 1>1/!` are one automaton. A width may be in front, and is not read.
 
 ghost use Rattle.std.specs.Prelude.{◌≡◌, IfOk};
 ghost use Rattle.minimise.specs.Canonical.{IsCanonical};
@@ -11,13 +11,13 @@ use crate::row_fault::RowFault;
 use determinise::subset_construction::determinise;
 use digit_tuple::alphabet::Alphabet;
 use digit_tuple::dfa::Dfa;
-use digit_tuple::edges::{Edge, NfaState};
 use digit_tuple::header::Header;
 use digit_tuple::letter_set::LetterSet;
 use digit_tuple::name::Name;
 use digit_tuple::names::are_distinct;
 use digit_tuple::nfa::Nfa;
 use digit_tuple::sets::Sets;
+use digit_tuple::transitions::{NfaState, Transition};
 use minimise::canonical::canonical;
 use minimise::tracked::Tracked;
 use regex_build::build::build;
@@ -80,7 +80,7 @@ pub fn listed(alloc: Global, line: &str) -> Result<Dfa, RowFault> {
     Ok(determinise(alloc, &table, WIDE)?.result)
 }
 
-/// The table of a line with a table, in which a state may have more edges by one letter.
+/// The table of a line with a table, in which a state may have more transitions by one letter.
 pub fn table(alloc: Global, line: &str) -> Result<Nfa, RowFault> {
     read_table(alloc, line)?.ok_or(RowFault::Form)
 }
@@ -98,24 +98,24 @@ fn states_of(alloc: Global, text: &str) -> Result<Vec<NfaState>, RowFault> {
     for state in text.split('/').skip(1) {
         states.push(NfaState {
             accepting: state.starts_with('!'),
-            edges: edges_of(alloc, state)?,
+            transitions: transitions_of(alloc, state)?,
         })?;
     }
     Ok(states)
 }
 
-// The edges of a state's text.
-fn edges_of(alloc: Global, text: &str) -> Result<Vec<Edge>, RowFault> {
-    let mut edges = Vec::new(alloc);
-    for edge in text.split_whitespace() {
-        if let Some((letter, target)) = edge.split_once('>') {
-            edges.push(Edge {
+// The transitions of a state's text.
+fn transitions_of(alloc: Global, text: &str) -> Result<Vec<Transition>, RowFault> {
+    let mut transitions = Vec::new(alloc);
+    for transition in text.split_whitespace() {
+        if let Some((letter, target)) = transition.split_once('>') {
+            transitions.push(Transition {
                 letter: letter.parse()?,
                 target: target.parse()?,
             })?;
         }
     }
-    Ok(edges)
+    Ok(transitions)
 }
 
 // The names of a line's tracks.
@@ -140,7 +140,7 @@ fn sizes_of(alloc: Global, line: &str) -> Result<Vec<u32>, RowFault> {
     Ok(sizes)
 }
 
-// What stands before the `=` of a line.
+// What comes before the `=` of a line.
 fn tracks(line: &str) -> &str {
     match line.split_once('=') {
         Some((tracks, _)) => tracks,
@@ -148,7 +148,7 @@ fn tracks(line: &str) -> &str {
     }
 }
 
-// What stands after the `=` of a line.
+// What follows the `=` of a line.
 fn after_tracks(line: &str) -> &str {
     match line.split_once('=') {
         Some((_, text)) => text,
@@ -184,27 +184,31 @@ pub fn table_of(alloc: Global, dfa: &Dfa) -> Result<String, RowFault> {
     let mut row = Vec::new(alloc);
     for state in 0..dfa.states() {
         text.push_str(if dfa.accepting(state) { "/!" } else { "/" })?;
-        dfa.edges_into(state, &mut row)?;
-        add_edges(alloc, &row, &mut text)?;
+        dfa.transitions_into(state, &mut row)?;
+        add_transitions(alloc, &row, &mut text)?;
     }
     Ok(text)
 }
 
-/// The text of a table in which a state may have more edges by one letter.
+/// The text of a table in which a state may have more transitions by one letter.
 pub fn branches_of(alloc: Global, nfa: &Nfa) -> Result<String, RowFault> {
     let mut text = String::new(alloc);
     for state in 0..nfa.states() {
         text.push_str(if nfa.is_accepting(state) { "/!" } else { "/" })?;
-        add_edges(alloc, nfa.edges(state), &mut text)?;
+        add_transitions(alloc, nfa.transitions(state), &mut text)?;
     }
     Ok(text)
 }
 
-// Adds edges to the text of a table.
-fn add_edges(alloc: Global, edges: &[Edge], text: &mut String) -> Result<(), RowFault> {
-    for edge in edges {
-        let edge = format!(in alloc; " {}>{}", edge.letter, edge.target)?;
-        text.push_str(&edge)?;
+// Adds transitions to the text of a table.
+fn add_transitions(
+    alloc: Global,
+    transitions: &[Transition],
+    text: &mut String,
+) -> Result<(), RowFault> {
+    for transition in transitions {
+        let transition = format!(in alloc; " {}>{}", transition.letter, transition.target)?;
+        text.push_str(&transition)?;
     }
     Ok(())
 }

@@ -6,10 +6,10 @@ use crate::table_texts::{branches_of, listed, read_table, table_of};
 use digit_tuple::accepting_states::{accepting_flags, accepting_states};
 use digit_tuple::alphabet::Alphabet;
 use digit_tuple::dfa::Dfa;
-use digit_tuple::edges::Edge;
 use digit_tuple::faults::OpFault;
 use digit_tuple::no_words::{no_words, no_words_within};
 use digit_tuple::reversed::reversed;
+use digit_tuple::transitions::Transition;
 use std::alloc::Global;
 
 // Where the first and the last state accept: the words with an even number of 1s, each 0 after an odd number of these.
@@ -17,8 +17,8 @@ const BOTH: &str = "x:2 = /! 1>1/ 0>1 1>2/! 1>1";
 
 const LAST: &str = "x:2 = / 1>1/ 0>1 1>2/! 1>1";
 
-// Lines of tables, and those that list no table: one without a state, with edges out of order or twice, by no letter or
-// to no state.
+// Lines of tables, and those that list no table: one without a state, with transitions out of order or twice, by no
+// letter or to no state.
 static TABLES: [(&str, bool); 6] = [
     ("x:2 = / 0>0 0>1 1>0/!", true),
     ("x:2 = ", false),
@@ -43,7 +43,7 @@ fn is_kept(alloc: Global, line: &str, is_table: bool) -> Result<bool, RowFault> 
 }
 
 #[test]
-fn a_table_has_a_state_and_its_edges_in_order(rt: HostRuntime) {
+fn a_table_has_a_state_and_its_transitions_in_order(rt: HostRuntime) {
     for (line, is_table) in &TABLES {
         expect_so(&rt, line, &is_kept(rt.alloc(), line, *is_table));
     }
@@ -71,21 +71,21 @@ fn a_table_accepts_where_its_path_ends(rt: HostRuntime) {
     }
 }
 
-// The edges of the state 1, in place of what the row held.
-fn row_of(alloc: Global, dfa: &Dfa) -> Result<Vec<Edge>, RowFault> {
-    let stray = Edge {
+// The transitions of the state 1, in place of what the row held.
+fn row_of(alloc: Global, dfa: &Dfa) -> Result<Vec<Transition>, RowFault> {
+    let stray = Transition {
         letter: 7,
         target: 7,
     };
     let mut row = vec![in alloc; stray]?;
     if dfa.states() > 1 {
-        dfa.edges_into(1, &mut row)?;
+        dfa.transitions_into(1, &mut row)?;
     }
     Ok(row)
 }
 
-// Whether a row has two edges in order, of which the second leads to the state 2.
-fn is_row_to_two(row: &[Edge]) -> bool {
+// Whether a row has two transitions in order, of which the second leads to the state 2.
+fn is_row_to_two(row: &[Transition]) -> bool {
     match row {
         [first, second] => first.is_before(second) && second.target == 2,
         _ => false,
@@ -99,7 +99,7 @@ fn has_row_to_two(alloc: Global) -> Result<bool, RowFault> {
 }
 
 #[test]
-fn edges_of_a_state_are_written_into_a_row(rt: HostRuntime) {
+fn transitions_of_a_state_are_written_into_a_row(rt: HostRuntime) {
     expect_so(&rt, BOTH, &has_row_to_two(rt.alloc()));
 }
 
@@ -110,7 +110,7 @@ fn accept(alloc: Global, line: &str, flags: &[bool], states: &[u32]) -> Result<b
     Ok(are_flags && accepting_states(alloc, &dfa)?.as_slice() == states)
 }
 
-// Whether the first states of two tables differ, and that of the first has an edge.
+// Whether the first states of two tables differ, and that of the first has a transition.
 fn begin_apart(alloc: Global, one: &str, other: &str) -> Result<bool, RowFault> {
     let one = listed(alloc, one)?;
     let other = listed(alloc, other)?;
@@ -126,14 +126,14 @@ fn states_are_compared_and_listed(rt: HostRuntime) {
     expect_so(&rt, "apart", &begin_apart(rt.alloc(), BOTH, LAST));
 }
 
-// The table with its edges turned round.
+// The table with its transitions reversed.
 fn turned(alloc: Global, line: &str) -> Result<String, RowFault> {
     let dfa = listed(alloc, line)?;
     branches_of(alloc, &reversed(alloc, &dfa)?)
 }
 
 #[test]
-fn edges_are_turned_round(rt: HostRuntime) {
+fn transitions_are_turned_round(rt: HostRuntime) {
     let found = turned(rt.alloc(), LAST);
     expect(&rt, LAST, &found, "/!/ 0>1 1>0 1>2/ 1>1");
 }

@@ -35,18 +35,18 @@ cut_last n m (b ∷ bs) h = by (b == 44 && (n == 0 && m == 0)) h (cut_last (pare
 
 -- the first argument, where a comma ends it
 pub first_of_more : (bytes argument after left : List ℕ) (len : ℕ) → len ≡ first_len 0 0 bytes → argument ≡ take len bytes → after ≡ drop len bytes → 0 < length after → left ≡ drop 1 after → cut 0 0 bytes ≡ argument ∷ cut 0 0 left
-first_of_more bytes argument after left len is front rest some last =
+first_of_more bytes argument after left len is prefix rest some last =
     let inside : first_len 0 0 bytes < length bytes = omega (arith, ap length rest, length-drop len bytes) in
     cut_more 0 0 bytes inside
     ∙ (ap (λ n. take n bytes ∷ cut 0 0 (drop (n + 1) bytes)) (sym is)
-    ∙ ((λ i. sym front i ∷ cut 0 0 (sym (drop-drop 1 len bytes) i))
+    ∙ ((λ i. sym prefix i ∷ cut 0 0 (sym (drop-drop 1 len bytes) i))
     ∙ ap (λ bs. argument ∷ cut 0 0 bs) (sym (last ∙ ap (drop 1) rest))))
 
 -- the only argument
 pub first_of_one : (bytes argument after : List ℕ) (len : ℕ) → len ≡ first_len 0 0 bytes → argument ≡ take len bytes → after ≡ drop len bytes → length after ≡ 0 → cut 0 0 bytes ≡ argument ∷ []
-first_of_one bytes argument after len is front rest none =
+first_of_one bytes argument after len is prefix rest none =
     let whole : length bytes ≤ len = omega (arith, ap length rest, length-drop len bytes) in
-    cut_last 0 0 bytes (omega arith) ∙ ap (λ bs. bs ∷ []) (sym (front ∙ take_all len bytes whole))
+    cut_last 0 0 bytes (omega arith) ∙ ap (λ bs. bs ∷ []) (sym (prefix ∙ take_all len bytes whole))
 
 -- one argument more
 pub arguments_more : (old new : List (Bor (List ℕ))) (argument : Bor (List ℕ)) (bytes : List ℕ) (left : Option (List ℕ)) (whole : List (List ℕ))

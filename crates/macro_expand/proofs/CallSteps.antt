@@ -9,7 +9,7 @@ use Rattle.macro_expand.specs.Arguments.{arguments_of}
 use Rattle.text_grammar.specs.Results.{◌>>=◌}
 use Rattle.macro_expand.specs.Expansion.{Expanded, Given, OfTexts, expand_text, expand_arguments, expand_call, expand_call_within, filled_text}
 
--- texts whose calls may stand on so many levels
+-- texts whose calls may be on so many levels
 abbrev pub texts_within : TextOf → ℕ → OfTexts
 texts_within macros levels = expand_text (expand_call_within macros levels)
 

@@ -10,7 +10,7 @@ use Rattle.macro_expand.proofs.SegmentSteps.{filled_first}
 use Rattle.macro_expand.proofs.EachSteps.{limited_more}
 
 module _ (arguments : List (List ℕ)) (rest : List ℕ) (first : Segment') (is : IsFirstSegment rest first) (made piece whole : List ℕ) (text_is : piece ≡ filled arguments (segments_view first)) (told : made ++ filled arguments (segments rest) ≡ whole) where
-  -- what was made, the segment, and what stands after it
+  -- what was made, the segment, and what follows it
   after : (made ++ piece) ++ filled arguments (segments (drop (segment_len first) rest)) ≡ whole
   after =
       append_assoc made piece (filled arguments (segments (drop (segment_len first) rest)))

@@ -18,7 +18,7 @@ module _ (of_text : OfTexts) where
   abbrev pub given_by : List (Bor (List ℕ)) → Given → Result Given MacroFault
   given_by arguments done = each (expand_argument of_text) (map (λ a. a.now) arguments) done
 
-  -- the first argument, and those behind it
+  -- the first argument, and those after it
   next : (arguments : List (Bor (List ℕ))) (first : List ℕ) (other : Bor (List ℕ)) (done : Given) → 0 < length arguments → first ≡ (get_or arguments 0 other).now
       → given_by arguments done ≡ (of_text first done.calls >>= λ new. given_by (drop 1 arguments) (given_more done new))
   next [] first other done some is = absurd (omega arith)

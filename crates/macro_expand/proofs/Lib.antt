@@ -1,6 +1,6 @@
 pub mod AnswerSteps
 pub mod SourceSteps
-pub mod FrontSteps
+pub mod PrefixSteps
 pub mod NumberSteps
 pub mod SegmentSteps
 pub mod ArgumentSteps

@@ -8,7 +8,7 @@ use Rattle.macro_expand.specs.declared.piece.Piece.TheVariants as piece
 use Rattle.macro_expand.specs.Calls.{Call, call_after}
 use Rattle.macro_expand.specs.Pieces.{byte, call, stray, pieces_from}
 use Rattle.macro_expand.specs.Views.{len_before, call_view, IsFirstPiece}
-use Rattle.macro_expand.proofs.FrontSteps.{at_mark}
+use Rattle.macro_expand.proofs.PrefixSteps.{at_mark}
 
 -- the bytes of a call are passed over
 pub pieces_skip : (at n : ℕ) (bytes : List ℕ) → pieces_from at n bytes ≡ pieces_from (at + n) 0 (drop n bytes)

@@ -5,7 +5,7 @@ use Rattle.std.proofs.lemmas.Bool.{ne_eqb, lt-ltb}
 use Rattle.std.proofs.lemmas.List.{take_at, drop_at, drop-drop}
 use Rattle.text_grammar.specs.declared.class.Class.TheVariants.{NameByte}
 use Rattle.text_grammar.specs.Bytes.{is_name_byte}
-use Rattle.text_grammar.specs.Fronts.{front_len}
+use Rattle.text_grammar.specs.Prefixes.{prefix_len}
 use Rattle.macro_expand.specs.Texts.{TextOf}
 use Rattle.macro_expand.specs.Calls.{Call, call_after}
 use Rattle.macro_expand.specs.Pieces.{byte, call, pieces_from}
@@ -45,10 +45,10 @@ text_kept of_call text calls all h = rw (pieces_only 0 text all) (bytes_put of_c
 pub text_keeps : (macros : TextOf) (text : List ℕ) → HasNo 35 text → length text ≤ 65536 → expansion macros text ≡ Ok text
 text_keeps macros text all h = rw (text_kept (expand_call_within macros 16) text 0 all h) refl
 
--- a name is the front before a byte that is of no name
-front_named : (name after : List ℕ) → AllByRecursion (λ b. is_name_byte b ≡ true) name → front_len NameByte (name ++ 40 ∷ after) ≡ length name
-front_named [] after all = refl
-front_named (b ∷ bs) after all = rw (all.0, front_named bs after all.1) refl
+-- a name is the prefix before a byte that is of no name
+prefix_named : (name after : List ℕ) → AllByRecursion (λ b. is_name_byte b ≡ true) name → prefix_len NameByte (name ++ 40 ∷ after) ≡ length name
+prefix_named [] after all = refl
+prefix_named (b ∷ bs) after all = rw (all.0, prefix_named bs after all.1) refl
 
 -- the call of a name, without arguments
 abbrev call_of_name : List ℕ → Call
@@ -57,7 +57,7 @@ call_of_name name = record { name = name; inside = []; len = length name + 0 + 0
 call_named : (name after : List ℕ) → IsName name → call_after (name ++ 40 ∷ 41 ∷ after) ≡ Some (call_of_name name)
 unfolding call_after
 call_named name after is =
-    rw (front_named name (41 ∷ after) is.bytes, take_at name (40 ∷ 41 ∷ after) (length name) refl, drop_at name (40 ∷ 41 ∷ after) (length name) refl, lt-ltb 0 (suc (length after)) (omega arith), is.form) refl
+    rw (prefix_named name (41 ∷ after) is.bytes, take_at name (40 ∷ 41 ∷ after) (length name) refl, drop_at name (40 ∷ 41 ∷ after) (length name) refl, lt-ltb 0 (suc (length after)) (omega arith), is.form) refl
 
 pieces_named : (at : ℕ) (name after : List ℕ) → IsName name → pieces_from at 0 (35 ∷ name ++ 40 ∷ 41 ∷ after) ≡ call (call_of_name name) ∷ pieces_from (at + 1 + (length name + 0 + 0 + 2)) 0 after
 pieces_named at name after is =

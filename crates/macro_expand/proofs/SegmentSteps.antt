@@ -5,12 +5,12 @@ use Rattle.std.specs.Borrow.{Bor}
 use Rattle.std.proofs.lemmas.List.{length-take-le, length-drop}
 use Rattle.std.proofs.lemmas.Bool.{lt-ltb}
 use Rattle.text_grammar.specs.declared.class.Class.TheVariants.{Digit}
-use Rattle.text_grammar.specs.Fronts.{front_len, front_of}
+use Rattle.text_grammar.specs.Prefixes.{prefix_len, prefix_of}
 use Rattle.macro_expand.specs.Filling.{Segment, byte, place, number_of, segments_from, segments, missing, filled}
 use Rattle.macro_expand.specs.declared.segment.Segment.TheVariants as segment
 use Rattle.macro_expand.specs.declared.segment.Segment.{Segment as Segment'}
 use Rattle.macro_expand.specs.Views.{len_before, segment_len, segments_view, IsFirstSegment}
-use Rattle.macro_expand.proofs.FrontSteps.{at_mark}
+use Rattle.macro_expand.proofs.PrefixSteps.{at_mark}
 
 -- digits of a place are passed over
 pub segments_skip : (n : ℕ) (bytes : List ℕ) → segments_from n bytes ≡ segments_from 0 (drop n bytes)
@@ -28,12 +28,12 @@ segments_plain (b ∷ bs) = by (b == 37) refl (segments_plain bs)
     by false h more = rw h (ap (λ rest. byte b ∷ rest) more)
 
 -- a `%` without a digit is a byte
-pub segments_sign : (bs : List ℕ) → front_len Digit bs ≡ 0 → segments (37 ∷ bs) ≡ byte 37 ∷ segments bs
+pub segments_sign : (bs : List ℕ) → prefix_len Digit bs ≡ 0 → segments (37 ∷ bs) ≡ byte 37 ∷ segments bs
 segments_sign bs h = rw h refl
 
 -- a `%` with digits is a place
-pub segments_place : (bs : List ℕ) → 0 < front_len Digit bs → segments (37 ∷ bs) ≡ place (number_of (front_of Digit bs)) ∷ segments (drop (front_len Digit bs) bs)
-segments_place bs h = rw (lt-ltb 0 (front_len Digit bs) h, segments_skip (front_len Digit bs) bs) refl
+pub segments_place : (bs : List ℕ) → 0 < prefix_len Digit bs → segments (37 ∷ bs) ≡ place (number_of (prefix_of Digit bs)) ∷ segments (drop (prefix_len Digit bs) bs)
+segments_place bs h = rw (lt-ltb 0 (prefix_len Digit bs) h, segments_skip (prefix_len Digit bs) bs) refl
 
 -- what was missing first, or else what is missing after
 abbrev pub or_else : Option ℕ → Option ℕ → Option ℕ
@@ -71,9 +71,9 @@ first_plain bytes plain r is within some e =
     }
 
 -- a `%` without a digit comes first
-pub first_sign : (bytes after : List ℕ) (digits : ℕ) (r : Bor (List ℕ)) → after ≡ drop 1 bytes → len_before 37 bytes ≡ 0 → 0 < length bytes → digits ≡ front_len Digit after → digits ≡ 0 → r.now ≡ take 1 bytes → IsFirstSegment bytes (segment.Plain r)
+pub first_sign : (bytes after : List ℕ) (digits : ℕ) (r : Bor (List ℕ)) → after ≡ drop 1 bytes → len_before 37 bytes ≡ 0 → 0 < length bytes → digits ≡ prefix_len Digit after → digits ≡ 0 → r.now ≡ take 1 bytes → IsFirstSegment bytes (segment.Plain r)
 first_sign bytes after digits r follows mark some ahead none e =
-    let is : digits ≡ front_len Digit (drop 1 bytes) = ahead ∙ ap (front_len Digit) follows in
+    let is : digits ≡ prefix_len Digit (drop 1 bytes) = ahead ∙ ap (prefix_len Digit) follows in
     let b : bytes ≡ 37 ∷ drop 1 bytes = at_mark 37 bytes mark some in
     let n : length r.now ≡ 1 = ap length e ∙ length-take-le 1 bytes (omega arith) in
     let one : take 1 bytes ≡ 37 ∷ [] = ap (take 1) b in
@@ -84,10 +84,10 @@ first_sign bytes after digits r follows mark some ahead none e =
     }
 
 -- a place comes first
-pub first_place : (bytes after : List ℕ) (digits number len : ℕ) → after ≡ drop 1 bytes → len_before 37 bytes ≡ 0 → 0 < length bytes → digits ≡ front_len Digit after → digits ≤ length after → 0 < digits → number ≡ number_of (take digits after) → len ≡ digits + 1
+pub first_place : (bytes after : List ℕ) (digits number len : ℕ) → after ≡ drop 1 bytes → len_before 37 bytes ≡ 0 → 0 < length bytes → digits ≡ prefix_len Digit after → digits ≤ length after → 0 < digits → number ≡ number_of (take digits after) → len ≡ digits + 1
     → IsFirstSegment bytes (segment.Place number len)
 first_place bytes after digits number len follows mark some ahead inside more spelled l =
-    let is : digits ≡ front_len Digit (drop 1 bytes) = ahead ∙ ap (front_len Digit) follows in
+    let is : digits ≡ prefix_len Digit (drop 1 bytes) = ahead ∙ ap (prefix_len Digit) follows in
     let within : digits ≤ length (drop 1 bytes) = omega (arith, inside, ap length follows) in
     let value : number ≡ number_of (take digits (drop 1 bytes)) = spelled ∙ ap (λ bs. number_of (take digits bs)) follows in
     let b : bytes ≡ 37 ∷ drop 1 bytes = at_mark 37 bytes mark some in
@@ -110,6 +110,6 @@ module _ (rest : List ℕ) (first : Segment') (is : IsFirstSegment rest first) w
   pub missing_after : (given len : ℕ) (left : List ℕ) → missing given (segments_view first) ≡ None → len ≡ segment_len first → left ≡ drop len rest → missing given (segments left) ≡ missing given (segments rest)
   missing_after given len left h l e = ap (λ bs. missing given (segments bs)) (e ∙ ap (λ k. drop k rest) l) ∙ sym (missing_first given ∙ ap (λ o. or_else o (missing given (segments (drop (segment_len first) rest)))) h)
 
-  -- the first segment with arguments in its place, and what stands after it
+  -- the first segment with arguments in its place, and what follows it
   pub filled_first : (arguments : List (List ℕ)) → filled arguments (segments rest) ≡ filled arguments (segments_view first) ++ filled arguments (segments (drop (segment_len first) rest))
   filled_first arguments = ap (filled arguments) is.segments_are ∙ filled-append arguments (segments_view first) (segments (drop (segment_len first) rest))

@@ -20,13 +20,13 @@ module _ {S : Type 0} (found : S → TextOf) (becomes : S → S → Type 0) (lac
   abbrev pub Arguments : List (List ℕ) → TextOf → Result Given MacroFault
   Arguments arguments texts = expand_arguments (texts_within texts (levels - 1)) arguments (calls + 1)
 
-  -- the call behind its checks
+  -- the call after its checks
   abbrev pub Checked : TextOf → Result Expanded MacroFault
   Checked texts = Arguments (arguments_of call.inside) texts >>= after_arguments texts (texts_within texts (levels - 1)) call
 
-  -- and behind its arguments
-  abbrev pub Behind : Given → TextOf → Result Expanded MacroFault
-  Behind given texts = after_arguments texts (texts_within texts (levels - 1)) call given
+  -- and after its arguments
+  abbrev pub After : Given → TextOf → Result Expanded MacroFault
+  After given texts = after_arguments texts (texts_within texts (levels - 1)) call given
 
   start : (s : S) → becomes s s → IsLeft found becomes Checked Whole s s
   start s stays = all_left found becomes Checked Whole s stays (λ texts. sym (call_counted texts levels call calls some few))
@@ -43,35 +43,35 @@ module _ {S : Type 0} (found : S → TextOf) (becomes : S → S → Type 0) (lac
 
   -- the arguments are expanded
   pub arguments_done : {X : Type 0} (part_view : X → Given) (arguments : List (List ℕ)) → arguments ≡ arguments_of call.inside → (old new : S) (x : X) → becomes old old
-      → AnswersFrom found becomes lacks part_view (Arguments arguments) old (Ok x) new → IsLeft found becomes (Behind (part_view x)) Whole old new
+      → AnswersFrom found becomes lacks part_view (Arguments arguments) old (Ok x) new → IsLeft found becomes (After (part_view x)) Whole old new
   arguments_done part_view arguments same old new x stays second =
-      left_more found becomes lacks on lacks_then part_view (Arguments arguments) Checked (Behind (part_view x)) Whole old old new x (λ texts h. checked_so arguments (Ok (part_view x)) texts same h) (start old stays) second
+      left_more found becomes lacks on lacks_then part_view (Arguments arguments) Checked (After (part_view x)) Whole old old new x (λ texts h. checked_so arguments (Ok (part_view x)) texts same h) (start old stays) second
 
   -- the macro's text, with arguments in its places
   abbrev pub Filled : List ℕ → List (List ℕ) → TextOf → Result (List ℕ) MacroFault
   Filled name arguments texts = filled_text name arguments (texts name)
 
-  behind_so : (given : Given) (name : List ℕ) (arguments : List (List ℕ)) (r : Result (List ℕ) MacroFault) (texts : TextOf) → name ≡ call.name → arguments ≡ given.texts → Filled name arguments texts ≡ r
-      → Behind given texts ≡ (r >>= λ text. texts_within texts (levels - 1) text given.calls)
-  behind_so given name arguments r texts named same h =
+  after_so : (given : Given) (name : List ℕ) (arguments : List (List ℕ)) (r : Result (List ℕ) MacroFault) (texts : TextOf) → name ≡ call.name → arguments ≡ given.texts → Filled name arguments texts ≡ r
+      → After given texts ≡ (r >>= λ text. texts_within texts (levels - 1) text given.calls)
+  after_so given name arguments r texts named same h =
       ap (λ n. Filled n given.texts texts >>= λ text. texts_within texts (levels - 1) text given.calls) (sym named)
       ∙ (ap (λ xs. Filled name xs texts >>= λ text. texts_within texts (levels - 1) text given.calls) (sym same)
       ∙ ap (λ r'. r' >>= λ text. texts_within texts (levels - 1) text given.calls) h)
 
   -- the text is refused
   pub text_refused : {X Z : Type 0} (part_view : X → List ℕ) (view : Z → Expanded) (given : Given) (name : List ℕ) (arguments : List (List ℕ)) → name ≡ call.name → arguments ≡ given.texts
-      → (old mid new : S) (fault : MacroFault) (result : Result Z MacroFault) → IsLeft found becomes (Behind given) Whole old mid
+      → (old mid new : S) (fault : MacroFault) (result : Result Z MacroFault) → IsLeft found becomes (After given) Whole old mid
       → AnswersFrom found becomes lacks part_view (Filled name arguments) mid (Err fault) new → IsErrAnd result (λ e. e ≡ fault) → AnswersFrom found becomes lacks view Whole old result new
   text_refused part_view view given name arguments named same old mid new fault result first second is =
-      left_refused found becomes lacks on lacks_then part_view view (Filled name arguments) (Behind given) Whole old mid new fault result (λ texts e h. behind_so given name arguments (Err e) texts named same h) first second is
+      left_refused found becomes lacks on lacks_then part_view view (Filled name arguments) (After given) Whole old mid new fault result (λ texts e h. after_so given name arguments (Err e) texts named same h) first second is
 
   -- the text is filled in, and expanded
   pub text_follows : {X Z : Type 0} (part_view : X → List ℕ) (view : Z → Expanded) (given : Given) (name : List ℕ) (arguments : List (List ℕ)) → name ≡ call.name → arguments ≡ given.texts
-      → (old mid after new : S) (x : X) (text : List ℕ) → text ≡ part_view x → (result : Result Z MacroFault) → IsLeft found becomes (Behind given) Whole old mid
+      → (old mid after new : S) (x : X) (text : List ℕ) → text ≡ part_view x → (result : Result Z MacroFault) → IsLeft found becomes (After given) Whole old mid
       → AnswersFrom found becomes lacks part_view (Filled name arguments) mid (Ok x) after
       → AnswersFrom found becomes lacks view (λ texts. texts_within texts (levels - 1) text given.calls) after result new → AnswersFrom found becomes lacks view Whole old result new
   text_follows part_view view given name arguments named same old mid after new x text made result first second third =
       left_answers found becomes lacks on lacks_then view (λ texts. texts_within texts (levels - 1) (part_view x) given.calls) Whole old after new result
-      (left_more found becomes lacks on lacks_then part_view (Filled name arguments) (Behind given) (λ texts. texts_within texts (levels - 1) (part_view x) given.calls) Whole old mid after x
-      (λ texts h. behind_so given name arguments (Ok (part_view x)) texts named same h) first second)
+      (left_more found becomes lacks on lacks_then part_view (Filled name arguments) (After given) (λ texts. texts_within texts (levels - 1) (part_view x) given.calls) Whole old mid after x
+      (λ texts h. after_so given name arguments (Ok (part_view x)) texts named same h) first second)
       (subst (λ (t : List ℕ). AnswersFrom found becomes lacks view (λ texts. texts_within texts (levels - 1) t given.calls) after result new) made third)

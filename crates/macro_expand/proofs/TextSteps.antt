@@ -13,7 +13,7 @@ module _ (of_call : OfCalls) (text : List ℕ) (at len : ℕ) (first : Piece') (
   is : IsFirstPiece at (drop at text) first
   is = subst (λ bs. IsFirstPiece at bs first) follows seen
 
-  -- what is left is the first piece and what stands after it
+  -- what is left is the first piece and what follows it
   left : (done : Expanded) → each (expand_piece of_call) (pieces_from at 0 (drop at text)) done ≡ (each (expand_piece of_call) (pieces_view first) done >>= each (expand_piece of_call) (pieces_from (at + len) 0 (drop (at + len) text)))
   left done =
       ap (λ ps. each (expand_piece of_call) ps done)

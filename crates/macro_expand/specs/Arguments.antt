@@ -1,7 +1,7 @@
 -- The arguments of a call, which commas part.
 use Rattle.std.specs.Prelude.{ℕ, suc, ◌+◌, ◌-◌, ◌==◌, ◌&&◌, if◌then◌else◌, List, [], ◌∷◌, length, Option, None, Some}
 use Rattle.text_grammar.specs.declared.class.Class.TheVariants.{Blank}
-use Rattle.text_grammar.specs.Fronts.{front_len}
+use Rattle.text_grammar.specs.Prefixes.{prefix_len}
 use Rattle.macro_expand.specs.Calls.{parentheses_after}
 
 -- how many square brackets are open after a byte: a `]` where none is open counts nothing
@@ -31,6 +31,6 @@ abbrev pub arguments_left : Option (List ℕ) → List (List ℕ)
 arguments_left None = []
 arguments_left (Some bytes) = cut 0 0 bytes
 
--- the arguments between a call's parentheses: none where only blanks stand there
+-- the arguments between a call's parentheses: none where only blanks are there
 abbrev pub arguments_of : List ℕ → List (List ℕ)
-arguments_of inside = if front_len Blank inside == length inside then [] else cut 0 0 inside
+arguments_of inside = if prefix_len Blank inside == length inside then [] else cut 0 0 inside

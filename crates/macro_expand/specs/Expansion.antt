@@ -81,7 +81,7 @@ expand_call macros of_text c calls =
     filled_text c.name given.texts (macros c.name) >>= λ text.
     of_text text given.calls)
 
--- what a call expands to, where it and the calls in it may stand on so many levels
+-- what a call expands to, where it and the calls in it may be on so many levels
 unfoldable pub expand_call_within : TextOf → ℕ → OfCalls
 expand_call_within macros zero = λ c calls. Err (faults.MacroDepth c.name)
 expand_call_within macros (suc levels) = expand_call macros (expand_text (expand_call_within macros levels))
@@ -90,6 +90,6 @@ expand_call_within macros (suc levels) = expand_call macros (expand_text (expand
 abbrev pub bytes_of : Result Expanded MacroFault → Result (List ℕ) MacroFault
 bytes_of result = result >>= λ all. Ok all.bytes
 
--- the expansion of a text, whose calls may stand on 16 levels
+-- the expansion of a text, whose calls may be on 16 levels
 abbrev pub expansion : TextOf → List ℕ → Result (List ℕ) MacroFault
 expansion macros text = bytes_of (expand_text (expand_call_within macros 16) text 0)

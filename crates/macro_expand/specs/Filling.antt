@@ -1,7 +1,7 @@
 -- A macro's text, and arguments in its places.
 use Rattle.std.specs.Prelude.{ℕ, zero, suc, ◌==◌, nat_lt, ◌&&◌, min, if◌then◌else◌, List, [], ◌∷◌, ◌++◌, slice_index_or, Option, None, Some}
 use Rattle.text_grammar.specs.declared.class.Class.TheVariants.{Digit}
-use Rattle.text_grammar.specs.Fronts.{front_len, front_of}
+use Rattle.text_grammar.specs.Prefixes.{prefix_len, prefix_of}
 use Rattle.text_grammar.specs.Numbers.{value_of}
 
 pub data Segment : Type 0 where
@@ -18,8 +18,8 @@ abbrev pub segments_from : ℕ → List ℕ → List Segment
 segments_from n [] = []
 segments_from (suc n) (b ∷ bs) = segments_from n bs
 segments_from zero (b ∷ bs) =
-    if b == 37 && nat_lt 0 (front_len Digit bs)
-    then place (number_of (front_of Digit bs)) ∷ segments_from (front_len Digit bs) bs
+    if b == 37 && nat_lt 0 (prefix_len Digit bs)
+    then place (number_of (prefix_of Digit bs)) ∷ segments_from (prefix_len Digit bs) bs
     else byte b ∷ segments_from 0 bs
 
 -- The segments of a macro's text: `%` with all digits that follow it is a place, and a `%` without one is a byte.

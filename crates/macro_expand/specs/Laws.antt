@@ -9,7 +9,7 @@ use Rattle.macro_expand.specs.Calls.{is_name}
 use Rattle.macro_expand.specs.Expansion.{expansion}
 use Rattle.macro_expand.specs.Views.{Answers}
 
--- a mark does not stand in a text
+-- a mark is not in a text
 abbrev pub HasNo : ℕ → List ℕ → Type 0
 HasNo mark text = AllByRecursion (λ b. b ≢ mark) text
 
@@ -29,12 +29,12 @@ pub record IsPlainMacro (macros : TextOf) (name text : List ℕ) : Type 0 where
   pub no_call : HasNo 35 text
   pub no_place : HasNo 37 text
 
--- such a macro's text stands in the place of its call without arguments, where all is at most 65,536 bytes
+-- such a macro's text is in the place of its call without arguments, where all is at most 65,536 bytes
 abbrev pub GivesPlainTexts : Type 0
 GivesPlainTexts = (macros : TextOf) (name text before after : List ℕ) → IsPlainMacro macros name text → HasNo 35 before → HasNo 35 after → length (before ++ (text ++ after)) ≤ 65536
     → expansion macros (before ++ (35 ∷ name ++ 40 ∷ 41 ∷ after)) ≡ Ok (before ++ (text ++ after))
 
--- an expansion has one answer, beside want of memory
+-- an expansion has one answer, apart from out of memory
 abbrev pub OneAnswer : Type 0
 OneAnswer = (macros : TextOf) (text : List ℕ) (result other : Result (List ℕ) MacroFault) → Answers (λ made. made) result (expansion macros text) → Answers (λ made. made) other (expansion macros text)
     → result ≢ Err faults.Memory → other ≢ Err faults.Memory → result ≡ other

@@ -29,7 +29,7 @@ abbrev pub Answers : {X Y : Type 0} → (X → Y) → Result X MacroFault → Re
 Answers view (Ok x) defined = defined ≡ Ok (view x)
 Answers view (Err fault) defined = Fails fault defined
 
--- how many bytes stand before the first one that is this mark
+-- how many bytes come before the first one that is this mark
 abbrev pub len_before : ℕ → List ℕ → ℕ
 len_before mark [] = 0
 len_before mark (b ∷ bs) = if b == mark then 0 else suc (len_before mark bs)

@@ -6,7 +6,7 @@ ghost use Rattle.macro_expand.specs.Arguments.{cut, arguments_left, brackets_aft
 
 use crate::call::parentheses_after;
 use std::alloc::{AllocError, Global};
-use text_grammar::{Class, front_len};
+use text_grammar::{Class, prefix_len};
 
 /// How many square brackets are open after a byte, before which some are.
 fn brackets_after(before: usize, byte: u8) -> usize
@@ -38,7 +38,7 @@ fn first_len(bytes: &[u8]) -> usize
     bytes.len()
 }
 
-/// The first argument, and what stands after the comma that ends it, if one does.
+/// The first argument, and what follows the comma that ends it, if one does.
 #[tactic(auto, using(crate::proofs::ArgumentSteps::first_of_more, crate::proofs::ArgumentSteps::first_of_one))]
 fn first_argument(bytes: &[u8]) -> (&[u8], Option<&[u8]>)
     ensures parted { cut 0 0 bytes.now ≡ result.0.now ∷ arguments_left (option_copied result.1) }
@@ -51,13 +51,13 @@ fn first_argument(bytes: &[u8]) -> (&[u8], Option<&[u8]>)
     }
 }
 
-/// The arguments between a call's parentheses: none where only blanks stand there.
+/// The arguments between a call's parentheses: none where only blanks are there.
 #[tactic(auto, using(crate::proofs::ArgumentSteps::arguments_more))]
 pub(crate) fn arguments_of(alloc: Global, inside: &[u8]) -> Result<Vec<&[u8]>, AllocError>
     ensures { IfOk result (λ arguments. map (λ argument. argument.now) arguments.items ≡ arguments_in inside.now) }
 {
     let mut arguments = Vec::new(alloc);
-    if front_len(Class::Blank, inside) == inside.len() {
+    if prefix_len(Class::Blank, inside) == inside.len() {
         return Ok(arguments);
     }
     let mut left = Some(inside);

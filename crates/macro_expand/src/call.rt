@@ -5,12 +5,12 @@ ghost use Rattle.std.specs.Option.{option_map, option_copied};
 ghost use Rattle.macro_expand.specs.Calls.{is_name as is_macro_name, parentheses_after as nested_after, inside_len as len_inside, enclosed as enclosed_there, call_after as call_there};
 ghost use Rattle.macro_expand.specs.Views.{call_view};
 
-use text_grammar::{Class, front_len};
+use text_grammar::{Class, prefix_len};
 
 /// The greatest length of a name.
 const LONGEST_NAME: usize = 64;
 
-/// A call: the macro's name, what stands between the parentheses, and how many bytes come after the `#`.
+/// A call: the macro's name, what is between the parentheses, and how many bytes come after the `#`.
 #[derive(Clone, Copy)]
 pub(crate) struct Call<'a> {
     pub name: &'a [u8],
@@ -41,7 +41,7 @@ pub(crate) fn parentheses_after(before: usize, byte: u8) -> usize
     }
 }
 
-/// How many bytes stand before the `)` that closes the parenthesis before them; all of them where none does.
+/// How many bytes come before the `)` that closes the parenthesis before them; all of them where none does.
 fn inside_len(bytes: &[u8]) -> usize
     ensures len { result ≡ len_inside 0 bytes.now }
     ensures within { result ≤ length bytes.now }
@@ -72,18 +72,18 @@ fn enclosed(bytes: &[u8]) -> Option<&[u8]>
     Some(&after[..len])
 }
 
-/// The call at the front of what stands after its `#`, if a call begins there.
+/// The call at the front of what follows its `#`, if a call begins there.
 #[tactic(auto, unfolding(crate::specs::Calls::call_after))]
 pub(crate) fn call_after(bytes: &[u8]) -> Option<Call<'_>>
     ensures call { option_map call_view result ≡ call_there bytes.now }
     ensures named { IfSome result (λ call. IsAscii call.name.now) }
     ensures within { IfSome result (λ call. call.len ≤ length bytes.now) }
 {
-    let (name, after) = bytes.split_at(front_len(Class::NameByte, bytes));
+    let (name, after) = bytes.split_at(prefix_len(Class::NameByte, bytes));
     if !is_name(name) {
         return None;
     }
-    let blanks = front_len(Class::Blank, after);
+    let blanks = prefix_len(Class::Blank, after);
     let inside = enclosed(&after[blanks..])?;
     Some(Call {
         name,

@@ -18,7 +18,7 @@ use crate::piece::{Piece, first_piece};
 use crate::texts::MacroTexts;
 use std::alloc::Global;
 
-/// On how many levels calls may stand.
+/// On how many levels calls may be.
 const MOST_LEVELS: usize = 16;
 
 /// How many calls may be met.
@@ -41,7 +41,7 @@ struct Given {
 /// The expansion of the text: each call `#NAME(a,b)` in it is replaced by the text of the macro of this name, with the
 /// arguments in its places `%0`, `%1` and so on.
 ///
-/// A call's name begins with a letter, goes on with letters, digits and `_`, and has at most 64 bytes; blanks may stand
+/// A call's name begins with a letter, goes on with letters, digits and `_`, and has at most 64 bytes; blanks may come
 /// after it. The call ends at the `)` that closes its `(`; parentheses alone count. An argument ends at a comma where no
 /// further parenthesis and no square bracket is open; a `]` where none is open counts nothing. Arguments keep their blanks,
 /// and a call with only blanks between its parentheses has none. A `%` takes all digits that follow it, and stays where
@@ -50,8 +50,8 @@ struct Given {
 /// A call's arguments are expanded first, then the text that they fill in, both one level deeper than the call.
 ///
 /// # Errors
-/// The first fault that is met from the left. At a call's `#` come `Syntax`, `MacroDepth` where it stands within 16
-/// others, and `MacroLong` where it is the 65,537th; then the faults of its arguments, from the left; then `Unknown`,
+/// The first fault that is met from the left. At a call's `#` come `Syntax`, `MacroDepth` where it is within 16 others,
+/// and `MacroLong` where it is the 65,537th; then the faults of its arguments, from the left; then `Unknown`,
 /// `MacroArgs`, and `MacroLong` where the text that the arguments fill in has more than 65,536 bytes; then the faults of
 /// that text. `MacroLong` also comes where an expansion grows past 65,536 bytes. `Memory` answers a refused growth.
 pub fn expand(alloc: Global, text: &[u8], macros: &Macros) -> Result<Vec<u8>, MacroFault>
@@ -61,7 +61,7 @@ pub fn expand(alloc: Global, text: &[u8], macros: &Macros) -> Result<Vec<u8>, Ma
 }
 
 /// The expansion of the text, as `expand` gives it, by the texts of a source: a macro's text is looked for where a call of
-/// it is met, behind the call's arguments, and no other.
+/// it is met, after the call's arguments, and no other.
 ///
 /// # Errors
 /// As for `expand`. `Unknown` comes where the source found no text of that name.
@@ -76,7 +76,7 @@ pub fn expand_from<M: MacroTexts>(
     Ok(expanded.bytes)
 }
 
-/// The expansion of a text whose calls may stand on so many levels, where some calls were met before.
+/// The expansion of a text whose calls may be on so many levels, where some calls were met before.
 #[cycle(expansion)]
 fn expand_text<M: MacroTexts>(
     alloc: Global,
@@ -126,7 +126,7 @@ fn expand_piece<M: MacroTexts>(
     }
 }
 
-/// The expansion of a call, where it and the calls in it may stand on so many levels, and some were met before.
+/// The expansion of a call, where it and the calls in it may be on so many levels, and some were met before.
 #[cycle(expansion)]
 fn expand_call<M: MacroTexts>(
     alloc: Global,
@@ -151,7 +151,7 @@ fn expand_call<M: MacroTexts>(
     expand_text(alloc, macros, &text, levels - 1, given.calls)
 }
 
-/// The expansions of a call's arguments, in which calls may stand on so many levels, where some were met before.
+/// The expansions of a call's arguments, in which calls may be on so many levels, where some were met before.
 #[cycle(expansion)]
 fn expand_arguments<M: MacroTexts>(
     alloc: Global,

@@ -7,8 +7,8 @@ pub fn keeps_plain_texts()
     ensures { KeepsPlainTexts }
 {}
 
-/// A macro's text without `#` and `%` stands in the place of its call without arguments, among bytes without `#`, where
-/// all is at most 65,536 bytes.
+/// A macro's text without `#` and `%` is in the place of its call without arguments, among bytes without `#`, where all
+/// is at most 65,536 bytes.
 pub fn gives_plain_texts()
     ensures { GivesPlainTexts }
 {}

@@ -4,7 +4,7 @@
 //! are expanded first, then the text that they fill in. The expansion is one function on texts (`specs/Expansion.antt`);
 //! `expand` gives its value, the first fault with what it keeps included.
 //!
-//! Calls stand on 16 levels at most, so `expand` calls itself no deeper. Each level reads each byte of a call a fixed
+//! Calls are on 16 levels at most, so `expand` calls itself no deeper. Each level reads each byte of a call a fixed
 //! number of times, and writes each byte of an expansion once.
 #![tactic(auto)]
 
@@ -16,15 +16,15 @@ mod macros;
 mod texts;
 // macros that were added, as a source of texts
 mod added;
-// fronts of texts, and what stands after them
+// prefixes of texts, and what follows them
 mod bytes;
 // calls, and the ends of their parentheses
 mod call;
 // the arguments between a call's parentheses
 mod arguments;
-// the calls of a text, and what stands outside of them
+// the calls of a text, and what is outside of them
 mod piece;
-// the places of a macro's text, and what stands outside of them
+// the places of a macro's text, and what is outside of them
 mod segment;
 // texts that grow up to a limit
 mod limited;

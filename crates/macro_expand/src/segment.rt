@@ -5,7 +5,7 @@ ghost use Rattle.macro_expand.specs.Filling.{number_of as number_in, missing as 
 ghost use Rattle.macro_expand.specs.Views.{segment_len, segments_view, IsFirstSegment};
 
 use crate::bytes::{after, len_before};
-use text_grammar::{Class, front_len};
+use text_grammar::{Class, prefix_len};
 
 /// Some bytes outside of places, or the place of an argument: its number, and how many bytes spell it.
 #[derive(Clone, Copy)]
@@ -55,7 +55,7 @@ impl<'a> Segment<'a> {
         }
     }
 
-    /// What stands there with these arguments.
+    /// What is there with these arguments.
     #[tactic(auto, using(crate::proofs::SegmentSteps::filled_plain))]
     pub fn text(&self, arguments: &'a [Vec<u8>]) -> &'a [u8]
         ensures { result.now ≡ filled (map (λ argument. argument.items) arguments.now) (segments_view self.now) }
@@ -80,7 +80,7 @@ pub(crate) fn first_segment(bytes: &[u8]) -> Segment<'_>
         return Segment::Plain(&bytes[..plain]);
     }
     let ahead = after(1, bytes);
-    let digits = front_len(Class::Digit, ahead);
+    let digits = prefix_len(Class::Digit, ahead);
     if digits == 0 {
         return Segment::Plain(&bytes[..1]);
     }

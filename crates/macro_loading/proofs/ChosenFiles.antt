@@ -1,4 +1,4 @@
--- Files by which an expansion is what it is: the store's where it tells them, and else some among whose macros all are that were read.
+-- Files by which an expansion is what it is: the store's where it reports them, and else some among whose macros all are that were read.
 use Rattle.std.proofs.Common.{◌≡◌, refl, ap, ◌∙◌, ℕ, Bool, true, false, cond, List, Option, None, Some}
 use Rattle.std.specs.Prelude.{IfSome, ⊤}
 use Rattle.std.specs.Str.{bytes_eq}
@@ -15,7 +15,7 @@ use Rattle.macro_loading.specs.MacroFiles.{macros_of, without, IsTooLong}
 use Rattle.macro_loading.specs.Reading.{AreRead}
 use Rattle.macro_loading.proofs.ShortTexts.{macro_short}
 
--- files that are the store's, where it tells them, among whose macros these texts are
+-- files that are the store's, where it reports them, among whose macros these texts are
 pub record Chosen (store : StoreView) (texts : TextOf) (Holds : Files → Type 0) : Type 0 where
   pub files : Files
   pub told : AreTold store files
@@ -48,7 +48,7 @@ module _ (store : StoreView) (texts : TextOf) (read : AreRead store texts) where
   pub chosen_plain : Chosen store texts (λ _. ⊤)
   chosen_plain = chosen (λ _. ⊤) texts (nothing store.files) (λ name text e. e) tt
 
-  -- and so where nothing stands under a name
+  -- and so where nothing is under a name
   pub chosen_absent : (name : List ℕ) → texts name ≡ None → IfSome store.files (λ files. files Macros name ≡ None) → Chosen store texts (λ files. files Macros name ≡ None)
   chosen_absent name none told = chosen (λ files. files Macros name ≡ None) texts told (λ name' text e. e) none
 
@@ -68,7 +68,7 @@ module _ (store : StoreView) (texts : TextOf) (read : AreRead store texts) where
   with_there : (name more : List ℕ) → with_text name more name ≡ Some more
   with_there name more = rw ((bytes_eq-Decides name name).1 refl) refl
 
-  -- and where a text stands there that is too long
+  -- and where a text is there that is too long
   pub chosen_long : (name : List ℕ) → texts name ≡ None → IfSome store.files (λ files. IsTooLong (files Macros name)) → Chosen store texts (λ files. IsTooLong (files Macros name))
   chosen_long name none told =
       let past = text_past TEXT_LIMIT in

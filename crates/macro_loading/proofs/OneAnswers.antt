@@ -12,7 +12,7 @@ use Rattle.macro_loading.specs.MacroFiles.{macros_of, Expands, IsAnswer, Expansi
 use Rattle.macro_loading.specs.declared.fault.ExpansionFault.{ExpansionFault}
 use Rattle.macro_loading.specs.declared.fault.ExpansionFault.TheVariants as faults
 
--- why a macro is unknown, by what stands under its name
+-- why a macro is unknown, by what is under its name
 abbrev unknown_by : List ℕ → Option (List ℕ) → LoadFault
 unknown_by name None = loads.Unknown Macros name
 unknown_by name (Some text) = loads.File Macros name TooLong

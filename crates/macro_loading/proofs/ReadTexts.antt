@@ -19,7 +19,7 @@ use Rattle.macro_loading.specs.Reading.{Held, AreRead, GoesOn, IsStill}
 use Rattle.macro_loading.specs.declared.macro_files.Want.{Want}
 use Rattle.macro_loading.proofs.ShortTexts.{macro_short}
 
--- what holds of some files, where these are told
+-- what holds of some files, where these are reported
 pub both_told : {X : Type 0} (told : Option X) (P Q R : X → Type 0) → ((x : X) → P x → Q x → R x) → IfSome told P → IfSome told Q → IfSome told R
 both_told None P Q R both p q = tt
 both_told (Some x) P Q R both p q = both x p q

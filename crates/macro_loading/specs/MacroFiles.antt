@@ -1,4 +1,4 @@
--- The expansion of a text by the macros that stand among files.
+-- The expansion of a text by the macros that are among files.
 use Rattle.std.specs.Prelude.{◌≡◌, ◌≢◌, ℕ, ◌<◌, nat_le, Bool, true, false, if◌then◌else◌, List, length, Option, None, Some, Vec, Result, Ok, Err, MatchResult, ⊤}
 use Rattle.std.specs.Str.{bytes_eq}
 use Rattle.std.specs.declared.alloc.Global.{Global}
@@ -43,8 +43,8 @@ ReadsMacroAt files text folder name = (folder ≡ Macros) × IsMet files text na
 abbrev pub IsTooLong : Option (List ℕ) → Type 0
 IsTooLong there = (text : List ℕ) × (there ≡ Some text) × (TEXT_LIMIT < length text)
 
--- why the text of a macro is not loaded: a macro is unknown, and nothing stands under its name, or a text that is too long;
--- or the store failed at a macro that is met; or for want of memory
+-- why the text of a macro is not loaded: a macro is unknown, and nothing is under its name, or a text that is too long; or the store failed
+-- at a macro that is met; or because memory ran out
 abbrev pub FailsLoad : Files → List ℕ → LoadFault → Type 0
 FailsLoad files text (loads.Unknown folder name) = (folder ≡ Macros) × (expansion (macros_of files) text ≡ Err (macros.Unknown name)) × (files Macros name ≡ None)
 FailsLoad files text (loads.File folder name flaw) = (folder ≡ Macros) × (flaw ≡ TooLong) × (expansion (macros_of files) text ≡ Err (macros.Unknown name)) × IsTooLong (files Macros name)
@@ -90,7 +90,7 @@ pub record HasRead {X : Type 0} (old : StoreView) (result : Result X ExpansionFa
   pub faults : CountsFault (is_store_fault result) old.faults new.faults
   pub cause : MatchResult result (λ _. new.failed ≡ old.failed) (λ fault. IsCausedBy fault old new)
 
--- the text was expanded, or not, by some files, which are the store's where it tells them
+-- the text was expanded, or not, by some files, which are the store's where it reports them
 pub record IsExpanded (text : List ℕ) (old : StoreView) (result : Result (Vec ℕ Global) ExpansionFault) (new : StoreView) : Type 0 where
   pub found : Files
   pub told : AreTold old found

@@ -13,13 +13,13 @@ use std::alloc::Global;
 use wal_outside::{Folder, Store};
 
 /// The expansion of the text by the macros of the store, as `macro_expand` gives it: each call `#NAME(a,b)` in it is
-/// replaced by the text that stands under this name in the folder of macros, with the arguments in its places. A macro's
-/// text is read where the first call of it is met, behind the call's arguments, and kept until the end; no other is read.
-/// The time is that of reading these texts and of the expansion.
+/// replaced by the text that is under this name in the folder of macros, with the arguments in its places. A macro's text
+/// is read where the first call of it is met, after the call's arguments, and kept until the end; no other is read. The
+/// time is that of reading these texts and of the expansion.
 ///
 /// # Errors
 /// The first fault that is met from the left, as `macro_expand` has them; for a macro of whose name no text is read, `Load` with
-/// the macro's place: `Unknown` where nothing stands there, `File` where the text has more than `TEXT_LIMIT` bytes, and `Store`
+/// the macro's place: `Unknown` where nothing is there, `File` where the text has more than `TEXT_LIMIT` bytes, and `Store`
 /// where the store failed. `Load` of `Memory` answers a refused growth. No text is changed.
 pub fn expanded<T: Store>(
     alloc: Global,

@@ -7,7 +7,7 @@ use digit_tuple::name::Name;
 #[derive(Drop)]
 pub enum ExpansionFault {
     /// With the `#` at this byte no call begins. Bytes count from 0 in the text that is expanded: in an argument from
-    /// the argument's begin, in a macro's text where the arguments stand in it.
+    /// the argument's begin, in a macro's text where the arguments are in it.
     Syntax(usize),
     /// The macro's text has a place for which the arguments of its call are too few.
     MacroArgs {
@@ -18,7 +18,7 @@ pub enum ExpansionFault {
         /// How many arguments the call has.
         given: usize,
     },
-    /// A call of the macro stands within 16 others.
+    /// A call of the macro is within 16 others.
     MacroDepth(Name),
     /// A text would have more than 65,536 bytes, or a call would be the 65,537th.
     MacroLong,

@@ -1,4 +1,4 @@
-//! The macros that stand in a store, read as their names are met.
+//! The macros that are in a store, read as their names are met.
 
 ghost use Rattle.std.specs.Prelude.{◌≡◌, None};
 ghost use Rattle.std.specs.FinMap as map;
@@ -15,9 +15,9 @@ use wal_outside::{Folder, Found, Store};
 /// Why no text was found under a name.
 #[derive(Clone, Copy)]
 pub(crate) enum Want {
-    /// Nothing stands there.
+    /// Nothing is there.
     Absent,
-    /// The text that stands there is too long to be read.
+    /// The text that is there is too long to be read.
     TooLong,
     /// The store failed there.
     Failed,

@@ -77,12 +77,12 @@ without_bits d canonical = record {
 }
 
 -- the canonical automaton of a function to bits
-module _ (d least : Automaton) (classes : List ℕ) (sizes : least.sizes ≡ d.sizes) (same : SameClassFunction d (bits_of d) least classes) (canonical : IsCanonicalWithClasses least classes) where
-  over_both : (w : List ℕ) → IsWord (letters_of least) w → IsWord (letters_of d) w
+module _ (d minimal : Automaton) (classes : List ℕ) (sizes : minimal.sizes ≡ d.sizes) (same : SameClassFunction d (bits_of d) minimal classes) (canonical : IsCanonicalWithClasses minimal classes) where
+  over_both : (w : List ℕ) → IsWord (letters_of minimal) w → IsWord (letters_of d) w
   over_both w over = subst (λ (ns : List ℕ). IsWord (product ns) w) sizes over
 
-  are_bits : (q : ℕ) → q < states_of least → class_of classes q ≡ bit_of (accepting_of least q)
-  are_bits q within = by (accepts_of d first) (accepting_of least q) refl is (canonical.accepting q within)
+  are_bits : (q : ℕ) → q < states_of minimal → class_of classes q ≡ bit_of (accepting_of minimal q)
+  are_bits q within = by (accepts_of d first) (accepting_of minimal q) refl is (canonical.accepting q within)
     where
       first : List ℕ
       first = get_or canonical.firsts q []
@@ -91,17 +91,17 @@ module _ (d least : Automaton) (classes : List ℕ) (sizes : least.sizes ≡ d.s
       is = sym (ap (λ (o : Option ℕ). option_map_or (λ p. class_of classes p) o 0) (canonical.numbered.lead q within))
           ∙ sym (same first (over_both first (canonical.numbered.over q within))) ∙ class_from-bits d first 0
 
-      by : (b c : Bool) → accepting_of least q ≡ c → class_of classes q ≡ bit_of b → IsTrue c ↔ (class_of classes q ≢ 0) → class_of classes q ≡ bit_of c
+      by : (b c : Bool) → accepting_of minimal q ≡ c → class_of classes q ≡ bit_of b → IsTrue c ↔ (class_of classes q ≢ 0) → class_of classes q ≡ bit_of c
       by true true at one iff = one
       by false false at one iff = one
       by true false at one iff = absurd (let no : false ≡ true = iff.1 (λ none. omega (arith, none, one)) in cc)
       by false true at one iff = absurd (iff.0 refl one)
 
-  classes_are : classes ≡ bits_of least
-  classes_are = ext_get_or 0 classes (bits_of least) (canonical.count ∙ sym (length-bits least)) (λ q within. are_bits q (omega (arith, within, canonical.count)) ∙ sym (class_of-bits least q))
+  classes_are : classes ≡ bits_of minimal
+  classes_are = ext_get_or 0 classes (bits_of minimal) (canonical.count ∙ sym (length-bits minimal)) (λ q within. are_bits q (omega (arith, within, canonical.count)) ∙ sym (class_of-bits minimal q))
 
-  pub IsCanonical-bits : IsCanonical least
-  IsCanonical-bits = without_bits least (subst (λ (cs : List ℕ). IsCanonicalWithClasses least cs) classes_are canonical)
+  pub IsCanonical-bits : IsCanonical minimal
+  IsCanonical-bits = without_bits minimal (subst (λ (cs : List ℕ). IsCanonicalWithClasses minimal cs) classes_are canonical)
 
-  pub SameLanguage-bits : SameLanguage d least
-  SameLanguage-bits = classes-residual d least 0 0 (subst (λ (cs : List ℕ). SameClassFunction d (bits_of d) least cs) classes_are same)
+  pub SameLanguage-bits : SameLanguage d minimal
+  SameLanguage-bits = classes-residual d minimal 0 0 (subst (λ (cs : List ℕ). SameClassFunction d (bits_of d) minimal cs) classes_are same)

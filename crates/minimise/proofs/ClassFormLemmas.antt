@@ -5,8 +5,8 @@ use Rattle.std.specs.Option.{option_map_or, option_and_then}
 use Rattle.std.proofs.lemmas.Bool.{cases_order}
 use Rattle.std.proofs.lemmas.List.{ext_get_or, get_or_default}
 use Rattle.std.proofs.lemmas.Option.{none-some, same_Some}
-use Rattle.digit_tuple.specs.declared.edges.Edge.{Edge}
-use Rattle.digit_tuple.specs.Deterministic.{Automaton, State, no_state, letters_of, states_of, accepting_of, edges_of, step_of, run_of}
+use Rattle.digit_tuple.specs.declared.transitions.Transition.{Transition}
+use Rattle.digit_tuple.specs.Deterministic.{Automaton, State, no_state, letters_of, states_of, accepting_of, transitions_of, step_of, run_of}
 use Rattle.digit_tuple.specs.Letters.{product, IsWord}
 use Rattle.digit_tuple.specs.Shortlex.{IsBefore}
 use Rattle.digit_tuple.proofs.DfaLemmas.{row_at}
@@ -16,7 +16,7 @@ use Rattle.minimise.specs.Classes.{class_of}
 use Rattle.minimise.specs.ClassFunctions.{class_from, SameClassesFrom, SameClassFunction, HasNoClassFrom}
 use Rattle.minimise.specs.Canonical.{IsCanonicalWithClasses, CanonicalClassesAreEqual}
 use Rattle.minimise.proofs.OrderLemmas.{same_in_order}
-use Rattle.minimise.proofs.EdgeLemmas.{same_edges}
+use Rattle.minimise.proofs.TransitionLemmas.{same_transitions}
 use Rattle.minimise.proofs.RunLemmas.{step_within, run_within}
 use Rattle.minimise.proofs.ClassFromLemmas.{class_from-append}
 
@@ -155,9 +155,9 @@ module _ (sizes : List ℕ) where
       let class : class_of cs q ≡ class_of es q = same_function S T cs es s t same q within [] tt in
       let accepting : accepting_of (on S) q ≡ accepting_of (on T) q = same_flag (accepting_of (on S) q) (accepting_of (on T) q)
       (λ yes. (t.accepting q inside).1 (λ none. (s.accepting q within).0 yes (class ∙ none))) (λ yes. (s.accepting q within).1 (λ none. (t.accepting q inside).0 yes (sym class ∙ none))) in
-      let edges : edges_of (on S) q ≡ edges_of (on T) q = same_edges (product sizes) (edges_of (on S) q) (edges_of (on T) q) one.ascending two.ascending (λ k d there. (one.in_range k d there).0) (λ k d there. (two.in_range k d there).0)
+      let transitions : transitions_of (on S) q ≡ transitions_of (on T) q = same_transitions (product sizes) (transitions_of (on S) q) (transitions_of (on T) q) one.ascending two.ascending (λ k d there. (one.in_range k d there).0) (λ k d there. (two.in_range k d there).0)
       (λ a small. same_option (step_of (on S) q a) (step_of (on T) q a) (λ p. step_to S T cs es s t same q a p within small) (λ p. step_to T S es cs t s (λ w is. sym (same w is)) q a p inside small)) in
-      ap (λ (b : Bool). let x : State = record { accepting = b; edges = edges_of (on S) q } in x) accepting ∙ ap (λ (es : List Edge). let x : State = record { accepting = accepting_of (on T) q; edges = es } in x) edges
+      ap (λ (b : Bool). let x : State = record { accepting = b; transitions = transitions_of (on S) q } in x) accepting ∙ ap (λ (es : List Transition). let x : State = record { accepting = accepting_of (on T) q; transitions = es } in x) transitions
 
   same_automaton : (S T : List State) (cs es : List ℕ) → IsCanonicalWithClasses (on S) cs → IsCanonicalWithClasses (on T) es → Same S cs T es → (on S ≡ on T) × (cs ≡ es)
   same_automaton S T cs es s t same = (

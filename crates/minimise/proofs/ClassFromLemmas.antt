@@ -2,12 +2,12 @@
 use Rattle.std.proofs.Common.{◌≡◌, ℕ, ◌≤◌, List, [], ◌∷◌, ◌++◌, length, Option, None, Some, unwrap_or, refl, sym, ap, ◌∙◌, arith}
 use Rattle.std.specs.Option.{option_map_or, option_and_then}
 use Rattle.std.proofs.lemmas.List.{get_or_past}
-use Rattle.digit_tuple.specs.declared.edges.Edge.{Edge}
+use Rattle.digit_tuple.specs.declared.transitions.Transition.{Transition}
 use Rattle.digit_tuple.specs.Deterministic.{Automaton, states_of, step_of, target_by, run_of}
 use Rattle.digit_tuple.proofs.WordLemmas.{run_of-append}
 use Rattle.minimise.specs.Classes.{class_of, next_of}
 use Rattle.minimise.specs.ClassFunctions.{class_from}
-use Rattle.minimise.proofs.SinkLemmas.{no_edges_past}
+use Rattle.minimise.proofs.SinkLemmas.{no_transitions_past}
 
 module _ (d : Automaton) (classes : List ℕ) where
   -- a word and then another
@@ -25,7 +25,7 @@ module _ (d : Automaton) (classes : List ℕ) where
     -- no word has a class from the sink
     pub class_from-sink : (w : List ℕ) → class_from d classes (states_of d) w ≡ 0
     class_from-sink [] = no_class_past (states_of d) (omega arith)
-    class_from-sink (a ∷ w) = ap (λ (es : List Edge). option_map_or (λ p. class_of classes p) (option_and_then (λ p. run_of d p w) (target_by es a)) 0) (no_edges_past d (states_of d) (omega arith))
+    class_from-sink (a ∷ w) = ap (λ (es : List Transition). option_map_or (λ p. class_of classes p) (option_and_then (λ p. run_of d p w) (target_by es a)) 0) (no_transitions_past d (states_of d) (omega arith))
 
     -- a word has the class that the rest has after its first letter
     pub class_from-next : (q a : ℕ) (w : List ℕ) → class_from d classes q (a ∷ w) ≡ class_from d classes (next_of d q a) w

@@ -1,13 +1,13 @@
--- Where words lead in a canonical automaton with classes: to one state exactly where one function is left after them.
+-- Where words lead in a canonical automaton with classes: to one state if and only if one function is left after them.
 use Rattle.std.proofs.Common.{◌≡◌, ◌==◌, ℕ, ◌<◌, ◌≤◌, Bool, true, false, not, ◌&&◌, ◌↔◌, List, [], ◌∷◌, ◌++◌, length, get_or, Option, Some, ◌⊎◌, inl, inr, refl, sym, ap, ◌∙◌, subst, arith, if◌then◌else◌}
 use Rattle.std.specs.Option.{option_map_or, option_and_then}
 use Rattle.std.proofs.lemmas.Bool.{cases_eq, cases_lt}
 use Rattle.std.proofs.lemmas.Bool.Decides.{Decides-eqb}
 use Rattle.std.proofs.lemmas.List.{nil_from_length, get_or_default}
-use Rattle.digit_tuple.specs.declared.edges.Edge.{Edge}
+use Rattle.digit_tuple.specs.declared.transitions.Transition.{Transition}
 use Rattle.digit_tuple.specs.Letters.{IsWord}
 use Rattle.digit_tuple.specs.Width.{HasApart}
-use Rattle.digit_tuple.specs.Deterministic.{Automaton, letters_of, states_of, accepting_of, edges_of, step_of, target_by, run_of, accepts_from}
+use Rattle.digit_tuple.specs.Deterministic.{Automaton, letters_of, states_of, accepting_of, transitions_of, step_of, target_by, run_of, accepts_from}
 use Rattle.minimise.specs.Residuals.{IsDead}
 use Rattle.minimise.specs.Classes.{class_of, next_of, first_of}
 use Rattle.minimise.specs.ClassFunctions.{class_from, class_after, SameClassesFrom, SameClassAfter}
@@ -62,17 +62,17 @@ module _ (d : Automaton) (classes : List ℕ) (canonical : IsCanonicalWithClasse
   pub class_place : (w : List ℕ) → IsWord (letters_of d) w → IsPlace d (lead d (first_of d) w)
   class_place w over = lead_is_place d canonical.table live_states w (first_of d) first_class_place over
 
-  bare : accepting_of d 0 ≡ false → edges_of d 0 ≡ [] → (w : List ℕ) → class_from d classes 0 w ≡ 0
+  bare : accepting_of d 0 ≡ false → transitions_of d 0 ≡ [] → (w : List ℕ) → class_from d classes 0 w ≡ 0
   bare refuses empty [] = refuses-none 0 refuses
-  bare refuses empty (a ∷ w) = ap (λ (es : List Edge). option_map_or (λ p. class_of classes p) (option_and_then (λ p. run_of d p w) (target_by es a)) 0) empty
+  bare refuses empty (a ∷ w) = ap (λ (es : List Transition). option_map_or (λ p. class_of classes p) (option_and_then (λ p. run_of d p w) (target_by es a)) 0) empty
 
-  -- from the first state words have their classes
+  -- from the initial state words have their classes
   pub class_after-first : (w : List ℕ) → class_from d classes (first_of d) w ≡ class_after d classes w
-  class_after-first w = by (accepting_of d 0) (length (edges_of d 0) == 0) refl refl
+  class_after-first w = by (accepting_of d 0) (length (transitions_of d 0) == 0) refl refl
     where
-      by : (b z : Bool) → accepting_of d 0 ≡ b → (length (edges_of d 0) == 0) ≡ z → class_from d classes (if not b && z then states_of d else 0) w ≡ class_from d classes 0 w
+      by : (b z : Bool) → accepting_of d 0 ≡ b → (length (transitions_of d 0) == 0) ≡ z → class_from d classes (if not b && z then states_of d else 0) w ≡ class_from d classes 0 w
       by true z is none = refl
-      by false true is none = class_from-sink d classes canonical.count w ∙ sym (bare is (nil_from_length (edges_of d 0) ((Decides-eqb (length (edges_of d 0)) 0).0 none)) w)
+      by false true is none = class_from-sink d classes canonical.count w ∙ sym (bare is (nil_from_length (transitions_of d 0) ((Decides-eqb (length (transitions_of d 0)) 0).0 none)) w)
       by false false is some = refl
 
   after_first : (w u : List ℕ) → class_after d classes (w ++ u) ≡ class_from d classes (lead d (first_of d) w) u
@@ -89,7 +89,7 @@ module _ (d : Automaton) (classes : List ℕ) (canonical : IsCanonicalWithClasse
   one_class_place p q (inr pl) (inl qs) same = absurd (pl.1 (λ w over. no_class-refused w p (same w over ∙ ap (λ n. class_from d classes n w) qs ∙ class_from-sink d classes canonical.count w)))
   one_class_place p q (inr pl) (inr ql) same = one_class_state d classes canonical p q pl.0 ql.0 same
 
-  -- two words have one function after them exactly where they lead to one state or both to the sink
+  -- two words have one function after them if and only if they lead to one state or both to the sink
   pub SameClassAfter-lead : (w v : List ℕ) → IsWord (letters_of d) w → IsWord (letters_of d) v → SameClassAfter d classes w v ↔ (lead d (first_of d) w ≡ lead d (first_of d) v)
   SameClassAfter-lead w v over there = (
     (λ same. one_class_place (lead d (first_of d) w) (lead d (first_of d) v) (class_place w over) (class_place v there) (λ u inside. sym (after_first w u) ∙ same u inside ∙ after_first v u)),

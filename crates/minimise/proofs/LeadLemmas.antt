@@ -1,11 +1,11 @@
--- Where words lead in an automaton when missing edges lead to its sink.
+-- Where words lead in an automaton when missing transitions lead to its sink.
 use Rattle.std.proofs.Common.{◌≡◌, ◌==◌, ℕ, Bool, true, false, not, ◌&&◌, List, [], ◌∷◌, ◌++◌, length, inl, inr, refl, sym, ap, ◌∙◌, if◌then◌else◌}
 use Rattle.std.specs.Option.{option_map_or}
 use Rattle.std.proofs.lemmas.Bool.Decides.{Decides-eqb}
 use Rattle.std.proofs.lemmas.List.{nil_from_length}
-use Rattle.digit_tuple.specs.declared.edges.Edge.{Edge}
+use Rattle.digit_tuple.specs.declared.transitions.Transition.{Transition}
 use Rattle.digit_tuple.specs.Letters.{IsWord}
-use Rattle.digit_tuple.specs.Deterministic.{Automaton, letters_of, states_of, accepting_of, edges_of, target_by, accepts_from, accepts_of}
+use Rattle.digit_tuple.specs.Deterministic.{Automaton, letters_of, states_of, accepting_of, transitions_of, target_by, accepts_from, accepts_of}
 use Rattle.minimise.specs.Residuals.{SameResidual, SameAfter}
 use Rattle.minimise.specs.Canonical.{IsCanonical}
 use Rattle.minimise.specs.Classes.{next_of, first_of}
@@ -24,17 +24,17 @@ module _ (d : Automaton) where
   accepting_of-lead [] q = refl
   accepting_of-lead (a ∷ w) q = accepts_from-next d q a w ∙ accepting_of-lead w (next_of d q a)
 
-  refuses : accepting_of d 0 ≡ false → edges_of d 0 ≡ [] → (w : List ℕ) → accepts_from d 0 w ≡ false
+  refuses : accepting_of d 0 ≡ false → transitions_of d 0 ≡ [] → (w : List ℕ) → accepts_from d 0 w ≡ false
   refuses none empty [] = none
-  refuses none empty (a ∷ w) = ap (λ (es : List Edge). option_map_or (λ p. accepts_from d p w) (target_by es a) false) empty
+  refuses none empty (a ∷ w) = ap (λ (es : List Transition). option_map_or (λ p. accepts_from d p w) (target_by es a) false) empty
 
-  -- from the first state the language is accepted
+  -- from the initial state the language is accepted
   pub accepts_of-first : (w : List ℕ) → accepts_from d (first_of d) w ≡ accepts_of d w
-  accepts_of-first w = by (accepting_of d 0) (length (edges_of d 0) == 0) refl refl
+  accepts_of-first w = by (accepting_of d 0) (length (transitions_of d 0) == 0) refl refl
     where
-      by : (b z : Bool) → accepting_of d 0 ≡ b → (length (edges_of d 0) == 0) ≡ z → accepts_from d (if not b && z then states_of d else 0) w ≡ accepts_from d 0 w
+      by : (b z : Bool) → accepting_of d 0 ≡ b → (length (transitions_of d 0) == 0) ≡ z → accepts_from d (if not b && z then states_of d else 0) w ≡ accepts_from d 0 w
       by true z is none = refl
-      by false true is none = sink_refuses d w ∙ sym (refuses is (nil_from_length (edges_of d 0) ((Decides-eqb (length (edges_of d 0)) 0).0 none)) w)
+      by false true is none = sink_refuses d w ∙ sym (refuses is (nil_from_length (transitions_of d 0) ((Decides-eqb (length (transitions_of d 0)) 0).0 none)) w)
       by false false is some = refl
 
   after_first : (w u : List ℕ) → accepts_of d (w ++ u) ≡ accepts_from d (lead d (first_of d) w) u

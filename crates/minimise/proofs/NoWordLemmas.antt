@@ -23,7 +23,7 @@ IsCanonical-bare sizes = record {
   live = λ p a q within small leads. absurd (nowhere p a q within leads);
 }
   where
-    rows : All (λ (state : State). IsRow (letters_of (bare_automaton sizes)) 1 state.edges) (bare_automaton sizes).states
+    rows : All (λ (state : State). IsRow (letters_of (bare_automaton sizes)) 1 state.transitions) (bare_automaton sizes).states
     rows zero d within = record { in_range = λ k e inside. absurd (omega (arith, inside)); ascending = λ i j e before inside. absurd (omega (arith, inside)) }
     rows (suc k) d within = absurd (omega (arith, within))
 

@@ -19,7 +19,7 @@ at_tail x xs y there = (suc there.0, omega (arith, there.1), there.2)
 none_in : {X : Type 0} (y : X) → ¬ Contains [] y
 none_in y there = omega (arith, there.1)
 
-module _ {X : Type 0} (R : X → X → Type 0) (one_way : (x y : X) → R x y → R y x → ⊥) where
+module _ {X : Type 0} (R : X → X → Type 0) (shared_direction : (x y : X) → R x y → R y x → ⊥) where
   head_before : (x : X) (xs : List X) (y : X) → AllPairs R (x ∷ xs) → Contains xs y → R x y
   head_before x xs y pairs there = subst (R x) there.2 (pairs 0 (suc there.0) y (omega arith) (omega (arith, there.1)))
 
@@ -41,9 +41,9 @@ module _ {X : Type 0} (R : X → X → Type 0) (one_way : (x y : X) → R x y �
       first : (y ≡ x) ⊎ Contains ys x → (x ≡ y) ⊎ Contains xs y → x ≡ y
       first (inl same) other = sym same
       first (inr there) (inl same) = same
-      first (inr there) (inr here) = absurd (one_way x y (head_before x xs y up here) (head_before y ys x vp there))
+      first (inr there) (inr here) = absurd (shared_direction x y (head_before x xs y up here) (head_before y ys x vp there))
 
       later : (w v : X) (zs : List X) (z : X) → R w z → w ≡ v → (v ≡ z) ⊎ Contains zs z → Contains zs z
       later w v zs z above same (inl is) =
-          let itself : R z z = subst (λ (u : X). R u z) (same ∙ is) above in absurd (one_way z z itself itself)
+          let itself : R z z = subst (λ (u : X). R u z) (same ∙ is) above in absurd (shared_direction z z itself itself)
       later w v zs z above same (inr there) = there

@@ -18,7 +18,7 @@ module _ (d : Automaton) (outputs classes numbers : List ℕ) (width : length nu
         ∙ ap (part_number (states_of d) (class_of classes q)) (same [] tt) ∙ sym (are q low);
   }
 
-  -- the number tells the output
+  -- the number determines the output
   pub TellOutputs-parts : ((q : ℕ) → q ≤ states_of d → class_of outputs q < 2 ^ 32) → (places : List ℕ) → AreFirstPlaces numbers places → TellOutputs d outputs places
   TellOutputs-parts small places firsts p q low inside same =
       let one = (same_first_place numbers places firsts p q (omega (arith, low, width)) (omega (arith, inside, width))).1 same in

@@ -6,22 +6,22 @@ use Rattle.std.proofs.lemmas.Option.{none-some}
 use Rattle.std.proofs.lemmas.List.{take_more, get_or_default, get_or_past, get_or-replicate, length-replicate}
 use Rattle.std.proofs.lemmas.List.FromFn.{get_or-range_with_len, length-range_with_len}
 use Rattle.std.proofs.lemmas.List.Elements.{All-push, All-contains, Contains-get_or, Contains-push, Contains-push_cases, Contains-append_left}
-use Rattle.digit_tuple.specs.declared.edges.Edge.{Edge}
-use Rattle.digit_tuple.specs.Deterministic.{Automaton, IsTable, letters_of, states_of, edges_of, step_of, target_by}
-use Rattle.digit_tuple.specs.Reversed.{edge_to}
+use Rattle.digit_tuple.specs.declared.transitions.Transition.{Transition}
+use Rattle.digit_tuple.specs.Deterministic.{Automaton, IsTable, letters_of, states_of, transitions_of, step_of, target_by}
+use Rattle.digit_tuple.specs.Reversed.{transition_to}
 use Rattle.digit_tuple.proofs.MemberLemmas.{Contains-none, Contains-head, Contains-tail, Contains-cases, Contains-map, Contains-from_map, Contains-flat_map, Contains-from_flat_map}
 use Rattle.minimise.specs.declared.partition.ClassSpan.{ClassSpan}
 use Rattle.minimise.specs.Classes.{class_of, next_of}
-use Rattle.minimise.specs.Gathering.{IsGathered, edges_by_class}
+use Rattle.minimise.specs.Gathering.{IsGathered, transitions_by_class}
 use Rattle.minimise.specs.CoarseClasses.{IsCoarse, AreCoarseClasses}
-use Rattle.minimise.specs.TurnedEdges.{AreTurned, EdgeLists, edges_into}
+use Rattle.minimise.specs.ReversedTransitions.{AreReversed, TransitionLists, transitions_into}
 use Rattle.minimise.specs.StateOrder.{AreAtEnd, AreInverse}
 use Rattle.minimise.specs.Partition.{IsUnion, IsGiven, IsCut, AreParted, span_of}
-use Rattle.minimise.proofs.SinkLemmas.{row_of, no_edges_past, next_within}
+use Rattle.minimise.proofs.SinkLemmas.{row_of, no_transitions_past, next_within}
 use Rattle.minimise.proofs.ClassFromLemmas.{class_from-next}
 use Rattle.minimise.proofs.SpanLemmas.{Contains-slice, Contains-from_slice, AreSpans-moved, AreSpans-cut}
 
--- a number stands in a list or does not
+-- a number is in a list or does not
 pub cases_contains : (xs : List ℕ) (x : ℕ) → Contains xs x ⊎ (Contains xs x → ⊥)
 cases_contains [] x = inr (λ there. Contains-none x there)
 cases_contains (y ∷ ys) x = by (cases_eq y x) (cases_contains ys x)
@@ -35,8 +35,8 @@ cases_contains (y ∷ ys) x = by (cases_eq y x) (cases_contains ys x)
         neither (inl is) = other is
         neither (inr later) = none later
 
--- edges are by letters in range
-letter_within : (letters states : ℕ) (es : List Edge) (a t : ℕ) → All (λ e. (e.letter < letters) × (e.target < states)) es → target_by es a ≡ Some t → a < letters
+-- transitions are by letters in range
+letter_within : (letters states : ℕ) (es : List Transition) (a t : ℕ) → All (λ e. (e.letter < letters) × (e.target < states)) es → target_by es a ≡ Some t → a < letters
 letter_within letters states [] a t range leads = absurd (none-some t leads)
 letter_within letters states (e ∷ es) a t range leads = by (e.letter == a) refl leads (λ rest. letter_within letters states es a t (λ k d within. range (suc k) d (omega arith)) rest)
   where
@@ -61,33 +61,33 @@ module _ (d : Automaton) (outputs : List ℕ) (given : length outputs ≡ states
     where
       by : (q < states_of d) ⊎ (states_of d ≤ q) → q < states_of d
       by (inl less) = less
-      by (inr past) = absurd (none-some t (sym (ap (λ (es : List Edge). target_by es a) (no_edges_past d q past)) ∙ leads))
+      by (inr past) = absurd (none-some t (sym (ap (λ (es : List Transition). target_by es a) (no_transitions_past d q past)) ∙ leads))
 
-  -- the edges into a union
-  module _ (edges : EdgeLists) (turned : AreTurned d edges) (into : List ℕ) (union : IsUnion d outputs into) (a : ℕ) where
-    pub edge_there : (q : ℕ) → Contains into (next_of d q a) → Contains (flat_map (edges_into edges) into) (edge_to a q)
-    edge_there q there =
+  -- the transitions into a union
+  module _ (transitions : TransitionLists) (reversed : AreReversed d transitions) (into : List ℕ) (union : IsUnion d outputs into) (a : ℕ) where
+    pub transition_there : (q : ℕ) → Contains into (next_of d q a) → Contains (flat_map (transitions_into transitions) into) (transition_to a q)
+    transition_there q there =
         let inside : next_of d q a < states_of d = All-contains (λ t. t < states_of d) into (next_of d q a) union.within there in
         let leads = step_is q a inside in
-        Contains-flat_map (edges_into edges) into (next_of d q a) (edge_to a q) there ((turned.leads (next_of d q a) a q).1 (from_within q a (next_of d q a) leads, leads))
+        Contains-flat_map (transitions_into transitions) into (next_of d q a) (transition_to a q) there ((reversed.leads (next_of d q a) a q).1 (from_within q a (next_of d q a) leads, leads))
 
   -- the states from which a letter leads into a union
-  module _ (edges : EdgeLists) (turned : AreTurned d edges) (into : List ℕ) (union : IsUnion d outputs into) (a : ℕ) (sources : List ℕ) (gathered : IsGathered (flat_map (edges_into edges) into) a sources) where
+  module _ (transitions : TransitionLists) (reversed : AreReversed d transitions) (into : List ℕ) (union : IsUnion d outputs into) (a : ℕ) (sources : List ℕ) (gathered : IsGathered (flat_map (transitions_into transitions) into) a sources) where
     pub led : (q : ℕ) → Contains sources q → (t : ℕ) × Contains into t × (q < states_of d) × (step_of d q a ≡ Some t)
     led q there =
-        let found = Contains-from_flat_map (edges_into edges) into (edge_to a q) ((gathered.targets q).0 there) in
-        let leads = (turned.leads found.0 a q).0 found.2 in
+        let found = Contains-from_flat_map (transitions_into transitions) into (transition_to a q) ((gathered.targets q).0 there) in
+        let leads = (reversed.leads found.0 a q).0 found.2 in
         (found.0, found.1, leads.0, leads.1)
 
     pub leading : (q : ℕ) → Contains into (next_of d q a) → Contains sources q
-    leading q there = (gathered.targets q).1 (edge_there edges turned into union a q there)
+    leading q there = (gathered.targets q).1 (transition_there transitions reversed into union a q there)
 
     pub IsUnion-sources : IsUnion d outputs sources
     IsUnion-sources = record {
       within = λ k z inside. (led (get_or sources k z) (Contains-get_or sources k z inside)).2;
       whole = λ p q small low same there.
           let from = led p there in
-          let letter = letter_within (letters_of d) (states_of d) (edges_of d p) a from.0 (row_of d table p).in_range from.3 in
+          let letter = letter_within (letters_of d) (states_of d) (transitions_of d p) a from.0 (row_of d table p).in_range from.3 in
           leading q (union.whole (next_of d p a) (next_of d q a) (next_within d table p a) (next_within d table q a)
           (λ w over. sym (class_from-next d outputs given p a w) ∙ same (a ∷ w) (letter, over) ∙ class_from-next d outputs given q a w)
           (subst (Contains into) (sym (next_is p a from.0 from.3)) from.1));
@@ -107,17 +107,17 @@ IsUnion-live d outputs classes states coarse are = record {
 
 module _ (d : Automaton) (outputs : List ℕ) where
   -- the states of a class in a union
-  module _ (classes : List ℕ) (coarse : IsCoarse d outputs classes) (union : List ℕ) (is : IsUnion d outputs union) (class : ℕ) (states : List ℕ) (gathered : IsGathered (edges_by_class classes union) class states) where
-    pub in_class : (q : ℕ) → Contains (edges_by_class classes union) (edge_to class q) → Contains union q × (class_of classes q ≡ class)
+  module _ (classes : List ℕ) (coarse : IsCoarse d outputs classes) (union : List ℕ) (is : IsUnion d outputs union) (class : ℕ) (states : List ℕ) (gathered : IsGathered (transitions_by_class classes union) class states) where
+    pub in_class : (q : ℕ) → Contains (transitions_by_class classes union) (transition_to class q) → Contains union q × (class_of classes q ≡ class)
     in_class q there =
-        let found = Contains-from_map (λ (x : ℕ). edge_to (class_of classes x) x) union (edge_to class q) there in
-        let same : found.0 ≡ q = ap (λ (e : Edge). e.target) found.2 in
-        let one : class_of classes found.0 ≡ class = ap (λ (e : Edge). e.letter) found.2 in
+        let found = Contains-from_map (λ (x : ℕ). transition_to (class_of classes x) x) union (transition_to class q) there in
+        let same : found.0 ≡ q = ap (λ (e : Transition). e.target) found.2 in
+        let one : class_of classes found.0 ≡ class = ap (λ (e : Transition). e.letter) found.2 in
         (subst (Contains union) same found.1, ap (class_of classes) (sym same) ∙ one)
 
     pub of_class : (q : ℕ) → Contains union q → class_of classes q ≡ class → Contains states q
     of_class q there one = (gathered.targets q).1
-        (subst (λ (a : ℕ). Contains (edges_by_class classes union) (edge_to a q)) one (Contains-map (λ (x : ℕ). edge_to (class_of classes x) x) union q there))
+        (subst (λ (a : ℕ). Contains (transitions_by_class classes union) (transition_to a q)) one (Contains-map (λ (x : ℕ). transition_to (class_of classes x) x) union q there))
 
     pub IsUnion-class : IsUnion d outputs states
     IsUnion-class = record {
@@ -132,9 +132,9 @@ module _ (d : Automaton) (outputs : List ℕ) where
     -- the class is that of some state
     pub class_below : (count : ℕ) → ((q : ℕ) → q ≤ states_of d → class_of classes q < count) → class < count
     class_below count below =
-        let of = in_class gathered.edge.0 gathered.edge.1 in
-        let inside : gathered.edge.0 < states_of d = All-contains (λ q. q < states_of d) union gathered.edge.0 is.within of.0 in
-        omega (arith, below gathered.edge.0 (omega arith), of.1)
+        let of = in_class gathered.transition.0 gathered.transition.1 in
+        let inside : gathered.transition.0 < states_of d = All-contains (λ q. q < states_of d) union gathered.transition.0 is.within of.0 in
+        omega (arith, below gathered.transition.0 (omega arith), of.1)
 
 -- no state has got the class yet
 pub IsGiven-none : (old : List ℕ) (class : ℕ) → IsGiven old old [] class
@@ -145,17 +145,17 @@ pub IsGiven-more : (old mid states : List ℕ) (class i : ℕ) → i < length st
     → IsGiven old (set mid (get_or states i 0) class) (take (i + 1) states) class
 IsGiven-more old mid states class i within inside given = record {
   width = length-set mid x class ∙ given.width;
-  there = λ q there. got q (cases_eq q x) (Contains-push_cases (take i states) x q (subst (λ (xs : List ℕ). Contains xs q) front there));
+  there = λ q there. got q (cases_eq q x) (Contains-push_cases (take i states) x q (subst (λ (xs : List ℕ). Contains xs q) prefix there));
   elsewhere = λ q none.
-      get_or-set_other mid x q class 0 (λ is. none (subst (λ (xs : List ℕ). Contains xs q) (sym front) (subst (Contains (take i states ++ x ∷ [])) (sym is) (Contains-push (take i states) x))))
-      ∙ given.elsewhere q (λ there. none (subst (λ (xs : List ℕ). Contains xs q) (sym front) (Contains-append_left (take i states) (x ∷ []) q there)));
+      get_or-set_other mid x q class 0 (λ is. none (subst (λ (xs : List ℕ). Contains xs q) (sym prefix) (subst (Contains (take i states ++ x ∷ [])) (sym is) (Contains-push (take i states) x))))
+      ∙ given.elsewhere q (λ there. none (subst (λ (xs : List ℕ). Contains xs q) (sym prefix) (Contains-append_left (take i states) (x ∷ []) q there)));
 }
   where
     x : ℕ
     x = get_or states i 0
 
-    front : take (i + 1) states ≡ take i states ++ x ∷ []
-    front = take_more states i 0 within
+    prefix : take (i + 1) states ≡ take i states ++ x ∷ []
+    prefix = take_more states i 0 within
 
     here : class_of (set mid x class) x ≡ class
     here = get_or-set_same mid x class 0 (omega (arith, inside, given.width))
@@ -199,7 +199,7 @@ module _ (d : Automaton) (outputs classes states places : List ℕ) (spans : Lis
     fits : end ≤ length states
     fits = parted.spanned.within class made
 
-    -- a state of the class stands in its span
+    -- a state of the class is in its span
     pub place_of : (q : ℕ) → q < states_of d → class_of classes q ≡ class → (place : ℕ) × (start ≤ place) × (place < end) × (get_or states place 0 ≡ q)
     place_of q small is =
         let place = get_or places q 0 in

@@ -16,7 +16,7 @@ same_table d e sizes states =
     ap (λ (ns : List ℕ). let x : Automaton = record { sizes = ns; states = d.states } in x) sizes
     ∙ ap (λ (ss : List State). let x : Automaton = record { sizes = e.sizes; states = ss } in x) states
 
--- canonical automata have equal states exactly where they have one language
+-- canonical automata have equal states if and only if they have one language
 pub states_tell_language : (d e : Automaton) → IsCanonical d → IsCanonical e → d.sizes ≡ e.sizes → (d.states ≡ e.states) ↔ SameLanguage d e
 states_tell_language d e canonical other sizes = (
   (λ states. subst (SameLanguage d) (same_table d e sizes states) (λ w over. refl)),

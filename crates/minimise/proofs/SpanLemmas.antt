@@ -9,7 +9,7 @@ use Rattle.minimise.specs.Classes.{class_of}
 use Rattle.minimise.specs.StateOrder.{AreAtEnd, AreInverse}
 use Rattle.minimise.specs.Partition.{AreSpans, IsCut, IsGiven, span_of}
 
--- what stands in a part of a list
+-- what is in a part of a list
 pub Contains-slice : (xs : List ℕ) (start end place : ℕ) → end ≤ length xs → start ≤ place → place < end → Contains (slice_range xs start end) (get_or xs place 0)
 Contains-slice xs start end place fits from to = (place - start, omega (arith, length-between xs start end fits), get_or-between xs start end (place - start) (get_or xs place 0) (omega arith) ∙ read)
   where
@@ -40,7 +40,7 @@ module _ (classes states : List ℕ) (spans : List ClassSpan) (spanned : AreSpan
 
   -- states of a class are moved to the end of its span
   module _ (new set : List ℕ) (middle : ℕ) (moved : AreAtEnd states new set start middle end) where
-    -- the same classes stand at all places
+    -- the same classes are at all places
     same : (place : ℕ) → class_of classes (get_or new place 0) ≡ class_of classes (get_or states place 0)
     same place = by (cases_span start end place)
       where

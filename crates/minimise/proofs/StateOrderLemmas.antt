@@ -27,20 +27,20 @@ module _ (old states places set : List ℕ) (i start middle end : ℕ) (within :
   abbrev x : ℕ
   x = get_or set i 0
 
-  front : take (i + 1) set ≡ take i set ++ x ∷ []
-  front = take_more set i 0 within
+  prefix : take (i + 1) set ≡ take i set ++ x ∷ []
+  prefix = take_more set i 0 within
 
   kept : (q : ℕ) → Contains (take i set) q → Contains (take (i + 1) set) q
-  kept q there = subst (λ (xs : List ℕ). Contains xs q) (sym front) (Contains-append_left (take i set) (x ∷ []) q there)
+  kept q there = subst (λ (xs : List ℕ). Contains xs q) (sym prefix) (Contains-append_left (take i set) (x ∷ []) q there)
 
   cases : (q : ℕ) → Contains (take (i + 1) set) q → Contains (take i set) q ⊎ (x ≡ q)
-  cases q there = Contains-push_cases (take i set) x q (subst (λ (xs : List ℕ). Contains xs q) front there)
+  cases q there = Contains-push_cases (take i set) x q (subst (λ (xs : List ℕ). Contains xs q) prefix there)
 
-  -- a state stands at one place alone
+  -- a state is at one place alone
   at : (place : ℕ) → place < length states → x ≡ get_or states place 0 → get_or places x 0 ≡ place
   at place small is = ap (λ q. get_or places q 0) is ∙ order.placed place small
 
-  -- it stands elsewhere, or has been moved
+  -- it is elsewhere, or has been moved
   pub AreAtEnd-stay : (get_or places x 0 < start) ⊎ (middle ≤ get_or places x 0) → AreAtEnd old states (take (i + 1) set) start middle end
   AreAtEnd-stay off = record {
     width = moved.width;
@@ -59,7 +59,7 @@ module _ (old states places set : List ℕ) (i start middle end : ℕ) (within :
 
   -- it is moved
   module _ (new : List ℕ) (last : ℕ) (next : last + 1 ≡ middle) (from : start ≤ get_or places x 0) (to : get_or places x 0 < middle) (swapped : new ≡ swap states (get_or places x 0) last) where
-    -- where it stood
+    -- where it was
     abbrev p : ℕ
     p = get_or places x 0
 
@@ -94,7 +94,7 @@ module _ (old states places set : List ℕ) (i start middle end : ℕ) (within :
 
         at_end : (place : ℕ) → last ≤ place → place < end → (place ≡ last) ⊎ (place ≡ last → ⊥) → Contains (take (i + 1) set) (get_or new place 0)
         at_end place low high (inl is) =
-            subst (Contains (take (i + 1) set)) (sym (ap (λ k. get_or new k 0) is ∙ changed.1 ∙ stood)) (subst (λ (xs : List ℕ). Contains xs x) (sym front) (Contains-push (take i set) x))
+            subst (Contains (take (i + 1) set)) (sym (ap (λ k. get_or new k 0) is ∙ changed.1 ∙ stood)) (subst (λ (xs : List ℕ). Contains xs x) (sym prefix) (Contains-push (take i set) x))
         at_end place low high (inr other) =
             subst (Contains (take (i + 1) set)) (sym (changed.2 place (λ is. omega (arith, is)) other)) (kept (get_or states place 0) (moved.moved place (omega (arith, other)) high))
 

@@ -6,8 +6,8 @@ use Rattle.minimise.specs.Residuals.{SameResidual, SameLanguage, IsDead}
 use Rattle.minimise.specs.Classes.{class_of}
 use Rattle.minimise.specs.ClassFunctions.{SameClassesFrom, SameClassFunction, HasNoClassFrom}
 
--- The states are the residual languages that words lead to, but the empty one only where the language is empty, in the order
--- of the first words that lead to them. A letter leads nowhere exactly where no word is accepted after it.
+-- The states are the residual languages that words lead to, but the empty one only where the language is empty, in the order of the first
+-- words that lead to them. A letter leads nowhere if and only if no word is accepted after it.
 pub record IsCanonical (d : Automaton) : Type 0 where
   pub table : IsTable (letters_of d) d.states
   pub firsts : List (List ℕ)
@@ -19,9 +19,9 @@ pub record IsCanonical (d : Automaton) : Type 0 where
 abbrev pub CanonicalFormsAreEqual : Type 0
 CanonicalFormsAreEqual = (d e : Automaton) → IsCanonical d → IsCanonical e → d.sizes ≡ e.sizes → SameLanguage d e → d ≡ e
 
--- The states are the functions that words lead to, from a word to the class of where it leads, but the one without classes only
--- where no word has a class, in the order of the first words that lead to them. A state accepts exactly where it has a class. A
--- letter leads nowhere exactly where no word has a class after it.
+-- The states are the functions that words lead to, from a word to the class of where it leads, but the one without classes only where no
+-- word has a class, in the order of the first words that lead to them. A state accepts if and only if it has a class. A letter leads
+-- nowhere if and only if no word has a class after it.
 pub record IsCanonicalWithClasses (d : Automaton) (classes : List ℕ) : Type 0 where
   pub table : IsTable (letters_of d) d.states
   pub count : length classes ≡ states_of d

@@ -9,7 +9,7 @@ use Rattle.minimise.specs.Outputs.{SameOutputs}
 abbrev pub IsCoarse : Automaton → List ℕ → List ℕ → Type 0
 IsCoarse d outputs classes = (p q : ℕ) → p ≤ states_of d → q ≤ states_of d → SameOutputs d outputs p q → class_of classes p ≡ class_of classes q
 
--- states have one class exactly where words lead to the same outputs
+-- states have one class if and only if words lead to the same outputs
 abbrev pub AreResiduals : Automaton → List ℕ → List ℕ → Type 0
 AreResiduals d outputs classes = (p q : ℕ) → p ≤ states_of d → q ≤ states_of d → class_of classes p ≡ class_of classes q ↔ SameOutputs d outputs p q
 
@@ -28,7 +28,7 @@ pub record AreCoarseClasses (d : Automaton) (outputs classes : List ℕ) : Type 
   pub below : All (λ class. class ≤ states_of d) classes
   pub coarse : IsCoarse d outputs classes
 
--- the same, and one exactly where they do
+-- the same, and one if and only if they do
 pub record AreResidualClasses (d : Automaton) (outputs classes : List ℕ) : Type 0 where
   pub width : length classes ≡ states_of d + 1
   pub below : All (λ class. class ≤ states_of d) classes

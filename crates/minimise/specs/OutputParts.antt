@@ -1,4 +1,4 @@
--- Numbers that tell a class and an output.
+-- Numbers that determine a class and an output.
 use Rattle.std.specs.Prelude.{ℕ, ◌+◌, ◌*◌, ◌-◌, ◌/◌, ◌^◌, max}
 
 -- a class of so many, and an output below 2^32, in one number

@@ -7,7 +7,7 @@ use Rattle.minimise.specs.Classes.{class_of}
 use Rattle.minimise.specs.CoarseClasses.{IsCoarse}
 use Rattle.minimise.specs.Settled.{AreAllPending, AreSettled}
 use Rattle.minimise.specs.StateOrder.{AreInverse}
-use Rattle.minimise.specs.TurnedEdges.{AreTurned}
+use Rattle.minimise.specs.ReversedTransitions.{AreReversed}
 use Rattle.minimise.specs.declared.machine.Machine.{Machine}
 use Rattle.minimise.specs.declared.partition.ClassSpan.{ClassSpan}
 use Rattle.minimise.specs.declared.partition.Partition.{Partition}
@@ -23,11 +23,11 @@ pub record IsGiven (old new states : List ℕ) (class : ℕ) : Type 0 where
   pub there : (q : ℕ) → Contains states q → class_of new q ≡ class
   pub elsewhere : (q : ℕ) → ¬ Contains states q → class_of new q ≡ class_of old q
 
--- where no class is, no states stand
+-- where no class is, no states are
 abbrev pub no_span : ClassSpan
-no_span = record { start = 0; end = 0; edges = 0 }
+no_span = record { start = 0; end = 0; transitions = 0 }
 
--- where the states of a class stand
+-- where the states of a class are
 abbrev pub span_of : List ClassSpan → ℕ → ClassSpan
 span_of spans class = slice_index_or spans class no_span
 
@@ -48,7 +48,7 @@ pub record AreSpans (classes states : List ℕ) (spans : List ClassSpan) : Type 
   pub from_start : (place : ℕ) → place < length states → (span_of spans (class_of classes (slice_index states place))).start ≤ place
   pub to_end : (place : ℕ) → place < length states → place < (span_of spans (class_of classes (slice_index states place))).end
 
--- the states of each class stand in its span, each class but the sink's has one, the sink's class is 0 and not pending, and states from which words lead to
+-- the states of each class are in its span, each class but the sink's has one, the sink's class is 0 and not pending, and states from which words lead to
 -- the same outputs are never parted
 pub record AreParted (d : Automaton) (outputs classes states places : List ℕ) (spans : List ClassSpan) (pending : List ℕ) : Type 0 where
   pub table : IsTable (letters_of d) d.states
@@ -64,9 +64,9 @@ pub record AreParted (d : Automaton) (outputs classes states places : List ℕ) 
   pub live : All (λ class. 0 < class) pending
   pub made : All (λ class. class < length spans) pending
 
--- the classes are parted, and the edges are the automaton's
+-- the classes are parted, and the transitions are the automaton's
 pub record IsPartition (m : Machine) (p : Partition) : Type 0 where
-  pub turned : AreTurned m.dfa.now p.turned
+  pub reversed : AreReversed m.dfa.now p.reversed
   pub parted : AreParted m.dfa.now m.outputs.now p.classes.items p.states.items p.places.items p.spans.items p.pending
 
 -- there are as many classes as before, or more, and each that is new has made one pending at most; no states have come into

@@ -2,8 +2,8 @@
 use Rattle.std.specs.Prelude.{◌≡◌, ◌==◌, ℕ, ◌+◌, ◌<◌, ◌≤◌, Bool, not, List, [], ◌∷◌, length, Option}
 use Rattle.std.specs.Option.{option_map}
 use Rattle.digit_tuple.specs.Deterministic.{Automaton, IsTable, letters_of, states_of}
-use Rattle.digit_tuple.specs.declared.edges.Edge.{Edge}
-use Rattle.digit_tuple.specs.Keys.{KeyEdge}
+use Rattle.digit_tuple.specs.declared.transitions.Transition.{Transition}
+use Rattle.digit_tuple.specs.Keys.{KeyTransition}
 use Rattle.minimise.specs.Leaders.{AreLeaders}
 use Rattle.minimise.specs.Classes.{class_of, next_of, live_class}
 use Rattle.minimise.specs.CoarseClasses.{AreResiduals}
@@ -40,6 +40,6 @@ key_output outputs leaders key = class_of outputs (leader_of leaders key)
 abbrev pub class_accepts : List ℕ → List ℕ → List ℕ → Bool
 class_accepts outputs leaders key = not (key_output outputs leaders key == 0)
 
--- the key edge that an edge to a class stands for
-abbrev pub key_edge : Edge → KeyEdge
-key_edge edge = record { letter = edge.letter; key = edge.target ∷ [] }
+-- the key transition that a transition to a class stands for
+abbrev pub key_transition : Transition → KeyTransition
+key_transition transition = record { letter = transition.letter; key = transition.target ∷ [] }

@@ -3,7 +3,7 @@ use Rattle.std.specs.Prelude.{◌≡◌, ◌==◌, ℕ, ◌<◌, ◌≤◌, Bool
 use Rattle.std.specs.Option.{option_map}
 use Rattle.std.proofs.Common.{arith, refl, ap, inl, inr}
 use Rattle.std.proofs.lemmas.Bool.{cases_lt, eqb-false}
-use Rattle.digit_tuple.specs.Deterministic.{Automaton, letters_of, states_of, step_of, edges_of}
+use Rattle.digit_tuple.specs.Deterministic.{Automaton, letters_of, states_of, step_of, transitions_of}
 use Rattle.digit_tuple.proofs.DfaLemmas.{row_at, target_by-in_range}
 use Rattle.minimise.specs.Classes.{class_of, next_of, dead_class}
 use Rattle.minimise.specs.Quotient.{IsQuotient, IsClass, next_class, leader_of}
@@ -33,7 +33,7 @@ module _ (d : Automaton) (outputs classes leaders : List ℕ) (quotient : IsQuot
 
   pub next_class_is_class : (key : List ℕ) (a : ℕ) → IsClass d classes leaders key → MatchOption (next_class d classes leaders key a) ⊤ (IsClass d classes leaders)
   next_class_is_class key a is = live_is_class (next_of d (leader_of leaders key) a)
-      (by (step_of d (leader_of leaders key) a) (target_by-in_range (letters_of d) (states_of d) (edges_of d (leader_of leaders key)) a (row_at d (leader_of leaders key) quotient.table is.leader).in_range))
+      (by (step_of d (leader_of leaders key) a) (target_by-in_range (letters_of d) (states_of d) (transitions_of d (leader_of leaders key)) a (row_at d (leader_of leaders key) quotient.table is.leader).in_range))
     where
       by : (o : Option ℕ) → IfSome o (λ t. t < states_of d) → unwrap_or o (states_of d) ≤ states_of d
       by None within = omega arith

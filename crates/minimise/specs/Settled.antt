@@ -2,7 +2,7 @@
 use Rattle.std.specs.Prelude.{◌≡◌, ◌≢◌, ℕ, ◌<◌, ◌≤◌, ◌⊎◌, List, length, ◌↔◌}
 use Rattle.std.specs.List.{All, Contains}
 use Rattle.digit_tuple.specs.Deterministic.{Automaton, letters_of, states_of}
-use Rattle.digit_tuple.specs.Keys.{KeyEdge, edge_at}
+use Rattle.digit_tuple.specs.Keys.{KeyTransition, transition_at}
 use Rattle.minimise.specs.Classes.{class_of, dead_class, next_of}
 use Rattle.minimise.specs.CoarseClasses.{TellOutputs}
 
@@ -24,6 +24,6 @@ abbrev pub AreAllPending : ℕ → List ℕ → Type 0
 AreAllPending count pending = (class : ℕ) → 0 < class → class < count → Contains pending class
 
 -- the parts are the states of each class but the sink's
-pub record AreLiveParts (d : Automaton) (classes : List ℕ) (parts : List KeyEdge) : Type 0 where
+pub record AreLiveParts (d : Automaton) (classes : List ℕ) (parts : List KeyTransition) : Type 0 where
   pub of : All (λ part. (q : ℕ) → Contains part.key q ↔ ((q < states_of d) × (class_of classes q ≢ dead_class d classes) × (class_of classes q ≡ part.letter))) parts
-  pub all : (q : ℕ) → q < states_of d → class_of classes q ≢ dead_class d classes → (place : ℕ) × (place < length parts) × ((edge_at parts place).letter ≡ class_of classes q)
+  pub all : (q : ℕ) → q < states_of d → class_of classes q ≢ dead_class d classes → (place : ℕ) × (place < length parts) × ((transition_at parts place).letter ≡ class_of classes q)

@@ -1,8 +1,8 @@
--- States in an order, and where each stands in it.
+-- States in an order, and where each is in it.
 use Rattle.std.specs.Prelude.{◌≡◌, ℕ, ◌<◌, ◌≤◌, ◌⊎◌, List, length, slice_index}
 use Rattle.std.specs.List.{Contains}
 
--- states stand at places as the list says, and the other list says at which place each of them stands
+-- states are at places as the list says, and the other list says at which place each of them is
 pub record AreInverse (states places : List ℕ) : Type 0 where
   pub width : length places ≡ length states
   pub states_within : (place : ℕ) → place < length states → slice_index states place < length states
@@ -10,8 +10,8 @@ pub record AreInverse (states places : List ℕ) : Type 0 where
   pub placed : (place : ℕ) → place < length states → slice_index places (slice_index states place) ≡ place
   pub standing : (q : ℕ) → q < length states → slice_index states (slice_index places q) ≡ q
 
--- of the states from the start to the end those of the set stand from the middle on, and the others before them; all
--- other states stand where they did
+-- of the states from the start to the end those of the set are from the middle on, and the others before them; all other states are where
+-- they were
 pub record AreAtEnd (old new set : List ℕ) (start middle end : ℕ) : Type 0 where
   pub width : length new ≡ length old
   pub after_start : start ≤ middle

@@ -8,23 +8,23 @@ ghost use Rattle.minimise.specs.Canonical.{IsCanonical};
 use crate::canonical_classes::canonical_classes;
 use crate::classes::residual_classes;
 use crate::leaders::are_alone;
-use crate::least::least;
 use crate::machine::{Machine, accepting_outputs};
+use crate::minimal::minimal;
 use digit_tuple::dfa::Dfa;
 use digit_tuple::faults::OutOfMemory;
 use std::alloc::Global;
 
-/// The canonical automaton with the same language: its states are the residual languages that words
-/// lead to, the empty one only where the language is empty, numbered in the order of the first words
-/// that lead to them. OutOfMemory comes too where 2^32 - 1 of them are not enough, or there are 2^32 edges.
+/// The canonical automaton with the same language: its states are the residual languages that words lead to, the empty
+/// one only where the language is empty, numbered in the order of the first words that lead to them. OutOfMemory comes
+/// too where 2^32 - 1 of them are not enough, or there are 2^32 transitions.
 pub fn canonical(alloc: Global, d: &Dfa) -> Result<Dfa, OutOfMemory>
-    ensures sizes { IfOk result (λ least. least.sizes ≡ d.now.sizes) }
-    ensures language { IfOk result (λ least. SameLanguage d.now least) }
-    ensures canonical { IfOk result (λ least. IsCanonical least) }
+    ensures sizes { IfOk result (λ minimal. minimal.sizes ≡ d.now.sizes) }
+    ensures language { IfOk result (λ minimal. SameLanguage d.now minimal) }
+    ensures canonical { IfOk result (λ minimal. IsCanonical minimal) }
 {
     let outputs = accepting_outputs(alloc, d)?;
-    let (least, _) = canonical_classes(alloc, d, &outputs)?;
-    Ok(least)
+    let (minimal, _) = canonical_classes(alloc, d, &outputs)?;
+    Ok(minimal)
 }
 
 /// The canonical automaton with the same language as an automaton whose states are numbered in the
@@ -32,25 +32,25 @@ pub fn canonical(alloc: Global, d: &Dfa) -> Result<Dfa, OutOfMemory>
 /// says more.
 pub fn canonical_of_numbered(alloc: Global, d: Dfa) -> Result<Dfa, OutOfMemory>
     requires { (firsts : List (List ℕ)) × IsNumberedByFirsts d firsts }
-    ensures sizes { IfOk result (λ least. least.sizes ≡ d.sizes) }
-    ensures language { IfOk result (λ least. SameLanguage d least) }
-    ensures canonical { IfOk result (λ least. IsCanonical least) }
+    ensures sizes { IfOk result (λ minimal. minimal.sizes ≡ d.sizes) }
+    ensures language { IfOk result (λ minimal. SameLanguage d minimal) }
+    ensures canonical { IfOk result (λ minimal. IsCanonical minimal) }
 {
-    match least_unless_canonical(alloc, &d)? {
-        Some(least) => Ok(least),
+    match minimal_unless_canonical(alloc, &d)? {
+        Some(minimal) => Ok(minimal),
         None => Ok(d),
     }
 }
 
 // The canonical automaton with the same language, or None where it is this one.
-fn least_unless_canonical(alloc: Global, d: &Dfa) -> Result<Option<Dfa>, OutOfMemory>
+fn minimal_unless_canonical(alloc: Global, d: &Dfa) -> Result<Option<Dfa>, OutOfMemory>
     requires { (firsts : List (List ℕ)) × IsNumberedByFirsts d.now firsts }
-    ensures sizes { IfOk result (λ made. IfSome made (λ least. least.sizes ≡ d.now.sizes)) }
-    ensures language { IfOk result (λ made. IfSome made (λ least. SameLanguage d.now least)) }
-    ensures least { IfOk result (λ made. IfSome made IsCanonical) }
+    ensures sizes { IfOk result (λ made. IfSome made (λ minimal. minimal.sizes ≡ d.now.sizes)) }
+    ensures language { IfOk result (λ made. IfSome made (λ minimal. SameLanguage d.now minimal)) }
+    ensures minimal { IfOk result (λ made. IfSome made IsCanonical) }
     ensures canonical { IfOk result (λ made. IfNone made (IsCanonical d.now)) }
 {
-    // That the states and edges of an automaton are a table.
+    // That the states and transitions of an automaton are a table.
     let _states = d.states();
     let outputs = accepting_outputs(alloc, d)?;
     let machine = Machine {
@@ -61,6 +61,6 @@ fn least_unless_canonical(alloc: Global, d: &Dfa) -> Result<Option<Dfa>, OutOfMe
     if are_alone(alloc, &classes)? {
         return Ok(None);
     }
-    let (least, _) = least(alloc, &machine, &classes)?;
-    Ok(Some(least))
+    let (minimal, _) = minimal(alloc, &machine, &classes)?;
+    Ok(Some(minimal))
 }

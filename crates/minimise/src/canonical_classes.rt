@@ -6,17 +6,16 @@ ghost use Rattle.minimise.specs.Canonical.{IsCanonicalWithClasses};
 ghost use Rattle.minimise.specs.ClassFunctions.{SameClassFunction};
 
 use crate::classes::residual_classes;
-use crate::least::least;
 use crate::machine::Machine;
+use crate::minimal::minimal;
 use digit_tuple::dfa::Dfa;
 use digit_tuple::faults::OutOfMemory;
 use std::alloc::Global;
 
-/// The canonical automaton of the function from a word to the class of the state that it leads to, with
-/// the class of each of its states. There is a class for each state. Class 0 says that a word has none,
-/// as a missing edge does. The states are numbered in the order of the first words that lead to them;
-/// those with a class accept. The time is that of `canonical`. OutOfMemory comes too where 2^32 - 1 of
-/// them are not enough, or there are 2^32 edges.
+/// The canonical automaton of the function from a word to the class of the state that it leads to, with the class of
+/// each of its states. There is a class for each state. Class 0 says that a word has none, as a missing transition
+/// does. The states are numbered in the order of the first words that lead to them; those with a class accept. The time
+/// is that of `canonical`. OutOfMemory comes too where 2^32 - 1 of them are not enough, or there are 2^32 transitions.
 pub fn canonical_classes(
     alloc: Global,
     d: &Dfa,
@@ -32,5 +31,5 @@ pub fn canonical_classes(
         outputs: classes,
     };
     let residuals = residual_classes(alloc, &machine)?;
-    least(alloc, &machine, &residuals)
+    minimal(alloc, &machine, &residuals)
 }

@@ -17,10 +17,10 @@ use digit_tuple::key_graph::KeyGraph;
 use digit_tuple::stepped::Stepped;
 use std::alloc::Global;
 
-/// The canonical automaton of the words that lead to accepting keys of the graph. The width is the
-/// number of kinds of words, where two are alike that lead to one key, or both to none. `States`
-/// comes exactly where the width passes the limit, and `Letters` never. Memory may also run out
-/// where 2^32 - 1 states are not enough, or there are 2^32 edges.
+/// The canonical automaton of the words that lead to accepting keys of the graph. The width is the number of kinds of
+/// words, where two are alike that lead to one key, or both to none. `States` comes if and only if the width passes the
+/// limit, and `Letters` never. Memory may also run out where 2^32 - 1 states are not enough, or there are 2^32
+/// transitions.
 pub fn explore_canonical<G: KeyGraph>(
     alloc: Global,
     graph: &G,

@@ -1,65 +1,65 @@
-//! The edges of a state between classes.
+//! The transitions of a state between classes.
 
 ghost use Rattle.std.specs.Prelude.{◌≡◌, ◌+◌, ◌<◌, ◌++◌, [], length, OnOk};
 ghost use Rattle.std.specs.List.{All};
-ghost use Rattle.digit_tuple.specs.Deterministic.{edges_of, states_of};
+ghost use Rattle.digit_tuple.specs.Deterministic.{transitions_of, states_of};
 ghost use Rattle.minimise.specs.Classes.{dead_class};
-ghost use Rattle.minimise.specs.ClassEdges.{class_edges};
+ghost use Rattle.minimise.specs.ClassTransitions.{class_transitions};
 
 use digit_tuple::dfa::Dfa;
-use digit_tuple::edges::Edge;
 use digit_tuple::faults::OutOfMemory;
+use digit_tuple::transitions::Transition;
 use std::alloc::Global;
 use std::marker::Model;
 
-/// The edges of a state to classes other than the sink's, each with the class that it leads to for its
-/// target, in a buffer that is used again.
+/// The transitions of a state to classes other than the sink's, each with the class that it leads to for its target, in
+/// a buffer that is used again.
 #[derive(Drop)]
 pub struct ClassRow {
-    edges: Vec<Edge>,
-    row: Vec<Edge>,
+    transitions: Vec<Transition>,
+    row: Vec<Transition>,
 }
 
 impl Model for ClassRow {
     ghost use Rattle.std.specs.Prelude.{List};
-    ghost use Rattle.digit_tuple.specs.declared.edges.Edge.{Edge};
+    ghost use Rattle.digit_tuple.specs.declared.transitions.Transition.{Transition};
 
-    ghost Value = { List Edge };
+    ghost Value = { List Transition };
 
     ghost view = { λ r. r.row.items };
 }
 
 impl ClassRow {
-    /// No edges.
+    /// No transitions.
     pub fn new(alloc: Global) -> Self
         ensures { result ≡ [] }
     {
         ClassRow {
-            edges: Vec::new(alloc),
+            transitions: Vec::new(alloc),
             row: Vec::new(alloc),
         }
     }
 
-    /// The edges.
-    pub fn as_slice(&self) -> &[Edge]
+    /// The transitions.
+    pub fn as_slice(&self) -> &[Transition]
         ensures { result.now ≡ self.now }
     {
         &self.row
     }
 
-    /// Takes the edges of a state, of which the sink has none, in place of those before.
+    /// Takes the transitions of a state, of which the sink has none, in place of those before.
     pub fn read(&mut self, dfa: &Dfa, classes: &[u32], state: u32) -> Result<(), OutOfMemory>
         requires { length classes.now ≡ states_of dfa.now + 1 }
-        ensures { OnOk result (self.new ≡ class_edges classes.now (dead_class dfa.now classes.now) (edges_of dfa.now state)) }
+        ensures { OnOk result (self.new ≡ class_transitions classes.now (dead_class dfa.now classes.now) (transitions_of dfa.now state)) }
     {
         self.row.clear();
         let states = dfa.states();
         if state >= states {
             return Ok(());
         }
-        dfa.edges_into(state, &mut self.edges)?;
-        add_class_edges(
-            &self.edges,
+        dfa.transitions_into(state, &mut self.transitions)?;
+        add_class_transitions(
+            &self.transitions,
             classes,
             classes[states as usize],
             &mut self.row,
@@ -67,21 +67,21 @@ impl ClassRow {
     }
 }
 
-// Adds the edges to classes other than the dead one, each with its class for a target.
-fn add_class_edges(
-    edges: &[Edge],
+// Adds the transitions to classes other than the dead one, each with its class for a target.
+fn add_class_transitions(
+    transitions: &[Transition],
     classes: &[u32],
     dead: u32,
-    row: &mut Vec<Edge>,
+    row: &mut Vec<Transition>,
 ) -> Result<(), OutOfMemory>
-    requires { All (λ edge. edge.target < length classes.now) edges.now }
-    ensures { OnOk result (row.new.items ≡ row.old.items ++ class_edges classes.now dead edges.now) }
+    requires { All (λ transition. transition.target < length classes.now) transitions.now }
+    ensures { OnOk result (row.new.items ≡ row.old.items ++ class_transitions classes.now dead transitions.now) }
 {
-    for edge in edges {
-        let class = classes[edge.target as usize];
+    for transition in transitions {
+        let class = classes[transition.target as usize];
         if class != dead {
-            row.push(Edge {
-                letter: edge.letter,
+            row.push(Transition {
+                letter: transition.letter,
                 target: class,
             })?;
         }

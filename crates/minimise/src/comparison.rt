@@ -19,13 +19,13 @@ pub fn same(a: &Dfa, b: &Dfa) -> bool
     have_equal_states(a, b)
 }
 
-/// Whether the automaton is the canonical one of its language. OutOfMemory comes too where 2^32 - 1
-/// residuals are not enough, or there are 2^32 edges.
+/// Whether the automaton is the canonical one of its language. OutOfMemory comes too where 2^32 - 1 residuals are not
+/// enough, or there are 2^32 transitions.
 pub fn is_canonical(alloc: Global, d: &Dfa) -> Result<bool, OutOfMemory>
     ensures { IfOk result (λ is. IsTrue is ↔ IsCanonical d.now) }
 {
-    let least = canonical(alloc, d)?;
-    Ok(have_equal_states(&least, d))
+    let minimal = canonical(alloc, d)?;
+    Ok(have_equal_states(&minimal, d))
 }
 
 // Whether the automata have equal states.

@@ -1,7 +1,7 @@
 //! The first place of each number of a list, by open addressing (Donald Knuth, "The Art of Computer Programming",
-//! volume 3, section 6.4). A number has a home among the slots, and its first place stands in the first slot from
-//! there on that was free when it came. The slots do not go round: where all up to the end are taken, one more is
-//! added. They are as many as are needed from the start on, so that nothing is moved.
+//! volume 3, section 6.4). A number has a home among the slots, and its first place is in the first slot from there on
+//! that was free when it came. The slots do not go round: where all up to the end are taken, one more is added. They
+//! are as many as are needed from the start on, so that nothing is moved.
 
 ghost use Rattle.std.specs.Prelude.{◌≡◌, ℕ, ◌+◌, ◌-◌, ◌<◌, ◌≤◌, ◌^◌, List, length, IfOk, OnOk};
 ghost use Rattle.minimise.specs.FirstPlaces.{AreFirstPlaces, IsFirstPlace, number_at};

@@ -2,61 +2,60 @@
 
 ghost use Rattle.std.specs.Prelude.{◌<◌, length, OnOk};
 ghost use Rattle.std.specs.List.{All, flat_map};
-ghost use Rattle.minimise.specs.Gathering.{HaveLetters, IsGathered, edges_by_class};
-ghost use Rattle.minimise.specs.TurnedEdges.{edges_into};
+ghost use Rattle.minimise.specs.Gathering.{HaveLetters, IsGathered, transitions_by_class};
+ghost use Rattle.minimise.specs.ReversedTransitions.{transitions_into};
 
-use crate::turned_edges::TurnedEdges;
-use digit_tuple::edges::Edge;
+use crate::reversed_transitions::ReversedTransitions;
 use digit_tuple::faults::OutOfMemory;
 use digit_tuple::groups::group_into;
-use digit_tuple::key_edges::KeyEdges;
+use digit_tuple::key_transitions::KeyTransitions;
+use digit_tuple::transitions::Transition;
 
-/// Writes from where edges lead to the states of the set, for each letter that one of these edges has. The
-/// buffer of edges may hold anything.
+/// Writes from where transitions lead to the states of the set, for each letter that one of these transitions has. The
+/// buffer of transitions may hold anything.
 pub fn sources_by_letter(
-    turned: &TurnedEdges,
+    reversed: &ReversedTransitions,
     set: &[u32],
-    edges: &mut Vec<Edge>,
-    out: &mut KeyEdges,
+    transitions: &mut Vec<Transition>,
+    out: &mut KeyTransitions,
 ) -> Result<(), OutOfMemory>
-    ensures gathered { OnOk result (All (λ part. IsGathered (flat_map (edges_into turned.now) set.now) part.letter part.key) out.new) }
-    ensures letters { OnOk result (HaveLetters out.new (flat_map (edges_into turned.now) set.now)) }
+    ensures gathered { OnOk result (All (λ part. IsGathered (flat_map (transitions_into reversed.now) set.now) part.letter part.key) out.new) }
+    ensures letters { OnOk result (HaveLetters out.new (flat_map (transitions_into reversed.now) set.now)) }
 {
-    edges.clear();
+    transitions.clear();
     for state in set {
-        turned.add_edges_to(*state, edges)?;
+        reversed.add_transitions_to(*state, transitions)?;
     }
-    gather(edges, out)
+    gather(transitions, out)
 }
 
-/// Writes the states of the set by their classes, which stand for letters. The buffer of edges may
-/// hold anything.
+/// Writes the states of the set by their classes, which stand for letters. The buffer of transitions may hold anything.
 pub fn states_by_class(
     classes: &[u32],
     set: &[u32],
-    edges: &mut Vec<Edge>,
-    out: &mut KeyEdges,
+    transitions: &mut Vec<Transition>,
+    out: &mut KeyTransitions,
 ) -> Result<(), OutOfMemory>
     requires { All (λ q. q < length classes.now) set.now }
-    ensures gathered { OnOk result (All (λ part. IsGathered (edges_by_class classes.now set.now) part.letter part.key) out.new) }
-    ensures letters { OnOk result (HaveLetters out.new (edges_by_class classes.now set.now)) }
+    ensures gathered { OnOk result (All (λ part. IsGathered (transitions_by_class classes.now set.now) part.letter part.key) out.new) }
+    ensures letters { OnOk result (HaveLetters out.new (transitions_by_class classes.now set.now)) }
 {
-    edges.clear();
+    transitions.clear();
     for state in set {
-        edges.push(Edge {
+        transitions.push(Transition {
             letter: classes[*state as usize],
             target: *state,
         })?;
     }
-    gather(edges, out)
+    gather(transitions, out)
 }
 
-// Writes the targets of the edges, by letter.
-fn gather(edges: &mut Vec<Edge>, out: &mut KeyEdges) -> Result<(), OutOfMemory>
-    ensures gathered { OnOk result (All (λ part. IsGathered edges.old.items part.letter part.key) out.new) }
-    ensures letters { OnOk result (HaveLetters out.new edges.old.items) }
+// Writes the targets of the transitions, by letter.
+fn gather(transitions: &mut Vec<Transition>, out: &mut KeyTransitions) -> Result<(), OutOfMemory>
+    ensures gathered { OnOk result (All (λ part. IsGathered transitions.old.items part.letter part.key) out.new) }
+    ensures letters { OnOk result (HaveLetters out.new transitions.old.items) }
 {
-    edges.sort_unstable();
-    edges.dedup();
-    group_into(edges, out)
+    transitions.sort_unstable();
+    transitions.dedup();
+    group_into(transitions, out)
 }

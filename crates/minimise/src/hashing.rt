@@ -2,17 +2,17 @@
 //! rests on that they differ.
 
 ghost use Rattle.std.specs.Prelude.{◌≡◌, ◌+◌, ◌<◌, ◌≤◌, [], ◌∷◌, None, length};
-ghost use Rattle.digit_tuple.specs.Deterministic.{edges_of, states_of};
+ghost use Rattle.digit_tuple.specs.Deterministic.{transitions_of, states_of};
 ghost use Rattle.minimise.specs.Classes.{dead_class};
-ghost use Rattle.minimise.specs.EdgeLetters.{listed};
-ghost use Rattle.minimise.specs.FlatEdges.{AreLaidOut};
-ghost use Rattle.minimise.specs.ClassEdges.{class_edges};
-ghost use Rattle.minimise.specs.Hashes.{hash_edges, hash_of};
+ghost use Rattle.minimise.specs.TransitionLetters.{listed};
+ghost use Rattle.minimise.specs.FlatTransitions.{AreLaidOut};
+ghost use Rattle.minimise.specs.ClassTransitions.{class_transitions};
+ghost use Rattle.minimise.specs.Hashes.{hash_transitions, hash_of};
 
-use crate::edge_letters::EdgeLetters;
+use crate::transition_letters::TransitionLetters;
 use digit_tuple::dfa::Dfa;
-use digit_tuple::edges::Edge;
 use digit_tuple::key_hashes::mix;
+use digit_tuple::transitions::Transition;
 
 /// The letters from a first one on to before an end.
 #[derive(Clone, Copy)]
@@ -21,13 +21,13 @@ pub struct LetterSpan {
     pub end: u32,
 }
 
-/// What a part of a round reads: an automaton, its edges in a flat table, the hashes that its states and last the sink
-/// had, and the letters by which edges are looked at.
+/// What a part of a round reads: an automaton, its transitions in a flat table, the hashes that its states and last the
+/// sink had, and the letters by which transitions are looked at.
 #[derive(Clone, Copy)]
 pub struct RoundPart<'a> {
     pub dfa: &'a Dfa,
     pub starts: &'a [u32],
-    pub letters: &'a EdgeLetters,
+    pub letters: &'a TransitionLetters,
     pub targets: &'a [u32],
     pub hashes: &'a [u64],
     pub span: LetterSpan,
@@ -35,7 +35,7 @@ pub struct RoundPart<'a> {
 
 impl RoundPart<'_> {
     /// The hash of a state or the sink: of the hash that it had, and of the letters and the targets' hashes of the
-    /// edges that are looked at and lead to states that had another hash than the sink.
+    /// transitions that are looked at and lead to states that had another hash than the sink.
     pub fn state_hash(&self, state: u32) -> u64
         requires flat { AreLaidOut self.now.dfa.now self.now.starts.now (listed self.now.letters.now) self.now.targets.now (states_of self.now.dfa.now) }
         requires width { length self.now.hashes.now ≡ states_of self.now.dfa.now + 1 }
@@ -46,53 +46,53 @@ impl RoundPart<'_> {
         if state as usize + 1 == self.hashes.len() {
             return own;
         }
-        self.mix_edges(own, state)
+        self.mix_transitions(own, state)
     }
 
-    // The hash with the edges of a state.
-    fn mix_edges(&self, start: u64, state: u32) -> u64
+    // The hash with the transitions of a state.
+    fn mix_transitions(&self, start: u64, state: u32) -> u64
         requires flat { AreLaidOut self.now.dfa.now self.now.starts.now (listed self.now.letters.now) self.now.targets.now (states_of self.now.dfa.now) }
         requires width { length self.now.hashes.now ≡ states_of self.now.dfa.now + 1 }
         requires state { state < states_of self.now.dfa.now }
-        ensures { result ≡ hash_edges self.now.span.first self.now.span.end start (class_edges self.now.hashes.now (dead_class self.now.dfa.now self.now.hashes.now) (edges_of self.now.dfa.now state)) }
+        ensures { result ≡ hash_transitions self.now.span.first self.now.span.end start (class_transitions self.now.hashes.now (dead_class self.now.dfa.now self.now.hashes.now) (transitions_of self.now.dfa.now state)) }
     {
         match self.letters {
-            EdgeLetters::Full => self.mix_full(start, state),
-            EdgeLetters::Listed(_) => self.mix_listed(start, state),
+            TransitionLetters::Full => self.mix_full(start, state),
+            TransitionLetters::Listed(_) => self.mix_listed(start, state),
         }
     }
 
-    // The hash with the edges of a state whose letters are their places.
+    // The hash with the transitions of a state whose letters are their places.
     fn mix_full(&self, start: u64, state: u32) -> u64
         requires flat { AreLaidOut self.now.dfa.now self.now.starts.now (listed self.now.letters.now) self.now.targets.now (states_of self.now.dfa.now) }
         requires width { length self.now.hashes.now ≡ states_of self.now.dfa.now + 1 }
         requires state { state < states_of self.now.dfa.now }
         requires full { listed self.now.letters.now ≡ None }
-        ensures { result ≡ hash_edges self.now.span.first self.now.span.end start (class_edges self.now.hashes.now (dead_class self.now.dfa.now self.now.hashes.now) (edges_of self.now.dfa.now state)) }
+        ensures { result ≡ hash_transitions self.now.span.first self.now.span.end start (class_transitions self.now.hashes.now (dead_class self.now.dfa.now self.now.hashes.now) (transitions_of self.now.dfa.now state)) }
     {
-        // That the states and edges are a table.
+        // That the states and transitions are a table.
         let _states = self.dfa.states();
         let mut hash = start;
         let first = self.starts[state as usize] as usize;
         let count = self.starts[state as usize + 1] as usize - first;
         for letter in self.span.first as usize..count.min(self.span.end as usize) {
-            let edge = Edge {
+            let transition = Transition {
                 letter: letter as u32,
                 target: self.targets[first + letter],
             };
-            hash = self.mix_target(hash, edge);
+            hash = self.mix_target(hash, transition);
         }
         hash
     }
 
-    // The hash with the edges of a state whose letters may be any.
+    // The hash with the transitions of a state whose letters may be any.
     fn mix_listed(&self, start: u64, state: u32) -> u64
         requires flat { AreLaidOut self.now.dfa.now self.now.starts.now (listed self.now.letters.now) self.now.targets.now (states_of self.now.dfa.now) }
         requires width { length self.now.hashes.now ≡ states_of self.now.dfa.now + 1 }
         requires state { state < states_of self.now.dfa.now }
-        ensures { result ≡ hash_edges self.now.span.first self.now.span.end start (class_edges self.now.hashes.now (dead_class self.now.dfa.now self.now.hashes.now) (edges_of self.now.dfa.now state)) }
+        ensures { result ≡ hash_transitions self.now.span.first self.now.span.end start (class_transitions self.now.hashes.now (dead_class self.now.dfa.now self.now.hashes.now) (transitions_of self.now.dfa.now state)) }
     {
-        // That the states and edges are a table.
+        // That the states and transitions are a table.
         let _states = self.dfa.states();
         let mut hash = start;
         let first = self.starts[state as usize] as usize;
@@ -103,26 +103,27 @@ impl RoundPart<'_> {
                 return hash;
             }
             if letter >= self.span.first {
-                hash = self.mix_target(hash, Edge { letter, target });
+                hash = self.mix_target(hash, Transition { letter, target });
             }
         }
         hash
     }
 
-    // The hash with an edge that is looked at, where it leads to a state that had another hash than the sink.
-    fn mix_target(&self, hash: u64, edge: Edge) -> u64
+    // The hash with a transition that is looked at, where it leads to a state that had another hash than the sink.
+    fn mix_target(&self, hash: u64, transition: Transition) -> u64
         requires width { length self.now.hashes.now ≡ states_of self.now.dfa.now + 1 }
-        requires target { edge.target ≤ states_of self.now.dfa.now }
-        requires from { self.now.span.first ≤ edge.letter }
-        requires before { edge.letter < self.now.span.end }
-        ensures { result ≡ hash_edges self.now.span.first self.now.span.end hash (class_edges self.now.hashes.now (dead_class self.now.dfa.now self.now.hashes.now) (edge ∷ [])) }
+        requires target { transition.target ≤ states_of self.now.dfa.now }
+        requires from { self.now.span.first ≤ transition.letter }
+        requires before { transition.letter < self.now.span.end }
+        ensures { result ≡ hash_transitions self.now.span.first self.now.span.end hash (class_transitions self.now.hashes.now (dead_class self.now.dfa.now self.now.hashes.now) (transition ∷ [])) }
     {
-        let target = self.hashes[edge.target as usize];
+        let target = self.hashes[transition.target as usize];
         if target == self.hashes[self.hashes.len() - 1] {
             return hash;
         }
         mix(
-            hash.wrapping_mul(3).wrapping_add(u64::from(edge.letter)),
+            hash.wrapping_mul(3)
+                .wrapping_add(u64::from(transition.letter)),
             target,
         )
     }

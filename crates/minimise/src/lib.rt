@@ -1,4 +1,4 @@
-//! The least automaton of a language, in its one numbered form.
+//! The minimal automaton of a language, in its one numbered form.
 #![tactic(auto)]
 
 /// Laws of canonical automata.
@@ -13,7 +13,7 @@ mod output_parts;
 /// Sets of states, gathered by the letters that lead from them, and by their classes.
 mod gathering;
 
-/// States in an order, and where each stands in it.
+/// States in an order, and where each is in it.
 mod state_order;
 
 /// The classes by which others are still to be parted.
@@ -22,7 +22,7 @@ mod pending_classes;
 /// Classes of states, parted by Hopcroft's algorithm.
 mod partition;
 
-/// The edges of a state between classes.
+/// The transitions of a state between classes.
 mod class_row;
 
 /// States that stand for their classes.
@@ -31,14 +31,14 @@ mod leaders;
 /// Whether letters keep classes.
 mod stability;
 
-/// The letters of edges in one table.
-mod edge_letters;
+/// The letters of transitions in one table.
+mod transition_letters;
 
-/// The edges of all states in one table.
-mod flat_edges;
+/// The transitions of all states in one table.
+mod flat_transitions;
 
-/// The edges by the states that they lead to.
-mod turned_edges;
+/// The transitions by the states that they lead to.
+mod reversed_transitions;
 
 /// The first place of each number of a list.
 mod first_places;
@@ -62,7 +62,7 @@ pub mod sink;
 mod quotient;
 
 /// The automaton of the residuals that words lead to.
-mod least;
+mod minimal;
 
 /// The canonical automaton of a function from words to classes.
 pub mod canonical_classes;

@@ -28,8 +28,8 @@ pub fn parted_by_outputs(
     first_places(alloc, &numbers)
 }
 
-// For each state and the sink a number that tells its class and its output. The classes are spread over the upper half of
-// the bits.
+// For each state and the sink a number that determines its class and its output. The classes are spread over the upper
+// half of the bits.
 fn part_numbers(alloc: Global, machine: &Machine, classes: &[u32]) -> Result<Vec<u64>, OutOfMemory>
     requires { AreCoarseClasses machine.now.dfa.now machine.now.outputs.now classes.now }
     ensures width { IfOk result (λ numbers. length numbers.items ≡ length classes.now) }

@@ -1,54 +1,54 @@
-//! Classes of states, parted by Hopcroft's algorithm (John Hopcroft, "An n log n algorithm for
-//! minimizing states in a finite automaton") over the edges that are there, as in Antti Valmari and
-//! Petri Lehtinen, "Efficient minimization of DFAs with partial transition functions".
+//! Classes of states, parted by Hopcroft's algorithm (John Hopcroft, "An n log n algorithm for minimizing states in a
+//! finite automaton") over the transitions that are there, as in Antti Valmari and Petri Lehtinen, "Efficient
+//! minimization of DFAs with partial transition functions".
 //!
-//! The states stand in one list, those of one class one after another, and the classes by which others are still
-//! to be parted are pending. One pending class after the other is taken, and for each letter each class is parted
-//! into the states from which the letter leads into the taken one, and the others: the states that leave are
-//! swapped to the end of their class's span, which is cut there. Of two parts the smaller is pending then, the
-//! one that fewer edges lead to, and of a class that was pending both are. Of the sink's class it is the states
-//! that leave, however many: no edges are kept that lead to the sink.
+//! The states are in one list, those of one class one after another, and the classes by which others are still to be
+//! parted are pending. One pending class after the other is taken, and for each letter each class is parted into the
+//! states from which the letter leads into the taken one, and the others: the states that leave are swapped to the end
+//! of their class's span, which is cut there. Of two parts the smaller is pending then, the one that fewer transitions
+//! lead to, and of a class that was pending both are. Of the sink's class it is the states that leave, however many: no
+//! transitions are kept that lead to the sink.
 //!
 //! States of one class have one output, and lead by each letter into one class, unless one of the two classes is
 //! pending. Each cut leaves it so. Where no class is pending the classes are the residuals.
 //!
-//! So each edge is looked at once, and once more each time that its target goes with a smaller part. For
-//! m edges, and classes of s states at most to begin with, these are m + (m / 2) log s looks at most: where
-//! a smaller part has a share f of the edges, f is at most half of the entropy of f and 1 - f, and these
-//! entropies, each times its edges, add up to no more than m log s.
+//! So each transition is looked at once, and once more each time that its target goes with a smaller part. For m
+//! transitions, and classes of s states at most to begin with, these are m + (m / 2) log s looks at most: where a
+//! smaller part has a share f of the transitions, f is at most half of the entropy of f and 1 - f, and these entropies,
+//! each times its transitions, add up to no more than m log s.
 //!
 //! The time is in the order of m log m log n at most for n states. The factor log m is that of sorting,
 //! by letter and by class; counting in place of sorting would save it.
 //!
-//! Besides the edges these lists take 13 bytes a state, and up to 16 bytes a class in vectors that grow.
+//! Besides the transitions these lists take 13 bytes a state, and up to 16 bytes a class in vectors that grow.
 
 ghost use Rattle.std.specs.Prelude.{◌≡◌, ◌≢◌, ℕ, ◌+◌, ◌-◌, ◌<◌, ◌≤◌, ◌^◌, ◌↔◌, ◌∷◌, ◌++◌, [], List, length, IfOk, OnOk};
 ghost use Rattle.std.specs.List.{All, Contains};
 ghost use Rattle.digit_tuple.specs.Deterministic.{states_of};
 ghost use Rattle.minimise.specs.Classes.{class_of};
 ghost use Rattle.minimise.specs.CoarseClasses.{AreCoarseClasses, AreResidualClasses, TellOutputs};
-ghost use Rattle.minimise.specs.FlatEdges.{AreFlat};
+ghost use Rattle.minimise.specs.FlatTransitions.{AreFlat};
 ghost use Rattle.minimise.specs.Outputs.{HasOutputs};
 ghost use Rattle.minimise.specs.Partition.{HasGrown, IsCut, IsGiven, IsPartition, IsSplit, IsUnion};
 ghost use Rattle.minimise.specs.Settled.{AreAllPending, AreApart, AreLiveParts, IsSettled};
 
-use crate::flat_edges::FlatEdges;
+use crate::flat_transitions::FlatTransitions;
 use crate::gathering::{sources_by_letter, states_by_class};
 use crate::machine::Machine;
 use crate::pending_classes::PendingClasses;
+use crate::reversed_transitions::ReversedTransitions;
 use crate::state_order::{move_to_end, numbered_states};
-use crate::turned_edges::TurnedEdges;
-use digit_tuple::edges::Edge;
 use digit_tuple::faults::OutOfMemory;
-use digit_tuple::key_edges::KeyEdges;
+use digit_tuple::key_transitions::KeyTransitions;
+use digit_tuple::transitions::Transition;
 use std::alloc::Global;
 
-/// The class of each state, and last that of the sink, where missing edges lead, after classes of one output each are
-/// parted: states have one class exactly where all words lead from them to the same outputs.
+/// The class of each state, and last that of the sink, where missing transitions lead, after classes of one output each
+/// are parted: states have one class if and only if all words lead from them to the same outputs.
 pub fn parted(
     alloc: Global,
     machine: &Machine,
-    flat: &FlatEdges,
+    flat: &FlatTransitions,
     classes: Vec<u32>,
 ) -> Result<Vec<u32>, OutOfMemory>
     requires outputs { HasOutputs machine.now }
@@ -73,46 +73,46 @@ pub fn parted(
 /// The partition while it is refined.
 #[derive(Drop)]
 pub struct Partition {
-    // The edges of the automaton.
-    turned: TurnedEdges,
+    // The transitions of the automaton.
+    reversed: ReversedTransitions,
     // The class of each state, and last that of the sink, which is 0.
     classes: Vec<u32>,
     // The states, those of one class one after another.
     states: Vec<u32>,
-    // Where each state stands among them.
+    // Where each state is among them.
     places: Vec<u32>,
-    // Where the states of each class stand.
+    // Where the states of each class are.
     spans: Vec<ClassSpan>,
     // The classes by which others are still to be parted, none of them the sink's.
     pending: PendingClasses,
 }
 
-/// Where the states of a class stand, from the start to before the end, and how many edges lead to them, up to
-/// 2^32 - 1. Edges to the sink's class are not counted.
+/// Where the states of a class are, from the start to before the end, and how many transitions lead to them, up to 2^32
+/// - 1. Transitions to the sink's class are not counted.
 #[derive(Clone, Copy)]
 pub struct ClassSpan {
     start: u32,
     end: u32,
-    edges: u32,
+    transitions: u32,
 }
 
 impl Partition {
     // One class of all states.
-    fn new(alloc: Global, machine: &Machine, flat: &FlatEdges) -> Result<Self, OutOfMemory>
+    fn new(alloc: Global, machine: &Machine, flat: &FlatTransitions) -> Result<Self, OutOfMemory>
         requires { AreFlat machine.now.dfa.now flat.now }
         ensures partition { IfOk result (IsPartition machine.now) }
         ensures one { IfOk result (λ made. length made.spans.items ≡ 1) }
     {
-        let turned = TurnedEdges::new(alloc, machine.dfa, flat)?;
+        let reversed = ReversedTransitions::new(alloc, machine.dfa, flat)?;
         let states = machine.dfa.states();
         let most_classes = states as usize + 1;
         let span = ClassSpan {
             start: 0,
             end: states,
-            edges: 0,
+            transitions: 0,
         };
         Ok(Partition {
-            turned,
+            reversed,
             classes: vec![in alloc; 0; most_classes]?,
             states: numbered_states(alloc, states)?,
             places: numbered_states(alloc, states)?,
@@ -122,7 +122,11 @@ impl Partition {
     }
 
     // Parts the class of all states by the parts, so that what is left of it is the sink's class.
-    fn part_by_class(&mut self, machine: &Machine, parts: &KeyEdges) -> Result<(), OutOfMemory>
+    fn part_by_class(
+        &mut self,
+        machine: &Machine,
+        parts: &KeyTransitions,
+    ) -> Result<(), OutOfMemory>
         requires partition { IsPartition machine.now self.old }
         requires parts { All (λ part. IsUnion machine.now.dfa.now machine.now.outputs.now part.key) parts.now }
         requires one { length self.old.spans.items ≡ 1 }
@@ -154,15 +158,15 @@ impl Partition {
         ensures settled { OnOk result (IsSettled machine.now.dfa.now machine.now.outputs.now self.new.classes.items self.new.pending) }
     {
         let Buffers {
-            edges,
+            transitions,
             sources,
             parts,
         } = buffers;
         let span = self.spans[class as usize];
         let states = &self.states[span.start as usize..span.end as usize];
-        sources_by_letter(&self.turned, states, edges, sources)?;
+        sources_by_letter(&self.reversed, states, transitions, sources)?;
         for place in 0..sources.len() {
-            self.part(machine, sources.key(place), edges, parts)?;
+            self.part(machine, sources.key(place), transitions, parts)?;
         }
         Ok(())
     }
@@ -172,8 +176,8 @@ impl Partition {
         &mut self,
         machine: &Machine,
         set: &[u32],
-        edges: &mut Vec<Edge>,
-        parts: &mut KeyEdges,
+        transitions: &mut Vec<Transition>,
+        parts: &mut KeyTransitions,
     ) -> Result<(), OutOfMemory>
         requires partition { IsPartition machine.now self.old }
         requires set { IsUnion machine.now.dfa.now machine.now.outputs.now set.now }
@@ -181,7 +185,7 @@ impl Partition {
         ensures grown { OnOk result (HasGrown self.old self.new) }
         ensures apart { OnOk result (AreApart self.new.classes.items set.now) }
     {
-        states_by_class(&self.classes, set, edges, parts)?;
+        states_by_class(&self.classes, set, transitions, parts)?;
         for place in 0..parts.len() {
             self.split(machine, parts.letter(place), parts.key(place))?;
         }
@@ -208,31 +212,36 @@ impl Partition {
         }
         let leaving = &self.states[middle as usize..end as usize];
         give(&mut self.classes, leaving, count as u32);
-        let edges = edges_to(&self.turned, leaving);
-        let rest = cut(&mut self.spans, class, middle, edges)?;
+        let transitions = transitions_to(&self.reversed, leaving);
+        let rest = cut(&mut self.spans, class, middle, transitions)?;
         // Of the sink's class those that leave are pending, of a pending one both parts, and of others the smaller.
-        let leave = class == 0 || self.pending.has(class) || edges <= rest;
+        let leave = class == 0 || self.pending.has(class) || transitions <= rest;
         self.pending.push(if leave { count as u32 } else { class })
     }
 }
 
-// Cuts a class's span at a place, where one more class begins to which so many of the edges lead, and gives how
+// Cuts a class's span at a place, where one more class begins to which so many of the transitions lead, and gives how
 // many are left.
-fn cut(spans: &mut Vec<ClassSpan>, class: u32, middle: u32, edges: u32) -> Result<u32, OutOfMemory>
+fn cut(
+    spans: &mut Vec<ClassSpan>,
+    class: u32,
+    middle: u32,
+    transitions: u32,
+) -> Result<u32, OutOfMemory>
     requires { class < length spans.old.items }
     ensures { OnOk result (IsCut spans.old.items spans.new.items class middle) }
 {
     let span = spans[class as usize];
-    let rest = span.edges.saturating_sub(edges);
+    let rest = span.transitions.saturating_sub(transitions);
     spans[class as usize] = ClassSpan {
         start: span.start,
         end: middle,
-        edges: rest,
+        transitions: rest,
     };
     spans.push(ClassSpan {
         start: middle,
         end: span.end,
-        edges,
+        transitions,
     })?;
     Ok(rest)
 }
@@ -240,24 +249,28 @@ fn cut(spans: &mut Vec<ClassSpan>, class: u32, middle: u32, edges: u32) -> Resul
 // Buffers that are used again.
 #[derive(Drop)]
 struct Buffers {
-    edges: Vec<Edge>,
-    sources: KeyEdges,
-    parts: KeyEdges,
+    transitions: Vec<Transition>,
+    sources: KeyTransitions,
+    parts: KeyTransitions,
 }
 
 impl Buffers {
     // Empty ones.
     fn new(alloc: Global) -> Self {
         Buffers {
-            edges: Vec::new(alloc),
-            sources: KeyEdges::new(alloc),
-            parts: KeyEdges::new(alloc),
+            transitions: Vec::new(alloc),
+            sources: KeyTransitions::new(alloc),
+            parts: KeyTransitions::new(alloc),
         }
     }
 }
 
 // The states of each class but the sink's.
-fn live_parts(alloc: Global, machine: &Machine, classes: &[u32]) -> Result<KeyEdges, OutOfMemory>
+fn live_parts(
+    alloc: Global,
+    machine: &Machine,
+    classes: &[u32],
+) -> Result<KeyTransitions, OutOfMemory>
     requires { AreCoarseClasses machine.now.dfa.now machine.now.outputs.now classes.now }
     ensures unions { IfOk result (λ parts. All (λ part. IsUnion machine.now.dfa.now machine.now.outputs.now part.key) parts) }
     ensures parts { IfOk result (AreLiveParts machine.now.dfa.now classes.now) }
@@ -265,9 +278,9 @@ fn live_parts(alloc: Global, machine: &Machine, classes: &[u32]) -> Result<KeyEd
     // That there are fewer than 2^32 states.
     let _states = machine.dfa.states();
     let states = live_states(alloc, classes)?;
-    let mut edges = Vec::new(alloc);
-    let mut parts = KeyEdges::new(alloc);
-    states_by_class(classes, &states, &mut edges, &mut parts)?;
+    let mut transitions = Vec::new(alloc);
+    let mut parts = KeyTransitions::new(alloc);
+    states_by_class(classes, &states, &mut transitions, &mut parts)?;
     Ok(parts)
 }
 
@@ -297,11 +310,11 @@ fn give(classes: &mut Vec<u32>, states: &[u32], class: u32)
     }
 }
 
-// How many edges lead to the states.
-fn edges_to(turned: &TurnedEdges, states: &[u32]) -> u32 {
-    let mut edges: usize = 0;
+// How many transitions lead to the states.
+fn transitions_to(reversed: &ReversedTransitions, states: &[u32]) -> u32 {
+    let mut transitions: usize = 0;
     for state in states {
-        edges = edges.saturating_add(turned.count_to(*state));
+        transitions = transitions.saturating_add(reversed.count_to(*state));
     }
-    u32::try_from(edges).unwrap_or(u32::MAX)
+    u32::try_from(transitions).unwrap_or(u32::MAX)
 }

@@ -4,18 +4,18 @@ ghost use Rattle.std.specs.Prelude.{◌≡◌, ◌<◌, ◌++◌, [], ◌∷◌,
 ghost use Rattle.std.specs.List.{All};
 ghost use Rattle.digit_tuple.specs.Deterministic.{letters_of};
 ghost use Rattle.minimise.specs.Classes.{class_of};
-ghost use Rattle.minimise.specs.ClassEdges.{class_edges};
-ghost use Rattle.minimise.specs.Quotient.{IsQuotient, IsClass, next_class, class_accepts, key_edge, key_output};
+ghost use Rattle.minimise.specs.ClassTransitions.{class_transitions};
+ghost use Rattle.minimise.specs.Quotient.{IsQuotient, IsClass, next_class, class_accepts, key_transition, key_output};
 ghost use Rattle.minimise.specs.QuotientLaws.{start_is_class, next_class_is_class};
 
 use digit_tuple::dfa::Dfa;
-use digit_tuple::edges::Edge;
 use digit_tuple::faults::OutOfMemory;
-use digit_tuple::key_edges::KeyEdges;
 use digit_tuple::key_graph::KeyGraph;
+use digit_tuple::key_transitions::KeyTransitions;
+use digit_tuple::transitions::Transition;
 use std::alloc::Global;
 
-// Memory for so many edges is taken at once, as of an alphabet of no more letters most may lead on.
+// Memory for so many transitions is taken at once, as of an alphabet of no more letters most may lead on.
 const FEW_LETTERS: usize = 32;
 
 /// The outputs of an automaton's states, the classes of these and its sink, and a state of each class. A key is a class
@@ -49,13 +49,18 @@ impl KeyGraph for Quotient<'_> {
         Ok(vec![in alloc; self.classes[0]]?)
     }
 
-    fn edges(&self, alloc: Global, key: &[u32], out: &mut KeyEdges) -> Result<(), OutOfMemory> {
+    fn transitions(
+        &self,
+        alloc: Global,
+        key: &[u32],
+        out: &mut KeyTransitions,
+    ) -> Result<(), OutOfMemory> {
         let state = self.leaders[key[0] as usize];
         let letters = self.dfa.alphabet().letters() as usize;
-        let mut edges = Vec::with_capacity(alloc, letters.min(FEW_LETTERS))?;
-        self.dfa.edges_into(state, &mut edges)?;
+        let mut transitions = Vec::with_capacity(alloc, letters.min(FEW_LETTERS))?;
+        self.dfa.transitions_into(state, &mut transitions)?;
         let dead = self.classes[self.dfa.states() as usize];
-        add_key_edges(&edges, self.classes, dead, out)
+        add_key_transitions(&transitions, self.classes, dead, out)
     }
 
     fn is_accepting(&self, key: &[u32]) -> bool {
@@ -74,20 +79,20 @@ impl Quotient<'_> {
     }
 }
 
-// Adds the edges to classes other than the dead one, each with its class for a key.
-fn add_key_edges(
-    edges: &[Edge],
+// Adds the transitions to classes other than the dead one, each with its class for a key.
+fn add_key_transitions(
+    transitions: &[Transition],
     classes: &[u32],
     dead: u32,
-    out: &mut KeyEdges,
+    out: &mut KeyTransitions,
 ) -> Result<(), OutOfMemory>
-    requires { All (λ edge. edge.target < length classes.now) edges.now }
-    ensures { OnOk result (out.new ≡ out.old ++ map key_edge (class_edges classes.now dead edges.now)) }
+    requires { All (λ transition. transition.target < length classes.now) transitions.now }
+    ensures { OnOk result (out.new ≡ out.old ++ map key_transition (class_transitions classes.now dead transitions.now)) }
 {
-    for edge in edges {
-        let class = classes[edge.target as usize];
+    for transition in transitions {
+        let class = classes[transition.target as usize];
         if class != dead {
-            out.push(edge.letter, &[class])?;
+            out.push(transition.letter, &[class])?;
         }
     }
     Ok(())

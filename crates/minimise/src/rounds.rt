@@ -5,10 +5,10 @@
 ghost use Rattle.std.specs.Prelude.{◌≡◌, ◌==◌, ℕ, ◌<◌, ◌≤◌, ◌^◌, count_by, length, IfOk, IsTrue};
 ghost use Rattle.std.specs.List.{All};
 ghost use Rattle.minimise.specs.CoarseClasses.{AreCoarseClasses, AreCoarseNumbers, AreResidualClasses};
-ghost use Rattle.minimise.specs.FlatEdges.{AreFlat};
+ghost use Rattle.minimise.specs.FlatTransitions.{AreFlat};
 ghost use Rattle.minimise.specs.Outputs.{HasOutputs};
 
-use crate::flat_edges::FlatEdges;
+use crate::flat_transitions::FlatTransitions;
 use crate::machine::Machine;
 use crate::stability::is_stable;
 use crate::state_hashes::StateHashes;
@@ -23,14 +23,15 @@ pub struct RoundClasses {
 }
 
 /// The classes after rounds. They end where none parts the classes, or where no two states are counted in one. After the
-/// first they also end where one more could cost too much: a round looks at each edge once, and to part what they leave by
-/// smaller parts takes one look more, and on average half the binary logarithm of the size of the largest class. All of them
-/// are to be no more than the binary digits of the number of states. Classes are numbered where a round is not seen to part
-/// any, and to be counted where by the last count they could be too large, as a round leaves none that is larger.
+/// first they also end where one more could cost too much: a round looks at each transition once, and to part what they
+/// leave by smaller parts takes one look more, and on average half the binary logarithm of the size of the largest class.
+/// All of them are to be no more than the binary digits of the number of states. Classes are numbered where a round is not
+/// seen to part any, and to be counted where by the last count they could be too large, as a round leaves none that is
+/// larger.
 pub fn classes_by_rounds(
     alloc: Global,
     machine: &Machine,
-    flat: &FlatEdges,
+    flat: &FlatTransitions,
 ) -> Result<RoundClasses, OutOfMemory>
     requires outputs { HasOutputs machine.now }
     requires flat { AreFlat machine.now.dfa.now flat.now }
@@ -45,7 +46,7 @@ pub fn classes_by_rounds(
 fn classes_after_rounds(
     alloc: Global,
     machine: &Machine,
-    flat: &FlatEdges,
+    flat: &FlatTransitions,
     hashes: &mut StateHashes,
 ) -> Result<RoundClasses, OutOfMemory>
     requires outputs { HasOutputs machine.now }
@@ -82,7 +83,7 @@ fn classes_after_rounds(
 fn compared(
     alloc: Global,
     machine: &Machine,
-    flat: &FlatEdges,
+    flat: &FlatTransitions,
     classes: Vec<u32>,
 ) -> Result<RoundClasses, OutOfMemory>
     requires outputs { HasOutputs machine.now }
@@ -95,8 +96,8 @@ fn compared(
     Ok(RoundClasses { classes, stable })
 }
 
-// Whether one more round after so many could lead to too many looks at edges, where no class is larger. The first never
-// does.
+// Whether one more round after so many could lead to too many looks at transitions, where no class is larger. The first
+// never does.
 fn is_too_dear(states: u32, rounds: u32, largest: u32) -> bool
     requires { rounds ≤ 32 }
 {

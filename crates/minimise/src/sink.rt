@@ -1,4 +1,4 @@
-//! States of an automaton whose missing edges lead to its sink, the number past the states.
+//! States of an automaton whose missing transitions lead to its sink, the number past the states.
 
 ghost use Rattle.std.specs.Prelude.{◌≡◌};
 ghost use Rattle.digit_tuple.specs.Deterministic.{accepting_of};
@@ -7,7 +7,7 @@ ghost use Rattle.minimise.specs.Classes.{next_of, first_of};
 use digit_tuple::dfa::Dfa;
 
 /// The initial state, or the sink where a canonical automaton accepts no word.
-pub fn first_state(dfa: &Dfa) -> u32
+pub fn initial_state(dfa: &Dfa) -> u32
     ensures { result ≡ first_of dfa.now }
 {
     let states = dfa.states();

@@ -4,13 +4,13 @@ ghost use Rattle.std.specs.Prelude.{◌≡◌, ◌+◌, ◌↔◌, length, IfOk,
 ghost use Rattle.digit_tuple.specs.Deterministic.{IsTable, letters_of, states_of};
 ghost use Rattle.minimise.specs.Classes.{class_of};
 ghost use Rattle.minimise.specs.CoarseClasses.{AreCoarseClasses, AreResidualClasses};
-ghost use Rattle.minimise.specs.FlatEdges.{AreFlat};
+ghost use Rattle.minimise.specs.FlatTransitions.{AreFlat};
 ghost use Rattle.minimise.specs.Leaders.{AreLeaders};
 ghost use Rattle.minimise.specs.Outputs.{HasOutputs};
 ghost use Rattle.minimise.specs.Alike.{AreAlike};
 
 use crate::class_row::ClassRow;
-use crate::flat_edges::FlatEdges;
+use crate::flat_transitions::FlatTransitions;
 use crate::leaders::leaders;
 use crate::machine::Machine;
 use digit_tuple::dfa::Dfa;
@@ -22,7 +22,7 @@ use std::alloc::Global;
 pub fn is_stable(
     alloc: Global,
     machine: &Machine,
-    flat: &FlatEdges,
+    flat: &FlatTransitions,
     classes: &[u32],
 ) -> Result<bool, OutOfMemory>
     requires outputs { HasOutputs machine.now }
@@ -38,7 +38,7 @@ pub fn is_stable(
 // Whether each state and the sink has the output of the leader of its class and is like that, up to the first that is not.
 fn are_like_leaders(
     machine: &Machine,
-    flat: &FlatEdges,
+    flat: &FlatTransitions,
     classes: &[u32],
     leaders: &[u32],
     rows: &mut RowPair,
@@ -66,9 +66,9 @@ fn are_like_leaders(
     Ok(true)
 }
 
-// Whether states of one class have edges by the same letters to the same classes, one by one, so that
-// they are alike. Where they do not, they still are if they differ by edges to the sink's class alone.
-fn lead_alike(dfa: &Dfa, flat: &FlatEdges, classes: &[u32], p: u32, q: u32) -> bool
+// Whether states of one class have transitions by the same letters to the same classes, one by one, so that they are
+// alike. Where they do not, they still are if they differ by transitions to the sink's class alone.
+fn lead_alike(dfa: &Dfa, flat: &FlatTransitions, classes: &[u32], p: u32, q: u32) -> bool
     requires flat { AreFlat dfa.now flat.now }
     requires width { length classes.now ≡ states_of dfa.now + 1 }
     requires own { class_of classes.now p ≡ class_of classes.now q }

@@ -4,12 +4,12 @@ ghost use Rattle.std.specs.Prelude.{◌≡◌, ℕ, ◌+◌, ◌<◌, ◌≤◌,
 ghost use Rattle.digit_tuple.specs.Deterministic.{states_of};
 ghost use Rattle.minimise.specs.Classes.{class_of};
 ghost use Rattle.minimise.specs.CoarseClasses.{AreCoarseClasses, AreCoarseNumbers};
-ghost use Rattle.minimise.specs.FlatEdges.{AreFlat};
+ghost use Rattle.minimise.specs.FlatTransitions.{AreFlat};
 ghost use Rattle.minimise.specs.Hashes.{AreHashed, output_hash};
 ghost use Rattle.minimise.specs.Outputs.{HasOutputs};
 
 use crate::first_places::first_places;
-use crate::flat_edges::FlatEdges;
+use crate::flat_transitions::FlatTransitions;
 use crate::hashing::{LetterSpan, RoundPart};
 use crate::machine::Machine;
 use digit_tuple::dfa::Dfa;
@@ -21,7 +21,7 @@ use std::alloc::Global;
 const SEED: u64 = 0x8000_0000_0000_0000;
 
 // How many states the sample has at least.
-const LEAST_SAMPLE: usize = 16;
+const MINIMAL_SAMPLE: usize = 16;
 
 /// The hashes of the states and last of the sink, 8 bytes each, and a sample of states.
 #[derive(Drop)]
@@ -39,22 +39,22 @@ impl StateHashes {
     {
         let states = machine.dfa.states();
         let count = states as usize + 1;
-        let places = (count.next_power_of_two() / 16).max(LEAST_SAMPLE);
+        let places = (count.next_power_of_two() / 16).max(MINIMAL_SAMPLE);
         Ok(StateHashes {
             hashes: output_hashes(alloc, machine, count)?,
             sample: vec![in alloc; 0; places]?,
         })
     }
 
-    /// A round: the hashes of states by their edges to those that were told apart. The edges by the first half of the letters
-    /// are looked at before the others, which lead to what is told apart by then, so that few rounds tell of long words.
-    /// Gives whether it is seen to part states, which may stay unseen where it parts few. Its time follows the edges, and 8
-    /// bytes a state are free again at its end.
+    /// A round: the hashes of states by their transitions to those that were distinguished. The transitions by the first half
+    /// of the letters are looked at before the others, which lead to what is distinguished by then, so that few rounds say of
+    /// long words. Gives whether it is seen to part states, which may stay unseen where it parts few. Its time follows the
+    /// transitions, and 8 bytes a state are free again at its end.
     pub fn advance(
         &mut self,
         alloc: Global,
         machine: &Machine,
-        flat: &FlatEdges,
+        flat: &FlatTransitions,
     ) -> Result<bool, OutOfMemory>
         requires outputs { HasOutputs machine.now }
         requires flat { AreFlat machine.now.dfa.now flat.now }
@@ -102,7 +102,13 @@ fn output_hashes(alloc: Global, machine: &Machine, count: usize) -> Result<Vec<u
 }
 
 // Writes the hashes that a part of a round makes of the old ones.
-fn write_hashes(dfa: &Dfa, flat: &FlatEdges, old: &[u64], span: LetterSpan, out: &mut Vec<u64>)
+fn write_hashes(
+    dfa: &Dfa,
+    flat: &FlatTransitions,
+    old: &[u64],
+    span: LetterSpan,
+    out: &mut Vec<u64>,
+)
     requires flat { AreFlat dfa.now flat.now }
     requires width { length old.now ≡ states_of dfa.now + 1 }
     requires out { length out.old.items ≡ length old.now }

@@ -1,4 +1,4 @@
-//! States in an order that changes, and where each stands in it.
+//! States in an order that changes, and where each is in it.
 
 ghost use Rattle.std.specs.Prelude.{◌≡◌, ◌<◌, ◌≤◌, length, IfOk};
 ghost use Rattle.std.specs.List.{All, range_with_len, swap};
@@ -18,8 +18,8 @@ pub fn numbered_states(alloc: Global, count: u32) -> Result<Vec<u32>, OutOfMemor
     Ok(states)
 }
 
-/// Moves those of the set that stand from the start to the end to the last places there, and gives the first
-/// place that they have then. Time follows the set.
+/// Moves those of the set that are from the start to the end to the last places there, and gives the first place that
+/// they have then. Time follows the set.
 pub fn move_to_end(
     states: &mut Vec<u32>,
     places: &mut Vec<u32>,

@@ -16,7 +16,7 @@ use std::marker::Model;
 /// A canonical automaton with a name for each track, no two the same.
 #[derive(Drop)]
 pub struct Tracked {
-    least: Dfa,
+    minimal: Dfa,
     track_names: Vec<Name>,
 }
 
@@ -25,15 +25,14 @@ impl Model for Tracked {
 
     ghost Value = { NamedAutomaton };
 
-    ghost view = { λ t. record { names = t.track_names.items; automaton = t.least } };
+    ghost view = { λ t. record { names = t.track_names.items; automaton = t.minimal } };
 
-    ghost invariant = { λ t. IsTracked (record { names = t.track_names.items; automaton = t.least }) };
+    ghost invariant = { λ t. IsTracked (record { names = t.track_names.items; automaton = t.minimal }) };
 }
 
 impl Tracked {
-    /// The canonical automaton with the same language, its tracks under these names: one for each
-    /// track, no two the same. OutOfMemory comes too where 2^32 - 1 states are not enough, or there are
-    /// 2^32 edges.
+    /// The canonical automaton with the same language, its tracks under these names: one for each track, no two the
+    /// same. OutOfMemory comes too where 2^32 - 1 states are not enough, or there are 2^32 transitions.
     pub fn new(alloc: Global, d: &Dfa, names: &[Name]) -> Result<Self, OutOfMemory>
         requires count { length names.now ≡ length d.now.sizes }
         requires distinct { AreDistinct names.now }
@@ -46,8 +45,11 @@ impl Tracked {
         for name in names {
             track_names.push(name.copy(alloc)?)?;
         }
-        let least = canonical(alloc, d)?;
-        Ok(Tracked { least, track_names })
+        let minimal = canonical(alloc, d)?;
+        Ok(Tracked {
+            minimal,
+            track_names,
+        })
     }
 
     /// A canonical automaton, its tracks under these names: one for each track, no two the same.
@@ -58,7 +60,7 @@ impl Tracked {
         ensures { result ≡ record { names = names.items; automaton = dfa } }
     {
         Tracked {
-            least: dfa,
+            minimal: dfa,
             track_names: names,
         }
     }
@@ -68,7 +70,7 @@ impl Tracked {
         ensures value { result ≡ self.automaton }
         ensures canonical { IsCanonical result }
     {
-        self.least
+        self.minimal
     }
 
     /// The canonical automaton.
@@ -76,7 +78,7 @@ impl Tracked {
         ensures value { result.now ≡ self.now.automaton }
         ensures tracked { IsTracked self.now }
     {
-        &self.least
+        &self.minimal
     }
 
     /// The names of the tracks, in their order.

@@ -13,10 +13,10 @@ slice_get-before [] ys n within = absurd (omega (arith, within))
 slice_get-before (x ∷ xs) ys zero within = refl
 slice_get-before (x ∷ xs) ys (suc n) within = slice_get-before xs ys n (omega (arith, within))
 
-pub slice_get-behind : {X : Type 0} (xs ys : List X) (m n : ℕ) → m ≡ length xs + n → slice_get (xs ++ ys) m ≡ slice_get ys n
-slice_get-behind [] ys m n is = ap (slice_get ys) (omega (arith, is))
-slice_get-behind (x ∷ xs) ys zero n is = absurd (omega (arith, is))
-slice_get-behind (x ∷ xs) ys (suc m) n is = slice_get-behind xs ys m n (omega (arith, is))
+pub slice_get-suffix : {X : Type 0} (xs ys : List X) (m n : ℕ) → m ≡ length xs + n → slice_get (xs ++ ys) m ≡ slice_get ys n
+slice_get-suffix [] ys m n is = ap (slice_get ys) (omega (arith, is))
+slice_get-suffix (x ∷ xs) ys zero n is = absurd (omega (arith, is))
+slice_get-suffix (x ∷ xs) ys (suc m) n is = slice_get-suffix xs ys m n (omega (arith, is))
 
 module _ (rules : Rules) (k : ℕ) (uniform : AreUniform rules k) where
   -- the letter at a place of the image of a letter
@@ -28,7 +28,7 @@ module _ (rules : Rules) (k : ℕ) (uniform : AreUniform rules k) where
       ∙ slice_get-before (image rules a) (applied rules word) r (omega (arith, uniform a ruled.0, small))
       ∙ ap (λ b. slice_get (image rules b) r) same
   slice_get-applied (a ∷ word) (suc q) r letter ruled is small =
-      slice_get-behind (image rules a) (applied rules word) (suc q * k + r) (q * k + r) (omega (arith, uniform a ruled.0))
+      slice_get-suffix (image rules a) (applied rules word) (suc q * k + r) (q * k + r) (omega (arith, uniform a ruled.0))
       ∙ slice_get-applied word q r letter ruled.1 is small
 
   -- how long the images are together

@@ -16,7 +16,7 @@ use Rattle.morph_words.specs.Rules.{Rules, has}
 use Rattle.morph_words.specs.Grammar.{Spells}
 use Rattle.morph_words.specs.Faults.{fault_of, fault_at, MayBeLetter, IsFault, Parses}
 use Rattle.morph_words.specs.Stages.{Stage, AtFirst, AfterLetter, AfterArrow, InImage, AfterRule, AfterComma, begun, step, takes_letter, ended, or_fault, run, rules_at}
-use Rattle.morph_words.proofs.ListSteps.{slice_get-front, slice_get-past}
+use Rattle.morph_words.proofs.ListSteps.{slice_get-prefix, slice_get-past}
 use Rattle.morph_words.proofs.Walks.{from, reach, reach-append, reach-push}
 use Rattle.morph_words.proofs.Complete.{letter_on, spelled_read}
 use Rattle.morph_words.proofs.Sound.{spelled}
@@ -87,7 +87,7 @@ letter_may_be ts stage h = by_test (takes_letter stage) refl
     by_test true e = let t = goes_on stage e in (t.letter, begins (ts ++ Letter t.letter ∷ []) t.further (reach-push ts (Letter t.letter) AtFirst stage h ∙ t.goes))
     by_test false e = λ m. begins_none (ts ++ Letter m.0 ∷ []) (reach-push ts (Letter m.0) AtFirst stage h ∙ stops stage m.0 e) m.1
 
--- a fault that is not want of memory is told with its byte
+-- a fault that is not out of memory is reported with its byte
 told : (text : List ℕ) (fault : RulesFault) → IsFault text fault → Parses text (Err fault)
 told text (Syntax at) h = h
 told text (Number at) h = h
@@ -95,67 +95,67 @@ told text Memory h = tt
 
 -- the lexemes of a text that were read, and those that are left
 record Stands (text : List ℕ) (stage : Stage) (left : List (Spot Lexeme)) : Type 0 where
-  front : List (Spot Lexeme)
-  split : spots text ≡ front ++ left
-  reached : reach (tokens front) AtFirst ≡ Some stage
+  prefix : List (Spot Lexeme)
+  split : spots text ≡ prefix ++ left
+  reached : reach (tokens prefix) AtFirst ≡ Some stage
 
-lexemes_split : (text : List ℕ) (stage : Stage) (left : List (Spot Lexeme)) (st : Stands text stage left) → lexemes text ≡ tokens st.front ++ tokens left
-lexemes_split text stage left st = ap tokens st.split ∙ map-append (λ (s : Spot Lexeme). s.token) st.front left
+lexemes_split : (text : List ℕ) (stage : Stage) (left : List (Spot Lexeme)) (st : Stands text stage left) → lexemes text ≡ tokens st.prefix ++ tokens left
+lexemes_split text stage left st = ap tokens st.split ∙ map-append (λ (s : Spot Lexeme). s.token) st.prefix left
 
--- the lexemes before are those of the front
-taken : (text : List ℕ) (stage : Stage) (left : List (Spot Lexeme)) (st : Stands text stage left) → take (length st.front) (lexemes text) ≡ tokens st.front
+-- the lexemes before are those of the prefix
+taken : (text : List ℕ) (stage : Stage) (left : List (Spot Lexeme)) (st : Stands text stage left) → take (length st.prefix) (lexemes text) ≡ tokens st.prefix
 taken text stage left st =
-    ap (λ n. take n (lexemes text)) (sym (length-map st.front (λ (s : Spot Lexeme). s.token)))
-    ∙ (ap (take (length (tokens st.front))) (lexemes_split text stage left st) ∙ take-append_seam (tokens st.front) (tokens left))
+    ap (λ n. take n (lexemes text)) (sym (length-map st.prefix (λ (s : Spot Lexeme). s.token)))
+    ∙ (ap (take (length (tokens st.prefix))) (lexemes_split text stage left st) ∙ take-append_seam (tokens st.prefix) (tokens left))
 
-counted : (text : List ℕ) (stage : Stage) (left : List (Spot Lexeme)) (st : Stands text stage left) → length (lexemes text) ≡ length st.front + length left
+counted : (text : List ℕ) (stage : Stage) (left : List (Spot Lexeme)) (st : Stands text stage left) → length (lexemes text) ≡ length st.prefix + length left
 counted text stage left st =
-    length-map (spots text) (λ (s : Spot Lexeme). s.token) ∙ (ap length st.split ∙ length-append st.front left)
+    length-map (spots text) (λ (s : Spot Lexeme). s.token) ∙ (ap length st.split ∙ length-append st.prefix left)
 
-may_be_here : (text : List ℕ) (stage : Stage) (left : List (Spot Lexeme)) (st : Stands text stage left) → MatchBool (takes_letter stage) (MayBeLetter (take (length st.front) (lexemes text))) (MayBeLetter (take (length st.front) (lexemes text)) → ⊥)
+may_be_here : (text : List ℕ) (stage : Stage) (left : List (Spot Lexeme)) (st : Stands text stage left) → MatchBool (takes_letter stage) (MayBeLetter (take (length st.prefix) (lexemes text))) (MayBeLetter (take (length st.prefix) (lexemes text)) → ⊥)
 may_be_here text stage left st =
     let P : List Lexeme → Type 0 = λ ts. MatchBool (takes_letter stage) (MayBeLetter ts) (MayBeLetter ts → ⊥) in
-    subst P (sym (taken text stage left st)) (letter_may_be (tokens st.front) stage st.reached)
+    subst P (sym (taken text stage left st)) (letter_may_be (tokens st.prefix) stage st.reached)
 
-begins_here : (text : List ℕ) (stage : Stage) (left : List (Spot Lexeme)) (st : Stands text stage left) → Begins Spells (take (length st.front) (lexemes text))
-begins_here text stage left st = subst (Begins Spells) (sym (taken text stage left st)) (begins (tokens st.front) stage st.reached)
+begins_here : (text : List ℕ) (stage : Stage) (left : List (Spot Lexeme)) (st : Stands text stage left) → Begins Spells (take (length st.prefix) (lexemes text))
+begins_here text stage left st = subst (Begins Spells) (sym (taken text stage left st)) (begins (tokens st.prefix) stage st.reached)
 
 -- one lexeme more
 stands_more : (text : List ℕ) (stage further : Stage) (s : Spot Lexeme) (left : List (Spot Lexeme)) → Stands text stage (s ∷ left) → step stage s.token ≡ Some further → Stands text further left
 stands_more text stage further s left st e = record {
-  front = st.front ++ s ∷ [];
-  split = st.split ∙ sym (append_assoc st.front (s ∷ []) left);
-  reached = ap (λ (ts : List Lexeme). reach ts AtFirst) (map-append (λ (x : Spot Lexeme). x.token) st.front (s ∷ [])) ∙ (reach-push (tokens st.front) s.token AtFirst stage st.reached ∙ e);
+  prefix = st.prefix ++ s ∷ [];
+  split = st.split ∙ sym (append_assoc st.prefix (s ∷ []) left);
+  reached = ap (λ (ts : List Lexeme). reach ts AtFirst) (map-append (λ (x : Spot Lexeme). x.token) st.prefix (s ∷ [])) ∙ (reach-push (tokens st.prefix) s.token AtFirst stage st.reached ∙ e);
 }
 
 -- a lexeme with which no rules go on
 fault_here : (text : List ℕ) (stage : Stage) (s : Spot Lexeme) (left : List (Spot Lexeme)) → Stands text stage (s ∷ left) → step stage s.token ≡ None → IsFault text (fault_of (takes_letter stage) s)
 fault_here text stage s left st e =
-    let n : length (lexemes text) ≡ length st.front + length (s ∷ left) = counted text stage (s ∷ left) st in
-    let whole : lexemes text ≡ (tokens st.front ++ s.token ∷ []) ++ tokens left = lexemes_split text stage (s ∷ left) st ∙ sym (append_assoc (tokens st.front) (s.token ∷ []) (tokens left)) in
-    let len : length st.front + 1 ≡ length (tokens st.front ++ s.token ∷ []) = ap (λ k. k + 1) (sym (length-map st.front (λ (x : Spot Lexeme). x.token))) ∙ sym (length-append (tokens st.front) (s.token ∷ [])) in
-    let next : take (length st.front + 1) (lexemes text) ≡ tokens st.front ++ s.token ∷ [] = ap (λ k. take k (lexemes text)) len ∙ (ap (take (length (tokens st.front ++ s.token ∷ []))) whole ∙ take-append_seam (tokens st.front ++ s.token ∷ []) (tokens left)) in
+    let n : length (lexemes text) ≡ length st.prefix + length (s ∷ left) = counted text stage (s ∷ left) st in
+    let whole : lexemes text ≡ (tokens st.prefix ++ s.token ∷ []) ++ tokens left = lexemes_split text stage (s ∷ left) st ∙ sym (append_assoc (tokens st.prefix) (s.token ∷ []) (tokens left)) in
+    let len : length st.prefix + 1 ≡ length (tokens st.prefix ++ s.token ∷ []) = ap (λ k. k + 1) (sym (length-map st.prefix (λ (x : Spot Lexeme). x.token))) ∙ sym (length-append (tokens st.prefix) (s.token ∷ [])) in
+    let next : take (length st.prefix + 1) (lexemes text) ≡ tokens st.prefix ++ s.token ∷ [] = ap (λ k. take k (lexemes text)) len ∙ (ap (take (length (tokens st.prefix ++ s.token ∷ []))) whole ∙ take-append_seam (tokens st.prefix ++ s.token ∷ []) (tokens left)) in
     record {
-      count = length st.front;
+      count = length st.prefix;
       breaks = record {
         within = omega arith;
         before = begins_here text stage (s ∷ left) st;
-        there = λ inside b. begins_none (tokens st.front ++ s.token ∷ []) (reach-push (tokens st.front) s.token AtFirst stage st.reached ∙ e) (subst (Begins Spells) next b);
+        there = λ inside b. begins_none (tokens st.prefix ++ s.token ∷ []) (reach-push (tokens st.prefix) s.token AtFirst stage st.reached ∙ e) (subst (Begins Spells) next b);
         end = λ at_end rules g. absurd (omega arith);
       };
       at_letter = takes_letter stage;
       may_be = may_be_here text stage (s ∷ left) st;
-      fault_is = ap (fault_at text (takes_letter stage)) (sym (ap (λ (ss : List (Spot Lexeme)). slice_get ss (length st.front)) st.split ∙ slice_get-front st.front s left));
+      fault_is = ap (fault_at text (takes_letter stage)) (sym (ap (λ (ss : List (Spot Lexeme)). slice_get ss (length st.prefix)) st.split ∙ slice_get-prefix st.prefix s left));
     }
 
 -- a text that ends too early
 fault_at_end : (text : List ℕ) (stage : Stage) → Stands text stage [] → ended stage ≡ None → IsFault text (Syntax (length text))
 fault_at_end text stage st e =
-    let n : length (lexemes text) ≡ length st.front + 0 = counted text stage [] st in
-    let whole : lexemes text ≡ tokens st.front = lexemes_split text stage [] st ∙ append-nil (tokens st.front) in
+    let n : length (lexemes text) ≡ length st.prefix + 0 = counted text stage [] st in
+    let whole : lexemes text ≡ tokens st.prefix = lexemes_split text stage [] st ∙ append-nil (tokens st.prefix) in
     let read : from (reach (lexemes text) AtFirst) ended ≡ None = ap (λ (ts : List Lexeme). from (reach ts AtFirst) ended) whole ∙ (ap (λ o. from o ended) st.reached ∙ e) in
     record {
-      count = length st.front;
+      count = length st.prefix;
       breaks = record {
         within = omega arith;
         before = begins_here text stage [] st;
@@ -164,7 +164,7 @@ fault_at_end text stage st e =
       };
       at_letter = takes_letter stage;
       may_be = may_be_here text stage [] st;
-      fault_is = ap (fault_at text (takes_letter stage)) (sym (ap (λ (ss : List (Spot Lexeme)). slice_get ss (length st.front)) (st.split ∙ append-nil st.front) ∙ slice_get-past st.front));
+      fault_is = ap (fault_at text (takes_letter stage)) (sym (ap (λ (ss : List (Spot Lexeme)). slice_get ss (length st.prefix)) (st.split ∙ append-nil st.prefix) ∙ slice_get-past st.prefix));
     }
 
 -- what is read of the lexemes that are left
@@ -174,7 +174,7 @@ runs text stage [] st = by_end (ended stage) refl
     by_end : (o : Option Rules) → ended stage ≡ o → Parses text (or_fault (Syntax (length text)) o)
     by_end None e = fault_at_end text stage st e
     by_end (Some rules) e =
-        let whole : lexemes text ≡ tokens st.front = lexemes_split text stage [] st ∙ append-nil (tokens st.front) in
+        let whole : lexemes text ≡ tokens st.prefix = lexemes_split text stage [] st ∙ append-nil (tokens st.prefix) in
         spelled (lexemes text) rules (ap (λ (ts : List Lexeme). from (reach ts AtFirst) ended) whole ∙ (ap (λ o. from o ended) st.reached ∙ e))
 runs text stage (s ∷ left) st = by_step (step stage s.token) refl (λ further e. runs text further left (stands_more text stage further s left st e))
   where
@@ -183,4 +183,4 @@ runs text stage (s ∷ left) st = by_step (step stage s.token) refl (λ further 
     by_step (Some further) e rest = rest further e
 
 pub parses : (text : List ℕ) → Parses text (rules_at text)
-parses text = runs text AtFirst (spots text) (record { front = []; split = refl; reached = refl })
+parses text = runs text AtFirst (spots text) (record { prefix = []; split = refl; reached = refl })

@@ -7,7 +7,7 @@ use Rattle.morph_words.specs.Rules.{Rules, has, put}
 use Rattle.morph_words.specs.Grammar.{Image, only, longer, Rule, Divider, blank, comma, and_blank, and_comma, RuleList, first, next, Text, blanks_then, image_then, rule_then, divider_then, rules_then, text_then, letters_of, Spells}
 use Rattle.morph_words.proofs.Maps.{map_of, MapOnce, SpellsMap, map_spelled}
 use Rattle.morph_words.specs.Stages.{Stage, AtFirst, AfterLetter, AfterArrow, InImage, AfterRule, AfterComma, ended}
-use Rattle.morph_words.proofs.Walks.{from, reach, blanks_stay, blanks_front}
+use Rattle.morph_words.proofs.Walks.{from, reach, blanks_stay, blanks_prefix}
 
 image_on : (image : Image) (rest : List Lexeme) (rules : Rules) (letter : ℤ) → reach (image_then image rest) (AfterArrow rules letter) ≡ reach rest (InImage rules letter (letters_of image))
 image_on (only z) rest rules letter = refl
@@ -20,7 +20,7 @@ rule_on rule rest rules =
     ∙ (blanks_stay (AfterArrow rules rule.letter) refl rule.after_arrow (image_then rule.image rest)
     ∙ image_on rule.image rest rules rule.letter)
 
--- whether a comma stands in what divides two rules
+-- whether a comma is in what divides two rules
 abbrev has_comma : Divider → Bool
 has_comma blank = false
 has_comma comma = true
@@ -77,7 +77,7 @@ rules_on (next rules divider rule) rest once =
 ends_on : (count : ℕ) (rules : Rules) (letter : ℤ) (image : List ℤ) → from (reach (blanks_then count []) (InImage rules letter image)) ended ≡ Some (put rules letter image)
 ends_on zero rules letter image = refl
 ends_on (suc count) rules letter image =
-    ap (λ (ts : List Lexeme). from (reach ts (InImage rules letter image)) ended) (blanks_front count [])
+    ap (λ (ts : List Lexeme). from (reach ts (InImage rules letter image)) ended) (blanks_prefix count [])
     ∙ ap (λ o. from o ended) (blanks_stay (AfterRule (put rules letter image)) refl count [])
 
 text_on : (text : Text) → MapOnce text.rules → from (reach (text_then text []) AtFirst) ended ≡ Some (map_of text.rules)

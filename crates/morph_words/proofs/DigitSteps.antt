@@ -7,7 +7,7 @@ use Rattle.std.proofs.lemmas.Bool.Decides.{nat_tests}
 use Rattle.std.proofs.Math.Seq.{take-append_seam, drop-append_seam}
 use Rattle.text_grammar.specs.declared.class.Class.TheVariants.{Digit}
 use Rattle.text_grammar.specs.Bytes.{is_digit}
-use Rattle.text_grammar.specs.Fronts.{front_len}
+use Rattle.text_grammar.specs.Prefixes.{prefix_len}
 use Rattle.text_grammar.specs.Numbers.{begins_with, is_short, unsigned, number_of, number_len}
 use Rattle.text_grammar.proofs.Decimals.{AreDigitsOf, digits_of, no_sign, printed_number}
 use Rattle.text_grammar.specs.Spots.{lexeme_of}
@@ -17,9 +17,9 @@ use Rattle.morph_words.specs.declared.lexeme.Lexeme.TheVariants.{Letter, Long, B
 use Rattle.morph_words.specs.Lexemes.{bracket}
 
 -- the digits before a bracket
-front_before : (ds rest : List ℕ) → AllByRecursion (λ b. is_digit b ≡ true) ds → front_len Digit (ds ++ 93 ∷ rest) ≡ length ds
-front_before [] rest h = refl
-front_before (d ∷ ds) rest h = ap (λ (b : Bool). if b then suc (front_len Digit (ds ++ 93 ∷ rest)) else 0) h.0 ∙ ap suc (front_before ds rest h.1)
+prefix_before : (ds rest : List ℕ) → AllByRecursion (λ b. is_digit b ≡ true) ds → prefix_len Digit (ds ++ 93 ∷ rest) ≡ length ds
+prefix_before [] rest h = refl
+prefix_before (d ∷ ds) rest h = ap (λ (b : Bool). if b then suc (prefix_len Digit (ds ++ 93 ∷ rest)) else 0) h.0 ∙ ap suc (prefix_before ds rest h.1)
 
 no_sign_before : (ds rest : List ℕ) → AllByRecursion (λ b. is_digit b ≡ true) ds → begins_with 45 (ds ++ 93 ∷ rest) ≡ false
 no_sign_before [] rest h = refl
@@ -39,10 +39,10 @@ positive n ds rest p =
     let plain : begins_with 45 text ≡ false = no_sign_before ds rest p.digits in
     let some : 0 < length ds = p.some in
     let nonzero : eqb (length ds) 0 ≡ false = grind (arith, nat_tests) in
-    let front : front_len Digit (unsigned text) ≡ length ds = ap (λ (b : Bool). front_len Digit (if b then drop 1 text else text)) plain ∙ front_before ds rest p.digits in
+    let prefix : prefix_len Digit (unsigned text) ≡ length ds = ap (λ (b : Bool). prefix_len Digit (if b then drop 1 text else text)) plain ∙ prefix_before ds rest p.digits in
     record {
       len =
-          ap (len_from (if begins_with 45 text then 1 else 0)) front
+          ap (len_from (if begins_with 45 text then 1 else 0)) prefix
           ∙ (ap (λ (b : Bool). len_from (if b then 1 else 0) (length ds)) plain
           ∙ (ap (λ (b : Bool). if b then 0 else 0 + length ds) nonzero ∙ (let e : 0 + length ds ≡ length ds = omega arith in e)));
       some = some;
@@ -50,11 +50,11 @@ positive n ds rest p =
 
 negative : (n : ℕ) (ds rest : List ℕ) → AreDigitsOf (suc n) ds → IsNumberBefore (negsuc n) (45 ∷ ds) rest
 negative n ds rest p =
-    let front : front_len Digit (ds ++ 93 ∷ rest) ≡ length ds = front_before ds rest p.digits in
+    let prefix : prefix_len Digit (ds ++ 93 ∷ rest) ≡ length ds = prefix_before ds rest p.digits in
     let some : 0 < length ds = p.some in
     let nonzero : eqb (length ds) 0 ≡ false = grind (arith, nat_tests) in
     record {
-      len = ap (len_from 1) front ∙ (ap (λ (b : Bool). if b then 0 else 1 + length ds) nonzero ∙ (let e : 1 + length ds ≡ suc (length ds) = omega arith in e));
+      len = ap (len_from 1) prefix ∙ (ap (λ (b : Bool). if b then 0 else 1 + length ds) nonzero ∙ (let e : 1 + length ds ≡ suc (length ds) = omega arith in e));
       some = omega arith;
     }
 

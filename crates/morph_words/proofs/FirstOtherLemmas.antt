@@ -89,7 +89,7 @@ module _ (k : ℕ) where
       by rest true is = later (grind (arith, is)) (first_other k rules) rest
       by rest false is = here (λ same. grind (arith, is, same))
 
--- a letter is told by its bits, where it has a rule
+-- a letter is determined by its bits, where it has a rule
 bits : (Holds : ℤ → Type 0) (rules : Rules) (letter : ℤ) → IsMorphism rules → HasRule rules letter → IsLeast Holds letter → IsLeast Holds (cast_signed w32 (cast_unsigned w32 letter))
 bits Holds rules letter is ruled least = subst (IsLeast Holds) (sym (bits_back rules letter is ruled)) least
 

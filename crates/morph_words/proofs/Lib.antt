@@ -3,7 +3,7 @@ pub mod Orders
 pub mod Maps
 pub mod Walks
 pub mod Complete
-pub mod Fronts
+pub mod Prefixes
 pub mod Sound
 pub mod Breaking
 pub mod OneParse

@@ -33,7 +33,7 @@ one_fault text f g a b =
 no_fault : (text : List ℕ) (rules : Rules) (f : RulesFault) → Spells (lexemes text) rules → IsFault text f → ⊥
 no_fault text rules f h k = breaks_nowhere Spells (lexemes text) k.count rules k.breaks h
 
--- a fault that is told and is not want of memory
+-- a fault that is reported and is not out of memory
 fault_told : (text : List ℕ) (f : RulesFault) → Parses text (Err f) → (let r : Result Rules RulesFault = Err f in r) ≢ Err Memory → IsFault text f
 fault_told text (Syntax at) h n = h
 fault_told text (Number at) h n = h

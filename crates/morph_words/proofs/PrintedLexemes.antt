@@ -46,9 +46,9 @@ bracket_read z rest h =
     let bytes = signed_decimal z ++ 93 ∷ rest in
     let whole : len + length (93 ∷ rest) ≡ length bytes = sym (length-append (signed_decimal z) (93 ∷ rest)) in
     let byte : len + 2 - 1 ≡ len + 1 = omega arith in
-    let behind : drop (len + 2 - 1) bytes ≡ rest = ap (λ k. drop k bytes) byte ∙ drop-append-add (signed_decimal z) (93 ∷ rest) 1 in
+    let suffix : drop (len + 2 - 1) bytes ≡ rest = ap (λ k. drop k bytes) byte ∙ drop-append-add (signed_decimal z) (93 ∷ rest) 1 in
     ap (λ bs. lexemes (91 ∷ bs)) (append_assoc (signed_decimal z) (93 ∷ []) rest)
-    ∙ (first_lexeme (lexeme_of (Letter z) (len + 2)) 91 bytes (printed_bracket z rest h) (omega arith) ∙ ap (λ bs. Letter z ∷ lexemes bs) behind)
+    ∙ (first_lexeme (lexeme_of (Letter z) (len + 2)) 91 bytes (printed_bracket z rest h) (omega arith) ∙ ap (λ bs. Letter z ∷ lexemes bs) suffix)
 
 -- a printed letter is one lexeme
 pub letter_read : (z : ℤ) (rest : List ℕ) → is_short (2 ^ 31) z ≡ true → lexemes (letter_text z ++ rest) ≡ Letter z ∷ lexemes rest

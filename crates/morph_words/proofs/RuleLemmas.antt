@@ -103,6 +103,6 @@ fits_from (rule ∷ rules) letter each ruled =
     by rest (inl first) = subst (SFits w32) (sym (same_from letter rule.0 first)) (fits_from_rule rule.0 rule.1 each.0)
     by rest (inr later) = rest later
 
--- so they are told by their bits
+-- so they are determined by their bits
 pub bits_back : (rules : Rules) (letter : ℤ) → IsMorphism rules → HasRule rules letter → cast_signed w32 (cast_unsigned w32 letter) ≡ letter
 bits_back rules letter is ruled = to_z-of_z w32 letter (fits_from rules letter is.each ruled)

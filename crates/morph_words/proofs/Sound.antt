@@ -8,21 +8,21 @@ use Rattle.morph_words.specs.Grammar.{only, longer, Rule, comma, and_blank, and_
 use Rattle.morph_words.specs.Stages.{Stage, AtFirst, AfterLetter, AfterRule, AfterComma, step, ended}
 use Rattle.morph_words.proofs.Maps.{map_of, SpellsMap, spelled_map}
 use Rattle.morph_words.proofs.Walks.{from, reach}
-use Rattle.morph_words.proofs.Fronts.{Before, at_start, behind, rules_before, lead_of, rules_with, rules_with_then, map_with, once_with, Front, at_first, after_letter, after_arrow, in_image, after_rule, after_comma, front_then, stage_of, FrontOnce, blanks_between, blanks_between_then}
+use Rattle.morph_words.proofs.Prefixes.{Before, at_start, suffix, rules_before, lead_of, rules_with, rules_with_then, map_with, once_with, Prefix, at_first, after_letter, after_arrow, in_image, after_rule, after_comma, prefix_then, stage_of, PrefixOnce, blanks_between, blanks_between_then}
 
 -- what was read with one lexeme more
-record Extends (f : Front) (t : Lexeme) (stage : Stage) : Type 0 where
-  further : Front
+record Extends (f : Prefix) (t : Lexeme) (stage : Stage) : Type 0 where
+  further : Prefix
   stage_is : stage_of further ≡ stage
-  spells : (rest : List Lexeme) → front_then further rest ≡ front_then f (t ∷ rest)
-  once : FrontOnce f → FrontOnce further
+  spells : (rest : List Lexeme) → prefix_then further rest ≡ prefix_then f (t ∷ rest)
+  once : PrefixOnce f → PrefixOnce further
 
-abbrev Leads : Front → Lexeme → Option Stage → Type 0
+abbrev Leads : Prefix → Lexeme → Option Stage → Type 0
 Leads f t None = ⊤
 Leads f t (Some stage) = Extends f t stage
 
 -- the letter of a further rule
-begins : (f g : Front) (rules : Rules) (letter : ℤ) → stage_of g ≡ AfterLetter rules letter → ((rest : List Lexeme) → front_then g rest ≡ front_then f (Letter letter ∷ rest)) → (FrontOnce f → has rules letter ≡ false → FrontOnce g) →
+begins : (f g : Prefix) (rules : Rules) (letter : ℤ) → stage_of g ≡ AfterLetter rules letter → ((rest : List Lexeme) → prefix_then g rest ≡ prefix_then f (Letter letter ∷ rest)) → (PrefixOnce f → has rules letter ≡ false → PrefixOnce g) →
     (b : Bool) → has rules letter ≡ b → Leads f (Letter letter) (if b then None else Some (AfterLetter rules letter))
 begins f g rules letter is spells once true e = tt
 begins f g rules letter is spells once false e = record { further = g; stage_is = is; spells = spells; once = λ h. once h e }
@@ -44,7 +44,7 @@ ends_comma b rule = record {
   once = λ h. once_with b rule h.0 h.1;
 }
 
-leads : (f : Front) (t : Lexeme) → Leads f t (step (stage_of f) t)
+leads : (f : Prefix) (t : Lexeme) → Leads f t (step (stage_of f) t)
 leads (at_first n) Blank = record { further = at_first (suc n); stage_is = refl; spells = λ rest. refl; once = λ h. h }
 leads (at_first n) (Letter z) = record { further = after_letter (at_start n) z 0; stage_is = refl; spells = λ rest. refl; once = λ h. (tt, refl) }
 leads (at_first n) _ = tt
@@ -76,18 +76,18 @@ leads (after_rule n rules m) Comma = record {
   once = λ h. h;
 }
 leads (after_rule n rules m) (Letter z) =
-    begins (after_rule n rules m) (after_letter (behind n rules (blanks_between m)) z 0) (map_of rules) z refl
+    begins (after_rule n rules m) (after_letter (suffix n rules (blanks_between m)) z 0) (map_of rules) z refl
     (λ rest. ap (λ (ts : List Lexeme). blanks_then n (rules_then rules ts)) (blanks_between_then m (Letter z ∷ rest)))
     (λ h k. (h, k)) (has (map_of rules) z) refl
 leads (after_rule n rules m) _ = tt
 leads (after_comma n rules d) Blank = record { further = after_comma n rules (and_blank d); stage_is = refl; spells = λ rest. refl; once = λ h. h }
 leads (after_comma n rules d) Comma = record { further = after_comma n rules (and_comma d); stage_is = refl; spells = λ rest. refl; once = λ h. h }
 leads (after_comma n rules d) (Letter z) =
-    begins (after_comma n rules d) (after_letter (behind n rules d) z 0) (map_of rules) z refl (λ rest. refl) (λ h k. (h, k)) (has (map_of rules) z) refl
+    begins (after_comma n rules d) (after_letter (suffix n rules d) z 0) (map_of rules) z refl (λ rest. refl) (λ h k. (h, k)) (has (map_of rules) z) refl
 leads (after_comma n rules d) _ = tt
 
 -- where a text may end
-whole : (f : Front) (rules : Rules) → FrontOnce f → ended (stage_of f) ≡ Some rules → SpellsMap (front_then f []) rules
+whole : (f : Prefix) (rules : Rules) → PrefixOnce f → ended (stage_of f) ≡ Some rules → SpellsMap (prefix_then f []) rules
 whole (at_first n) rules once h = absurd cc
 whole (after_letter b z n) rules once h = absurd cc
 whole (after_arrow b z n m) rules once h = absurd cc
@@ -100,11 +100,11 @@ whole (in_image b rule) rules once h = record {
 whole (after_rule n list m) rules once h = record { text = record { before = n; rules = list; after = suc m }; spells = refl; once = once; rules_are = cc }
 whole (after_comma n list d) rules once h = absurd cc
 
-read_spelled : (ts : List Lexeme) (f : Front) (rules : Rules) → FrontOnce f → from (reach ts (stage_of f)) ended ≡ Some rules → SpellsMap (front_then f ts) rules
+read_spelled : (ts : List Lexeme) (f : Prefix) (rules : Rules) → PrefixOnce f → from (reach ts (stage_of f)) ended ≡ Some rules → SpellsMap (prefix_then f ts) rules
 read_spelled [] f rules once h = whole f rules once h
 read_spelled (t ∷ ts) f rules once h = by_step (step (stage_of f) t) (leads f t) h (λ g o k. read_spelled ts g rules o k)
   where
-    by_step : (o : Option Stage) → Leads f t o → from (from o (λ n. reach ts n)) ended ≡ Some rules → ((g : Front) → FrontOnce g → from (reach ts (stage_of g)) ended ≡ Some rules → SpellsMap (front_then g ts) rules) → SpellsMap (front_then f (t ∷ ts)) rules
+    by_step : (o : Option Stage) → Leads f t o → from (from o (λ n. reach ts n)) ended ≡ Some rules → ((g : Prefix) → PrefixOnce g → from (reach ts (stage_of g)) ended ≡ Some rules → SpellsMap (prefix_then g ts) rules) → SpellsMap (prefix_then f (t ∷ ts)) rules
     by_step None l k rest = absurd cc
     by_step (Some stage) l k rest =
         subst (λ (w : List Lexeme). SpellsMap w rules) (l.spells ts)

@@ -37,6 +37,6 @@ blanks_stay stage h zero rest = refl
 blanks_stay stage h (suc count) rest = blanks_stay stage h count (Blank ∷ rest) ∙ ap (λ o. from o (λ n. reach rest n)) h
 
 -- the first of some blanks
-pub blanks_front : (count : ℕ) (rest : List Lexeme) → blanks_then count (Blank ∷ rest) ≡ Blank ∷ blanks_then count rest
-blanks_front zero rest = refl
-blanks_front (suc count) rest = blanks_front count (Blank ∷ rest)
+pub blanks_prefix : (count : ℕ) (rest : List Lexeme) → blanks_then count (Blank ∷ rest) ≡ Blank ∷ blanks_then count rest
+blanks_prefix zero rest = refl
+blanks_prefix (suc count) rest = blanks_prefix count (Blank ∷ rest)

@@ -11,19 +11,19 @@ use Rattle.morph_words.specs.Lexemes.{spots, lexemes}
 use Rattle.morph_words.specs.Rules.{Rules}
 use Rattle.morph_words.specs.Grammar.{Spells}
 
--- The fault of a lexeme that should be a letter, at its byte and before the byte after it: a number that is too long is told by
--- its first byte, and a bracket that breaks off by the first byte with which no letter goes on.
+-- The fault of a lexeme that should be a letter, at its byte and before the byte after it: a number that is too long is determined by its
+-- first byte, and a bracket that breaks off by the first byte with which no letter goes on.
 abbrev pub no_letter : Lexeme → ℕ → ℕ → RulesFault
 no_letter Long at after = Number (at + 1)
 no_letter Broken at after = Syntax after
 no_letter _ at after = Syntax at
 
--- the fault of a lexeme with which no rules go on, where a letter may stand or may not
+-- the fault of a lexeme with which no rules go on, where a letter may be or may not
 abbrev pub fault_of : Bool → Spot Lexeme → RulesFault
 fault_of true s = no_letter s.token s.at s.after
 fault_of false s = Syntax s.at
 
--- a letter may stand after these lexemes
+-- a letter may come after these lexemes
 abbrev pub MayBeLetter : List Lexeme → Type 0
 MayBeLetter before = (letter : ℤ) × Begins Spells (before ++ Letter letter ∷ [])
 

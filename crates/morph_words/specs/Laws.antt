@@ -10,7 +10,7 @@ use Rattle.morph_words.specs.Grammar.{rules_of, Spells}
 use Rattle.morph_words.specs.Faults.{Parses}
 use Rattle.morph_words.specs.Printed.{printed}
 
--- reading a text has one answer, beside want of memory
+-- reading a text has one answer, apart from out of memory
 abbrev pub OneAnswer : Type 0
 OneAnswer = (text : List ℕ) (result other : Result Rules RulesFault) → Parses text result → Parses text other → result ≢ Err Memory → other ≢ Err Memory → result ≡ other
 
@@ -22,6 +22,6 @@ PrintedSpells = (rules : Rules) → IsMorphism rules → Spells (lexemes (printe
 abbrev pub SpellsMorphisms : Type 0
 SpellsMorphisms = (text : List ℕ) (rules : Rules) → Spells (lexemes text) rules → IsMorphism rules
 
--- texts with the same rules, in whatever order they stand, spell one morphism
+-- texts with the same rules, in whatever order they are, spell one morphism
 abbrev pub OrderIsFree : Type 0
 OrderIsFree = (ts us : List Lexeme) (rules others : Rules) (h : Spells ts rules) (k : Spells us others) → IsPermutation (rules_of h.text.rules) (rules_of k.text.rules) → rules ≡ others

@@ -7,7 +7,7 @@ use Rattle.morph_words.specs.Uniform.{AreUniform, HasOtherLength, HasRule, IsLea
 use Rattle.morph_words.specs.declared.morphism_kind.MorphismKind.{MorphismKind}
 use Rattle.morph_words.specs.declared.morphism_kind.MorphismKind.TheVariants.{NotUniform, Length, NotClosed, NotFixed}
 
--- the letter stands in an image, and has no rule
+-- the letter is in an image, and has no rule
 pub record IsLacking (rules : Rules) (letter : ℤ) : Type 0 where
   pub from : ℤ
   pub has_rule : HasRule rules from

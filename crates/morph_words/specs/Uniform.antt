@@ -35,7 +35,7 @@ pub record IsOdd (rules : Rules) (letter : ℤ) : Type 0 where
   pub first_is : IsLeast (HasRule rules) first
   pub other : length (image rules letter) ≢ length (image rules first)
 
--- not all images have one length, and this is the least letter that tells
+-- not all images have one length, and this is the least letter that decides
 abbrev pub IsNotUniform : Rules → ℤ → Type 0
 IsNotUniform rules letter = IsLeast (IsOdd rules) letter
 

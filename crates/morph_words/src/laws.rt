@@ -18,7 +18,7 @@ pub fn spells_morphisms()
     ensures { SpellsMorphisms }
 {}
 
-/// Texts with the same rules, in whatever order they stand, spell one morphism, and so are printed alike.
+/// Texts with the same rules, in whatever order they are, spell one morphism, and so are printed alike.
 pub fn order_is_free()
     ensures { OrderIsFree }
 {}

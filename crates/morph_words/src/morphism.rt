@@ -51,8 +51,8 @@ impl Morphism {
     ///
     /// `Syntax` answers the first byte with which no rules go on, or the end of a text that ends too early; of a rule
     /// for a letter that has one the first byte of the letter, of a `-` that is neither an arrow's nor a number's the
-    /// `-`. `Number` answers the first byte of a number that does not fit 32 bits, signed, where a letter may stand.
-    /// The first of all these decides. `Memory` answers a refused growth.
+    /// `-`. `Number` answers the first byte of a number that does not fit 32 bits, signed, where a letter may be. The
+    /// first of all these decides. `Memory` answers a refused growth.
     ///
     /// It takes time in proportion to the text, and for each rule a look-up and an insertion among those before it.
     pub fn parse(alloc: Global, text: &[u8]) -> Result<Morphism, RulesFault>

@@ -13,7 +13,7 @@ const LEAST_LENGTH: usize = 1;
 /// The greatest length of the images by which words are mapped.
 const GREATEST_LENGTH: usize = 40;
 
-/// Why words are not mapped by the morphism: None exactly where all images have one length of 1 to 40. It takes no
+/// Why words are not mapped by the morphism: None if and only if all images have one length of 1 to 40. It takes no
 /// memory, and time in proportion to the number of rules.
 pub fn image_kind(morphism: &Morphism) -> Option<MorphismKind>
     ensures { MatchOption result ((k : ℕ) × HasLength IsImageLength morphism.now k) (IsLengthRefused IsImageLength morphism.now) }

@@ -1,4 +1,4 @@
--- What one read of a store tells of a morphism.
+-- What one read of a store reports of a morphism.
 use Rattle.std.proofs.Common.{◌≡◌, ℕ, ◌<◌, ◌≤◌, true, List, length, Option, None, Some, Result, Ok, Err, refl, subst, sym}
 use Rattle.std.specs.Option.{IfSome}
 use Rattle.std.specs.Result.{MatchResult, IsErrAnd}
@@ -54,13 +54,13 @@ module _ (name : List ℕ) where
   found_there old new text (Err faults.Memory) finds short files counts failed none =
       at_place old new (Some text) (Err faults.Memory) (found_so old.files text finds) (λ found there. tt) (quiet_read old new (Err faults.Memory) files counts failed)
 
-  -- nothing stands there
+  -- nothing is there
   pub absent_there : (old new : StoreView) (into : List ℕ) → Finds old.files Morphisms name answers.Absent into → new.files ≡ old.files → new.faults ≡ old.faults → new.failed ≡ old.failed
       → IsLoadedMorphism name old (Err (faults.Unknown Morphisms name)) new
   absent_there old new into finds files counts failed =
       at_place old new None (Err (faults.Unknown Morphisms name)) finds (λ found there. ((refl, refl), there)) (quiet_read old new (Err (faults.Unknown Morphisms name)) files counts failed)
 
-  -- a text stands there that is too long
+  -- a text is there that is too long
   pub long_there : (old new : StoreView) (into : List ℕ) → Finds old.files Morphisms name answers.TooLong into → new.files ≡ old.files → new.faults ≡ old.faults → new.failed ≡ old.failed
       → IsLoadedMorphism name old (Err (faults.File Morphisms name TooLong)) new
   long_there old new into finds files counts failed =

@@ -15,7 +15,7 @@ use Rattle.dfa_loading.specs.declared.fault.LoadFault.{LoadFault}
 use Rattle.dfa_loading.specs.declared.fault.LoadFault.TheVariants as faults
 use Rattle.dfa_loading.specs.Places.{AreTold, HasRead}
 
--- the line in which a byte of a text stands, counted from one: the bytes are counted from 0
+-- the line in which a byte of a text is, counted from one: the bytes are counted from 0
 abbrev pub line_at : List ℕ → ℕ → ℕ
 line_at text at = 1 + count_by is_line_end (take at text)
 
@@ -46,21 +46,21 @@ pub record IsMorphismIn (files : Files) (name : List ℕ) (rules : Rules) : Type
   pub short : length text ≤ TEXT_LIMIT
   pub spells : Parses text (Ok rules)
 
--- no morphism stands under the name, or a text with a flaw
+-- no morphism is under the name, or a text with a flaw
 abbrev pub RefusesMorphism : Files → List ℕ → LoadFault → Type 0
 RefusesMorphism files name (faults.Unknown folder at) = IsMorphismAt name folder at × (files Morphisms name ≡ None)
 RefusesMorphism files name (faults.File folder at flaw) = IsMorphismAt name folder at × ((text : List ℕ) × (files Morphisms name ≡ Some text) × HasFlaw text flaw)
 RefusesMorphism files name (faults.Store folder at) = ⊥
 RefusesMorphism files name faults.Memory = ⊥
 
--- why the morphism is not loaded: by what stands there, or because the store failed, or for want of memory
+-- why the morphism is not loaded: by what is there, or because the store failed, or because memory ran out
 abbrev pub FailsMorphism : Files → List ℕ → LoadFault → Type 0
 FailsMorphism files name (faults.Unknown folder at) = RefusesMorphism files name (faults.Unknown folder at)
 FailsMorphism files name (faults.File folder at flaw) = RefusesMorphism files name (faults.File folder at flaw)
 FailsMorphism files name (faults.Store folder at) = IsMorphismAt name folder at
 FailsMorphism files name faults.Memory = ⊤
 
--- the morphism was loaded, or not, by some files, which are the store's where it tells them
+-- the morphism was loaded, or not, by some files, which are the store's where it reports them
 pub record IsLoadedMorphism (name : List ℕ) (old : StoreView) (result : Result Rules LoadFault) (new : StoreView) : Type 0 where
   pub found : Files
   pub told : AreTold old found

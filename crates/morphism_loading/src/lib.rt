@@ -1,8 +1,8 @@
-//! The morphism that stands under a name in a store.
+//! The morphism that is under a name in a store.
 //!
 //! `load_morphism` reads the text of the name in the folder of morphisms, and gives the morphism that it spells, or says why there
-//! is none: nothing stands there, the text is too long, the line at which it first breaks the grammar of rules, or a call of the
-//! store that failed (`specs/MorphismFiles.antt`).
+//! is none: nothing is there, the text is too long, the line at which it first breaks the grammar of rules, or a call of the store
+//! that failed (`specs/MorphismFiles.antt`).
 #![tactic(auto)]
 
 // lines of a text

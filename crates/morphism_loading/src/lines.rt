@@ -5,8 +5,8 @@ ghost use Rattle.text_grammar.specs.Bytes.{is_line_end};
 ghost use Rattle.wal_outside.specs.declared.store.TheConstants.{TEXT_LIMIT};
 ghost use Rattle.morphism_loading.specs.MorphismFiles.{line_at as line_of_byte};
 
-/// The line in which a byte stands, counted from one: the bytes are counted from 0, and one at the text's length or past it stands
-/// behind the last. The time is in proportion to the bytes before it.
+/// The line in which a byte is, counted from one: the bytes are counted from 0, and one at the text's length or past it comes
+/// after the last. The time is in proportion to the bytes before it.
 pub(crate) fn line_at(text: &[u8], at: usize) -> u64
     requires { length text.now ≤ TEXT_LIMIT }
     ensures { result ≡ line_of_byte text.now at }

@@ -22,12 +22,12 @@ use Rattle.product_op.specs.Validity.{is_valid}
 use Rattle.product_op.specs.Products.{in_product}
 use Rattle.product_op.proofs.SizeLemmas.{AreDistinct-ordered}
 use Rattle.numeration.specs.Systems.{System}
-use Rattle.numeration.specs.Spelling.{sizes_of, letters_in}
+use Rattle.numeration.specs.Representation.{sizes_of, letters_in}
 use Rattle.numeration.specs.Relations.{HoldsOf}
 use Rattle.numeration.specs.SomeTracks.{system_at, systems_at}
 use Rattle.num_system.specs.Joined.{joined, IsBound, AreLanguagesOf}
 use Rattle.numeration.proofs.TrackLemmas.{track}
-use Rattle.numeration.proofs.PartSpelling.{AreValid}
+use Rattle.numeration.proofs.PartRepresentation.{AreValid}
 use Rattle.num_system.proofs.ValidWords.{valid_from, valid_to}
 use Rattle.num_system.proofs.ProductLinks.{product_holds}
 use Rattle.numeration.proofs.ReadingLinks.{valid_read}
@@ -59,10 +59,10 @@ and_not_first false true says = says
 and_not_first false false says = says
 
 -- two automata with named tracks that hold of relations, and systems for the tracks of both
-module _ (way : Direction) (ss : List System) (a b : NamedAutomaton) (P Q : List ℕ → Type 0)
+module _ (direction : Direction) (ss : List System) (a b : NamedAutomaton) (P Q : List ℕ → Type 0)
     (count : length ss ≡ length (joint_names a.names b.names)) (sizes : joint_sizes a b ≡ sizes_of ss)
-    (holds_a : HoldsOf way (systems_at (places_of (joint_names a.names b.names) a.names) ss) P a.automaton)
-    (holds_b : HoldsOf way (systems_at (places_of (joint_names a.names b.names) b.names) ss) Q b.automaton) where
+    (holds_a : HoldsOf direction (systems_at (places_of (joint_names a.names b.names) a.names) ss) P a.automaton)
+    (holds_b : HoldsOf direction (systems_at (places_of (joint_names a.names b.names) b.names) ss) Q b.automaton) where
   abbrev joint : List (List ℕ)
   joint = joint_names a.names b.names
 
@@ -117,17 +117,17 @@ module _ (way : Direction) (ss : List System) (a b : NamedAutomaton) (P Q : List
       ap (λ (ns : List ℕ). connective op (accepts_of a.automaton (part ns firsts w)) (accepts_of b.automaton (part ns seconds w)) && (if among_valid op then is_valid ns languages w else true)) sizes
 
   module _ (languages : List Automaton) (w : List ℕ) (over : IsWord (letters_in ss) w) where
-    first_valid : says_first w ≡ true → (i : ℕ) → Contains firsts i → IsTrue ((system_at ss i).test (track ss i (in_order way w)))
-    first_valid accepted = valid_read way ss firsts within_first P a.automaton holds_a w over accepted
+    first_valid : says_first w ≡ true → (i : ℕ) → Contains firsts i → IsTrue ((system_at ss i).test (track ss i (in_order direction w)))
+    first_valid accepted = valid_read direction ss firsts within_first P a.automaton holds_a w over accepted
 
-    second_valid : says_second w ≡ true → (i : ℕ) → Contains seconds i → IsTrue ((system_at ss i).test (track ss i (in_order way w)))
-    second_valid accepted = valid_read way ss seconds within_second Q b.automaton holds_b w over accepted
+    second_valid : says_second w ≡ true → (i : ℕ) → Contains seconds i → IsTrue ((system_at ss i).test (track ss i (in_order direction w)))
+    second_valid accepted = valid_read direction ss seconds within_second Q b.automaton holds_b w over accepted
 
-    by_languages : (op : Op) → AreLanguagesOf way ss languages → connective op (says_first w) (says_second w) && is_valid (sizes_of ss) languages w ≡ true → AreValid ss (in_order way w)
-    by_languages op are accepted = valid_from way ss languages are w (and_parts (connective op (says_first w) (says_second w)) (is_valid (sizes_of ss) languages w) accepted).1
+    by_languages : (op : Op) → AreLanguagesOf direction ss languages → connective op (says_first w) (says_second w) && is_valid (sizes_of ss) languages w ≡ true → AreValid ss (in_order direction w)
+    by_languages op are accepted = valid_from direction ss languages are w (and_parts (connective op (says_first w) (says_second w)) (is_valid (sizes_of ss) languages w) accepted).1
 
     -- each word of the product is valid
-    product_valid : (op : Op) → IsBound op a.names b.names → (IsTrue (among_valid op) → AreLanguagesOf way ss languages) → product_says op languages w ≡ true → AreValid ss (in_order way w)
+    product_valid : (op : Op) → IsBound op a.names b.names → (IsTrue (among_valid op) → AreLanguagesOf direction ss languages) → product_says op languages w ≡ true → AreValid ss (in_order direction w)
     product_valid And bound among accepted i within =
         let both = (and_parts (connective And (says_first w) (says_second w)) true accepted).0 in
         elim (either i within) [
@@ -142,13 +142,13 @@ module _ (way : Direction) (ss : List System) (a b : NamedAutomaton) (P Q : List
     product_valid Implies bound among accepted i within = by_languages Implies (among refl) accepted i within
     product_valid Iff bound among accepted i within = by_languages Iff (among refl) accepted i within
 
-    valid_counts : (op : Op) → AreLanguagesOf way ss languages → AreValid ss (in_order way w) → (connective op (says_first w) (says_second w) && is_valid (sizes_of ss) languages w) ≡ connective op (says_first w) (says_second w)
+    valid_counts : (op : Op) → AreLanguagesOf direction ss languages → AreValid ss (in_order direction w) → (connective op (says_first w) (says_second w) && is_valid (sizes_of ss) languages w) ≡ connective op (says_first w) (says_second w)
     valid_counts op are valid =
-        ap (λ (b : Bool). connective op (says_first w) (says_second w) && b) (valid_to way ss languages are w valid)
+        ap (λ (b : Bool). connective op (says_first w) (says_second w) && b) (valid_to direction ss languages are w valid)
         ∙ and-true (connective op (says_first w) (says_second w))
 
     -- and on valid words the product is as the connective says
-    product_connects : (op : Op) → (IsTrue (among_valid op) → AreLanguagesOf way ss languages) → AreValid ss (in_order way w) → product_says op languages w ≡ connective op (says_first w) (says_second w)
+    product_connects : (op : Op) → (IsTrue (among_valid op) → AreLanguagesOf direction ss languages) → AreValid ss (in_order direction w) → product_says op languages w ≡ connective op (says_first w) (says_second w)
     product_connects And among valid = and-true (connective And (says_first w) (says_second w))
     product_connects AndNot among valid = and-true (connective AndNot (says_first w) (says_second w))
     product_connects Or among valid = valid_counts Or (among refl) valid
@@ -157,11 +157,11 @@ module _ (way : Direction) (ss : List System) (a b : NamedAutomaton) (P Q : List
     product_connects Iff among valid = valid_counts Iff (among refl) valid
 
   -- so the automaton of the product holds of the joined relation
-  pub in_product_holds : (op : Op) (languages : List Automaton) → IsBound op a.names b.names → (IsTrue (among_valid op) → AreLanguagesOf way ss languages)
+  pub in_product_holds : (op : Op) (languages : List Automaton) → IsBound op a.names b.names → (IsTrue (among_valid op) → AreLanguagesOf direction ss languages)
       → (c : Automaton) → c.sizes ≡ joint_sizes a b → ((w : List ℕ) → IsWord (product (joint_sizes a b)) w → accepts_of c w ≡ in_product op a b languages w)
-      → HoldsOf way ss (joined op firsts P seconds Q) c
+      → HoldsOf direction ss (joined op firsts P seconds Q) c
   in_product_holds op languages bound among c same says =
-      product_holds way ss op firsts seconds P Q a.automaton b.automaton c within_first within_second holds_a holds_b (same ∙ sizes)
+      product_holds direction ss op firsts seconds P Q a.automaton b.automaton c within_first within_second holds_a holds_b (same ∙ sizes)
       (λ w over accepted. product_valid languages w over op bound among (sym (here w over) ∙ accepted))
       (λ w over valid. here w over ∙ product_connects languages w over op among valid)
     where

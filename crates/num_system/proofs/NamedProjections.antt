@@ -17,8 +17,8 @@ use Rattle.numeration.specs.SomeTracks.{systems_at, completed}
 use Rattle.numeration.proofs.ProjectionLinks.{projection_holds}
 use Rattle.num_system.specs.Operations.{IsProjection}
 
-module _ (way : Direction) (ss : List System) (are : AreSystems ss) (a : NamedAutomaton) (track : List ℕ) (count : length a.names ≡ length ss)
-    (P : List ℕ → Type 0) (holds : HoldsOf way ss P a.automaton) where
+module _ (direction : Direction) (ss : List System) (are : AreSystems ss) (a : NamedAutomaton) (track : List ℕ) (count : length a.names ≡ length ss)
+    (P : List ℕ → Type 0) (holds : HoldsOf direction ss P a.automaton) where
   abbrev places : List ℕ
   places = staying_places a track
 
@@ -27,11 +27,11 @@ module _ (way : Direction) (ss : List System) (are : AreSystems ss) (a : NamedAu
 
   -- the words whose image the projection accepts, over tracks of these sizes
   abbrev ImageOver : List ℕ → List ℕ → Type 0
-  ImageOver sizes w = (k : ℕ) × ((x : List ℕ) × IsWord (product sizes) x × (part sizes places x ≡ padded way k w) × IsTrue (accepts_of a.automaton x))
+  ImageOver sizes w = (k : ℕ) × ((x : List ℕ) × IsWord (product sizes) x × (part sizes places x ≡ padded direction k w) × IsTrue (accepts_of a.automaton x))
 
-  pub named_projection_holds : (c : NamedAutomaton) → IsProjection way a track c → HoldsOf way (systems_at places ss) (completed ss places P) c.automaton
+  pub named_projection_holds : (c : NamedAutomaton) → IsProjection direction a track c → HoldsOf direction (systems_at places ss) (completed ss places P) c.automaton
   named_projection_holds c made =
-      projection_holds way ss are places within P a.automaton holds c.automaton
+      projection_holds direction ss are places within P a.automaton holds c.automaton
       (made.sizes ∙ ap (λ (ns : List ℕ). picked places ns) holds.sizes)
       (λ w over.
       let says = made.language w (subst (λ (ns : List ℕ). IsWord (product (picked places ns)) w) (sym holds.sizes) over) in (

@@ -11,15 +11,15 @@ use Rattle.product_op.specs.declared.op.Op.{Op}
 use Rattle.product_op.specs.declared.op.Op.TheVariants.{And, AndNot, Or, Xor, Implies, Iff}
 use Rattle.product_op.specs.Connectives.{connective}
 use Rattle.numeration.specs.Systems.{System}
-use Rattle.numeration.specs.Spelling.{sizes_of, letters_in, Spells}
+use Rattle.numeration.specs.Representation.{sizes_of, letters_in, Represents}
 use Rattle.numeration.specs.Relations.{HoldsOf}
 use Rattle.numeration.specs.SomeTracks.{systems_at}
 use Rattle.num_system.specs.Joined.{Joined, joined}
 use Rattle.digit_tuple.proofs.PaddingLemmas.{IsWord-in_order}
-use Rattle.numeration.proofs.TrackLemmas.{AreNumerals, numerals_from_spelling, spelling_from_numerals}
-use Rattle.numeration.proofs.PartSpelling.{AreValid, ranks, numerals_valid, valid_numerals, holds_at}
+use Rattle.numeration.proofs.TrackLemmas.{AreNumerals, numerals_from_representation, representation_from_numerals}
+use Rattle.numeration.proofs.PartRepresentation.{AreValid, ranks, numerals_valid, valid_numerals, holds_at}
 
--- the connective of two truth values tells the connective of what they tell
+-- the connective of two truth values determines the connective of what they say
 pub connective_tells : (op : Op) (b c : Bool) (P Q : Type 0) → IsTrue b ↔ P → IsTrue c ↔ Q → IsTrue (connective op b c) ↔ Joined op P Q
 connective_tells And true true P Q p q = (λ yes. (p.0 refl, q.0 refl), λ both. refl)
 connective_tells And true false P Q p q = (λ yes. absurd (false≢true yes), λ both. q.1 both.1)
@@ -47,37 +47,37 @@ connective_tells Iff false true P Q p q = (λ yes. absurd (false≢true yes), λ
 connective_tells Iff false false P Q p q = (λ yes. (λ x. absurd (false≢true (p.1 x)), λ y. absurd (false≢true (q.1 y))), λ f. refl)
 
 -- an automaton on all tracks, two that hold of relations on those at ps and at qs, and a connective
-module _ (way : Direction) (ss : List System) (op : Op) (ps qs : List ℕ) (P Q : List ℕ → Type 0) (a b c : Automaton)
+module _ (direction : Direction) (ss : List System) (op : Op) (ps qs : List ℕ) (P Q : List ℕ → Type 0) (a b c : Automaton)
     (first : All (λ place. place < length ss) ps) (second : All (λ place. place < length ss) qs)
-    (holds_a : HoldsOf way (systems_at ps ss) P a) (holds_b : HoldsOf way (systems_at qs ss) Q b) where
+    (holds_a : HoldsOf direction (systems_at ps ss) P a) (holds_b : HoldsOf direction (systems_at qs ss) Q b) where
   -- what the connective says of the parts of a word
   abbrev pub parts_say : List ℕ → Bool
   parts_say w = connective op (accepts_of a (part (sizes_of ss) ps w)) (accepts_of b (part (sizes_of ss) qs w))
 
   -- on valid words it says what it says of the numbers
-  pub parts_tell : (w ns : List ℕ) → IsWord (letters_in ss) w → (spelled : AreNumerals ss (in_order way w) ns) → IsTrue (parts_say w) ↔ joined op ps P qs Q ns
+  pub parts_tell : (w ns : List ℕ) → IsWord (letters_in ss) w → (represented : AreNumerals ss (in_order direction w) ns) → IsTrue (parts_say w) ↔ joined op ps P qs Q ns
   parts_tell w ns over are =
-      let turned = IsWord-in_order way (letters_in ss) w over in
+      let turned = IsWord-in_order direction (letters_in ss) w over in
       connective_tells op (accepts_of a (part (sizes_of ss) ps w)) (accepts_of b (part (sizes_of ss) qs w)) (P (picked ps ns)) (Q (picked qs ns))
-      (holds_at ss ps first way P a holds_a w ns over turned are) (holds_at ss qs second way Q b holds_b w ns over turned are)
+      (holds_at ss ps first direction P a holds_a w ns over turned are) (holds_at ss qs second direction Q b holds_b w ns over turned are)
 
   -- so an automaton that accepts the valid words of which the connective says so holds of the joined relation
   pub product_holds : c.sizes ≡ sizes_of ss
-      → ((w : List ℕ) → IsWord (letters_in ss) w → IsTrue (accepts_of c w) → AreValid ss (in_order way w))
-      → ((w : List ℕ) → IsWord (letters_in ss) w → AreValid ss (in_order way w) → accepts_of c w ≡ parts_say w)
-      → HoldsOf way ss (joined op ps P qs Q) c
+      → ((w : List ℕ) → IsWord (letters_in ss) w → IsTrue (accepts_of c w) → AreValid ss (in_order direction w))
+      → ((w : List ℕ) → IsWord (letters_in ss) w → AreValid ss (in_order direction w) → accepts_of c w ≡ parts_say w)
+      → HoldsOf direction ss (joined op ps P qs Q) c
   product_holds sizes valid says = record { sizes = sizes; accepts = λ w over. (there w over, back w over) }
     where
-      there : (w : List ℕ) → IsWord (letters_in ss) w → IsTrue (accepts_of c w) → (ns : List ℕ) × Spells ss (in_order way w) ns × joined op ps P qs Q ns
+      there : (w : List ℕ) → IsWord (letters_in ss) w → IsTrue (accepts_of c w) → (ns : List ℕ) × Represents ss (in_order direction w) ns × joined op ps P qs Q ns
       there w over accepted =
           let is_valid = valid w over accepted in
-          let numerals = numerals_valid ss (in_order way w) is_valid in (
-            ranks ss (in_order way w),
-            spelling_from_numerals ss (in_order way w) (ranks ss (in_order way w)) numerals,
-            (parts_tell w (ranks ss (in_order way w)) over numerals).0 (sym (says w over is_valid) ∙ accepted),
+          let numerals = numerals_valid ss (in_order direction w) is_valid in (
+            ranks ss (in_order direction w),
+            representation_from_numerals ss (in_order direction w) (ranks ss (in_order direction w)) numerals,
+            (parts_tell w (ranks ss (in_order direction w)) over numerals).0 (sym (says w over is_valid) ∙ accepted),
           )
 
-      back : (w : List ℕ) → IsWord (letters_in ss) w → (ns : List ℕ) × Spells ss (in_order way w) ns × joined op ps P qs Q ns → IsTrue (accepts_of c w)
+      back : (w : List ℕ) → IsWord (letters_in ss) w → (ns : List ℕ) × Represents ss (in_order direction w) ns × joined op ps P qs Q ns → IsTrue (accepts_of c w)
       back w over found =
-          let numerals = numerals_from_spelling ss (in_order way w) found.0 found.1 in
-          says w over (valid_numerals ss (in_order way w) found.0 numerals) ∙ (parts_tell w found.0 over numerals).1 found.2
+          let numerals = numerals_from_representation ss (in_order direction w) found.0 found.1 in
+          says w over (valid_numerals ss (in_order direction w) found.0 numerals) ∙ (parts_tell w found.0 over numerals).1 found.2

@@ -7,15 +7,15 @@ use Rattle.minimise.specs.Canonical.{IsCanonical}
 use Rattle.product_op.specs.Validity.{AreLanguages, language_at}
 use Rattle.numeration.specs.Systems.{System, AreSystems}
 use Rattle.numeration.specs.Relations.{IsLanguageOf}
-use Rattle.numeration.specs.Spelling.{sizes_of}
+use Rattle.numeration.specs.Representation.{sizes_of}
 use Rattle.numeration.specs.SomeTracks.{system_at}
 use Rattle.num_system.specs.Joined.{AreLanguagesOf}
 use Rattle.num_system.specs.Sealed.{SystemValue, system_of, IsSealed}
-use Rattle.num_system.specs.Tracks.{systems_of, HaveOneWay, languages_of}
+use Rattle.num_system.specs.Tracks.{systems_of, ShareDirection, languages_of}
 
 -- each has this direction
-abbrev pub AreAllWay : Direction → List SystemValue → Type 0
-AreAllWay w systems = AllByRecursion (λ (s : SystemValue). s.way ≡ w) systems
+abbrev pub AreAllDirected : Direction → List SystemValue → Type 0
+AreAllDirected w systems = AllByRecursion (λ (s : SystemValue). s.direction ≡ w) systems
 
 -- what is true of each is true of each where it follows for one
 pub each_weaker : (P Q : SystemValue → Type 0) → ((s : SystemValue) → P s → Q s) → (systems : List SystemValue) → AllByRecursion P systems → AllByRecursion Q systems
@@ -28,16 +28,16 @@ are_systems [] sealed = tt
 are_systems (s ∷ ss) sealed = (sealed.0.laws, are_systems ss sealed.1)
 
 -- the languages are those of the systems
-language_each : (w : Direction) (systems : List SystemValue) → AllByRecursion IsSealed systems → AreAllWay w systems → (i : ℕ) → i < length (systems_of systems)
+language_each : (w : Direction) (systems : List SystemValue) → AllByRecursion IsSealed systems → AreAllDirected w systems → (i : ℕ) → i < length (systems_of systems)
     → IsLanguageOf w (system_at (systems_of systems) i) (language_at (languages_of systems) i)
-language_each w [] sealed ways i within = absurd (omega (arith, within))
-language_each w (s ∷ systems) sealed ways zero within = subst (λ way. IsLanguageOf way (system_of s) s.language) ways.0 sealed.0.language
-language_each w (s ∷ systems) sealed ways (suc i) within = language_each w systems sealed.1 ways.1 i (omega (arith, within))
+language_each w [] sealed directions i within = absurd (omega (arith, within))
+language_each w (s ∷ systems) sealed directions zero within = subst (λ direction. IsLanguageOf direction (system_of s) s.language) directions.0 sealed.0.language
+language_each w (s ∷ systems) sealed directions (suc i) within = language_each w systems sealed.1 directions.1 i (omega (arith, within))
 
-pub languages_are : (w : Direction) (systems : List SystemValue) → AllByRecursion IsSealed systems → AreAllWay w systems → AreLanguagesOf w (systems_of systems) (languages_of systems)
-languages_are w systems sealed ways = record {
+pub languages_are : (w : Direction) (systems : List SystemValue) → AllByRecursion IsSealed systems → AreAllDirected w systems → AreLanguagesOf w (systems_of systems) (languages_of systems)
+languages_are w systems sealed directions = record {
   count = length-map systems (λ (s : SystemValue). s.language) ∙ sym (length-map systems system_of);
-  each = language_each w systems sealed ways;
+  each = language_each w systems sealed directions;
 }
 
 -- and canonical, over the digits of the systems
@@ -54,6 +54,6 @@ languages_fit systems sealed = record {
 }
 
 -- systems that all have a direction have one
-pub one_way_from : (w : Direction) (systems : List SystemValue) → AreAllWay w systems → HaveOneWay systems
-one_way_from w [] ways = tt
-one_way_from w (s ∷ systems) ways = each_weaker (λ (t : SystemValue). t.way ≡ w) (λ (t : SystemValue). t.way ≡ s.way) (λ t is. is ∙ sym ways.0) (s ∷ systems) ways
+pub shared_direction_from : (w : Direction) (systems : List SystemValue) → AreAllDirected w systems → ShareDirection systems
+shared_direction_from w [] directions = tt
+shared_direction_from w (s ∷ systems) directions = each_weaker (λ (t : SystemValue). t.direction ≡ w) (λ (t : SystemValue). t.direction ≡ s.direction) (λ t is. is ∙ sym directions.0) (s ∷ systems) directions

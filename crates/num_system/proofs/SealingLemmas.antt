@@ -1,4 +1,4 @@
--- What the steps of sealing a system tell.
+-- What the steps of sealing a system say.
 use Rattle.std.proofs.Common.{◌≡◌, ℕ, ◌+◌, ◌<◌, List, [], ◌∷◌, length, Err, ap, arith}
 use Rattle.std.specs.Result.{IsErrOf}
 use Rattle.digit_tuple.specs.Letters.{IsWord, product}
@@ -15,8 +15,8 @@ pub same_fault : {T U E : Type 0} (e f : E) → IsErrOf {T = T} (Err e) f → Is
 same_fault e f is = let same : e ≡ f = cc in ap Err same
 
 -- no more words are apart than the limit that the order keeps to
-pub none_beyond : (way : Direction) (d : Automaton) (limit : ℕ) → IsOrderWithin way d limit → ¬ HasApart (OrderAlike way d) (pair_letters d) (limit + 1)
-none_beyond way d limit within apart = order_width_excludes way d (limit + 1) within.width.0 (omega (arith, within.width.1)) within.width.2 apart
+pub none_beyond : (direction : Direction) (d : Automaton) (limit : ℕ) → IsOrderWithin direction d limit → ¬ HasApart (OrderAlike direction d) (pair_letters d) (limit + 1)
+none_beyond direction d limit within apart = order_width_excludes direction d (limit + 1) within.width.0 (omega (arith, within.width.1)) within.width.2 apart
 
 -- a system has a digit
 has_digit : (s : System) → IsSystem s → 0 < s.digits

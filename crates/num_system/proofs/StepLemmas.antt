@@ -25,11 +25,11 @@ product_made op a b languages given (Ok x) names sizes canonical language = reco
 product_made op a b languages given (Err e) names sizes canonical language = tt
 
 -- and a projection
-pub projection_made : {X E : Type 0} (way : Direction) (a : NamedAutomaton) (track : List ℕ) (given : X → NamedAutomaton) (r : Result X E)
+pub projection_made : {X E : Type 0} (direction : Direction) (a : NamedAutomaton) (track : List ℕ) (given : X → NamedAutomaton) (r : Result X E)
     → IfOk r (λ x. (given x).names ≡ names_without a.names track) → IfOk r (λ x. (given x).automaton.sizes ≡ staying_sizes a track) → IfOk r (λ x. IsCanonical (given x).automaton)
-    → IfOk r (λ x. (w : List ℕ) → IsWord (product (staying_sizes a track)) w → IsTrue (accepts_of (given x).automaton w) ↔ InProjection a.automaton (staying_places a track) way w) → IfOk r (λ x. IsProjection way a track (given x))
-projection_made way a track given (Ok x) names sizes canonical language = record { names = names; sizes = sizes; canonical = canonical; language = language }
-projection_made way a track given (Err e) names sizes canonical language = tt
+    → IfOk r (λ x. (w : List ℕ) → IsWord (product (staying_sizes a track)) w → IsTrue (accepts_of (given x).automaton w) ↔ InProjection a.automaton (staying_places a track) direction w) → IfOk r (λ x. IsProjection direction a track (given x))
+projection_made direction a track given (Ok x) names sizes canonical language = record { names = names; sizes = sizes; canonical = canonical; language = language }
+projection_made direction a track given (Err e) names sizes canonical language = tt
 
 -- fewer tracks of one size have no more letters
 cube_fits : (d : ℕ) → d * (d * (d * 1)) ≤ 65536 → d * (d * 1) ≤ 65536

@@ -16,20 +16,20 @@ use Rattle.num_system.specs.Joined.{joined}
 use Rattle.num_system.specs.Successor.{IsNext, IsInside, HasInside, IsSuccessorOf}
 use Rattle.num_system.specs.Operations.{IsProduct, IsProjection}
 use Rattle.num_system.specs.SuccessorSteps.{name_u, name_x, name_y, order_on, IsChain, chain_sizes}
-use Rattle.numeration.proofs.TrackLemmas.{numerals_from_spelling}
+use Rattle.numeration.proofs.TrackLemmas.{numerals_from_representation}
 use Rattle.num_system.proofs.NamedLinks.{in_product_holds}
 use Rattle.num_system.proofs.NamedProjections.{named_projection_holds}
 
 -- relations that are the same of tuples of as many numbers as there are tracks
-pub holds_same : (way : Direction) (ss : List System) (P Q : List ℕ → Type 0) (d : Automaton) → ((ns : List ℕ) → length ns ≡ length ss → P ns ↔ Q ns) → HoldsOf way ss P d → HoldsOf way ss Q d
-holds_same way ss P Q d same holds = record {
+pub holds_same : (direction : Direction) (ss : List System) (P Q : List ℕ → Type 0) (d : Automaton) → ((ns : List ℕ) → length ns ≡ length ss → P ns ↔ Q ns) → HoldsOf direction ss P d → HoldsOf direction ss Q d
+holds_same direction ss P Q d same holds = record {
   sizes = holds.sizes;
   accepts = λ w over.
       let both = holds.accepts w over in (
         λ accepted.
             let found = both.0 accepted in
-            (found.0, found.1, (same found.0 (numerals_from_spelling ss (in_order way w) found.0 found.1).count).0 found.2),
-        λ found. both.1 (found.0, found.1, (same found.0 (numerals_from_spelling ss (in_order way w) found.0 found.1).count).1 found.2),
+            (found.0, found.1, (same found.0 (numerals_from_representation ss (in_order direction w) found.0 found.1).count).0 found.2),
+        λ found. both.1 (found.0, found.1, (same found.0 (numerals_from_representation ss (in_order direction w) found.0 found.1).count).1 found.2),
       );
 }
 
@@ -44,7 +44,7 @@ less_first a b is =
     let second : b ≡ is.1 = ap (λ (ns : List ℕ). get_or ns 1 0) is.2 in
     omega (arith, first, second, is.3)
 
--- x < u and u < y, the numbers standing as u, x, y
+-- x < u and u < y, the numbers as u, x, y
 inside_triple : (u x y : ℕ) → joined And (1 ∷ 0 ∷ []) IsLess (0 ∷ 2 ∷ []) IsLess (u ∷ x ∷ y ∷ []) ↔ IsInside (u ∷ x ∷ y ∷ [])
 inside_triple u x y = (λ both. (u, x, y, refl, less_first x u both.0, less_first u y both.1), back)
   where
@@ -140,30 +140,30 @@ next_sizes_are less between d same also =
     ∙ sizes_same d
 
 -- what the three steps hold of
-module _ (way : Direction) (s : System) where
-  pub chain_holds : (less : Automaton) (chain : NamedAutomaton) → IsOrderOf way s less → IsChain less chain → HoldsOf way (three s) IsInside chain.automaton
+module _ (direction : Direction) (s : System) where
+  pub chain_holds : (less : Automaton) (chain : NamedAutomaton) → IsOrderOf direction s less → IsChain less chain → HoldsOf direction (three s) IsInside chain.automaton
   chain_holds less chain is made =
-      holds_same way (three s) (joined And (1 ∷ 0 ∷ []) IsLess (0 ∷ 2 ∷ []) IsLess) IsInside chain.automaton inside_joined
-      (in_product_holds way (three s) (order_on less name_x name_u) (order_on less name_u name_y) IsLess IsLess refl (chain_sizes_are less s.digits is.sizes) is is And []
+      holds_same direction (three s) (joined And (1 ∷ 0 ∷ []) IsLess (0 ∷ 2 ∷ []) IsLess) IsInside chain.automaton inside_joined
+      (in_product_holds direction (three s) (order_on less name_x name_u) (order_on less name_u name_y) IsLess IsLess refl (chain_sizes_are less s.digits is.sizes) is is And []
       tt (λ among. absurd (false≢true among)) chain.automaton made.sizes made.language)
 
-  between_from : (chain : Automaton) (between : NamedAutomaton) → IsSystem s → HoldsOf way (three s) IsInside chain
-      → IsProjection way (record { names = name_u ∷ name_x ∷ name_y ∷ []; automaton = chain }) name_u between → HoldsOf way (two s) HasInside between.automaton
+  between_from : (chain : Automaton) (between : NamedAutomaton) → IsSystem s → HoldsOf direction (three s) IsInside chain
+      → IsProjection direction (record { names = name_u ∷ name_x ∷ name_y ∷ []; automaton = chain }) name_u between → HoldsOf direction (two s) HasInside between.automaton
   between_from chain between system holds made =
-      holds_same way (two s) (completed (three s) (1 ∷ 2 ∷ []) IsInside) HasInside between.automaton (inside_completed s)
-      (named_projection_holds way (three s) (system, (system, (system, tt))) (record { names = name_u ∷ name_x ∷ name_y ∷ []; automaton = chain }) name_u refl IsInside holds between made)
+      holds_same direction (two s) (completed (three s) (1 ∷ 2 ∷ []) IsInside) HasInside between.automaton (inside_completed s)
+      (named_projection_holds direction (three s) (system, (system, (system, tt))) (record { names = name_u ∷ name_x ∷ name_y ∷ []; automaton = chain }) name_u refl IsInside holds between made)
 
-  pub between_holds : (chain between : NamedAutomaton) → IsSystem s → chain.names ≡ name_u ∷ name_x ∷ name_y ∷ [] → HoldsOf way (three s) IsInside chain.automaton
-      → IsProjection way chain name_u between → HoldsOf way (two s) HasInside between.automaton
+  pub between_holds : (chain between : NamedAutomaton) → IsSystem s → chain.names ≡ name_u ∷ name_x ∷ name_y ∷ [] → HoldsOf direction (three s) IsInside chain.automaton
+      → IsProjection direction chain name_u between → HoldsOf direction (two s) HasInside between.automaton
   between_holds chain between system names holds made =
       between_from chain.automaton between system holds
-      (subst (λ (c : NamedAutomaton). IsProjection way c name_u between) (under_names chain (name_u ∷ name_x ∷ name_y ∷ []) names) made)
+      (subst (λ (c : NamedAutomaton). IsProjection direction c name_u between) (under_names chain (name_u ∷ name_x ∷ name_y ∷ []) names) made)
 
-  next_from : (less between : Automaton) (next : NamedAutomaton) → IsOrderOf way s less → HoldsOf way (two s) HasInside between
-      → IsProduct AndNot (order_on less name_x name_y) (order_on between name_x name_y) [] next → IsSuccessorOf way s next.automaton
+  next_from : (less between : Automaton) (next : NamedAutomaton) → IsOrderOf direction s less → HoldsOf direction (two s) HasInside between
+      → IsProduct AndNot (order_on less name_x name_y) (order_on between name_x name_y) [] next → IsSuccessorOf direction s next.automaton
   next_from less between next is holds made =
-      holds_same way (two s) (IsClose s) IsNext next.automaton (close_is_next s)
-      (in_product_holds way (two s) (order_on less name_x name_y) (order_on between name_x name_y) IsLess HasInside refl
+      holds_same direction (two s) (IsClose s) IsNext next.automaton (close_is_next s)
+      (in_product_holds direction (two s) (order_on less name_x name_y) (order_on between name_x name_y) IsLess HasInside refl
       (next_sizes_are less between s.digits is.sizes holds.sizes) is holds AndNot [] bound (λ among. absurd (false≢true among)) next.automaton made.sizes made.language)
     where
       bound : All (Contains (name_x ∷ name_y ∷ [])) (name_x ∷ name_y ∷ [])
@@ -172,8 +172,8 @@ module _ (way : Direction) (s : System) where
       bound (suc (suc i)) d within = absurd (omega (arith, within))
 
   -- the result of the three steps is the successor
-  pub next_holds : (less : Automaton) (between next : NamedAutomaton) → IsOrderOf way s less → between.names ≡ name_x ∷ name_y ∷ [] → HoldsOf way (two s) HasInside between.automaton
-      → IsProduct AndNot (order_on less name_x name_y) between [] next → IsSuccessorOf way s next.automaton
+  pub next_holds : (less : Automaton) (between next : NamedAutomaton) → IsOrderOf direction s less → between.names ≡ name_x ∷ name_y ∷ [] → HoldsOf direction (two s) HasInside between.automaton
+      → IsProduct AndNot (order_on less name_x name_y) between [] next → IsSuccessorOf direction s next.automaton
   next_holds less between next is names holds made =
       next_from less between.automaton next is holds
       (subst (λ (c : NamedAutomaton). IsProduct AndNot (order_on less name_x name_y) c [] next) (under_names between (name_x ∷ name_y ∷ []) names) made)

@@ -103,36 +103,36 @@ completed_next s ns long = ((λ found. next_from found.0 ns found.1 found.2 foun
         let next : suc is.0 ≡ is.0 + 1 = omega arith in
         (1 ∷ is.0 ∷ suc is.0 ∷ [], refl, sym is.1, ((is.0, 1, ap (λ n. is.0 ∷ 1 ∷ n ∷ []) next), refl))
 
-module _ (way : Direction) (s : System) where
-  above_some : (P : List ℕ → Type 0) (less numbers : Automaton) (above : NamedAutomaton) → IsSystem s → IsOrderOf way s less → HoldsOf way (s ∷ []) P numbers
-      → IsBothForSome way (order_on less name_u name_x) (on_u numbers) above → HoldsOf way (s ∷ []) (IsAboveSome P) above.automaton
+module _ (direction : Direction) (s : System) where
+  above_some : (P : List ℕ → Type 0) (less numbers : Automaton) (above : NamedAutomaton) → IsSystem s → IsOrderOf direction s less → HoldsOf direction (s ∷ []) P numbers
+      → IsBothForSome direction (order_on less name_u name_x) (on_u numbers) above → HoldsOf direction (s ∷ []) (IsAboveSome P) above.automaton
   above_some P less numbers above system order holds made =
       let both = made.0 in
       let names : both.names ≡ name_u ∷ name_x ∷ [] = made.1.names in
-      holds_same way (s ∷ []) (completed (s ∷ s ∷ []) (1 ∷ []) (IsLessFrom P)) (IsAboveSome P) above.automaton (completed_above s P)
-      (named_projection_holds way (s ∷ s ∷ []) (system, (system, tt)) (record { names = name_u ∷ name_x ∷ []; automaton = both.automaton }) name_u refl (IsLessFrom P)
-      (in_product_holds way (s ∷ s ∷ []) (order_on less name_u name_x) (on_u numbers) IsLess P refl (above_sizes less numbers s.digits order.sizes holds.sizes) order holds And []
+      holds_same direction (s ∷ []) (completed (s ∷ s ∷ []) (1 ∷ []) (IsLessFrom P)) (IsAboveSome P) above.automaton (completed_above s P)
+      (named_projection_holds direction (s ∷ s ∷ []) (system, (system, tt)) (record { names = name_u ∷ name_x ∷ []; automaton = both.automaton }) name_u refl (IsLessFrom P)
+      (in_product_holds direction (s ∷ s ∷ []) (order_on less name_u name_x) (on_u numbers) IsLess P refl (above_sizes less numbers s.digits order.sizes holds.sizes) order holds And []
       tt (λ among. absurd (false≢true among)) both.automaton made.1.sizes made.1.language)
-      above (subst (λ (c : NamedAutomaton). IsProjection way c name_u above) (under_names both (name_u ∷ name_x ∷ []) names) made.2))
+      above (subst (λ (c : NamedAutomaton). IsProjection direction c name_u above) (under_names both (name_u ∷ name_x ∷ []) names) made.2))
 
   -- the numbers above 0 are positive
-  pub positive_holds : (less numbers : Automaton) (above : NamedAutomaton) → IsSystem s → IsOrderOf way s less → IsZeroOf way s numbers
-      → IsBothForSome way (order_on less name_u name_x) (on_u numbers) above → HoldsOf way (s ∷ []) IsPositive above.automaton
+  pub positive_holds : (less numbers : Automaton) (above : NamedAutomaton) → IsSystem s → IsOrderOf direction s less → IsZeroOf direction s numbers
+      → IsBothForSome direction (order_on less name_u name_x) (on_u numbers) above → HoldsOf direction (s ∷ []) IsPositive above.automaton
   positive_holds less numbers above system order zeros made =
-      holds_same way (s ∷ []) (IsAboveSome IsZero) IsPositive above.automaton above_zero (above_some IsZero less numbers above system order zeros made)
+      holds_same direction (s ∷ []) (IsAboveSome IsZero) IsPositive above.automaton above_zero (above_some IsZero less numbers above system order zeros made)
 
   -- those above a positive one are above 1
-  pub above_one_holds : (less numbers : Automaton) (above : NamedAutomaton) → IsSystem s → IsOrderOf way s less → HoldsOf way (s ∷ []) IsPositive numbers
-      → IsBothForSome way (order_on less name_u name_x) (on_u numbers) above → HoldsOf way (s ∷ []) IsAboveOne above.automaton
+  pub above_one_holds : (less numbers : Automaton) (above : NamedAutomaton) → IsSystem s → IsOrderOf direction s less → HoldsOf direction (s ∷ []) IsPositive numbers
+      → IsBothForSome direction (order_on less name_u name_x) (on_u numbers) above → HoldsOf direction (s ∷ []) IsAboveOne above.automaton
   above_one_holds less numbers above system order positive made =
-      holds_same way (s ∷ []) (IsAboveSome IsPositive) IsAboveOne above.automaton above_positive (above_some IsPositive less numbers above system order positive made)
+      holds_same direction (s ∷ []) (IsAboveSome IsPositive) IsAboveOne above.automaton above_positive (above_some IsPositive less numbers above system order positive made)
 
   -- 1 is positive and not above 1
-  pub one_holds : (positive above_one : Automaton) (one : NamedAutomaton) → HoldsOf way (s ∷ []) IsPositive positive → HoldsOf way (s ∷ []) IsAboveOne above_one
-      → IsProduct AndNot (on_u positive) (on_u above_one) [] one → HoldsOf way (s ∷ []) IsOne one.automaton
+  pub one_holds : (positive above_one : Automaton) (one : NamedAutomaton) → HoldsOf direction (s ∷ []) IsPositive positive → HoldsOf direction (s ∷ []) IsAboveOne above_one
+      → IsProduct AndNot (on_u positive) (on_u above_one) [] one → HoldsOf direction (s ∷ []) IsOne one.automaton
   one_holds positive above_one one first second made =
-      holds_same way (s ∷ []) IsOnlyPositive IsOne one.automaton only_is_one
-      (in_product_holds way (s ∷ []) (on_u positive) (on_u above_one) IsPositive IsAboveOne refl (one_sizes positive above_one s.digits first.sizes second.sizes) first second AndNot []
+      holds_same direction (s ∷ []) IsOnlyPositive IsOne one.automaton only_is_one
+      (in_product_holds direction (s ∷ []) (on_u positive) (on_u above_one) IsPositive IsAboveOne refl (one_sizes positive above_one s.digits first.sizes second.sizes) first second AndNot []
       bound (λ among. absurd (false≢true among)) one.automaton made.sizes made.language)
     where
       bound : All (Contains (name_u ∷ [])) (name_u ∷ [])
@@ -140,13 +140,13 @@ module _ (way : Direction) (s : System) where
       bound (suc i) d within = absurd (omega (arith, within))
 
   -- the sums with 1 are the successors
-  pub sums_hold : (adder one : Automaton) (next : NamedAutomaton) → IsSystem s → IsAdderOf way s adder → HoldsOf way (s ∷ []) IsOne one
-      → IsBothForSome way (sum_on adder) (on_u one) next → IsSuccessorOf way s next.automaton
+  pub sums_hold : (adder one : Automaton) (next : NamedAutomaton) → IsSystem s → IsAdderOf direction s adder → HoldsOf direction (s ∷ []) IsOne one
+      → IsBothForSome direction (sum_on adder) (on_u one) next → IsSuccessorOf direction s next.automaton
   sums_hold adder one next system adds holds made =
       let both = made.0 in
       let names : both.names ≡ name_u ∷ name_x ∷ name_y ∷ [] = made.1.names in
-      holds_same way (s ∷ s ∷ []) (completed (s ∷ s ∷ s ∷ []) (1 ∷ 2 ∷ []) IsSumWithOne) IsNext next.automaton (completed_next s)
-      (named_projection_holds way (s ∷ s ∷ s ∷ []) (system, (system, (system, tt))) (record { names = name_u ∷ name_x ∷ name_y ∷ []; automaton = both.automaton }) name_u refl IsSumWithOne
-      (in_product_holds way (s ∷ s ∷ s ∷ []) (sum_on adder) (on_u one) IsSum IsOne refl (sum_sizes adder one s.digits adds.sizes holds.sizes) adds holds And []
+      holds_same direction (s ∷ s ∷ []) (completed (s ∷ s ∷ s ∷ []) (1 ∷ 2 ∷ []) IsSumWithOne) IsNext next.automaton (completed_next s)
+      (named_projection_holds direction (s ∷ s ∷ s ∷ []) (system, (system, (system, tt))) (record { names = name_u ∷ name_x ∷ name_y ∷ []; automaton = both.automaton }) name_u refl IsSumWithOne
+      (in_product_holds direction (s ∷ s ∷ s ∷ []) (sum_on adder) (on_u one) IsSum IsOne refl (sum_sizes adder one s.digits adds.sizes holds.sizes) adds holds And []
       tt (λ among. absurd (false≢true among)) both.automaton made.1.sizes made.1.language)
-      next (subst (λ (c : NamedAutomaton). IsProjection way c name_u next) (under_names both (name_u ∷ name_x ∷ name_y ∷ []) names) made.2))
+      next (subst (λ (c : NamedAutomaton). IsProjection direction c name_u next) (under_names both (name_u ∷ name_x ∷ name_y ∷ []) names) made.2))

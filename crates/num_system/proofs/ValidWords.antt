@@ -10,19 +10,19 @@ use Rattle.digit_tuple.specs.declared.direction.Direction.{Direction}
 use Rattle.digit_tuple.proofs.PaddingLemmas.{in_order-map}
 use Rattle.product_op.specs.Validity.{language_at, is_valid}
 use Rattle.numeration.specs.Systems.{System}
-use Rattle.numeration.specs.Spelling.{sizes_of, Spells}
+use Rattle.numeration.specs.Representation.{sizes_of, Represents}
 use Rattle.numeration.specs.SomeTracks.{system_at}
-use Rattle.numeration.proofs.TrackLemmas.{track, numerals_from_spelling, spelling_from_numerals}
-use Rattle.numeration.proofs.PartSpelling.{AreValid, ranks, numerals_valid, valid_numerals}
+use Rattle.numeration.proofs.TrackLemmas.{track, numerals_from_representation, representation_from_numerals}
+use Rattle.numeration.proofs.PartRepresentation.{AreValid, ranks, numerals_valid, valid_numerals}
 use Rattle.num_system.specs.Joined.{AreLanguagesOf}
 
-module _ (way : Direction) (ss : List System) (languages : List Automaton) (are : AreLanguagesOf way ss languages) (w : List ℕ) where
-  language_tells : (i : ℕ) → i < length ss → accepts_of (language_at languages i) (part (sizes_of ss) (i ∷ []) w) ≡ (system_at ss i).test (track ss i (in_order way w))
+module _ (direction : Direction) (ss : List System) (languages : List Automaton) (are : AreLanguagesOf direction ss languages) (w : List ℕ) where
+  language_tells : (i : ℕ) → i < length ss → accepts_of (language_at languages i) (part (sizes_of ss) (i ∷ []) w) ≡ (system_at ss i).test (track ss i (in_order direction w))
   language_tells i within =
       (are.each i within).accepts (part (sizes_of ss) (i ∷ []) w)
-      ∙ ap (system_at ss i).test (in_order-map way (letter_part (sizes_of ss) (i ∷ [])) w)
+      ∙ ap (system_at ss i).test (in_order-map direction (letter_part (sizes_of ss) (i ∷ [])) w)
 
-  pub valid_from : is_valid (sizes_of ss) languages w ≡ true → AreValid ss (in_order way w)
+  pub valid_from : is_valid (sizes_of ss) languages w ≡ true → AreValid ss (in_order direction w)
   valid_from accepted i within =
       let all = AllPass-from_list_all (λ track. accepts_of (language_at languages track) (part (sizes_of ss) (track ∷ []) w)) (range_with_len 0 (length languages)) accepted in
       let less : i < length languages = omega (arith, within, are.count) in
@@ -31,7 +31,7 @@ module _ (way : Direction) (ss : List System) (languages : List Automaton) (are 
       ∙ subst (λ (j : ℕ). accepts_of (language_at languages j) (part (sizes_of ss) (j ∷ []) w) ≡ true) here
       (all i 0 (omega (arith, less, length-range_with_len 0 (length languages))))
 
-  pub valid_to : AreValid ss (in_order way w) → is_valid (sizes_of ss) languages w ≡ true
+  pub valid_to : AreValid ss (in_order direction w) → is_valid (sizes_of ss) languages w ≡ true
   valid_to valid =
       list_all-from_AllPass (λ track. accepts_of (language_at languages track) (part (sizes_of ss) (track ∷ []) w)) (range_with_len 0 (length languages))
       (λ i d inside.
@@ -41,11 +41,11 @@ module _ (way : Direction) (ss : List System) (languages : List Automaton) (are 
       subst (λ (j : ℕ). accepts_of (language_at languages j) (part (sizes_of ss) (j ∷ []) w) ≡ true) here
       (language_tells i within ∙ valid i within))
 
-  -- a valid word spells numbers
-  pub spelled_from : is_valid (sizes_of ss) languages w ≡ true → (ns : List ℕ) × Spells ss (in_order way w) ns
-  spelled_from accepted =
-      (ranks ss (in_order way w), spelling_from_numerals ss (in_order way w) (ranks ss (in_order way w)) (numerals_valid ss (in_order way w) (valid_from accepted)))
+  -- a valid word represents numbers
+  pub represented_from : is_valid (sizes_of ss) languages w ≡ true → (ns : List ℕ) × Represents ss (in_order direction w) ns
+  represented_from accepted =
+      (ranks ss (in_order direction w), representation_from_numerals ss (in_order direction w) (ranks ss (in_order direction w)) (numerals_valid ss (in_order direction w) (valid_from accepted)))
 
-  -- and a word that spells numbers is valid
-  pub spelled_to : (ns : List ℕ) → Spells ss (in_order way w) ns → is_valid (sizes_of ss) languages w ≡ true
-  spelled_to ns spelled = valid_to (valid_numerals ss (in_order way w) ns (numerals_from_spelling ss (in_order way w) ns spelled))
+  -- and a word that represents numbers is valid
+  pub represented_to : (ns : List ℕ) → Represents ss (in_order direction w) ns → is_valid (sizes_of ss) languages w ≡ true
+  represented_to ns represented = valid_to (valid_numerals ss (in_order direction w) ns (numerals_from_representation ss (in_order direction w) ns represented))

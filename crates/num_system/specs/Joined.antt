@@ -34,6 +34,6 @@ IsBound Implies first second = ⊤
 IsBound Iff first second = ⊤
 
 -- a language for each track, that of its system
-pub record AreLanguagesOf (way : Direction) (ss : List System) (languages : List Automaton) : Type 0 where
+pub record AreLanguagesOf (direction : Direction) (ss : List System) (languages : List Automaton) : Type 0 where
   pub count : length languages ≡ length ss
-  pub each : (i : ℕ) → i < length ss → IsLanguageOf way (system_at ss i) (language_at languages i)
+  pub each : (i : ℕ) → i < length ss → IsLanguageOf direction (system_at ss i) (language_at languages i)

@@ -1,12 +1,12 @@
 pub use Rattle.numeration.specs.Words
 pub use Rattle.numeration.specs.Systems
-pub use Rattle.numeration.specs.Spelling
+pub use Rattle.numeration.specs.Representation
 pub use Rattle.numeration.specs.Relations
 pub use Rattle.numeration.specs.SomeTracks
 pub use Rattle.number_order.specs.Orders
 pub mod Joined
 pub mod Operations
-pub mod Spellings
+pub mod Representations
 pub mod Successor
 pub mod SuccessorSteps
 pub mod SuccessorSums

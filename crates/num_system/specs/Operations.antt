@@ -34,8 +34,8 @@ pub record IsValidPart (a : NamedAutomaton) (languages : List Automaton) (c : Na
   pub language : (w : List ℕ) → IsWord (letters_of a.automaton) w → accepts_of c.automaton w ≡ in_valid_part a languages w
 
 -- and of a projection
-pub record IsProjection (way : Direction) (a : NamedAutomaton) (track : List ℕ) (c : NamedAutomaton) : Type 0 where
+pub record IsProjection (direction : Direction) (a : NamedAutomaton) (track : List ℕ) (c : NamedAutomaton) : Type 0 where
   pub names : c.names ≡ names_without a.names track
   pub sizes : c.automaton.sizes ≡ staying_sizes a track
   pub canonical : IsCanonical c.automaton
-  pub language : (w : List ℕ) → IsWord (product (staying_sizes a track)) w → IsTrue (accepts_of c.automaton w) ↔ InProjection a.automaton (staying_places a track) way w
+  pub language : (w : List ℕ) → IsWord (product (staying_sizes a track)) w → IsTrue (accepts_of c.automaton w) ↔ InProjection a.automaton (staying_places a track) direction w

@@ -11,35 +11,35 @@ use Rattle.number_order.specs.Orders.{OrderAlike, pair_sizes, pair_letters}
 use Rattle.num_system.specs.SuccessorSteps.{AreWithin, Exceeds, chain_sizes}
 
 -- the canonical automaton of the system's language
-pub record IsLeastLanguage (way : Direction) (s : System) (language : Automaton) : Type 0 where
-  pub accepts : IsLanguageOf way s language
+pub record IsMinimalLanguage (direction : Direction) (s : System) (language : Automaton) : Type 0 where
+  pub accepts : IsLanguageOf direction s language
   pub canonical : IsCanonical language
 
 -- and of its order
-pub record IsLeastOrder (way : Direction) (s : System) (less : Automaton) : Type 0 where
-  pub holds : IsOrderOf way s less
+pub record IsMinimalOrder (direction : Direction) (s : System) (less : Automaton) : Type 0 where
+  pub holds : IsOrderOf direction s less
   pub canonical : IsCanonical less
 
 -- the step of the order: two tracks have an alphabet, and the width is within the limit
-pub record IsOrderWithin (way : Direction) (language : Automaton) (limit : ℕ) : Type 0 where
+pub record IsOrderWithin (direction : Direction) (language : Automaton) (limit : ℕ) : Type 0 where
   pub fits : IsAlphabet (pair_sizes language)
-  pub width : (n : ℕ) × (n ≤ limit) × HasWidth (OrderAlike way language) (pair_letters language) n
+  pub width : (n : ℕ) × (n ≤ limit) × HasWidth (OrderAlike direction language) (pair_letters language) n
 
 -- each step: three tracks have an alphabet too, and the widths of the successor's steps are within the limit
-pub record IsSealedWithin (way : Direction) (language less : Automaton) (limit : ℕ) : Type 0 where
-  pub order : IsOrderWithin way language limit
+pub record IsSealedWithin (direction : Direction) (language less : Automaton) (limit : ℕ) : Type 0 where
+  pub order : IsOrderWithin direction language limit
   pub fits : IsAlphabet (chain_sizes less)
-  pub successor : AreWithin way less limit
+  pub successor : AreWithin direction less limit
 
 -- the first step that exceeds does so by letters
-pub data ExceedsByLetters (way : Direction) (s : System) (limit : ℕ) : Type 0 where
-  letters_at_order : (language : Automaton) → IsLeastLanguage way s language → IsTooLarge (pair_sizes language) → ExceedsByLetters way s limit
-  letters_at_successor : (language less : Automaton) → IsLeastLanguage way s language → IsOrderWithin way language limit
-      → IsLeastOrder way s less → IsTooLarge (chain_sizes less) → ExceedsByLetters way s limit
+pub data ExceedsByLetters (direction : Direction) (s : System) (limit : ℕ) : Type 0 where
+  letters_at_order : (language : Automaton) → IsMinimalLanguage direction s language → IsTooLarge (pair_sizes language) → ExceedsByLetters direction s limit
+  letters_at_successor : (language less : Automaton) → IsMinimalLanguage direction s language → IsOrderWithin direction language limit
+      → IsMinimalOrder direction s less → IsTooLarge (chain_sizes less) → ExceedsByLetters direction s limit
 
 -- the first step that exceeds does so by states
-pub data ExceedsByStates (way : Direction) (s : System) (limit : ℕ) : Type 0 where
-  states_at_order : (language : Automaton) → IsLeastLanguage way s language → IsAlphabet (pair_sizes language)
-      → HasApart (OrderAlike way language) (pair_letters language) (limit + 1) → ExceedsByStates way s limit
-  states_at_successor : (language less : Automaton) → IsLeastLanguage way s language → IsOrderWithin way language limit
-      → IsLeastOrder way s less → IsAlphabet (chain_sizes less) → Exceeds way less limit → ExceedsByStates way s limit
+pub data ExceedsByStates (direction : Direction) (s : System) (limit : ℕ) : Type 0 where
+  states_at_order : (language : Automaton) → IsMinimalLanguage direction s language → IsAlphabet (pair_sizes language)
+      → HasApart (OrderAlike direction language) (pair_letters language) (limit + 1) → ExceedsByStates direction s limit
+  states_at_successor : (language less : Automaton) → IsMinimalLanguage direction s language → IsOrderWithin direction language limit
+      → IsMinimalOrder direction s less → IsAlphabet (chain_sizes less) → Exceeds direction less limit → ExceedsByStates direction s limit

@@ -10,7 +10,7 @@ abbrev pub IsNext : List ℕ → Type 0
 IsNext ns = (x : ℕ) × (ns ≡ x ∷ suc x ∷ [])
 
 abbrev pub IsSuccessorOf : Direction → System → Automaton → Type 0
-IsSuccessorOf way s d = HoldsOf way (s ∷ s ∷ []) IsNext d
+IsSuccessorOf direction s d = HoldsOf direction (s ∷ s ∷ []) IsNext d
 
 -- the first number is above the second and below the third
 abbrev pub IsInside : List ℕ → Type 0

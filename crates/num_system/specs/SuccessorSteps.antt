@@ -32,34 +32,34 @@ IsChain less chain = IsProduct And (order_on less name_x name_u) (order_on less 
 
 -- some u has x < u < y
 abbrev pub IsBetween : Direction → Automaton → NamedAutomaton → Type 0
-IsBetween way less between = (chain : NamedAutomaton) × IsChain less chain × IsProjection way chain name_u between
+IsBetween direction less between = (chain : NamedAutomaton) × IsChain less chain × IsProjection direction chain name_u between
 
 -- the letters of the first step's tracks
 abbrev pub chain_sizes : Automaton → List ℕ
 chain_sizes less = joint_sizes (order_on less name_x name_u) (order_on less name_u name_y)
 
--- which words the steps tell apart
+-- which words the steps distinguish
 abbrev pub ChainAlike : Automaton → List ℕ → List ℕ → Type 0
 ChainAlike less = ProductAlike And (order_on less name_x name_u) (order_on less name_u name_y) []
 
 abbrev pub BetweenAlike : Direction → NamedAutomaton → List ℕ → List ℕ → Type 0
-BetweenAlike way chain = ProjectionAlike chain.automaton (staying_places chain name_u) way
+BetweenAlike direction chain = ProjectionAlike chain.automaton (staying_places chain name_u) direction
 
 abbrev pub NextAlike : Automaton → NamedAutomaton → List ℕ → List ℕ → Type 0
 NextAlike less between = ProductAlike AndNot (order_on less name_x name_y) between []
 
 -- the widths of the three steps are within the limit
-pub record AreWithin (way : Direction) (less : Automaton) (limit : ℕ) : Type 0 where
+pub record AreWithin (direction : Direction) (less : Automaton) (limit : ℕ) : Type 0 where
   pub chain : NamedAutomaton
   pub between : NamedAutomaton
   pub chain_is : IsChain less chain
-  pub between_is : IsProjection way chain name_u between
+  pub between_is : IsProjection direction chain name_u between
   pub first : (n : ℕ) × (n ≤ limit) × HasWidth (ChainAlike less) (product (chain_sizes less)) n
-  pub second : (n : ℕ) × (n ≤ limit) × HasWidth (BetweenAlike way chain) (product (staying_sizes chain name_u)) n
+  pub second : (n : ℕ) × (n ≤ limit) × HasWidth (BetweenAlike direction chain) (product (staying_sizes chain name_u)) n
   pub third : (n : ℕ) × (n ≤ limit) × HasWidth (NextAlike less between) (product (joint_sizes (order_on less name_x name_y) between)) n
 
 -- the width of one of the three steps passes the limit
-pub data Exceeds (way : Direction) (less : Automaton) (limit : ℕ) : Type 0 where
-  at_chain : HasApart (ChainAlike less) (product (chain_sizes less)) (limit + 1) → Exceeds way less limit
-  at_between : (chain : NamedAutomaton) → IsChain less chain → HasApart (BetweenAlike way chain) (product (staying_sizes chain name_u)) (limit + 1) → Exceeds way less limit
-  at_next : (between : NamedAutomaton) → IsBetween way less between → HasApart (NextAlike less between) (product (joint_sizes (order_on less name_x name_y) between)) (limit + 1) → Exceeds way less limit
+pub data Exceeds (direction : Direction) (less : Automaton) (limit : ℕ) : Type 0 where
+  at_chain : HasApart (ChainAlike less) (product (chain_sizes less)) (limit + 1) → Exceeds direction less limit
+  at_between : (chain : NamedAutomaton) → IsChain less chain → HasApart (BetweenAlike direction chain) (product (staying_sizes chain name_u)) (limit + 1) → Exceeds direction less limit
+  at_next : (between : NamedAutomaton) → IsBetween direction less between → HasApart (NextAlike less between) (product (joint_sizes (order_on less name_x name_y) between)) (limit + 1) → Exceeds direction less limit

@@ -36,4 +36,4 @@ sizes_without_u a b = let names = joint_names a.names b.names in picked (places_
 
 -- some u makes a tuple of which both hold
 abbrev pub IsBothForSome : Direction → NamedAutomaton → NamedAutomaton → NamedAutomaton → Type 0
-IsBothForSome way a b c = (both : NamedAutomaton) × IsProduct And a b [] both × IsProjection way both name_u c
+IsBothForSome direction a b c = (both : NamedAutomaton) × IsProduct And a b [] both × IsProjection direction both name_u c

@@ -9,13 +9,13 @@ use Rattle.numeration.specs.Systems.{System}
 use Rattle.num_system.specs.Sealed.{SystemValue, system_of}
 
 -- the direction of the tracks, that of the first; of no tracks any does, and this is msd
-abbrev pub way_of : List SystemValue → Direction
-way_of [] = Msd
-way_of (s ∷ ss) = s.way
+abbrev pub direction_of : List SystemValue → Direction
+direction_of [] = Msd
+direction_of (s ∷ ss) = s.direction
 
 -- the tracks have one direction
-abbrev pub HaveOneWay : List SystemValue → Type 0
-HaveOneWay systems = AllByRecursion (λ (s : SystemValue). s.way ≡ way_of systems) systems
+abbrev pub ShareDirection : List SystemValue → Type 0
+ShareDirection systems = AllByRecursion (λ (s : SystemValue). s.direction ≡ direction_of systems) systems
 
 -- what their words and numbers are
 abbrev pub systems_of : List SystemValue → List System
@@ -32,7 +32,7 @@ no_automaton = record { sizes = []; states = [] }
 abbrev pub absent_system : SystemValue
 absent_system = record {
   digits = 0;
-  way = Msd;
+  direction = Msd;
   language = no_automaton;
   adder = no_automaton;
   equal = no_automaton;

@@ -1,6 +1,6 @@
 //! Laws of automata that hold of relations, each a call that does nothing.
 
-ghost use Rattle.num_system.specs.Links.{ProductsHold, ComplementsHold, ValidPartsHold, ValidPartsSpell, ProjectionsHold, SentencesHold};
+ghost use Rattle.num_system.specs.Links.{ProductsHold, ComplementsHold, ValidPartsHold, ValidPartsRepresent, ProjectionsHold, SentencesHold};
 
 /// A product of automata that hold of relations holds of what its connective says of them.
 pub fn products_hold()
@@ -17,10 +17,10 @@ pub fn valid_parts_hold()
     ensures { ValidPartsHold }
 {}
 
-/// The valid part of an automaton for which leading zeros change nothing holds of the tuples of which
-/// it accepts some spelling.
-pub fn valid_parts_spell()
-    ensures { ValidPartsSpell }
+/// The valid part of an automaton for which leading zeros change nothing holds of the tuples of which it accepts some
+/// representation.
+pub fn valid_parts_represent()
+    ensures { ValidPartsRepresent }
 {}
 
 /// A projection holds of the tuples that some number completes to one of which the relation holds.
@@ -28,7 +28,7 @@ pub fn projections_hold()
     ensures { ProjectionsHold }
 {}
 
-/// An automaton without tracks accepts the empty word just where its sentence is true.
+/// An automaton without tracks accepts the empty word if and only if its sentence is true.
 pub fn sentences_hold()
     ensures { SentencesHold }
 {}

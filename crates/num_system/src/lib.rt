@@ -19,7 +19,7 @@ mod relations;
 /// Sealed systems.
 pub mod system;
 
-/// What sealed systems tell, seen from outside.
+/// What sealed systems say, seen from outside.
 pub mod sealed;
 
 /// The systems of several tracks.

@@ -10,7 +10,7 @@ ghost use Rattle.numeration.specs.Relations.{IsLanguageOf, IsAdderOf, IsEquality
 ghost use Rattle.number_order.specs.Orders.{OrderAlike, pair_sizes, pair_letters};
 ghost use Rattle.num_system.specs.Sealed.{AreOrderRelationsOf, AreRelationsOf};
 ghost use Rattle.num_system.specs.Successor.{IsSuccessorOf};
-ghost use Rattle.num_system.specs.Sealing.{IsLeastLanguage, IsOrderWithin, IsSealedWithin, ExceedsByLetters, ExceedsByStates};
+ghost use Rattle.num_system.specs.Sealing.{IsMinimalLanguage, IsOrderWithin, IsSealedWithin, ExceedsByLetters, ExceedsByStates};
 
 use crate::successor::successor_of;
 use crate::successor_sums::successor_by_sums;
@@ -23,7 +23,7 @@ use number_order::zero::zero_of;
 use std::alloc::Global;
 
 // Up to so many letters on three tracks the successor takes less time from the order than from the sums. Of more letters
-// most have an edge in the product of two orders, and few in the adder.
+// most have a transition in the product of two orders, and few in the adder.
 const FEW_LETTERS: u32 = 64;
 
 // The canonical automata of these relations.
@@ -64,11 +64,11 @@ pub(crate) fn relations_of(
     direction: Direction,
     limit: u32,
 ) -> Result<Relations, OpFault>
-    requires { (s : System) × IsSystem s × IsLeastLanguage direction s language.now }
+    requires { (s : System) × IsSystem s × IsMinimalLanguage direction s language.now }
     ensures relations { IfOk result (λ r. (s : System) → IsSystem s → IsLanguageOf direction s language.now → AreRelationsOf direction s r.equal r.less r.successor r.zero) }
     ensures within { IfOk result (λ r. IsSealedWithin direction language.now r.less limit) }
-    ensures letters { IsErrOf result OpFault.Letters → (s : System) → IsSystem s → IsLeastLanguage direction s language.now → ExceedsByLetters direction s limit }
-    ensures states { IsErrOf result OpFault.States → (s : System) → IsSystem s → IsLeastLanguage direction s language.now → ExceedsByStates direction s limit }
+    ensures letters { IsErrOf result OpFault.Letters → (s : System) → IsSystem s → IsMinimalLanguage direction s language.now → ExceedsByLetters direction s limit }
+    ensures states { IsErrOf result OpFault.States → (s : System) → IsSystem s → IsMinimalLanguage direction s language.now → ExceedsByStates direction s limit }
 {
     let relations = order_relations(alloc, language, direction, limit)?;
     let successor = successor_of(alloc, &relations.less, direction, limit)?;
@@ -82,7 +82,7 @@ pub(crate) fn relations_without_limit(
     adder: &Dfa,
     direction: Direction,
 ) -> Result<Relations, OutOfMemory>
-    requires system { (s : System) × IsSystem s × IsLeastLanguage direction s language.now × IsAdderOf direction s adder.now }
+    requires system { (s : System) × IsSystem s × IsMinimalLanguage direction s language.now × IsAdderOf direction s adder.now }
     requires canonical { IsCanonical adder.now }
     requires fits { IsAlphabet adder.now.sizes }
     ensures { IfOk result (λ r. (s : System) → IsSystem s → IsLanguageOf direction s language.now → IsAdderOf direction s adder.now → AreRelationsOf direction s r.equal r.less r.successor r.zero) }
@@ -121,7 +121,7 @@ fn order_relations(
     direction: Direction,
     limit: u32,
 ) -> Result<OrderRelations, OpFault>
-    requires { (s : System) × IsSystem s × IsLeastLanguage direction s language.now }
+    requires { (s : System) × IsSystem s × IsMinimalLanguage direction s language.now }
     ensures relations { IfOk result (λ r. (s : System) → IsSystem s → IsLanguageOf direction s language.now → AreOrderRelationsOf direction s r.equal r.less r.zero) }
     ensures within { OnOk result (IsOrderWithin direction language.now limit) }
     ensures letters { IsErrOf result OpFault.Letters → IsTooLarge (pair_sizes language.now) }

@@ -6,7 +6,7 @@ ghost use Rattle.digit_tuple.specs.Letters.{IsAlphabet};
 ghost use Rattle.minimise.specs.Canonical.{IsCanonical};
 ghost use Rattle.numeration.specs.Relations.{IsAdderOf};
 ghost use Rattle.num_system.specs.Sealed.{SystemValue, AreRelationsOf, sealed_of, system_of};
-ghost use Rattle.num_system.specs.Sealing.{IsLeastLanguage, IsSealedWithin, ExceedsByLetters, ExceedsByStates};
+ghost use Rattle.num_system.specs.Sealing.{IsMinimalLanguage, IsSealedWithin, ExceedsByLetters, ExceedsByStates};
 
 use crate::relations::{Relations, relations_of, relations_without_limit};
 use crate::system::System;
@@ -25,13 +25,13 @@ use std::rc::Rc;
 /// first. Memory may also run out where 2^32 - 1 states are not enough.
 pub fn seal<N: NumSystem>(alloc: Global, system: &N, limit: u32) -> Result<System, OpFault>
     ensures system { IfOk result (λ sealed. system_of sealed ≡ N.system system.now) }
-    ensures direction { IfOk result (λ sealed. sealed.way ≡ N.way system.now) }
-    ensures within { IfOk result (λ sealed. IsSealedWithin sealed.way sealed.language sealed.less limit) }
-    ensures letters { IsErrOf result OpFault.Letters → ExceedsByLetters (N.way system.now) (N.system system.now) limit }
-    ensures states { IsErrOf result OpFault.States → ExceedsByStates (N.way system.now) (N.system system.now) limit }
+    ensures direction { IfOk result (λ sealed. sealed.direction ≡ N.first_digit system.now) }
+    ensures within { IfOk result (λ sealed. IsSealedWithin sealed.direction sealed.language sealed.less limit) }
+    ensures letters { IsErrOf result OpFault.Letters → ExceedsByLetters (N.first_digit system.now) (N.system system.now) limit }
+    ensures states { IsErrOf result OpFault.States → ExceedsByStates (N.first_digit system.now) (N.system system.now) limit }
 {
-    let language = least_language(alloc, system)?;
-    let adder = least_adder(alloc, system)?;
+    let language = minimal_language(alloc, system)?;
+    let adder = minimal_adder(alloc, system)?;
     let direction = system.direction();
     let relations = relations_of(alloc, &language, direction, limit)?;
     let sealed = system_from(alloc, system, language, adder, relations)?;
@@ -44,26 +44,26 @@ pub fn seal<N: NumSystem>(alloc: Global, system: &N, limit: u32) -> Result<Syste
 pub fn seal_built_in<N: NumSystem>(alloc: Global, system: &N) -> Result<System, OutOfMemory>
     requires { let digits = (N.system system.now).digits in IsAlphabet (digits ∷ digits ∷ digits ∷ []) }
     ensures system { IfOk result (λ sealed. system_of sealed ≡ N.system system.now) }
-    ensures direction { IfOk result (λ sealed. sealed.way ≡ N.way system.now) }
+    ensures direction { IfOk result (λ sealed. sealed.direction ≡ N.first_digit system.now) }
 {
-    let language = least_language(alloc, system)?;
-    let adder = least_adder(alloc, system)?;
+    let language = minimal_language(alloc, system)?;
+    let adder = minimal_adder(alloc, system)?;
     let direction = system.direction();
     let relations = relations_without_limit(alloc, &language, &adder, direction)?;
     system_from(alloc, system, language, adder, relations)
 }
 
 // The canonical automaton of the language.
-fn least_language<N: NumSystem>(alloc: Global, system: &N) -> Result<Dfa, OutOfMemory>
-    ensures { IfOk result (λ dfa. IsLeastLanguage (N.way system.now) (N.system system.now) dfa) }
+fn minimal_language<N: NumSystem>(alloc: Global, system: &N) -> Result<Dfa, OutOfMemory>
+    ensures { IfOk result (λ dfa. IsMinimalLanguage (N.first_digit system.now) (N.system system.now) dfa) }
 {
     let language = system.language(alloc)?;
     canonical(alloc, &language)
 }
 
 // The canonical automaton of the sums.
-fn least_adder<N: NumSystem>(alloc: Global, system: &N) -> Result<Dfa, OutOfMemory>
-    ensures adder { IfOk result (λ dfa. IsAdderOf (N.way system.now) (N.system system.now) dfa) }
+fn minimal_adder<N: NumSystem>(alloc: Global, system: &N) -> Result<Dfa, OutOfMemory>
+    ensures adder { IfOk result (λ dfa. IsAdderOf (N.first_digit system.now) (N.system system.now) dfa) }
     ensures canonical { IfOk result IsCanonical }
 {
     let adder = system.adder(alloc)?;
@@ -78,12 +78,12 @@ fn system_from<N: NumSystem>(
     adder: Dfa,
     relations: Relations,
 ) -> Result<System, OutOfMemory>
-    requires language { IsLeastLanguage (N.way system.now) (N.system system.now) language }
-    requires adder { IsAdderOf (N.way system.now) (N.system system.now) adder }
+    requires language { IsMinimalLanguage (N.first_digit system.now) (N.system system.now) language }
+    requires adder { IsAdderOf (N.first_digit system.now) (N.system system.now) adder }
     requires canonical { IsCanonical adder }
-    requires relations { AreRelationsOf (N.way system.now) (N.system system.now) relations.equal relations.less relations.successor relations.zero }
+    requires relations { AreRelationsOf (N.first_digit system.now) (N.system system.now) relations.equal relations.less relations.successor relations.zero }
     ensures system { IfOk result (λ sealed. system_of sealed ≡ N.system system.now) }
-    ensures parts { IfOk result (λ sealed. sealed ≡ sealed_of (N.system system.now).digits (N.way system.now) language adder relations) }
+    ensures parts { IfOk result (λ sealed. sealed ≡ sealed_of (N.system system.now).digits (N.first_digit system.now) language adder relations) }
 {
     let digits = system.digits();
     let direction = system.direction();

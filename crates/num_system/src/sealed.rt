@@ -1,4 +1,4 @@
-//! What sealed systems tell, seen from outside.
+//! What sealed systems say, seen from outside.
 
 ghost use Rattle.std.specs.Prelude.{map};
 ghost use Rattle.std.specs.List.{AllByRecursion};

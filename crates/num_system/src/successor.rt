@@ -30,11 +30,10 @@ use std::alloc::Global;
 /// The canonical automaton of the pairs of numbers of which the second is one more than the first, for
 /// each system whose order the canonical automaton of two tracks of one size holds of in this direction.
 ///
-/// It takes three steps: the triples with x < u and u < y (`chain_of`); of these the pairs x and y with
-/// some u between (`between_of`); and the pairs with x < y and no u between (`next_of`). Each is
-/// canonical. `Letters` comes exactly where three tracks have more than 65,536 letters, and `States`
-/// exactly where the width of one of the steps passes the limit, the first of them that does. Memory may
-/// also run out where 2^32 - 1 states are not enough.
+/// It takes three steps: the triples with x < u and u < y (`chain_of`); of these the pairs x and y with some u between
+/// (`between_of`); and the pairs with x < y and no u between (`next_of`). Each is canonical. `Letters` comes if and
+/// only if three tracks have more than 65,536 letters, and `States` if and only if the width of one of the steps passes
+/// the limit, the first of them that does. Memory may also run out where 2^32 - 1 states are not enough.
 pub fn successor_of(
     alloc: Global,
     less: &Dfa,
@@ -64,7 +63,7 @@ pub fn chain_of(alloc: Global, less: &Dfa, limit: u32) -> Result<Stepped<Tracked
     requires canonical { IsCanonical less.now }
     requires tracks { (digits : ℕ) × (less.now.sizes ≡ digits ∷ digits ∷ []) }
     ensures chain { IfOk result (λ stepped. IsChain less.now stepped.result) }
-    ensures relation { IfOk result (λ stepped. (way : Direction) (s : System) → IsSystem s → IsOrderOf way s less.now → HoldsOf way (s ∷ s ∷ s ∷ []) IsInside stepped.result.automaton) }
+    ensures relation { IfOk result (λ stepped. (direction : Direction) (s : System) → IsSystem s → IsOrderOf direction s less.now → HoldsOf direction (s ∷ s ∷ s ∷ []) IsInside stepped.result.automaton) }
     ensures width { IfOk result (λ stepped. HasWidth (ChainAlike less.now) (letter_count (chain_sizes less.now)) stepped.width) }
     ensures size { IfOk result (λ stepped. states_of stepped.result.automaton ≤ stepped.width) }
     ensures within { IfOk result (λ stepped. stepped.width ≤ limit) }
@@ -115,7 +114,7 @@ pub fn next_of(
     requires sizes { between.now.automaton.sizes ≡ less.now.sizes }
     requires fits { IsAlphabet less.now.sizes }
     ensures next { IfOk result (λ stepped. IsProduct AndNot (order_under less.now name_x name_y) between.now [] (order_under stepped.result name_x name_y)) }
-    ensures relation { IfOk result (λ stepped. (way : Direction) (s : System) → IsOrderOf way s less.now → HoldsOf way (s ∷ s ∷ []) HasInside between.now.automaton → IsSuccessorOf way s stepped.result) }
+    ensures relation { IfOk result (λ stepped. (direction : Direction) (s : System) → IsOrderOf direction s less.now → HoldsOf direction (s ∷ s ∷ []) HasInside between.now.automaton → IsSuccessorOf direction s stepped.result) }
     ensures sizes { IfOk result (λ stepped. stepped.result.sizes ≡ less.now.sizes) }
     ensures width { IfOk result (λ stepped. HasWidth (NextAlike less.now between.now) (letter_count (joint_sizes (order_under less.now name_x name_y) between.now)) stepped.width) }
     ensures size { IfOk result (λ stepped. states_of stepped.result ≤ stepped.width) }

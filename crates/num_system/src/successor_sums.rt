@@ -80,7 +80,7 @@ fn one_from(alloc: Global, positive: &Dfa, above_one: &Dfa) -> Result<Dfa, OutOf
     requires above_one { IsCanonical above_one.now }
     requires tracks { (digits : ℕ) × (positive.now.sizes ≡ digits ∷ []) × (above_one.now.sizes ≡ digits ∷ []) }
     requires fits { IsAlphabet positive.now.sizes }
-    ensures one { IfOk result (λ one. (way : Direction) (s : System) → HoldsOf way (s ∷ []) IsPositive positive.now → HoldsOf way (s ∷ []) IsAboveOne above_one.now → HoldsOf way (s ∷ []) IsOne one) }
+    ensures one { IfOk result (λ one. (direction : Direction) (s : System) → HoldsOf direction (s ∷ []) IsPositive positive.now → HoldsOf direction (s ∷ []) IsAboveOne above_one.now → HoldsOf direction (s ∷ []) IsOne one) }
     ensures sizes { IfOk result (λ one. one.sizes ≡ positive.now.sizes) }
     ensures canonical { IfOk result (λ one. IsCanonical one) }
 {

@@ -62,9 +62,9 @@ impl System {
         self.digit_count
     }
 
-    /// Which digit of a word stands first.
+    /// Which digit of a word comes first.
     pub fn direction(&self) -> Direction
-        ensures value { result ≡ self.now.way }
+        ensures value { result ≡ self.now.direction }
         ensures laws { IsSystem (system_of self.now) }
     {
         self.first_digit
@@ -73,7 +73,7 @@ impl System {
     /// The canonical automaton of the valid words.
     pub fn language(&self) -> &Rc<Dfa>
         ensures value { result.now.value ≡ self.now.language }
-        ensures language { IsLanguageOf self.now.way (system_of self.now) result.now.value }
+        ensures language { IsLanguageOf self.now.direction (system_of self.now) result.now.value }
         ensures canonical { IsCanonical result.now.value }
         ensures laws { IsSystem (system_of self.now) }
     {
@@ -83,7 +83,7 @@ impl System {
     /// The canonical automaton of the triples of numbers of which the third is the sum of the others.
     pub fn adder(&self) -> &Dfa
         ensures value { result.now ≡ self.now.adder }
-        ensures adder { IsAdderOf self.now.way (system_of self.now) result.now }
+        ensures adder { IsAdderOf self.now.direction (system_of self.now) result.now }
         ensures canonical { IsCanonical result.now }
         ensures laws { IsSystem (system_of self.now) }
     {
@@ -93,7 +93,7 @@ impl System {
     /// The canonical automaton of the pairs of equal numbers.
     pub fn equal(&self) -> &Dfa
         ensures value { result.now ≡ self.now.equal }
-        ensures equality { IsEqualityOf self.now.way (system_of self.now) result.now }
+        ensures equality { IsEqualityOf self.now.direction (system_of self.now) result.now }
         ensures canonical { IsCanonical result.now }
         ensures laws { IsSystem (system_of self.now) }
     {
@@ -103,7 +103,7 @@ impl System {
     /// The canonical automaton of the pairs of numbers of which the first is less.
     pub fn less(&self) -> &Dfa
         ensures value { result.now ≡ self.now.less }
-        ensures order { IsOrderOf self.now.way (system_of self.now) result.now }
+        ensures order { IsOrderOf self.now.direction (system_of self.now) result.now }
         ensures canonical { IsCanonical result.now }
         ensures laws { IsSystem (system_of self.now) }
     {
@@ -113,7 +113,7 @@ impl System {
     /// The canonical automaton of the pairs of numbers of which the second is one more than the first.
     pub fn successor(&self) -> &Dfa
         ensures value { result.now ≡ self.now.successor }
-        ensures successor { IsSuccessorOf self.now.way (system_of self.now) result.now }
+        ensures successor { IsSuccessorOf self.now.direction (system_of self.now) result.now }
         ensures canonical { IsCanonical result.now }
         ensures laws { IsSystem (system_of self.now) }
     {
@@ -123,7 +123,7 @@ impl System {
     /// The canonical automaton of the number 0.
     pub fn zero(&self) -> &Dfa
         ensures value { result.now ≡ self.now.zero }
-        ensures zero { IsZeroOf self.now.way (system_of self.now) result.now }
+        ensures zero { IsZeroOf self.now.direction (system_of self.now) result.now }
         ensures canonical { IsCanonical result.now }
         ensures laws { IsSystem (system_of self.now) }
     {

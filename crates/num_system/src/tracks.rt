@@ -2,8 +2,8 @@
 
 ghost use Rattle.std.specs.Prelude.{◌≡◌, map, IfOk};
 ghost use Rattle.std.specs.Rc.{rc_value};
-ghost use Rattle.numeration.specs.Spelling.{sizes_of};
-ghost use Rattle.num_system.specs.Tracks.{languages_of as languages_of_systems, systems_of, way_of};
+ghost use Rattle.numeration.specs.Representation.{sizes_of};
+ghost use Rattle.num_system.specs.Tracks.{languages_of as languages_of_systems, systems_of, direction_of as direction_of_systems};
 
 use crate::system::System;
 use digit_tuple::dfa::Dfa;
@@ -36,7 +36,7 @@ pub fn digits_of(alloc: Global, systems: &[Rc<System>]) -> Result<Vec<u32>, OutO
 
 /// The direction of tracks over these systems.
 pub fn direction_of(systems: &[Rc<System>]) -> Direction
-    ensures { result ≡ way_of (map rc_value systems.now) }
+    ensures { result ≡ direction_of_systems (map rc_value systems.now) }
 {
     match systems.first() {
         Some(system) => system.as_ref().direction(),

@@ -30,7 +30,7 @@ ordering_at-index Less = refl
 ordering_at-index Equal = refl
 ordering_at-index Greater = refl
 
--- a digit more behind each word
+-- a digit more after each word
 pub comparison-push : (w v : List ℕ) (a b : ℕ) → length w ≡ length v → slice_cmp nat_cmp (w ++ a ∷ []) (v ++ b ∷ []) ≡ ordering_then (slice_cmp nat_cmp w v) (nat_cmp a b)
 comparison-push [] [] a b long = then_equal (nat_cmp a b)
 comparison-push [] (e ∷ v) a b long = absurd (omega (arith, long))
@@ -43,11 +43,11 @@ abbrev pub joined : Direction → Ordering → List ℕ → List ℕ → Orderin
 joined Msd so_far x y = ordering_then so_far (slice_cmp nat_cmp x y)
 joined Lsd so_far x y = ordering_then (slice_cmp nat_cmp (reverse x) (reverse y)) so_far
 
-pub joined-nil : (way : Direction) (o : Ordering) → joined way o [] [] ≡ o
+pub joined-nil : (direction : Direction) (o : Ordering) → joined direction o [] [] ≡ o
 joined-nil Msd o = then_equal o
 joined-nil Lsd o = refl
 
-pub joined-step : (way : Direction) (o : Ordering) (a b : ℕ) (x y : List ℕ) → length x ≡ length y → joined way (compared_more way o a b) x y ≡ joined way o (a ∷ x) (b ∷ y)
+pub joined-step : (direction : Direction) (o : Ordering) (a b : ℕ) (x y : List ℕ) → length x ≡ length y → joined direction (compared_more direction o a b) x y ≡ joined direction o (a ∷ x) (b ∷ y)
 joined-step Msd o a b x y long = then_assoc o (nat_cmp a b) (slice_cmp nat_cmp x y)
 joined-step Lsd o a b x y long =
     sym (then_assoc (slice_cmp nat_cmp (reverse x) (reverse y)) (nat_cmp a b) o)
@@ -55,7 +55,7 @@ joined-step Lsd o a b x y long =
     ∙ ap (λ z. ordering_then (slice_cmp nat_cmp z (reverse y ++ b ∷ [])) o) (sym (reverse-append (a ∷ []) x))
     ∙ ap (λ z. ordering_then (slice_cmp nat_cmp (reverse (a ∷ x)) z) o) (sym (reverse-append (b ∷ []) y))
 
-pub joined-all : (way : Direction) (x y : List ℕ) → joined way Equal x y ≡ slice_cmp nat_cmp (in_order way x) (in_order way y)
+pub joined-all : (direction : Direction) (x y : List ℕ) → joined direction Equal x y ≡ slice_cmp nat_cmp (in_order direction x) (in_order direction y)
 joined-all Msd x y = refl
 joined-all Lsd x y = then_equal (slice_cmp nat_cmp (reverse x) (reverse y))
 

@@ -5,7 +5,7 @@ use Rattle.number_order.specs.Orders.{OrderAlike, pair_letters}
 use Rattle.number_order.specs.OrderWidth.{OrderAlikeIsEquivalence, OneOrderWidth, OrderWidthExcludes}
 
 pub IsEquivalence-order : OrderAlikeIsEquivalence
-IsEquivalence-order way language = record {
+IsEquivalence-order direction language = record {
   reflexive = λ w. record { first = λ u over. refl; second = λ u over. refl; compared = refl };
   symmetric = λ w v one. record { first = λ u over. sym (one.first u over); second = λ u over. sym (one.second u over); compared = sym one.compared };
   transitive = λ u v w one two. record {
@@ -16,7 +16,7 @@ IsEquivalence-order way language = record {
 }
 
 pub one_order_width : OneOrderWidth
-one_order_width way language = HasWidth-unique (OrderAlike way language) (pair_letters language) (IsEquivalence-order way language)
+one_order_width direction language = HasWidth-unique (OrderAlike direction language) (pair_letters language) (IsEquivalence-order direction language)
 
 pub order_width_excludes : OrderWidthExcludes
-order_width_excludes way language = HasWidth-excludes (OrderAlike way language) (pair_letters language) (IsEquivalence-order way language)
+order_width_excludes direction language = HasWidth-excludes (OrderAlike direction language) (pair_letters language) (IsEquivalence-order direction language)

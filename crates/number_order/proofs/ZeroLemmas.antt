@@ -51,14 +51,14 @@ zeros_accepted d (suc a ∷ w) stays =
     let step : accepts_of d (suc a ∷ w) ≡ false = ap (λ (o : Option ℕ). option_map_or (λ p. accepts_from d p w) o false) (stays.stops a) in
     (λ h. absurd (false≢true (sym step ∙ h)), λ h. absurd (let e : suc (length w) ≡ 0 = ap length h in omega (arith, e)))
 
-in_order_accepted : (way : Direction) (d : Automaton) (w : List ℕ) → StaysByZero d → IsTrue (accepts_of d w) ↔ (without_zeros (in_order way w) ≡ [])
+in_order_accepted : (direction : Direction) (d : Automaton) (w : List ℕ) → StaysByZero d → IsTrue (accepts_of d w) ↔ (without_zeros (in_order direction w) ≡ [])
 in_order_accepted Msd d w stays = zeros_accepted d w stays
 in_order_accepted Lsd d w stays =
     let both = zeros_accepted d w stays in
     (λ h. turned w (both.0 h), λ h. both.1 (subst (λ v. without_zeros v ≡ []) (reverse-reverse w) (turned (reverse w) h)))
 
-pub zero_holds : (way : Direction) (s : System) (d : Automaton) → IsSystem s → d.sizes ≡ s.digits ∷ [] → StaysByZero d → IsZeroOf way s d
-zero_holds way s d is sizes stays = constant_holds way s 0 [] d is (zero_rep s is) sizes (λ w. in_order_accepted way d w stays)
+pub zero_holds : (direction : Direction) (s : System) (d : Automaton) → IsSystem s → d.sizes ≡ s.digits ∷ [] → StaysByZero d → IsZeroOf direction s d
+zero_holds direction s d is sizes stays = constant_holds direction s 0 [] d is (zero_rep s is) sizes (λ w. in_order_accepted direction d w stays)
 
 -- an automaton of one state to which the letter 0 was given
 pub set_by_zero : (sizes : List ℕ) (empty one made : Automaton) (q : ℕ) → empty ≡ record { sizes = sizes; states = [] } → one ≡ with_state empty true → q ≡ states_of empty → IsSet one made q 0 q

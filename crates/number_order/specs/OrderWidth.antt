@@ -5,14 +5,14 @@ use Rattle.digit_tuple.specs.Width.{HasApart, HasWidth, IsEquivalence}
 use Rattle.digit_tuple.specs.declared.direction.Direction.{Direction}
 use Rattle.number_order.specs.Orders.{OrderAlike, pair_letters}
 
--- words are alike that an order does not tell apart, as equals are
+-- words are alike that an order does not distinguish, as equals are
 abbrev pub OrderAlikeIsEquivalence : Type 0
-OrderAlikeIsEquivalence = (way : Direction) (language : Automaton) → IsEquivalence (OrderAlike way language)
+OrderAlikeIsEquivalence = (direction : Direction) (language : Automaton) → IsEquivalence (OrderAlike direction language)
 
 -- two widths of one order are equal
 abbrev pub OneOrderWidth : Type 0
-OneOrderWidth = (way : Direction) (language : Automaton) (j k : ℕ) → HasWidth (OrderAlike way language) (pair_letters language) j → HasWidth (OrderAlike way language) (pair_letters language) k → j ≡ k
+OneOrderWidth = (direction : Direction) (language : Automaton) (j k : ℕ) → HasWidth (OrderAlike direction language) (pair_letters language) j → HasWidth (OrderAlike direction language) (pair_letters language) k → j ≡ k
 
 -- no more words are apart than the width says
 abbrev pub OrderWidthExcludes : Type 0
-OrderWidthExcludes = (way : Direction) (language : Automaton) (j k : ℕ) → k < j → HasWidth (OrderAlike way language) (pair_letters language) k → ¬ HasApart (OrderAlike way language) (pair_letters language) j
+OrderWidthExcludes = (direction : Direction) (language : Automaton) (j k : ℕ) → k < j → HasWidth (OrderAlike direction language) (pair_letters language) k → ¬ HasApart (OrderAlike direction language) (pair_letters language) j

@@ -1,4 +1,4 @@
--- The order of two numbers, told from words of one length: both are in the language, and the first is less.
+-- The order of two numbers, determined from words of one length: both are in the language, and the first is less.
 use Rattle.std.specs.Prelude.{◌≡◌, ℕ, List, [], ◌∷◌, ◌++◌}
 use Rattle.std.specs.Ordering.{nat_cmp}
 use Rattle.std.specs.declared.cmp.Ordering.{Ordering}
@@ -24,10 +24,10 @@ pair_track language place w = part (pair_sizes language) (place ∷ []) w
 
 -- how the words on the two tracks compare in lexicographic order, read from the most significant digit on
 abbrev pub comparison : Direction → Automaton → List ℕ → Ordering
-comparison way language w = slice_cmp nat_cmp (in_order way (pair_track language 0 w)) (in_order way (pair_track language 1 w))
+comparison direction language w = slice_cmp nat_cmp (in_order direction (pair_track language 0 w)) (in_order direction (pair_track language 1 w))
 
 -- on each track the language has one residual after the two words, and their tracks compare alike
-pub record OrderAlike (way : Direction) (language : Automaton) (w v : List ℕ) : Type 0 where
+pub record OrderAlike (direction : Direction) (language : Automaton) (w v : List ℕ) : Type 0 where
   pub first : SameAfter language (pair_track language 0 w) (pair_track language 0 v)
   pub second : SameAfter language (pair_track language 1 w) (pair_track language 1 v)
-  pub compared : comparison way language w ≡ comparison way language v
+  pub compared : comparison direction language w ≡ comparison direction language v

@@ -32,10 +32,10 @@ next_states_of d q digits = map (next_of d q) (range_with_len 0 digits)
 
 -- where a letter of so many digits on each track leads from a key
 abbrev pub next_pair : Direction → Automaton → ℕ → List ℕ → ℕ → List ℕ
-next_pair way d digits key letter =
+next_pair direction d digits key letter =
     next_of d (at key 0) (letter / digits)
     ∷ next_of d (at key 1) (letter % digits)
-    ∷ ordering_index (compared_more way (ordering_at (at key 2)) (letter / digits) (letter % digits))
+    ∷ ordering_index (compared_more direction (ordering_at (at key 2)) (letter / digits) (letter % digits))
     ∷ []
 
 -- both words are in the language, and they compare as wanted

@@ -2,7 +2,7 @@
 
 ghost use Rattle.number_order.specs.OrderWidth.{OrderAlikeIsEquivalence, OneOrderWidth, OrderWidthExcludes};
 
-/// Words that an order does not tell apart are of one kind: they are alike as equals are.
+/// Words that an order does not distinguish are of one kind: they are alike as equals are.
 pub fn kinds_are_classes()
     ensures { OrderAlikeIsEquivalence }
 {}

@@ -1,8 +1,8 @@
-//! The order of the numbers of a system, its equality and its zero, told from its language alone.
+//! The order of the numbers of a system, its equality and its zero, determined from its language alone.
 //!
-//! Words of one length stand in the order of their numbers, most significant digit first, so that one
-//! walk along two words side by side tells which number is less. Each result is canonical. That a
-//! language is that of a system is no premise: the relations hold for each system whose language it is.
+//! Words of one length are in the order of their numbers, most significant digit first, so that one walk along two
+//! words side by side says which number is less. Each result is canonical. That a language is that of a system is no
+//! premise: the relations hold for each system whose language it is.
 #![tactic(auto)]
 
 /// Pairs of words that are read side by side.

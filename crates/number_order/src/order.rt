@@ -1,4 +1,4 @@
-//! The order and the equality of the numbers of a system, told from its language alone.
+//! The order and the equality of the numbers of a system, determined from its language alone.
 
 ghost use Rattle.std.specs.Prelude.{◌≡◌, ◌+◌, ◌≤◌, ◌↔◌, length, IfOk, OnOk};
 ghost use Rattle.std.specs.Result.{IsErrOf};
@@ -21,12 +21,11 @@ use std::cmp::Ordering;
 /// The canonical automaton of the pairs of numbers of which the first is less, for a canonical
 /// automaton of one track that accepts the valid words of a system.
 ///
-/// Valid words of one length are in the order of their numbers, most significant digit first
-/// (Shallit, "The Logical Approach to Automatic Sequences"). The width is the number of triples of the
-/// language's residuals after the two words and of the words' comparison, the empty residual counted
-/// too. `Letters` comes exactly where two tracks have too many letters, and `States` exactly where the
-/// width passes the limit. Memory may also run out where 2^32 - 1 states are not enough. Time and
-/// memory follow the width times the letters.
+/// Valid words of one length are in the order of their numbers, most significant digit first (Shallit, "The Logical
+/// Approach to Automatic Sequences"). The width is the number of triples of the language's residuals after the two
+/// words and of the words' comparison, the empty residual counted too. `Letters` comes if and only if two tracks have
+/// too many letters, and `States` if and only if the width passes the limit. Memory may also run out where 2^32 - 1
+/// states are not enough. Time and memory follow the width times the letters.
 pub fn order_of(
     alloc: Global,
     language: &Dfa,

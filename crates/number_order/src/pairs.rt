@@ -1,4 +1,4 @@
-//! Pairs of numbers that compare in one way, told from words that are read side by side.
+//! Pairs of numbers that compare in one way, determined from words that are read side by side.
 
 ghost use Rattle.std.specs.Prelude.{◌≡◌, ◌+◌, ◌*◌, ◌<◌, ◌≤◌, ◌↔◌, ℕ, Some, [], ◌∷◌, length, slice_index, IfOk, OnOk};
 ghost use Rattle.std.proofs.Common.{refl};
@@ -17,11 +17,11 @@ use digit_tuple::alphabet::Alphabet;
 use digit_tuple::dfa::Dfa;
 use digit_tuple::direction::Direction;
 use digit_tuple::faults::{OpFault, OutOfMemory};
-use digit_tuple::key_edges::KeyEdges;
 use digit_tuple::key_graph::KeyGraph;
+use digit_tuple::key_transitions::KeyTransitions;
 use digit_tuple::stepped::Stepped;
 use minimise::canonical_exploration::explore_canonical;
-use minimise::sink::{first_state, is_accepting, next_state};
+use minimise::sink::{initial_state, is_accepting, next_state};
 use std::alloc::Global;
 use std::cmp::Ordering;
 
@@ -53,11 +53,16 @@ impl KeyGraph for Pairs<'_> {
     ghost after_is_key = { λ s key letter graph is small. refl };
 
     fn first_key(&self, alloc: Global) -> Result<Vec<u32>, OutOfMemory> {
-        let first = first_state(self.language);
+        let first = initial_state(self.language);
         Ok(Vec::from_slice(alloc, &[first, first, number_of(Ordering::Equal)])?)
     }
 
-    fn edges(&self, alloc: Global, key: &[u32], out: &mut KeyEdges) -> Result<(), OutOfMemory> {
+    fn transitions(
+        &self,
+        alloc: Global,
+        key: &[u32],
+        out: &mut KeyTransitions,
+    ) -> Result<(), OutOfMemory> {
         let firsts = next_states(alloc, self.language, key[0], self.digits)?;
         let seconds = next_states(alloc, self.language, key[1], self.digits)?;
         for letter in 0..self.digits * self.digits {
@@ -111,7 +116,7 @@ fn next_states(
     Ok(states)
 }
 
-// Where a letter leads from a key, told from where each digit leads from the key's two states.
+// Where a letter leads from a key, determined from where each digit leads from the key's two states.
 fn next_key(
     pairs: &Pairs<'_>,
     key: &[u32],
@@ -145,11 +150,10 @@ fn compare(direction: Direction, so_far: Ordering, first: u32, second: u32) -> O
     }
 }
 
-/// The canonical automaton of the pairs of numbers that compare as wanted, for a canonical automaton
-/// of one track that accepts the valid words of a system. The width is the number of triples of the
-/// language's residuals after the two words and of the words' comparison, the empty residual counted
-/// too. `Letters` comes exactly where two tracks have too many letters, and `States` exactly where the
-/// width passes the limit.
+/// The canonical automaton of the pairs of numbers that compare as wanted, for a canonical automaton of one track that
+/// accepts the valid words of a system. The width is the number of triples of the language's residuals after the two
+/// words and of the words' comparison, the empty residual counted too. `Letters` comes if and only if two tracks have
+/// too many letters, and `States` if and only if the width passes the limit.
 pub fn compared(
     alloc: Global,
     language: &Dfa,

@@ -17,7 +17,7 @@ use std::alloc::Global;
 /// language, in each direction.
 pub fn zero_of(alloc: Global, language: &Dfa) -> Result<Dfa, OutOfMemory>
     requires { 0 < letters_of language.now }
-    ensures zero { IfOk result (λ zero. (way : Direction) (s : System) → IsSystem s → language.now.sizes ≡ s.digits ∷ [] → IsZeroOf way s zero) }
+    ensures zero { IfOk result (λ zero. (direction : Direction) (s : System) → IsSystem s → language.now.sizes ≡ s.digits ∷ [] → IsZeroOf direction s zero) }
     ensures sizes { IfOk result (λ zero. zero.sizes ≡ language.now.sizes) }
     ensures canonical { IfOk result IsCanonical }
 {

@@ -10,11 +10,11 @@ use Rattle.number_relations.specs.Placed.{each_once}
 use Rattle.number_relations.specs.Comparisons.{Compares, IsAnyNumber, IsComparison, IsOverOne, IsSumRelation, compared_names}
 use Rattle.num_system.specs.declared.comparison.Comparison.{Comparison}
 use Rattle.num_system.specs.declared.comparison.Comparison.TheVariants.{Equal, Unequal, Less, Greater, AtMost, AtLeast}
-use Rattle.num_system.proofs.HoldLemmas.{closed_from, holds_spelling, spelling_holds}
+use Rattle.num_system.proofs.HoldLemmas.{closed_from, holds_representation, representation_holds}
 use Rattle.number_relations.proofs.PairLemmas.{language_holds, numbers_are, pairs_hold, repeated, repeated_two, sums_are}
 use Rattle.number_relations.proofs.RelationLemmas.{same_relation}
 
--- what is told of numbers by an automaton under some names
+-- what is reported of numbers by an automaton under some names
 abbrev pub Holds : SystemValue → List (List ℕ) → Automaton → (List ℕ → ℕ) → Type 0
 Holds s names d number_of = HoldsOver (repeated s names) d (map number_of names)
 
@@ -30,7 +30,7 @@ module _ (s : SystemValue) (is : IsSealed s) (first second : List ℕ) (r : Rela
   under : (k : Comparison) (names : List (List ℕ)) (P : List (List ℕ) → (List ℕ → ℕ) → Type 0) → names ≡ compared_names k first second → IsUnder names (P names) → IsUnder (compared_names k first second) (P (compared_names k first second))
   under k names P same over = subst (λ (ns : List (List ℕ)). IsUnder ns (P ns)) same over
 
-  -- told by what is true of two numbers
+  -- determined by what is true of two numbers
   told : (k : Comparison) (P : (List ℕ → ℕ) → Type 0) → ((a : List ℕ → ℕ) → P a ↔ Compares k (a first) (a second)) → IsUnder (compared_names k first second) P → IsComparison s k first second r
   told k P same over = same_relation (each_once (compared_names k first second)) (map (λ name. s) (each_once (compared_names k first second))) P (λ a. Compares k (a first) (a second)) same r over
 
@@ -86,15 +86,15 @@ module _ (s : SystemValue) (is : IsSealed s) (r : RelationValue) where
 
 -- pairs outside an automaton, under two names
 pub outside_placed : (s : SystemValue) → IsSealed s → (d e : Automaton) (names : List (List ℕ)) (r : RelationValue) → length names ≡ 2
-    → HoldsOf s.way (system_of s ∷ system_of s ∷ []) (λ ns. ¬ HoldsOver (s ∷ s ∷ []) d ns) e → IsOverOne s names (Holds s names e) r → IsOverOne s names (Fails s names d) r
+    → HoldsOf s.direction (system_of s ∷ system_of s ∷ []) (λ ns. ¬ HoldsOver (s ∷ s ∷ []) d ns) e → IsOverOne s names (Holds s names e) r → IsOverOne s names (Fails s names d) r
 outside_placed s is d e [] r two outside over = absurd (omega (arith, two))
 outside_placed s is d e (x ∷ []) r two outside over = absurd (omega (arith, two))
 outside_placed s is d e (x ∷ y ∷ z ∷ names) r two outside over = absurd (omega (arith, two))
 outside_placed s is d e (x ∷ y ∷ []) r two outside over =
     let ns : List (List ℕ) = each_once (x ∷ y ∷ []) in
     same_relation ns (map (λ name. s) ns) (Holds s (x ∷ y ∷ []) e) (Fails s (x ∷ y ∷ []) d) (λ a. (
-      spelling_holds s.way (system_of s ∷ system_of s ∷ []) (λ ms. ¬ HoldsOver (s ∷ s ∷ []) d ms) e outside (a x ∷ a y ∷ []),
-      holds_spelling s.way (system_of s ∷ system_of s ∷ []) (λ ms. ¬ HoldsOver (s ∷ s ∷ []) d ms) e outside (is.laws, (is.laws, tt)) (a x ∷ a y ∷ []) refl,
+      representation_holds s.direction (system_of s ∷ system_of s ∷ []) (λ ms. ¬ HoldsOver (s ∷ s ∷ []) d ms) e outside (a x ∷ a y ∷ []),
+      holds_representation s.direction (system_of s ∷ system_of s ∷ []) (λ ms. ¬ HoldsOver (s ∷ s ∷ []) d ms) e outside (is.laws, (is.laws, tt)) (a x ∷ a y ∷ []) refl,
     )) r over
 
 -- two names
@@ -107,29 +107,29 @@ compared_two AtMost first second = refl
 compared_two AtLeast first second = refl
 
 module _ (s : SystemValue) (is : IsSealed s) where
-  -- the equality and the order hold of the pairs of which they accept a spelling
+  -- the equality and the order hold of the pairs of which they accept a representation
   pub equal_closed : (d : Automaton) → d ≡ s.equal → IsClosedOver (s ∷ s ∷ []) d
-  equal_closed d same = subst (IsClosedOver (s ∷ s ∷ [])) (sym same) (closed_from s.way (system_of s ∷ system_of s ∷ []) IsEqual s.equal is.relations.equality)
+  equal_closed d same = subst (IsClosedOver (s ∷ s ∷ [])) (sym same) (closed_from s.direction (system_of s ∷ system_of s ∷ []) IsEqual s.equal is.relations.equality)
 
   pub less_closed : (d : Automaton) → d ≡ s.less → IsClosedOver (s ∷ s ∷ []) d
-  less_closed d same = subst (IsClosedOver (s ∷ s ∷ [])) (sym same) (closed_from s.way (system_of s ∷ system_of s ∷ []) IsLess s.less is.relations.order)
+  less_closed d same = subst (IsClosedOver (s ∷ s ∷ [])) (sym same) (closed_from s.direction (system_of s ∷ system_of s ∷ []) IsLess s.less is.relations.order)
 
   pub adder_closed : (d : Automaton) (names : List (List ℕ)) (x y z : List ℕ) → d ≡ s.adder → names ≡ x ∷ y ∷ z ∷ [] → IsClosedOver (repeated s names) d
   adder_closed d names x y z same three =
       subst (λ (ns : List (List ℕ)). IsClosedOver (repeated s ns) d) (sym three)
-      (subst (IsClosedOver (s ∷ s ∷ s ∷ [])) (sym same) (closed_from s.way (system_of s ∷ system_of s ∷ system_of s ∷ []) IsSum s.adder is.adder))
+      (subst (IsClosedOver (s ∷ s ∷ s ∷ [])) (sym same) (closed_from s.direction (system_of s ∷ system_of s ∷ system_of s ∷ []) IsSum s.adder is.adder))
 
   pub language_closed : (d : Automaton) (names : List (List ℕ)) (x : List ℕ) → d ≡ s.language → names ≡ x ∷ [] → IsClosedOver (repeated s names) d
   language_closed d names x same one =
       subst (λ (ns : List (List ℕ)). IsClosedOver (repeated s ns) d) (sym one)
-      (subst (IsClosedOver (s ∷ [])) (sym same) (closed_from s.way (system_of s ∷ []) (λ ns. ⊤) s.language (language_holds s is s.language is.language)))
+      (subst (IsClosedOver (s ∷ [])) (sym same) (closed_from s.direction (system_of s ∷ []) (λ ns. ⊤) s.language (language_holds s is s.language is.language)))
 
 -- under two names
 pub two_closed : (s : SystemValue) (k : Comparison) (first second : List ℕ) (under : List (List ℕ)) (d : Automaton) → under ≡ compared_names k first second → IsClosedOver (s ∷ s ∷ []) d → IsClosedOver (repeated s under) d
 two_closed s k first second under d same closed =
     subst (λ (ss : List SystemValue). IsClosedOver ss d) (sym (repeated_two s under (ap length same ∙ compared_two k first second))) closed
 
--- what an automaton under the names tells, by what the one that it is does
+-- what an automaton under the names says, by what the one that it is does
 pub arm : (s : SystemValue) (k j : Comparison) (first second : List ℕ) (r : RelationValue) (under : List (List ℕ)) (P : Automaton → List (List ℕ) → (List ℕ → ℕ) → Type 0) (d e : Automaton)
     → k ≡ j → under ≡ compared_names k first second → d ≡ e
     → ((names : List (List ℕ)) → names ≡ compared_names j first second → IsOverOne s names (P e names) r → IsComparison s j first second r)

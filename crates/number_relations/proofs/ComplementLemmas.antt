@@ -7,10 +7,10 @@ use Rattle.product_op.specs.Validity.{AreLanguages}
 use Rattle.numeration.specs.Relations.{HoldsOf}
 use Rattle.num_system.specs.Sealed.{SystemValue, system_of, IsSealed}
 use Rattle.num_system.proofs.ValidityLinks.{complement_holds as complement_says}
-use Rattle.num_system.specs.Tracks.{HaveOneWay, systems_of, way_of, languages_of}
+use Rattle.num_system.specs.Tracks.{ShareDirection, systems_of, direction_of, languages_of}
 use Rattle.number_relations.specs.Relations.{RelationValue, IsRelation, RelationHolds, named_of}
 use Rattle.number_relations.specs.Complements.{IsRelationComplement}
-use Rattle.num_system.proofs.HoldLemmas.{closed_from, holds_spelling, spelling_holds}
+use Rattle.num_system.proofs.HoldLemmas.{closed_from, holds_representation, representation_holds}
 use Rattle.num_system.proofs.SealedLemmas.{are_systems, languages_are, languages_fit}
 
 module _ (a : RelationValue) (is_a : IsRelation a) where
@@ -23,9 +23,9 @@ module _ (a : RelationValue) (is_a : IsRelation a) where
     abbrev Fails : List ℕ → Type 0
     Fails ns = ¬ RelationHolds a ns
 
-    says : HoldsOf (way_of c.systems) (systems_of c.systems) Fails c.automaton
-    says = subst (λ (ss : List SystemValue). HoldsOf (way_of ss) (systems_of ss) Fails c.automaton) (sym made.systems)
-        (complement_says (way_of a.systems) (systems_of a.systems) (languages_of a.systems) (languages_are (way_of a.systems) a.systems is_a.sealed is_a.one_way) (named_of a) c.automaton made.complement.sizes
+    says : HoldsOf (direction_of c.systems) (systems_of c.systems) Fails c.automaton
+    says = subst (λ (ss : List SystemValue). HoldsOf (direction_of ss) (systems_of ss) Fails c.automaton) (sym made.systems)
+        (complement_says (direction_of a.systems) (systems_of a.systems) (languages_of a.systems) (languages_are (direction_of a.systems) a.systems is_a.sealed is_a.shared_direction) (named_of a) c.automaton made.complement.sizes
         (RelationHolds a) is_a.closed made.complement.language)
 
     sealed_c : AllByRecursion IsSealed c.systems
@@ -43,12 +43,12 @@ module _ (a : RelationValue) (is_a : IsRelation a) where
       };
       count = count_c;
       sealed = sealed_c;
-      one_way = subst (λ (ss : List SystemValue). HaveOneWay ss) (sym made.systems) is_a.one_way;
-      closed = closed_from (way_of c.systems) (systems_of c.systems) Fails c.automaton says;
+      shared_direction = subst (λ (ss : List SystemValue). ShareDirection ss) (sym made.systems) is_a.shared_direction;
+      closed = closed_from (direction_of c.systems) (systems_of c.systems) Fails c.automaton says;
     }
 
     pub complement_holds : (ns : List ℕ) → length ns ≡ length c.names → RelationHolds c ns ↔ ¬ RelationHolds a ns
     complement_holds ns count = (
-      spelling_holds (way_of c.systems) (systems_of c.systems) Fails c.automaton says ns,
-      holds_spelling (way_of c.systems) (systems_of c.systems) Fails c.automaton says (are_systems c.systems sealed_c) ns (count ∙ sym (length-map c.systems system_of ∙ count_c)),
+      representation_holds (direction_of c.systems) (systems_of c.systems) Fails c.automaton says ns,
+      holds_representation (direction_of c.systems) (systems_of c.systems) Fails c.automaton says (are_systems c.systems sealed_c) ns (count ∙ sym (length-map c.systems system_of ∙ count_c)),
     )

@@ -4,10 +4,10 @@ use Rattle.std.specs.List.{AllByRecursion}
 use Rattle.digit_tuple.specs.Names.{AreDistinct}
 use Rattle.numeration.specs.Relations.{HoldsOf}
 use Rattle.num_system.specs.Sealed.{SystemValue, IsSealed}
-use Rattle.num_system.specs.Tracks.{HaveOneWay, systems_of, way_of}
+use Rattle.num_system.specs.Tracks.{ShareDirection, systems_of, direction_of}
 use Rattle.number_relations.specs.Relations.{RelationValue, IsRelation, RelationHolds}
 use Rattle.number_relations.specs.Constants.{IsRelationConstant}
-use Rattle.num_system.proofs.HoldLemmas.{closed_from, holds_spelling, spelling_holds}
+use Rattle.num_system.proofs.HoldLemmas.{closed_from, holds_representation, representation_holds}
 use Rattle.num_system.proofs.SealedLemmas.{are_systems}
 
 one_name : (name : List ℕ) → AreDistinct (name ∷ [])
@@ -18,8 +18,8 @@ module _ (system : SystemValue) (number : ℕ) (name : List ℕ) (c : RelationVa
   abbrev IsIt : List ℕ → Type 0
   IsIt ns = ns ≡ number ∷ []
 
-  says : HoldsOf (way_of c.systems) (systems_of c.systems) IsIt c.automaton
-  says = subst (λ (ss : List SystemValue). HoldsOf (way_of ss) (systems_of ss) IsIt c.automaton) (sym made.systems) made.constant
+  says : HoldsOf (direction_of c.systems) (systems_of c.systems) IsIt c.automaton
+  says = subst (λ (ss : List SystemValue). HoldsOf (direction_of ss) (systems_of ss) IsIt c.automaton) (sym made.systems) made.constant
 
   sealed_c : AllByRecursion IsSealed c.systems
   sealed_c = subst (λ (ss : List SystemValue). AllByRecursion IsSealed ss) (sym made.systems) (sealed, tt)
@@ -33,12 +33,12 @@ module _ (system : SystemValue) (number : ℕ) (name : List ℕ) (c : RelationVa
     };
     count = ap length made.systems ∙ sym (ap length made.names);
     sealed = sealed_c;
-    one_way = subst (λ (ss : List SystemValue). HaveOneWay ss) (sym made.systems) (refl, tt);
-    closed = closed_from (way_of c.systems) (systems_of c.systems) IsIt c.automaton says;
+    shared_direction = subst (λ (ss : List SystemValue). ShareDirection ss) (sym made.systems) (refl, tt);
+    closed = closed_from (direction_of c.systems) (systems_of c.systems) IsIt c.automaton says;
   }
 
   pub constant_holds : (n : ℕ) → RelationHolds c (n ∷ []) ↔ (n ≡ number)
   constant_holds n = (
-    λ holds. ap (λ (ns : List ℕ). get_or ns 0 0) (spelling_holds (way_of c.systems) (systems_of c.systems) IsIt c.automaton says (n ∷ []) holds),
-    λ is. holds_spelling (way_of c.systems) (systems_of c.systems) IsIt c.automaton says (are_systems c.systems sealed_c) (n ∷ []) (sym (ap (λ (ss : List SystemValue). length (systems_of ss)) made.systems)) (ap (λ m. m ∷ []) is),
+    λ holds. ap (λ (ns : List ℕ). get_or ns 0 0) (representation_holds (direction_of c.systems) (systems_of c.systems) IsIt c.automaton says (n ∷ []) holds),
+    λ is. holds_representation (direction_of c.systems) (systems_of c.systems) IsIt c.automaton says (are_systems c.systems sealed_c) (n ∷ []) (sym (ap (λ (ss : List SystemValue). length (systems_of ss)) made.systems)) (ap (λ m. m ∷ []) is),
   )

@@ -37,7 +37,7 @@ doubled k c n m twice is = ap (λ q. q + q) is ∙ sym (add-mul k k n) ∙ ap (�
 increased : (k c n m : ℕ) → c ≡ k + 1 → m ≡ k * n → m + n ≡ c * n
 increased k c n m more is = ap (λ q. q + n) is ∙ ap (λ q. k * n + q) (sym (one-mul n)) ∙ sym (add-mul k 1 n) ∙ ap (λ d. d * n) (sym more)
 
--- the multiple by c of x comes from that by k, which stands under w, by adding the number under z to it
+-- the multiple by c of x comes from that by k, which is under w, by adding the number under z to it
 abbrev pub Grows : ℕ → ℕ → List ℕ → List ℕ → List ℕ → Type 0
 Grows k c x w z = ((z ≡ w) × (c ≡ k + k)) ⊎ ((z ≡ x) × (c ≡ k + 1))
 

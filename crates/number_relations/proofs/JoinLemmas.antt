@@ -15,13 +15,13 @@ use Rattle.numeration.specs.SomeTracks.{systems_at}
 use Rattle.num_system.specs.Joined.{joined, IsBound}
 use Rattle.num_system.specs.Sealed.{SystemValue, system_of, IsSealed}
 use Rattle.num_system.proofs.NamedLinks.{in_product_holds}
-use Rattle.num_system.specs.Tracks.{HaveOneWay, systems_of, way_of, system_under, languages_of}
+use Rattle.num_system.specs.Tracks.{ShareDirection, systems_of, direction_of, system_under, languages_of}
 use Rattle.number_relations.specs.Relations.{RelationValue, IsRelation, RelationHolds, named_of}
 use Rattle.number_relations.specs.Joins.{AgreeOnSystems, HaveOneDirection, IsRelationJoin, joint_systems}
-use Rattle.num_system.proofs.HoldLemmas.{closed_from, holds_spelling, spelling_holds}
-use Rattle.number_relations.proofs.DirectionLemmas.{way_from, way_to}
-use Rattle.num_system.proofs.SealedLemmas.{AreAllWay, are_systems, languages_are, languages_fit, one_way_from}
-use Rattle.number_relations.proofs.JointSystems.{first_systems, first_ways, joint_all, joint_sizes_are, second_systems, second_ways}
+use Rattle.num_system.proofs.HoldLemmas.{closed_from, holds_representation, representation_holds}
+use Rattle.number_relations.proofs.DirectionLemmas.{direction_from, direction_to}
+use Rattle.num_system.proofs.SealedLemmas.{AreAllDirected, are_systems, languages_are, languages_fit, shared_direction_from}
+use Rattle.number_relations.proofs.JointSystems.{first_systems, first_directions, joint_all, joint_sizes_are, second_systems, second_directions}
 
 module _ (a b : RelationValue) (is_a : IsRelation a) (is_b : IsRelation b) (agree : AgreeOnSystems a b) where
   abbrev joint : List (List ℕ)
@@ -41,34 +41,34 @@ module _ (a b : RelationValue) (is_a : IsRelation a) (is_b : IsRelation b) (agre
   joint_languages = subst (λ (sizes : List ℕ). AreLanguages sizes (languages_of systems)) (sym (joint_sizes_are a b is_a is_b agree)) (languages_fit systems sealed)
 
   module _ (direction : HaveOneDirection a b) where
-    abbrev way : Direction
-    way = way_of (a.systems ++ b.systems)
+    abbrev read_direction : Direction
+    read_direction = direction_of (a.systems ++ b.systems)
 
-    ways_a : AreAllWay way a.systems
-    ways_a = first_ways a.systems b.systems is_a.one_way
+    directions_a : AreAllDirected read_direction a.systems
+    directions_a = first_directions a.systems b.systems is_a.shared_direction
 
-    ways_b : AreAllWay way b.systems
-    ways_b = second_ways a.systems b.systems is_b.one_way direction
+    directions_b : AreAllDirected read_direction b.systems
+    directions_b = second_directions a.systems b.systems is_b.shared_direction direction
 
-    ways : AreAllWay way systems
-    ways = joint_all a b is_a is_b agree (λ (s : SystemValue). s.way ≡ way) ways_a ways_b
+    directions : AreAllDirected read_direction systems
+    directions = joint_all a b is_a is_b agree (λ (s : SystemValue). s.direction ≡ read_direction) directions_a directions_b
 
-    holds_a : HoldsOf way (systems_at (places_of joint a.names) (systems_of systems)) (RelationHolds a) a.automaton
-    holds_a = subst (λ (ss : List System). HoldsOf way ss (RelationHolds a) a.automaton) (sym (first_systems a b is_a is_b agree)) (way_to way a.systems (RelationHolds a) a.automaton ways_a is_a.closed)
+    holds_a : HoldsOf read_direction (systems_at (places_of joint a.names) (systems_of systems)) (RelationHolds a) a.automaton
+    holds_a = subst (λ (ss : List System). HoldsOf read_direction ss (RelationHolds a) a.automaton) (sym (first_systems a b is_a is_b agree)) (direction_to read_direction a.systems (RelationHolds a) a.automaton directions_a is_a.closed)
 
-    holds_b : HoldsOf way (systems_at (places_of joint b.names) (systems_of systems)) (RelationHolds b) b.automaton
-    holds_b = subst (λ (ss : List System). HoldsOf way ss (RelationHolds b) b.automaton) (sym (second_systems a b is_a is_b agree)) (way_to way b.systems (RelationHolds b) b.automaton ways_b is_b.closed)
+    holds_b : HoldsOf read_direction (systems_at (places_of joint b.names) (systems_of systems)) (RelationHolds b) b.automaton
+    holds_b = subst (λ (ss : List System). HoldsOf read_direction ss (RelationHolds b) b.automaton) (sym (second_systems a b is_a is_b agree)) (direction_to read_direction b.systems (RelationHolds b) b.automaton directions_b is_b.closed)
 
     -- what the connective says of the relations on the joint tracks
     abbrev says : Op → List ℕ → Type 0
     says op = joined op (places_of joint a.names) (RelationHolds a) (places_of joint b.names) (RelationHolds b)
 
     module _ (op : Op) (c : RelationValue) (bound : IsBound op a.names b.names) (made : IsRelationJoin op a b c) where
-      product_says : HoldsOf (way_of c.systems) (systems_of c.systems) (says op) c.automaton
-      product_says = subst (λ (ss : List SystemValue). HoldsOf (way_of ss) (systems_of ss) (says op) c.automaton) (sym made.systems)
-          (way_from way systems (says op) c.automaton ways
-          (in_product_holds way (systems_of systems) (named_of a) (named_of b) (RelationHolds a) (RelationHolds b) (length-map systems system_of ∙ long) (joint_sizes_are a b is_a is_b agree) holds_a holds_b
-          op (languages_of systems) bound (λ among. languages_are way systems sealed ways) c.automaton made.join.sizes made.join.language))
+      product_says : HoldsOf (direction_of c.systems) (systems_of c.systems) (says op) c.automaton
+      product_says = subst (λ (ss : List SystemValue). HoldsOf (direction_of ss) (systems_of ss) (says op) c.automaton) (sym made.systems)
+          (direction_from read_direction systems (says op) c.automaton directions
+          (in_product_holds read_direction (systems_of systems) (named_of a) (named_of b) (RelationHolds a) (RelationHolds b) (length-map systems system_of ∙ long) (joint_sizes_are a b is_a is_b agree) holds_a holds_b
+          op (languages_of systems) bound (λ among. languages_are read_direction systems sealed directions) c.automaton made.join.sizes made.join.language))
 
       sealed_c : AllByRecursion IsSealed c.systems
       sealed_c = subst (λ (ss : List SystemValue). AllByRecursion IsSealed ss) (sym made.systems) sealed
@@ -85,12 +85,12 @@ module _ (a b : RelationValue) (is_a : IsRelation a) (is_b : IsRelation b) (agre
         };
         count = count_c;
         sealed = sealed_c;
-        one_way = subst (λ (ss : List SystemValue). HaveOneWay ss) (sym made.systems) (one_way_from way systems ways);
-        closed = closed_from (way_of c.systems) (systems_of c.systems) (says op) c.automaton product_says;
+        shared_direction = subst (λ (ss : List SystemValue). ShareDirection ss) (sym made.systems) (shared_direction_from read_direction systems directions);
+        closed = closed_from (direction_of c.systems) (systems_of c.systems) (says op) c.automaton product_says;
       }
 
       pub join_holds : (ns : List ℕ) → length ns ≡ length c.names → RelationHolds c ns ↔ joined op (places_of c.names a.names) (RelationHolds a) (places_of c.names b.names) (RelationHolds b) ns
       join_holds ns count = subst (λ (names : List (List ℕ)). RelationHolds c ns ↔ joined op (places_of names a.names) (RelationHolds a) (places_of names b.names) (RelationHolds b) ns) (sym made.join.names) (
-        spelling_holds (way_of c.systems) (systems_of c.systems) (says op) c.automaton product_says ns,
-        holds_spelling (way_of c.systems) (systems_of c.systems) (says op) c.automaton product_says (are_systems c.systems sealed_c) ns (count ∙ sym (length-map c.systems system_of ∙ count_c)),
+        representation_holds (direction_of c.systems) (systems_of c.systems) (says op) c.automaton product_says ns,
+        holds_representation (direction_of c.systems) (systems_of c.systems) (says op) c.automaton product_says (are_systems c.systems sealed_c) ns (count ∙ sym (length-map c.systems system_of ∙ count_c)),
       )

@@ -11,14 +11,14 @@ use Rattle.minimise.specs.Tracked.{size_of}
 use Rattle.product_op.specs.Tracks.{AgreeOnShared, joint_size, joint_sizes}
 use Rattle.product_op.proofs.SizeLemmas.{contained_from_place, joint_size-first, joint_size-second}
 use Rattle.numeration.specs.Systems.{System}
-use Rattle.numeration.specs.Spelling.{sizes_of}
+use Rattle.numeration.specs.Representation.{sizes_of}
 use Rattle.numeration.specs.SomeTracks.{no_system as no_digits, system_at, systems_at}
 use Rattle.num_system.specs.Sealed.{SystemValue, system_of}
 use Rattle.num_system.proofs.UnderNames.{under_each, under_left, under_own, under_right}
-use Rattle.num_system.specs.Tracks.{HaveOneWay, systems_of, way_of, absent_system, system_under, systems_under}
+use Rattle.num_system.specs.Tracks.{ShareDirection, systems_of, direction_of, absent_system, system_under, systems_under}
 use Rattle.number_relations.specs.Relations.{RelationValue, IsRelation, named_of, system_named}
 use Rattle.number_relations.specs.Joins.{AgreeOnSystems, joint_systems}
-use Rattle.num_system.proofs.SealedLemmas.{AreAllWay}
+use Rattle.num_system.proofs.SealedLemmas.{AreAllDirected}
 
 -- the size of a relation's track is the number of digits of its system
 size_named : (r : RelationValue) (name : List ℕ) → IsRelation r → Contains r.names name → size_of (named_of r) name ≡ (system_named r name).digits
@@ -31,15 +31,15 @@ size_named r name is found =
     ∙ ap (λ (s : System). s.digits) (get_or-map system_of r.systems place absent_system (system_of absent_system) within)
 
 -- the first have the direction of all, and so have the second, where the two have one
-pub first_ways : (xs ys : List SystemValue) → HaveOneWay xs → AreAllWay (way_of (xs ++ ys)) xs
-first_ways [] ys one = tt
-first_ways (x ∷ xs) ys one = one
+pub first_directions : (xs ys : List SystemValue) → ShareDirection xs → AreAllDirected (direction_of (xs ++ ys)) xs
+first_directions [] ys one = tt
+first_directions (x ∷ xs) ys one = one
 
-pub second_ways : (xs ys : List SystemValue) → HaveOneWay ys → ((s t : SystemValue) → Contains xs s → Contains ys t → s.way ≡ t.way) → AreAllWay (way_of (xs ++ ys)) ys
-second_ways [] ys one both = one
-second_ways (x ∷ xs) ys one both =
-    recursion_from_All (λ (t : SystemValue). t.way ≡ x.way) ys
-    (All-weaker (Contains ys) (λ (t : SystemValue). t.way ≡ x.way) (λ t found. sym (both x t (0, omega arith, refl) found)) ys (All-contains_itself ys))
+pub second_directions : (xs ys : List SystemValue) → ShareDirection ys → ((s t : SystemValue) → Contains xs s → Contains ys t → s.direction ≡ t.direction) → AreAllDirected (direction_of (xs ++ ys)) ys
+second_directions [] ys one both = one
+second_directions (x ∷ xs) ys one both =
+    recursion_from_All (λ (t : SystemValue). t.direction ≡ x.direction) ys
+    (All-weaker (Contains ys) (λ (t : SystemValue). t.direction ≡ x.direction) (λ t found. sym (both x t (0, omega arith, refl) found)) ys (All-contains_itself ys))
 
 module _ (a b : RelationValue) (is_a : IsRelation a) (is_b : IsRelation b) (agree : AgreeOnSystems a b) where
   -- the name is one of the one's or of the other's
@@ -49,7 +49,7 @@ module _ (a b : RelationValue) (is_a : IsRelation a) (is_b : IsRelation b) (agre
   abbrev pub joint_under : List ℕ → SystemValue
   joint_under name = system_under (a.names ++ b.names) (a.systems ++ b.systems) name
 
-  -- a joint track stands over its system in the one, and in the other
+  -- a joint track is over its system in the one, and in the other
   pub joint_first : (name : List ℕ) → Contains a.names name → joint_under name ≡ system_named a name
   joint_first name found = under_left a.names b.names a.systems b.systems name is_a.count found
 
@@ -102,7 +102,7 @@ module _ (a b : RelationValue) (is_a : IsRelation a) (is_b : IsRelation b) (agre
   pub joint_sizes_are : joint_sizes (named_of a) (named_of b) ≡ sizes_of (systems_of (joint_systems a b))
   joint_sizes_are = sizes_each (joint_names a.names b.names) are_joint.no_others
 
-  -- the joint track of a name stands over the system of that name
+  -- the joint track of a name is over the system of that name
   at_name : (name : List ℕ) → Contains (joint_names a.names b.names) name
       → system_at (systems_of (joint_systems a b)) (place_of (joint_names a.names b.names) name) ≡ system_of (joint_under name)
   at_name name found =

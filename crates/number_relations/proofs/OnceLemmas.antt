@@ -75,7 +75,7 @@ once_full (n ∷ names) full =
 pub once_all : (under names : List (List ℕ)) (count : ℕ) → names ≡ each_once under → count ≡ length names → length under ≤ count → names ≡ under
 once_all under names count once is long = once ∙ once_full under (omega (arith, long, is, ap length once))
 
--- one more name: it is there, or stands behind the others
+-- one more name: it is there, or comes after the others
 abbrev IsOneMore : List (List ℕ) → List ℕ → Type 0
 IsOneMore names m =
     (Contains (each_once names) m × (each_once (names ++ m ∷ []) ≡ each_once names))

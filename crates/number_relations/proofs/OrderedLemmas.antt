@@ -42,7 +42,7 @@ pub ordered_made : (r : RelationValue) (names : List (List ℕ)) (a t : NamedAut
     → ((w : List ℕ) → IsWord (product (sizes_under a.automaton.sizes names (with_names [] names))) w → accepts_of t.automaton w ≡ accepts_of a.automaton (word_under a.automaton.sizes names (with_names [] names) w))
     → kept ≡ systems_under names r.systems t.names → IsOrdered r (relation_over t kept)
 ordered_made r names a t kept is named of same sizes canonical language kept_is =
-    placed_as r.automaton r.systems r.names (joint_names r.names []) t kept (ordered_names r.names) (sym is.count) (distinct_agree r.names r.systems is.tracked.distinct) is.one_way is.sealed is.closed
+    placed_as r.automaton r.systems r.names (joint_names r.names []) t kept (ordered_names r.names) (sym is.count) (distinct_agree r.names r.systems is.tracked.distinct) is.shared_direction is.sealed is.closed
     (same ∙ ap (with_names []) named)
     (subst (λ (ns : List (List ℕ)). t.automaton.sizes ≡ sizes_under r.automaton.sizes ns (with_names [] ns)) named
     (subst (λ (b : NamedAutomaton). t.automaton.sizes ≡ sizes_under b.automaton.sizes names (with_names [] names)) of sizes))

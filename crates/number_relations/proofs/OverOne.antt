@@ -1,4 +1,4 @@
--- Relations all of whose tracks stand over one system.
+-- Relations all of whose tracks are over one system.
 use Rattle.std.proofs.Common.{◌≡◌, ℕ, List, [], ◌∷◌, map, sym, ap, ◌∙◌, subst, refl}
 use Rattle.std.specs.List.{AllByRecursion, Contains}
 use Rattle.std.proofs.lemmas.List.Elements.{All-contains, All-from_recursion}
@@ -24,7 +24,7 @@ module _ (system : SystemValue) where
       ∙ sym (under_each (λ (s : SystemValue). s ≡ system) b.names b.systems name is_b.count second there)
 
   pub direction_over : (a b : RelationValue) → AreIt a.systems → AreIt b.systems → HaveOneDirection a b
-  direction_over a b first second s t here there = ap (λ (v : SystemValue). v.way) (it_at a.systems s first here ∙ sym (it_at b.systems t second there))
+  direction_over a b first second s t here there = ap (λ (v : SystemValue). v.direction) (it_at a.systems s first here ∙ sym (it_at b.systems t second there))
 
   it_repeated : (names : List (List ℕ)) → AreIt (map (λ name. system) names)
   it_repeated [] = tt

@@ -13,7 +13,7 @@ use Rattle.digit_tuple.proofs.NameLemmas.{place_of-at, place_of-contained, place
 use Rattle.minimise.specs.Canonical.{IsCanonical}
 use Rattle.minimise.specs.Tracked.{NamedAutomaton}
 use Rattle.numeration.specs.Systems.{System}
-use Rattle.numeration.specs.Spelling.{letters_in, sizes_of}
+use Rattle.numeration.specs.Representation.{letters_in, sizes_of}
 use Rattle.numeration.specs.Relations.{HoldsOf}
 use Rattle.numeration.specs.SomeTracks.{no_system, system_at, systems_at}
 use Rattle.numeration.proofs.ReadingLinks.{reading_holds}
@@ -21,10 +21,10 @@ use Rattle.num_system.specs.Sealed.{SystemValue, system_of, IsSealed}
 use Rattle.num_system.proofs.NamedLinks.{place_among}
 use Rattle.project_close.specs.Substitution.{IsSubstitution, sizes_under, word_under}
 use Rattle.project_close.proofs.SubstitutionLemmas.{size_under, sizes_under-map}
-use Rattle.num_system.specs.Tracks.{HaveOneWay, systems_of, way_of, absent_system, system_under, AgreeUnder, systems_under}
+use Rattle.num_system.specs.Tracks.{ShareDirection, systems_of, direction_of, absent_system, system_under, AgreeUnder, systems_under}
 use Rattle.number_relations.specs.Relations.{IsRelation, IsClosedOver, HoldsOver, RelationHolds, IsRelationOf, relation_over}
 use Rattle.number_relations.specs.Placed.{IsPlaced, each_once}
-use Rattle.num_system.proofs.HoldLemmas.{closed_from, holds_spelling, spelling_holds}
+use Rattle.num_system.proofs.HoldLemmas.{closed_from, holds_representation, representation_holds}
 use Rattle.number_relations.proofs.OnceLemmas.{once_distinct, once_others, once_there}
 use Rattle.num_system.proofs.SealedLemmas.{are_systems}
 
@@ -38,14 +38,14 @@ all_under Q under systems count all names there =
     All-from_recursion Q systems all (place_of under (get_or names i d)) absent_system (omega (arith, spot.0, count))))
 
 -- a name's system has the direction of all
-pub way_under : (under names : List (List ℕ)) (systems : List SystemValue) → length under ≡ length systems → HaveOneWay systems → All (Contains names) under → All (Contains under) names
-    → way_of (systems_under under systems names) ≡ way_of systems
-way_under [] [] [] count one_way there others = refl
-way_under (m ∷ under) [] systems count one_way there others = absurd (Contains-none m (All-head (Contains []) m under there))
-way_under [] [] (s ∷ systems) count one_way there others = absurd (omega (arith, count))
-way_under under (n ∷ names) systems count one_way there others =
+pub direction_under : (under names : List (List ℕ)) (systems : List SystemValue) → length under ≡ length systems → ShareDirection systems → All (Contains names) under → All (Contains under) names
+    → direction_of (systems_under under systems names) ≡ direction_of systems
+direction_under [] [] [] count shared_direction there others = refl
+direction_under (m ∷ under) [] systems count shared_direction there others = absurd (Contains-none m (All-head (Contains []) m under there))
+direction_under [] [] (s ∷ systems) count shared_direction there others = absurd (omega (arith, count))
+direction_under under (n ∷ names) systems count shared_direction there others =
     let spot = place_of-contained under n (All-head (Contains under) n names others) in
-    All-from_recursion (λ (s : SystemValue). s.way ≡ way_of systems) systems one_way (place_of under n) absent_system (omega (arith, spot.0, count))
+    All-from_recursion (λ (s : SystemValue). s.direction ≡ direction_of systems) systems shared_direction (place_of under n) absent_system (omega (arith, spot.0, count))
 
 -- numbers under some names, at the places of others
 pub picked_numbers : (names : List (List ℕ)) (number_of : List ℕ → ℕ) (under : List (List ℕ)) → All (Contains names) under → picked (places_of names under) (map number_of names) ≡ map number_of under
@@ -135,22 +135,22 @@ module _ (d : Automaton) (systems : List SystemValue) (under names : List (List 
       place_among names under i are.distinct within (are.no_others i [] within)
 
   -- the automaton under the names
-  module _ (one_way : HaveOneWay systems) (closed : IsClosedOver systems d) (t : NamedAutomaton) (same : t.names ≡ names) (same_sizes : t.automaton.sizes ≡ sizes_under d.sizes under names)
+  module _ (shared_direction : ShareDirection systems) (closed : IsClosedOver systems d) (t : NamedAutomaton) (same : t.names ≡ names) (same_sizes : t.automaton.sizes ≡ sizes_under d.sizes under names)
       (language : (w : List ℕ) → IsWord (product (sizes_under d.sizes under names)) w → accepts_of t.automaton w ≡ accepts_of d (word_under d.sizes under names w)) where
     says : (w : List ℕ) → IsWord (letters_in (systems_of kept)) w → accepts_of t.automaton w ≡ accepts_of d (part (sizes_of (systems_of kept)) places w)
     says w over =
         language w (subst (λ (ns : List ℕ). IsWord (product ns) w) (sym sizes_kept) over)
         ∙ ap (λ (ns : List ℕ). accepts_of d (part ns places w)) sizes_kept
 
-    same_way : way_of kept ≡ way_of systems
-    same_way = way_under under names systems count one_way are.there are.no_others
+    same_direction : direction_of kept ≡ direction_of systems
+    same_direction = direction_under under names systems count shared_direction are.there are.no_others
 
     -- it holds of numbers where the automaton holds of those of its tracks
-    table_holds : HoldsOf (way_of kept) (systems_of kept) (λ ns. HoldsOver systems d (picked places ns)) t.automaton
+    table_holds : HoldsOf (direction_of kept) (systems_of kept) (λ ns. HoldsOver systems d (picked places ns)) t.automaton
     table_holds =
-        subst (λ (way : Direction). HoldsOf way (systems_of kept) (λ ns. HoldsOver systems d (picked places ns)) t.automaton) (sym same_way)
-        (reading_holds (way_of systems) (systems_of kept) places places_inside (HoldsOver systems d) d
-        (subst (λ (ss : List System). HoldsOf (way_of systems) ss (HoldsOver systems d) d) (sym systems_read) closed)
+        subst (λ (direction : Direction). HoldsOf direction (systems_of kept) (λ ns. HoldsOver systems d (picked places ns)) t.automaton) (sym same_direction)
+        (reading_holds (direction_of systems) (systems_of kept) places places_inside (HoldsOver systems d) d
+        (subst (λ (ss : List System). HoldsOf (direction_of systems) ss (HoldsOver systems d) d) (sym systems_read) closed)
         t.automaton (same_sizes ∙ sizes_kept) all_read says)
 
     module _ (sealed : AllByRecursion IsSealed systems) (canonical : IsCanonical t.automaton) where
@@ -166,19 +166,19 @@ module _ (d : Automaton) (systems : List SystemValue) (under names : List (List 
         };
         count = length-map names (system_under under systems) ∙ sym (ap length same);
         sealed = kept_sealed;
-        one_way = subst (λ (way : Direction). AllByRecursion (λ (s : SystemValue). s.way ≡ way) kept) (sym same_way)
-            (all_under (λ (s : SystemValue). s.way ≡ way_of systems) under systems count one_way names are.no_others);
-        closed = closed_from (way_of kept) (systems_of kept) (λ ns. HoldsOver systems d (picked places ns)) t.automaton table_holds;
+        shared_direction = subst (λ (direction : Direction). AllByRecursion (λ (s : SystemValue). s.direction ≡ direction) kept) (sym same_direction)
+            (all_under (λ (s : SystemValue). s.direction ≡ direction_of systems) under systems count shared_direction names are.no_others);
+        closed = closed_from (direction_of kept) (systems_of kept) (λ ns. HoldsOver systems d (picked places ns)) t.automaton table_holds;
       }
 
       there : (number_of : List ℕ → ℕ) → RelationHolds (relation_over t kept) (map number_of names) → HoldsOver systems d (map number_of under)
       there number_of some =
           subst (HoldsOver systems d) (picked_numbers names number_of under are.there)
-          (spelling_holds (way_of kept) (systems_of kept) (λ ns. HoldsOver systems d (picked places ns)) t.automaton table_holds (map number_of names) some)
+          (representation_holds (direction_of kept) (systems_of kept) (λ ns. HoldsOver systems d (picked places ns)) t.automaton table_holds (map number_of names) some)
 
       back : (number_of : List ℕ → ℕ) → HoldsOver systems d (map number_of under) → RelationHolds (relation_over t kept) (map number_of names)
       back number_of some =
-          holds_spelling (way_of kept) (systems_of kept) (λ ns. HoldsOver systems d (picked places ns)) t.automaton table_holds (are_systems kept kept_sealed)
+          holds_representation (direction_of kept) (systems_of kept) (λ ns. HoldsOver systems d (picked places ns)) t.automaton table_holds (are_systems kept kept_sealed)
           (map number_of names) (length-map names number_of ∙ sym length-kept)
           (subst (HoldsOver systems d) (sym (picked_numbers names number_of under are.there)) some)
 
@@ -187,20 +187,20 @@ module _ (d : Automaton) (systems : List SystemValue) (under names : List (List 
 
 -- a table under these names, and their systems, are the relation of what the automaton holds of
 pub placed_as : (d : Automaton) (systems : List SystemValue) (under names : List (List ℕ)) (t : NamedAutomaton) (own : List SystemValue) → AreTheNames under names
-    → length under ≡ length systems → AgreeUnder under systems → HaveOneWay systems → AllByRecursion IsSealed systems → IsClosedOver systems d
+    → length under ≡ length systems → AgreeUnder under systems → ShareDirection systems → AllByRecursion IsSealed systems → IsClosedOver systems d
     → t.names ≡ names → t.automaton.sizes ≡ sizes_under d.sizes under names → IsCanonical t.automaton
     → ((w : List ℕ) → IsWord (product (sizes_under d.sizes under names)) w → accepts_of t.automaton w ≡ accepts_of d (word_under d.sizes under names w))
     → own ≡ systems_under under systems names → IsRelationOf names (systems_under under systems names) (λ number_of. HoldsOver systems d (map number_of under)) (relation_over t own)
-placed_as d systems under names t own are count agree one_way sealed closed same sizes canonical language is =
+placed_as d systems under names t own are count agree shared_direction sealed closed same sizes canonical language is =
     subst (λ (ss : List SystemValue). IsRelationOf names (systems_under under systems names) (λ number_of. HoldsOver systems d (map number_of under)) (relation_over t ss)) (sym is)
-    (placed_holds d systems under names are count agree closed.sizes one_way closed t same sizes language sealed canonical)
+    (placed_holds d systems under names are count agree closed.sizes shared_direction closed t same sizes language sealed canonical)
 
 -- and so under the names, each once
 pub placed_once : (d : Automaton) (systems : List SystemValue) (under names : List (List ℕ)) (t : NamedAutomaton) (own : List SystemValue) → names ≡ each_once under
-    → length under ≡ length systems → AgreeUnder under systems → HaveOneWay systems → AllByRecursion IsSealed systems → IsClosedOver systems d
+    → length under ≡ length systems → AgreeUnder under systems → ShareDirection systems → AllByRecursion IsSealed systems → IsClosedOver systems d
     → t.names ≡ names → t.automaton.sizes ≡ sizes_under d.sizes under names → IsCanonical t.automaton
     → ((w : List ℕ) → IsWord (product (sizes_under d.sizes under names)) w → accepts_of t.automaton w ≡ accepts_of d (word_under d.sizes under names w))
     → own ≡ systems_under under systems names → IsPlaced d systems under (relation_over t own)
-placed_once d systems under names t own once count agree one_way sealed closed same sizes canonical language is =
+placed_once d systems under names t own once count agree shared_direction sealed closed same sizes canonical language is =
     subst (λ (ns : List (List ℕ)). IsRelationOf ns (systems_under under systems ns) (λ number_of. HoldsOver systems d (map number_of under)) (relation_over t own)) once
-    (placed_as d systems under names t own (subst (AreTheNames under) (sym once) (once_names under)) count agree one_way sealed closed same sizes canonical language is)
+    (placed_as d systems under names t own (subst (AreTheNames under) (sym once) (once_names under)) count agree shared_direction sealed closed same sizes canonical language is)

@@ -1,4 +1,4 @@
--- A relation that was read holds of the numbers of which some spelling is accepted by the listed automaton.
+-- A relation that was read holds of the numbers of which some representation is accepted by the listed automaton.
 use Rattle.std.proofs.Common.{◌≡◌, ◌↔◌, ℕ, ◌<◌, ◌^◌, List, length, refl, sym, ap, ◌∙◌, subst, arith}
 use Rattle.std.specs.List.{AllByRecursion}
 use Rattle.std.proofs.lemmas.List.{length-map}
@@ -15,25 +15,25 @@ use Rattle.digit_tuple.proofs.TruthLemmas.{same_tests}
 use Rattle.project_close.specs.Padding.{IsPadded}
 use Rattle.numeration.specs.Systems.{System}
 use Rattle.numeration.specs.Relations.{HoldsOf}
-use Rattle.numeration.specs.Spelling.{letters_in, sizes_of}
-use Rattle.numeration.proofs.SpellLemmas.{spellings}
+use Rattle.numeration.specs.Representation.{letters_in, sizes_of}
+use Rattle.numeration.proofs.RepresentLemmas.{representations}
 use Rattle.num_system.specs.Sealed.{SystemValue, system_of, IsSealed}
-use Rattle.num_system.specs.Spellings.{HasSpelling, IgnoresZeros}
-use Rattle.num_system.proofs.ValidityLinks.{valid_part_spells}
+use Rattle.num_system.specs.Representations.{HasRepresentation, IgnoresZeros}
+use Rattle.num_system.proofs.ValidityLinks.{valid_part_represents}
 use Rattle.automaton_steps.specs.Numbered.{numbered, track_numbers}
 use Rattle.automaton_steps.proofs.DirectionLemmas.{same_strip, same_without_zeros}
 use Rattle.automaton_steps.proofs.TrackNumbers.{length-track_numbers, numbers_distinct}
-use Rattle.num_system.specs.Tracks.{HaveOneWay, systems_of, way_of, languages_of}
+use Rattle.num_system.specs.Tracks.{ShareDirection, systems_of, direction_of, languages_of}
 use Rattle.number_relations.specs.Relations.{RelationValue, IsRelation, RelationHolds}
 use Rattle.number_relations.specs.Readings.{IsListedOf, AreReadingSteps}
 use Rattle.number_relations.specs.StepLaws.{ReadingsHold, ReadingsAreRelations}
-use Rattle.num_system.proofs.HoldLemmas.{closed_from, holds_spelling, spelling_holds}
+use Rattle.num_system.proofs.HoldLemmas.{closed_from, holds_representation, representation_holds}
 use Rattle.num_system.proofs.SealedLemmas.{are_systems, languages_are}
 
-module _ (limit : ℕ) (systems : List SystemValue) (listed : Branching) (r : RelationValue) (lines : List StepLine) (sealed : AllByRecursion IsSealed systems) (one : HaveOneWay systems)
+module _ (limit : ℕ) (systems : List SystemValue) (listed : Branching) (r : RelationValue) (lines : List StepLine) (sealed : AllByRecursion IsSealed systems) (one : ShareDirection systems)
     (sizes : listed.sizes ≡ sizes_of (systems_of systems)) (steps : AreReadingSteps limit systems listed r lines) where
-  abbrev way : Direction
-  way = way_of systems
+  abbrev direction : Direction
+  direction = direction_of systems
 
   abbrev ss : List System
   ss = systems_of systems
@@ -63,22 +63,22 @@ module _ (limit : ℕ) (systems : List SystemValue) (listed : Branching) (r : Re
   to_listed w over = subst (λ (s : List ℕ). IsWord (product s) w) (sym sizes) over
 
   -- leading zeros change nothing for the closure
-  moved : (v w : List ℕ) → without_zeros (in_order way v) ≡ without_zeros (in_order way w) → IsPadded way read v → IsPadded way read w
-  moved v w same (u, over, strips, accepted) = (u, over, strips ∙ same_strip way w v same, accepted)
+  moved : (v w : List ℕ) → without_zeros (in_order direction v) ≡ without_zeros (in_order direction w) → IsPadded direction read v → IsPadded direction read w
+  moved v w same (u, over, strips, accepted) = (u, over, strips ∙ same_strip direction w v same, accepted)
 
-  ignores : IgnoresZeros way closed
+  ignores : IgnoresZeros direction closed
   ignores v w over_v over_w same =
       let first = steps.before.pad_step.closure.language v (to_read v (from_closed v over_v)) in
       let second = steps.before.pad_step.closure.language w (to_read w (from_closed w over_w)) in
       same_tests (accepts_of closed v) (accepts_of closed w) (λ is. second.1 (moved v w same (first.0 is)), λ is. first.1 (moved w v (sym same) (second.0 is)))
 
-  says : HoldsOf way ss (HasSpelling way ss closed) r.automaton
+  says : HoldsOf direction ss (HasRepresentation direction ss closed) r.automaton
   says =
-      valid_part_spells way ss (languages_of systems) (languages_are way systems sealed one) (numbered closed) r.automaton steps.valid_step.valid_part.sizes steps.valid_step.valid_part.language
+      valid_part_represents direction ss (languages_of systems) (languages_are direction systems sealed one) (numbered closed) r.automaton steps.valid_step.valid_part.sizes steps.valid_step.valid_part.language
       (are_systems systems sealed) closed_sizes ignores
 
-  says_own : HoldsOf (way_of r.systems) (systems_of r.systems) (HasSpelling way ss closed) r.automaton
-  says_own = subst (λ (own : List SystemValue). HoldsOf (way_of own) (systems_of own) (HasSpelling way ss closed) r.automaton) (sym steps.systems_are) says
+  says_own : HoldsOf (direction_of r.systems) (systems_of r.systems) (HasRepresentation direction ss closed) r.automaton
+  says_own = subst (λ (own : List SystemValue). HoldsOf (direction_of own) (systems_of own) (HasRepresentation direction ss closed) r.automaton) (sym steps.systems_are) says
 
   tracks : length closed.sizes ≡ length systems
   tracks = ap length closed_sizes ∙ length-map (systems_of systems) (λ (s : System). s.digits) ∙ length-map systems system_of
@@ -101,30 +101,30 @@ module _ (limit : ℕ) (systems : List SystemValue) (listed : Branching) (r : Re
     };
     count = own_count;
     sealed = subst (AllByRecursion IsSealed) (sym steps.systems_are) sealed;
-    one_way = subst HaveOneWay (sym steps.systems_are) one;
-    closed = closed_from (way_of r.systems) (systems_of r.systems) (HasSpelling way ss closed) r.automaton says_own;
+    shared_direction = subst ShareDirection (sym steps.systems_are) one;
+    closed = closed_from (direction_of r.systems) (systems_of r.systems) (HasRepresentation direction ss closed) r.automaton says_own;
   }
 
-  -- a spelling whose padding is accepted, and one that is accepted itself
-  listed_from : (ns : List ℕ) → HasSpelling way ss closed ns → IsListedOf way ss listed ns
-  listed_from ns (v, over, spelled, accepted) =
+  -- a representation whose padding is accepted, and one that is accepted itself
+  listed_from : (ns : List ℕ) → HasRepresentation direction ss closed ns → IsListedOf direction ss listed ns
+  listed_from ns (v, over, represented, accepted) =
       let padded = (steps.before.pad_step.closure.language v (to_read v over)).0 accepted in
       let there : IsWord (letters_in ss) padded.0 = from_read padded.0 padded.1 in (
         padded.0,
         there,
-        (spellings ss (in_order way v) (in_order way padded.0) ns (are_systems systems sealed) (IsWord-in_order way (letters_in ss) v over) (IsWord-in_order way (letters_in ss) padded.0 there) spelled).1
-            (same_without_zeros way v padded.0 padded.2),
+        (representations ss (in_order direction v) (in_order direction padded.0) ns (are_systems systems sealed) (IsWord-in_order direction (letters_in ss) v over) (IsWord-in_order direction (letters_in ss) padded.0 there) represented).1
+            (same_without_zeros direction v padded.0 padded.2),
         (steps.before.read_step.read_is.language padded.0 (to_listed padded.0 there)).0 padded.3,
       )
 
-  listed_to : (ns : List ℕ) → IsListedOf way ss listed ns → HasSpelling way ss closed ns
-  listed_to ns (w, over, spelled, accepted) =
-      (w, over, spelled, (steps.before.pad_step.closure.language w (to_read w over)).1 (w, to_read w over, refl, (steps.before.read_step.read_is.language w (to_listed w over)).1 accepted))
+  listed_to : (ns : List ℕ) → IsListedOf direction ss listed ns → HasRepresentation direction ss closed ns
+  listed_to ns (w, over, represented, accepted) =
+      (w, over, represented, (steps.before.pad_step.closure.language w (to_read w over)).1 (w, to_read w over, refl, (steps.before.read_step.read_is.language w (to_listed w over)).1 accepted))
 
-  pub reading_holds : (ns : List ℕ) → length ns ≡ length systems → RelationHolds r ns ↔ IsListedOf way ss listed ns
+  pub reading_holds : (ns : List ℕ) → length ns ≡ length systems → RelationHolds r ns ↔ IsListedOf direction ss listed ns
   reading_holds ns count = (
-    λ holds. listed_from ns (spelling_holds (way_of r.systems) (systems_of r.systems) (HasSpelling way ss closed) r.automaton says_own ns holds),
-    λ is. holds_spelling (way_of r.systems) (systems_of r.systems) (HasSpelling way ss closed) r.automaton says_own (are_systems r.systems (subst (AllByRecursion IsSealed) (sym steps.systems_are) sealed)) ns
+    λ holds. listed_from ns (representation_holds (direction_of r.systems) (systems_of r.systems) (HasRepresentation direction ss closed) r.automaton says_own ns holds),
+    λ is. holds_representation (direction_of r.systems) (systems_of r.systems) (HasRepresentation direction ss closed) r.automaton says_own (are_systems r.systems (subst (AllByRecursion IsSealed) (sym steps.systems_are) sealed)) ns
         (count ∙ sym (length-map r.systems system_of ∙ ap length steps.systems_are)) (listed_to ns is),
   )
 

@@ -13,7 +13,7 @@ use Rattle.automaton_steps.specs.PadSteps.{IsPadStep}
 use Rattle.automaton_steps.specs.ReadSteps.{IsReadStep}
 use Rattle.automaton_steps.specs.ValidSteps.{IsValidStep, DoesValid, ValidExceeds}
 use Rattle.num_system.specs.Sealed.{SystemValue}
-use Rattle.num_system.specs.Tracks.{way_of, languages_of}
+use Rattle.num_system.specs.Tracks.{direction_of, languages_of}
 use Rattle.number_relations.specs.Relations.{relation_over}
 use Rattle.number_relations.specs.Readings.{IsPaddedReading, IsReadDone, PassesReading}
 use Rattle.num_system.proofs.LineLemmas.{with_more}
@@ -22,18 +22,18 @@ module _ (old mid : StepLog) (systems : List SystemValue) (listed : Branching) (
   mid_limit : mid.limit ≡ old.limit
   mid_limit = ap (λ (log : StepLog). log.limit) first.new_is
 
-  module _ (late : StepLog) (closed : Automaton) (second : IsDone mid (IsPadStep mid.limit (way_of systems) read closed) late) where
+  module _ (late : StepLog) (closed : Automaton) (second : IsDone mid (IsPadStep mid.limit (direction_of systems) read closed) late) where
     late_limit : late.limit ≡ old.limit
     late_limit = ap (λ (log : StepLog). log.limit) second.new_is ∙ mid_limit
 
-    abbrev before : IsPaddedReading old.limit (way_of systems) listed
+    abbrev before : IsPaddedReading old.limit (direction_of systems) listed
     before = record {
       read = read;
       closed = closed;
       first = first.line;
       second = second.line;
       read_step = first.step;
-      pad_step = subst (λ (limit : ℕ). IsPadStep limit (way_of systems) read closed second.line) mid_limit second.step;
+      pad_step = subst (λ (limit : ℕ). IsPadStep limit (direction_of systems) read closed second.line) mid_limit second.step;
     }
 
     late_is : late ≡ with_lines old (first.line ∷ second.line ∷ [])

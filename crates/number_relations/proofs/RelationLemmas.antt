@@ -1,4 +1,4 @@
--- What relations tell: they are decided, and equal where they hold of the same tuples.
+-- What relations say: they are decided, and equal where they hold of the same tuples.
 use Rattle.std.proofs.Common.{◌≡◌, ℕ, ◌<◌, List, [], ◌∷◌, map, length, get_or, refl, sym, ap, ◌∙◌, subst, ◌↔◌, IsTrue, arith}
 use Rattle.std.specs.List.{AllByRecursion}
 use Rattle.std.proofs.lemmas.List.{ext_get_or, get_or-map, length-map}
@@ -11,16 +11,16 @@ use Rattle.digit_tuple.proofs.TruthLemmas.{same_tests}
 use Rattle.minimise.specs.Canonical.{IsCanonical}
 use Rattle.minimise.proofs.CanonicalLemmas.{canonical_forms}
 use Rattle.numeration.specs.Systems.{AreSystems}
-use Rattle.numeration.specs.Spelling.{letters_in}
+use Rattle.numeration.specs.Representation.{letters_in}
 use Rattle.num_system.specs.Sealed.{SystemValue, system_of, IsSealed}
-use Rattle.num_system.specs.Tracks.{systems_of, way_of, number_under}
+use Rattle.num_system.specs.Tracks.{systems_of, direction_of, number_under}
 use Rattle.number_relations.specs.Relations.{RelationValue, IsRelationOf, IsClosedOver, HoldsOver, RelationHolds}
 use Rattle.number_relations.specs.Laws.{RelationsAreDecided, TuplesTellRelations}
-use Rattle.num_system.proofs.HoldLemmas.{decided, spelled_count}
+use Rattle.num_system.proofs.HoldLemmas.{decided, represented_count}
 use Rattle.num_system.proofs.SealedLemmas.{are_systems}
 
 pub relations_decided : RelationsAreDecided
-relations_decided r ns is = decided (way_of r.systems) (systems_of r.systems) r.automaton (are_systems r.systems is.sealed) is.closed ns
+relations_decided r ns is = decided (direction_of r.systems) (systems_of r.systems) r.automaton (are_systems r.systems is.sealed) is.closed ns
 
 -- canonical automata over the same systems that hold of the same tuples are equal
 pub same_automaton : (systems : List SystemValue) (d e : Automaton) → IsClosedOver systems d → IsClosedOver systems e → IsCanonical d → IsCanonical e
@@ -36,13 +36,13 @@ same_automaton systems d e closed also canonical other agree = canonical_forms d
         there : IsTrue (accepts_of d w) → IsTrue (accepts_of e w)
         there accepted =
             let found = (closed.accepts w inside).0 accepted in
-            let count = spelled_count (systems_of systems) (in_order (way_of systems) w) found.0 found.1 ∙ length-map systems system_of in
+            let count = represented_count (systems_of systems) (in_order (direction_of systems) w) found.0 found.1 ∙ length-map systems system_of in
             (also.accepts w inside).1 (found.0, found.1, (agree found.0 count).0 found.2)
 
         back : IsTrue (accepts_of e w) → IsTrue (accepts_of d w)
         back accepted =
             let found = (also.accepts w inside).0 accepted in
-            let count = spelled_count (systems_of systems) (in_order (way_of systems) w) found.0 found.1 ∙ length-map systems system_of in
+            let count = represented_count (systems_of systems) (in_order (direction_of systems) w) found.0 found.1 ∙ length-map systems system_of in
             (closed.accepts w inside).1 (found.0, found.1, (agree found.0 count).1 found.2)
 
 pub tuples_tell : TuplesTellRelations

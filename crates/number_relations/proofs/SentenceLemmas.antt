@@ -4,7 +4,7 @@ use Rattle.digit_tuple.specs.Deterministic.{Automaton, accepts_of}
 use Rattle.num_system.specs.Sealed.{SystemValue}
 use Rattle.number_relations.specs.Relations.{RelationValue, IsRelation, IsClosedOver, HoldsOver, RelationHolds}
 
--- over no tracks the empty word tells whether the relation holds
+-- over no tracks the empty word says whether the relation holds
 no_tracks : (systems : List SystemValue) (d : Automaton) → length systems ≡ 0 → IsClosedOver systems d → IsTrue (accepts_of d []) ↔ HoldsOver systems d []
 no_tracks [] d none closed = (λ accepted. ([], tt, tt, accepted), λ some. (closed.accepts [] tt).1 ([], tt, some))
 no_tracks (s ∷ systems) d none closed = absurd (omega (arith, none))

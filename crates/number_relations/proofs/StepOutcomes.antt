@@ -6,7 +6,7 @@ use Rattle.digit_tuple.specs.declared.kind.Kind.TheVariants as kinds
 use Rattle.digit_tuple.specs.declared.steps.StepLine.{StepLine}
 use Rattle.digit_tuple.proofs.WidthLemmas.{IsOneWidth-equivalence}
 use Rattle.minimise.proofs.CanonicalLemmas.{canonical_forms}
-use Rattle.numeration.specs.Spelling.{sizes_of}
+use Rattle.numeration.specs.Representation.{sizes_of}
 use Rattle.digit_tuple.proofs.TruthLemmas.{same_tests}
 use Rattle.num_system.specs.Sealed.{SystemValue, system_of}
 use Rattle.constants.specs.Constants.{ConstantAlike}
@@ -16,7 +16,7 @@ use Rattle.automaton_steps.specs.StepLines.{IsStepLine}
 use Rattle.automaton_steps.proofs.OneLines.{one_line, not_beside}
 use Rattle.automaton_steps.proofs.OneOutcomes.{complement_outcome, join_outcome, project_outcome}
 use Rattle.number_relations.specs.Relations.{RelationValue, named_of, relation_over}
-use Rattle.num_system.specs.Tracks.{languages_of, way_of}
+use Rattle.num_system.specs.Tracks.{languages_of, direction_of}
 use Rattle.number_relations.specs.Joins.{joint_systems}
 use Rattle.number_relations.specs.StepLaws.{RelationComplementHasOneOutcome, RelationConstantHasOneOutcome, RelationJoinHasOneOutcome, RelationProjectHasOneOutcome}
 
@@ -48,7 +48,7 @@ complement_one limit a =
 
 pub project_one : RelationProjectHasOneOutcome
 project_one limit track a =
-    let one = project_outcome limit (way_of a.systems) track (named_of a) in
+    let one = project_outcome limit (direction_of a.systems) track (named_of a) in
     record {
       result = λ c d line next first second. same_relation c d (one.result (named_of c) (named_of d) line next first.step second.step) (first.systems ∙ sym second.systems);
       line = λ c d line next first second. one.line (named_of c) (named_of d) line next first.step second.step;
@@ -59,13 +59,13 @@ project_one limit track a =
 
 module _ (limit : ℕ) (system : SystemValue) (number : ℕ) where
   abbrev Alike : List ℕ → List ℕ → Type 0
-  Alike = ConstantAlike system.way (system_of system) number
+  Alike = ConstantAlike system.direction (system_of system) number
 
-  constant_line : (d : Automaton) (line : StepLine) → IsConstantStep limit system.way (system_of system) number d line → IsStepLine limit kinds.Const Alike system.digits (states_of d) line
+  constant_line : (d : Automaton) (line : StepLine) → IsConstantStep limit system.direction (system_of system) number d line → IsStepLine limit kinds.Const Alike system.digits (states_of d) line
   constant_line d line made = record { kind_is = made.kind_is; width = made.width; size_is = made.size_is; small = made.small; within = made.within }
 
   -- a number has one canonical automaton
-  one_constant : (d e : Automaton) (line next : StepLine) → IsConstantStep limit system.way (system_of system) number d line → IsConstantStep limit system.way (system_of system) number e next → d ≡ e
+  one_constant : (d e : Automaton) (line next : StepLine) → IsConstantStep limit system.direction (system_of system) number d line → IsConstantStep limit system.direction (system_of system) number e next → d ≡ e
   one_constant d e line next first second =
       canonical_forms d e first.canonical second.canonical (first.constant.sizes ∙ sym second.constant.sizes)
       (λ w over.
@@ -76,8 +76,8 @@ module _ (limit : ℕ) (system : SystemValue) (number : ℕ) where
 
 pub constant_one : RelationConstantHasOneOutcome
 constant_one limit system number name =
-    let alike : List ℕ → List ℕ → Type 0 = ConstantAlike system.way (system_of system) number in
-    let width = IsOneWidth-equivalence alike system.digits (IsEquivalence-constant system.way (system_of system) number) in
+    let alike : List ℕ → List ℕ → Type 0 = ConstantAlike system.direction (system_of system) number in
+    let width = IsOneWidth-equivalence alike system.digits (IsEquivalence-constant system.direction (system_of system) number) in
     record {
       result = λ c d line next first second.
           let automata = one_constant limit system number c.automaton d.automaton line next first.step second.step in

@@ -15,7 +15,7 @@ use Rattle.automaton_steps.specs.StepLines.{IsRefused}
 use Rattle.automaton_steps.specs.JoinSteps.{IsJoinStep}
 use Rattle.automaton_steps.specs.ComplementSteps.{IsComplementStep, ComplementExceeds}
 use Rattle.automaton_steps.specs.ProjectSteps.{IsProjectStep}
-use Rattle.num_system.specs.Tracks.{way_of, languages_of}
+use Rattle.num_system.specs.Tracks.{direction_of, languages_of}
 use Rattle.number_relations.specs.Relations.{RelationValue, named_of, relation_over}
 use Rattle.number_relations.specs.Joins.{IsRelationJoinStep, joint_systems}
 use Rattle.number_relations.specs.Complements.{IsRelationComplement, IsRelationComplementStep, RelationComplementExceeds}
@@ -47,8 +47,8 @@ module _ (old new : StepLog) (a : RelationValue) (systems : List SystemValue) (l
   pub complement_refused : (fault : StepFault) → IsRefused old ⊥ (ComplementExceeds old.limit languages (named_of a)) new fault → IsRefused old ⊥ (RelationComplementExceeds old.limit a) new fault
   complement_refused fault refused = subst (λ (ls : List Automaton). IsRefused old ⊥ (ComplementExceeds old.limit ls (named_of a)) new fault) languages_own refused
 
-module _ (old new : StepLog) (track : List ℕ) (a : RelationValue) (way : Direction) (is : way ≡ way_of a.systems) where
-  pub project_done : (systems : List SystemValue) → systems ≡ staying_systems a track → (projected : NamedAutomaton) → IsDone old (IsProjectStep old.limit way track (named_of a) projected) new
+module _ (old new : StepLog) (track : List ℕ) (a : RelationValue) (direction : Direction) (is : direction ≡ direction_of a.systems) where
+  pub project_done : (systems : List SystemValue) → systems ≡ staying_systems a track → (projected : NamedAutomaton) → IsDone old (IsProjectStep old.limit direction track (named_of a) projected) new
       → IsDone old (IsRelationProjectStep old.limit track a (relation_over projected systems)) new
   project_done systems same projected done = record {
     line = done.line;
@@ -57,14 +57,14 @@ module _ (old new : StepLog) (track : List ℕ) (a : RelationValue) (way : Direc
   }
 
 -- the language of a sealed system, seen in its parts
-pub constant_language : (system seen : SystemValue) (way : Direction) (d : Automaton) → IsSealed system → seen ≡ system → way ≡ seen.way → d ≡ seen.language → IsLanguageOf way (system_of system) d
-constant_language system seen way d sealed same is_way is =
-    subst (λ (w : Direction). IsLanguageOf w (system_of system) d) (sym (is_way ∙ ap (λ (v : SystemValue). v.way) same))
-    (subst (λ (e : Automaton). IsLanguageOf system.way (system_of system) e) (sym (is ∙ ap (λ (v : SystemValue). v.language) same)) sealed.language)
+pub constant_language : (system seen : SystemValue) (direction : Direction) (d : Automaton) → IsSealed system → seen ≡ system → direction ≡ seen.direction → d ≡ seen.language → IsLanguageOf direction (system_of system) d
+constant_language system seen direction d sealed same is_direction is =
+    subst (λ (w : Direction). IsLanguageOf w (system_of system) d) (sym (is_direction ∙ ap (λ (v : SystemValue). v.direction) same))
+    (subst (λ (e : Automaton). IsLanguageOf system.direction (system_of system) e) (sym (is ∙ ap (λ (v : SystemValue). v.language) same)) sealed.language)
 
-module _ (old new : StepLog) (system : SystemValue) (number : ℕ) (name : List ℕ) (way : Direction) (is : way ≡ system.way) where
+module _ (old new : StepLog) (system : SystemValue) (number : ℕ) (name : List ℕ) (direction : Direction) (is : direction ≡ system.direction) where
   pub constant_done : (names : List (List ℕ)) (systems : List SystemValue) (d : Automaton) → names ≡ name ∷ [] → systems ≡ system ∷ []
-      → IsDone old (IsConstantStep old.limit way (system_of system) number d) new
+      → IsDone old (IsConstantStep old.limit direction (system_of system) number d) new
       → IsDone old (IsRelationConstantStep old.limit system number name (record { names = names; systems = systems; automaton = d })) new
   constant_done names systems d named same done = record {
     line = done.line;
@@ -72,7 +72,7 @@ module _ (old new : StepLog) (system : SystemValue) (number : ℕ) (name : List 
     new_is = done.new_is;
   }
 
-  pub constant_refused : (fault : StepFault) → IsRefusedBy old ⊥ (ConstantExceeds old.limit way (system_of system) number) fault → new ≡ old → IsRefused old ⊥ (RelationConstantExceeds old.limit system number) new fault
+  pub constant_refused : (fault : StepFault) → IsRefusedBy old ⊥ (ConstantExceeds old.limit direction (system_of system) number) fault → new ≡ old → IsRefused old ⊥ (RelationConstantExceeds old.limit system number) new fault
   constant_refused fault refused kept = record {
     by_limit = subst (λ (w : Direction). IsRefusedBy old ⊥ (ConstantExceeds old.limit w (system_of system) number) fault) is refused;
     same = kept;

@@ -13,7 +13,7 @@ use Rattle.product_op.specs.Products.{in_complement}
 use Rattle.product_op.specs.Validity.{is_valid}
 use Rattle.number_relations.specs.Relations.{IsRelation, relation_over}
 use Rattle.number_relations.specs.Comparisons.{IsTruth}
-use Rattle.num_system.proofs.HoldLemmas.{closed_from, holds_spelling, spelling_holds}
+use Rattle.num_system.proofs.HoldLemmas.{closed_from, holds_representation, representation_holds}
 
 -- an automaton of all words or of none, over no tracks
 module _ (holds : Bool) (t : NamedAutomaton) (names : t.names ≡ []) (sizes : t.automaton.sizes ≡ []) (canonical : IsCanonical t.automaton)
@@ -30,7 +30,7 @@ module _ (holds : Bool) (t : NamedAutomaton) (names : t.names ≡ []) (sizes : t
     };
     count = sym (ap length names);
     sealed = tt;
-    one_way = tt;
+    shared_direction = tt;
     closed = closed_from Msd [] (λ ns. IsTrue holds) t.automaton truth_holds;
   }
 
@@ -40,8 +40,8 @@ module _ (holds : Bool) (t : NamedAutomaton) (names : t.names ≡ []) (sizes : t
     names_are = names;
     systems_are = refl;
     holds_of = λ number_of. (
-      spelling_holds Msd [] (λ ns. IsTrue holds) t.automaton truth_holds [],
-      holds_spelling Msd [] (λ ns. IsTrue holds) t.automaton truth_holds tt [] refl,
+      representation_holds Msd [] (λ ns. IsTrue holds) t.automaton truth_holds [],
+      holds_representation Msd [] (λ ns. IsTrue holds) t.automaton truth_holds tt [] refl,
     );
   }
 

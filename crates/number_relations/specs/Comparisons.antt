@@ -15,7 +15,7 @@ Compares Greater x y = y < x
 Compares AtMost x y = x ≤ y
 Compares AtLeast x y = y ≤ x
 
--- the names of both numbers in the order of the tracks: `>` and `<=` are told by `<` with its tracks exchanged
+-- the names of both numbers in the order of the tracks: `>` and `<=` are determined by `<` with its tracks exchanged
 abbrev pub compared_names : Comparison → List ℕ → List ℕ → List (List ℕ)
 compared_names Equal first second = first ∷ second ∷ []
 compared_names Unequal first second = first ∷ second ∷ []
@@ -24,7 +24,7 @@ compared_names Greater first second = second ∷ first ∷ []
 compared_names AtMost first second = second ∷ first ∷ []
 compared_names AtLeast first second = first ∷ second ∷ []
 
--- the tracks have these names, each once, and stand over one system
+-- the tracks have these names, each once, and are over one system
 abbrev pub IsOverOne : SystemValue → List (List ℕ) → ((List ℕ → ℕ) → Type 0) → RelationValue → Type 0
 IsOverOne system names holds r = IsRelationOf (each_once names) (map (λ name. system) (each_once names)) holds r
 

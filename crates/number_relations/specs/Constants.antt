@@ -15,18 +15,18 @@ use Rattle.number_relations.specs.Relations.{RelationValue}
 pub record IsRelationConstant (system : SystemValue) (number : ℕ) (name : List ℕ) (c : RelationValue) : Type 0 where
   pub names : c.names ≡ name ∷ []
   pub systems : c.systems ≡ system ∷ []
-  pub constant : IsConstantOf system.way (system_of system) number c.automaton
+  pub constant : IsConstantOf system.direction (system_of system) number c.automaton
   pub canonical : IsCanonical c.automaton
 
 -- the step is within the limit, and makes this relation
 pub record IsRelationConstantStep (limit : ℕ) (system : SystemValue) (number : ℕ) (name : List ℕ) (c : RelationValue) (line : StepLine) : Type 0 where
   pub names : c.names ≡ name ∷ []
   pub systems : c.systems ≡ system ∷ []
-  pub step : IsConstantStep limit system.way (system_of system) number c.automaton line
+  pub step : IsConstantStep limit system.direction (system_of system) number c.automaton line
 
 -- the step passes the limit
 abbrev pub RelationConstantExceeds : ℕ → SystemValue → ℕ → Type 0
-RelationConstantExceeds limit system number = ConstantExceeds limit system.way (system_of system) number
+RelationConstantExceeds limit system number = ConstantExceeds limit system.direction (system_of system) number
 
 -- the step is done, or refused
 abbrev pub DoesRelationConstant : StepLog → SystemValue → ℕ → List ℕ → Result RelationValue StepFault → StepLog → Type 0

@@ -14,13 +14,13 @@ use Rattle.automaton_steps.specs.JoinSteps.{IsJoin, IsJoinStep, JoinExceedsLette
 use Rattle.automaton_steps.specs.StepLines.{IsRefused}
 use Rattle.number_relations.specs.Relations.{RelationValue, named_of, system_named}
 
--- tracks of one name stand over one system
+-- tracks of one name are over one system
 abbrev pub AgreeOnSystems : RelationValue → RelationValue → Type 0
 AgreeOnSystems a b = (name : List ℕ) → Contains a.names name → Contains b.names name → system_named a name ≡ system_named b name
 
 -- the tracks of both have one direction; so have those of a relation without tracks and of any other
 abbrev pub HaveOneDirection : RelationValue → RelationValue → Type 0
-HaveOneDirection a b = (s t : SystemValue) → Contains a.systems s → Contains b.systems t → s.way ≡ t.way
+HaveOneDirection a b = (s t : SystemValue) → Contains a.systems s → Contains b.systems t → s.direction ≡ t.direction
 
 -- the systems of the tracks of both, in byte order of the names: each that of the track of its name in the one, or else in the other
 abbrev pub joint_systems : RelationValue → RelationValue → List SystemValue

@@ -14,7 +14,7 @@ use Rattle.num_system.specs.declared.comparison.Comparison.{Comparison}
 abbrev pub RelationsAreDecided : Type 0
 RelationsAreDecided = (r : RelationValue) (ns : List ℕ) → IsRelation r → RelationHolds r ns ⊎ (RelationHolds r ns → ⊥)
 
--- a relation is told by its tracks and its tuples: two that have the same are equal
+-- a relation is determined by its tracks and its tuples: two that have the same are equal
 abbrev pub TuplesTellRelations : Type 0
 TuplesTellRelations = (r s : RelationValue) → IsRelation r → IsRelation s → r.names ≡ s.names → r.systems ≡ s.systems
     → ((ns : List ℕ) → length ns ≡ length r.names → RelationHolds r ns ↔ RelationHolds s ns) → r ≡ s

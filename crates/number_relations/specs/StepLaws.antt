@@ -1,6 +1,6 @@
 -- Laws of the relations that steps make, on tuples of numbers.
 use Rattle.number_relations.specs.Readings.{AreReadingSteps, IsListedOf}
-use Rattle.numeration.specs.Spelling.{sizes_of}
+use Rattle.numeration.specs.Representation.{sizes_of}
 use Rattle.digit_tuple.specs.Automaton.{Branching}
 use Rattle.std.specs.List.{AllByRecursion}
 use Rattle.std.specs.Prelude.{◌≡◌, ℕ, ◌*◌, List, [], ◌∷◌, length, ◌↔◌}
@@ -12,7 +12,7 @@ use Rattle.numeration.specs.SomeTracks.{completed}
 use Rattle.num_system.specs.Joined.{joined, IsBound}
 use Rattle.num_system.specs.Sealed.{SystemValue, IsSealed}
 use Rattle.automaton_steps.specs.Laws.{HasOneOutcome}
-use Rattle.num_system.specs.Tracks.{HaveOneWay, systems_of, way_of, number_under}
+use Rattle.num_system.specs.Tracks.{ShareDirection, systems_of, direction_of, number_under}
 use Rattle.number_relations.specs.Relations.{RelationValue, IsRelation, RelationHolds, named_of, systems_in}
 use Rattle.number_relations.specs.Joins.{AgreeOnSystems, HaveOneDirection, IsRelationJoin, IsRelationJoinStep, RelationJoinExceedsLetters, RelationJoinExceeds}
 use Rattle.number_relations.specs.Complements.{IsRelationComplement, IsRelationComplementStep, RelationComplementExceeds}
@@ -80,12 +80,12 @@ abbrev pub MultiplesHold : Type 0
 MultiplesHold = (system : SystemValue) (factor : ℕ) (x y : List ℕ) (r : RelationValue) (ns : List ℕ) → IsMultiple system factor x y r → length ns ≡ length r.names
     → RelationHolds r ns ↔ (number_under r.names ns y ≡ factor * number_under r.names ns x)
 
--- a relation that was read holds of the numbers of which some spelling is accepted by the listed automaton, and is a relation
+-- a relation that was read holds of the numbers of which some representation is accepted by the listed automaton, and is a relation
 abbrev pub ReadingsHold : Type 0
 ReadingsHold = (limit : ℕ) (systems : List SystemValue) (listed : Branching) (r : RelationValue) (lines : List StepLine) (ns : List ℕ)
-    → AllByRecursion IsSealed systems → HaveOneWay systems → listed.sizes ≡ sizes_of (systems_of systems) → AreReadingSteps limit systems listed r lines → length ns ≡ length systems
-    → RelationHolds r ns ↔ IsListedOf (way_of systems) (systems_of systems) listed ns
+    → AllByRecursion IsSealed systems → ShareDirection systems → listed.sizes ≡ sizes_of (systems_of systems) → AreReadingSteps limit systems listed r lines → length ns ≡ length systems
+    → RelationHolds r ns ↔ IsListedOf (direction_of systems) (systems_of systems) listed ns
 
 abbrev pub ReadingsAreRelations : Type 0
 ReadingsAreRelations = (limit : ℕ) (systems : List SystemValue) (listed : Branching) (r : RelationValue) (lines : List StepLine)
-    → AllByRecursion IsSealed systems → HaveOneWay systems → listed.sizes ≡ sizes_of (systems_of systems) → AreReadingSteps limit systems listed r lines → IsRelation r
+    → AllByRecursion IsSealed systems → ShareDirection systems → listed.sizes ≡ sizes_of (systems_of systems) → AreReadingSteps limit systems listed r lines → IsRelation r

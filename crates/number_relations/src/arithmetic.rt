@@ -20,11 +20,11 @@ use std::alloc::Global;
 use std::rc::Rc;
 
 impl Relation {
-    /// The numbers of a system that compare so, under two names, which may be the same. The tracks stand
-    /// in this order, but for `Greater` and `AtMost` in the other one: these are told by the order with
-    /// its tracks exchanged. `Unequal`, `AtMost` and `AtLeast` are the pairs of valid words outside the
-    /// equality and the order. Only OutOfMemory is answered, which comes too where 2^32 - 1 states are not
-    /// enough. Time and memory follow the edges of two tracks of the system.
+    /// The numbers of a system that compare so, under two names, which may be the same. The tracks are in this order,
+    /// but for `Greater` and `AtMost` in the other one: these are determined by the order with its tracks exchanged.
+    /// `Unequal`, `AtMost` and `AtLeast` are the pairs of valid words outside the equality and the order. Only
+    /// OutOfMemory is answered, which comes too where 2^32 - 1 states are not enough. Time and memory follow the
+    /// transitions of two tracks of the system.
     pub fn comparison(
         alloc: Global,
         system: &Rc<System>,
@@ -47,9 +47,9 @@ impl Relation {
         }
     }
 
-    /// The numbers of a system of which the third is the sum of the others, under three names, of which
-    /// some may be the same. The tracks stand in order of first occurrence. Only OutOfMemory is answered.
-    /// The cost is that of `placed` on the system's adder.
+    /// The numbers of a system of which the third is the sum of the others, under three names, of which some may be the
+    /// same. The tracks are in order of first occurrence. Only OutOfMemory is answered. The cost is that of `placed` on
+    /// the system's adder.
     pub fn sum(
         alloc: Global,
         system: &Rc<System>,
@@ -68,8 +68,8 @@ impl Relation {
         over_one(alloc, system, sealed.adder(), &under)
     }
 
-    /// Any number of a system, under one name: the system's language. Only OutOfMemory is answered. Time
-    /// and memory follow the language's edges.
+    /// Any number of a system, under one name: the system's language. Only OutOfMemory is answered. Time and memory
+    /// follow the language's transitions.
     pub fn number(alloc: Global, system: &Rc<System>, name: &Name) -> Result<Self, OutOfMemory>
         ensures { IfOk result (IsAnyNumber system.now.value name.now) }
     {
@@ -98,7 +98,7 @@ fn compared_names(
     }
 }
 
-// The relation that an automaton holds of whose tracks all stand over one system, under these names.
+// The relation that an automaton holds of whose tracks all are over one system, under these names.
 pub(crate) fn over_one(
     alloc: Global,
     system: &Rc<System>,
@@ -138,7 +138,7 @@ fn other_pairs(alloc: Global, system: &Rc<System>, dfa: &Dfa) -> Result<Dfa, Out
     requires canonical { IsCanonical dfa.now }
     requires closed { let s = system.now.value in IsClosedOver (s ∷ s ∷ []) dfa.now }
     ensures canonical { IfOk result IsCanonical }
-    ensures holds { let s = system.now.value in IfOk result (λ other. HoldsOf s.way (system_of s ∷ system_of s ∷ []) (λ ns. ¬ HoldsOver (s ∷ s ∷ []) dfa.now ns) other) }
+    ensures holds { let s = system.now.value in IfOk result (λ other. HoldsOf s.direction (system_of s ∷ system_of s ∷ []) (λ ns. ¬ HoldsOver (s ∷ s ∷ []) dfa.now ns) other) }
 {
     let sealed = system.as_ref();
     is_sealed(sealed);

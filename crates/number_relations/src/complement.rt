@@ -15,8 +15,7 @@ use std::alloc::Global;
 /// on automata.
 ///
 /// # Errors
-/// `States` exactly where the width passes the limit. The steps are as before then, also where memory
-/// is wanting.
+/// `States` if and only if the width passes the limit. The steps are as before then, also where memory is wanting.
 pub fn complement_step(
     alloc: Global,
     argument: &Relation,

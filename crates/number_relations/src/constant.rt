@@ -17,8 +17,7 @@ use std::rc::Rc;
 /// the step `const` as the next one. The width and the cost are those of the step on automata.
 ///
 /// # Errors
-/// `States` exactly where the width passes the limit. The steps are as before then, also where memory
-/// is wanting.
+/// `States` if and only if the width passes the limit. The steps are as before then, also where memory is wanting.
 pub fn constant_step(
     alloc: Global,
     system: &Rc<System>,

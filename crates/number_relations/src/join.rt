@@ -13,17 +13,17 @@ use num_system::tracks::languages_of;
 use product_op::op::Op;
 use std::alloc::Global;
 
-/// The relation of which the connective says that it holds, by the step `product` as the next one. Its
-/// tracks are those of both, in byte order of their names; tracks of one name are one track, and stand
-/// over one system. All systems have one direction; a relation without tracks joins with relations of
-/// either. For `and not`, each track of the second is one of the first.
+/// The relation of which the connective says that it holds, by the step `product` as the next one. Its tracks are those
+/// of both, in byte order of their names; tracks of one name are one track, and are over one system. All systems have
+/// one direction; a relation without tracks joins with relations of either. For `and not`, each track of the second is
+/// one of the first.
 ///
 /// By the law `join_holds` it holds of numbers as the connective says of the relations on their parts.
 /// The width and the cost are those of the step on automata.
 ///
 /// # Errors
-/// `Letters` exactly where there are too many tracks or letters, looked at first; `States` exactly
-/// where the width passes the limit. The steps are as before then, also where memory is wanting.
+/// `Letters` if and only if there are too many tracks or letters, looked at first; `States` if and only if the width
+/// passes the limit. The steps are as before then, also where memory is wanting.
 pub fn join_step(
     alloc: Global,
     a: &Relation,

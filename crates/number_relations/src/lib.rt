@@ -1,8 +1,7 @@
-//! Relations on numbers: canonical automata of their spellings, with a name and a sealed system for each
-//! track.
+//! Relations on numbers: canonical automata of their representations, with a name and a sealed system for each track.
 #![tactic(auto)]
 
-/// Relations, and what they tell.
+/// Relations, and what they say.
 pub mod relation;
 
 /// True and false sentences.

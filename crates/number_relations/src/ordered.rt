@@ -10,9 +10,9 @@ use project_close::renaming::rename;
 use std::alloc::Global;
 
 impl Relation {
-    /// The same relation with its tracks in byte order of their names. Where they stand so already the
-    /// table is a copy, and time and memory follow its edges; else they follow the states times the
-    /// letters. Only OutOfMemory is answered, which comes too where 2^32 - 1 states are not enough.
+    /// The same relation with its tracks in byte order of their names. Where they are so already the table is a copy,
+    /// and time and memory follow its transitions; else they follow the states times the letters. Only OutOfMemory is
+    /// answered, which comes too where 2^32 - 1 states are not enough.
     pub fn ordered(&self, alloc: Global) -> Result<Self, OutOfMemory>
         ensures { IfOk result (IsOrdered self.now) }
     {

@@ -7,7 +7,7 @@ ghost use Rattle.digit_tuple.specs.Deterministic.{accepts_of};
 ghost use Rattle.digit_tuple.specs.Letters.{product, IsWord};
 ghost use Rattle.minimise.specs.Canonical.{IsCanonical};
 ghost use Rattle.project_close.specs.Substitution.{IsSubstitution, sizes_under, word_under};
-ghost use Rattle.num_system.specs.Tracks.{HaveOneWay, system_under, AgreeUnder, systems_under};
+ghost use Rattle.num_system.specs.Tracks.{ShareDirection, system_under, AgreeUnder, systems_under};
 ghost use Rattle.number_relations.specs.Relations.{IsClosedOver, system_named};
 ghost use Rattle.number_relations.specs.Placed.{IsPlaced, IsRenamed, changed_name as changed_name_of, changed_names as changed_names_of, each_once as each_once_of};
 
@@ -24,16 +24,15 @@ use std::alloc::Global;
 use std::rc::Rc;
 
 impl Relation {
-    /// The relation of which a canonical automaton holds, its tracks under these names. There is a
-    /// system for each track, all of one direction, and `dfa` accepts each spelling of the numbers of
-    /// which it accepts some spelling, and no other word. `under` has a name for each track. Tracks under
-    /// one name have one system, and become one track, as where a relation of two arguments is asked of x
-    /// and x. The tracks of the result stand in order of first occurrence of their names.
+    /// The relation of which a canonical automaton holds, its tracks under these names. There is a system for each
+    /// track, all of one direction, and `dfa` accepts each representation of the numbers of which it accepts some
+    /// representation, and no other word. `under` has a name for each track. Tracks under one name have one system, and
+    /// become one track, as where a relation of two arguments is asked of x and x. The tracks of the result are in
+    /// order of first occurrence of their names.
     ///
-    /// Where the names are different the table is a copy of that of `dfa`, and time and memory follow its
-    /// edges; else they follow the states of `dfa`, the letters of the result, and the letters by which
-    /// these states lead on. Only OutOfMemory is answered, which comes too where 2^32 - 1 states are not
-    /// enough.
+    /// Where the names are different the table is a copy of that of `dfa`, and time and memory follow its transitions;
+    /// else they follow the states of `dfa`, the letters of the result, and the letters by which these states lead on.
+    /// Only OutOfMemory is answered, which comes too where 2^32 - 1 states are not enough.
     pub fn placed(
         alloc: Global,
         dfa: &Dfa,
@@ -43,7 +42,7 @@ impl Relation {
         requires canonical { IsCanonical dfa.now }
         requires count { length under.now ≡ length systems.now }
         requires agree { AgreeUnder under.now (map rc_value systems.now) }
-        requires direction { HaveOneWay (map rc_value systems.now) }
+        requires direction { ShareDirection (map rc_value systems.now) }
         requires closed { IsClosedOver (map rc_value systems.now) dfa.now }
         ensures { IfOk result (IsPlaced dfa.now (map rc_value systems.now) under.now) }
     {
@@ -54,10 +53,9 @@ impl Relation {
         Ok(Relation::from_parts(tracked, kept))
     }
 
-    /// The relation with the track of one name under another one, and the same relation where there is no
-    /// track of that name. If there is a track of the new name too, the tracks have one system, and become
-    /// one track. The tracks stand in order of first occurrence of their names. The cost and the one fault
-    /// are those of `placed`.
+    /// The relation with the track of one name under another one, and the same relation where there is no track of that
+    /// name. If there is a track of the new name too, the tracks have one system, and become one track. The tracks are
+    /// in order of first occurrence of their names. The cost and the one fault are those of `placed`.
     pub fn renamed(&self, alloc: Global, from: &Name, to: &Name) -> Result<Self, OutOfMemory>
         requires { Contains self.now.names from.now → Contains self.now.names to.now → system_named self.now from.now ≡ system_named self.now to.now }
         ensures { IfOk result (IsRenamed self.now from.now to.now) }

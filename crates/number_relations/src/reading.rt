@@ -2,8 +2,8 @@
 
 ghost use Rattle.std.specs.Prelude.{◌≡◌, map, IfOk};
 ghost use Rattle.std.specs.Rc.{rc_value};
-ghost use Rattle.numeration.specs.Spelling.{sizes_of};
-ghost use Rattle.num_system.specs.Tracks.{HaveOneWay, systems_of};
+ghost use Rattle.numeration.specs.Representation.{sizes_of};
+ghost use Rattle.num_system.specs.Tracks.{ShareDirection, systems_of};
 ghost use Rattle.number_relations.specs.Readings.{DoesReading};
 
 use crate::relation::Relation;
@@ -21,10 +21,10 @@ use num_system::tracks::{direction_of, languages_of, shared};
 use std::alloc::Global;
 use std::rc::Rc;
 
-/// The relation that holds of the numbers of which the listed automaton accepts some spelling, by the
-/// steps `read`, `pad` and `valid` as the next ones. There is a system for each of its tracks, with the
-/// track's number of digits, and all have one direction. The tracks have their numbers as names, counted
-/// from 0. The widths and the costs are those of the steps.
+/// The relation that holds of the numbers of which the listed automaton accepts some representation, by the steps
+/// `read`, `pad` and `valid` as the next ones. There is a system for each of its tracks, with the track's number of
+/// digits, and all have one direction. The tracks have their numbers as names, counted from 0. The widths and the costs
+/// are those of the steps.
 ///
 /// # Errors
 /// `States` exactly at the first step that passes the limit.
@@ -35,7 +35,7 @@ pub fn reading_steps(
     steps: &mut Steps,
 ) -> Result<Relation, StepFault>
     requires sizes { listed.now.sizes ≡ sizes_of (systems_of (map rc_value systems.now)) }
-    requires direction { HaveOneWay (map rc_value systems.now) }
+    requires direction { ShareDirection (map rc_value systems.now) }
     ensures { DoesReading steps.old (map rc_value systems.now) listed.now result steps.new }
 {
     are_sealed(systems);

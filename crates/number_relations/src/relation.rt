@@ -12,9 +12,9 @@ use num_system::system::System;
 use std::marker::Model;
 use std::rc::Rc;
 
-/// A relation on numbers: the canonical automaton of all spellings of the tuples of which it holds, with
-/// a name and a sealed system for each track. The names are different, and the systems have one
-/// direction. A relation without tracks is a sentence, which is true or false.
+/// A relation on numbers: the canonical automaton of all representations of the tuples of which it holds, with a name
+/// and a sealed system for each track. The names are different, and the systems have one direction. A relation without
+/// tracks is a sentence, which is true or false.
 #[derive(Drop)]
 pub struct Relation {
     tracks: Tracked,
@@ -34,8 +34,8 @@ impl Model for Relation {
 }
 
 impl Relation {
-    /// The relation of a canonical automaton with named tracks over these systems: it accepts each spelling
-    /// of the numbers of which it accepts some spelling, and no other word. It takes no memory.
+    /// The relation of a canonical automaton with named tracks over these systems: it accepts each representation of
+    /// the numbers of which it accepts some representation, and no other word. It takes no memory.
     pub fn from_parts(tracked: Tracked, systems: Vec<Rc<System>>) -> Self
         requires { IsRelation (relation_over tracked (map rc_value systems.items)) }
         ensures { result ≡ relation_over tracked (map rc_value systems.items) }
@@ -62,7 +62,7 @@ impl Relation {
         &self.track_systems
     }
 
-    /// The canonical automaton of the spellings.
+    /// The canonical automaton of the representations.
     pub fn dfa(&self) -> &Dfa
         ensures value { result.now ≡ self.now.automaton }
         ensures relation { IsRelation self.now }

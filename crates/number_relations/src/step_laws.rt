@@ -39,8 +39,7 @@ pub fn multiples_hold()
     ensures steps { StepsMakeMultiples }
 {}
 
-/// A relation that was read holds of the numbers of which some spelling is accepted by the listed
-/// automaton.
+/// A relation that was read holds of the numbers of which some representation is accepted by the listed automaton.
 pub fn readings_hold()
     ensures holds { ReadingsHold }
     ensures relation { ReadingsAreRelations }

@@ -5,7 +5,7 @@ use Rattle.digit_tuple.specs.Deterministic.{Automaton, accepts_of}
 use Rattle.digit_tuple.specs.declared.direction.Direction.{Direction}
 use Rattle.numeration.specs.Words.{rank}
 use Rattle.numeration.specs.Systems.{System, IsSystem, IsNumeral, IsRep}
-use Rattle.numeration.specs.Spelling.{first_track, Spells}
+use Rattle.numeration.specs.Representation.{first_track, Represents}
 use Rattle.numeration.specs.Relations.{HoldsOf}
 use Rattle.numeration.proofs.PlainLemmas.{plain_is}
 use Rattle.numeration.proofs.RankLemmas.{strip_from_rank, valid-without_zeros, rank-without_zeros}
@@ -28,17 +28,17 @@ pub one_track : (w : List ℕ) → first_track [] w ≡ w
 one_track [] = refl
 one_track (a ∷ w) = ap (λ b. b ∷ first_track [] w) (div-one a) ∙ ap (λ v. a ∷ v) (one_track w)
 
-pub constant_holds : (way : Direction) (s : System) (c : ℕ) (r : List ℕ) (d : Automaton) → IsSystem s → IsRep s.digits s.test c r → d.sizes ≡ s.digits ∷ []
-    → ((w : List ℕ) → IsTrue (accepts_of d w) ↔ (without_zeros (in_order way w) ≡ r)) → HoldsOf way (s ∷ []) (λ ns. ns ≡ c ∷ []) d
-constant_holds way s c r d is rep sizes accepts = record { sizes = sizes; accepts = λ w over. (there w, back w) }
+pub constant_holds : (direction : Direction) (s : System) (c : ℕ) (r : List ℕ) (d : Automaton) → IsSystem s → IsRep s.digits s.test c r → d.sizes ≡ s.digits ∷ []
+    → ((w : List ℕ) → IsTrue (accepts_of d w) ↔ (without_zeros (in_order direction w) ≡ r)) → HoldsOf direction (s ∷ []) (λ ns. ns ≡ c ∷ []) d
+constant_holds direction s c r d is rep sizes accepts = record { sizes = sizes; accepts = λ w over. (there w, back w) }
   where
-    there : (w : List ℕ) → IsTrue (accepts_of d w) → (ns : List ℕ) × Spells (s ∷ []) (in_order way w) ns × (ns ≡ c ∷ [])
+    there : (w : List ℕ) → IsTrue (accepts_of d w) → (ns : List ℕ) × Represents (s ∷ []) (in_order direction w) ns × (ns ≡ c ∷ [])
     there w accepted =
-        let numeral : IsNumeral s (in_order way w) c = (numeral_words s c r (in_order way w) is rep).1 ((accepts w).0 accepted) in
-        (c ∷ [], (subst (λ v. IsNumeral s v c) (sym (one_track (in_order way w))) numeral, tt), refl)
+        let numeral : IsNumeral s (in_order direction w) c = (numeral_words s c r (in_order direction w) is rep).1 ((accepts w).0 accepted) in
+        (c ∷ [], (subst (λ v. IsNumeral s v c) (sym (one_track (in_order direction w))) numeral, tt), refl)
 
-    back : (w : List ℕ) → ((ns : List ℕ) × Spells (s ∷ []) (in_order way w) ns × (ns ≡ c ∷ [])) → IsTrue (accepts_of d w)
-    back w spelled =
-        let only : Spells (s ∷ []) (in_order way w) (c ∷ []) = subst (Spells (s ∷ []) (in_order way w)) spelled.2 spelled.1 in
-        let numeral : IsNumeral s (in_order way w) c = subst (λ v. IsNumeral s v c) (one_track (in_order way w)) only.0 in
-        (accepts w).1 ((numeral_words s c r (in_order way w) is rep).0 numeral)
+    back : (w : List ℕ) → ((ns : List ℕ) × Represents (s ∷ []) (in_order direction w) ns × (ns ≡ c ∷ [])) → IsTrue (accepts_of d w)
+    back w represented =
+        let only : Represents (s ∷ []) (in_order direction w) (c ∷ []) = subst (Represents (s ∷ []) (in_order direction w)) represented.2 represented.1 in
+        let numeral : IsNumeral s (in_order direction w) c = subst (λ v. IsNumeral s v c) (one_track (in_order direction w)) only.0 in
+        (accepts w).1 ((numeral_words s c r (in_order direction w) is rep).0 numeral)

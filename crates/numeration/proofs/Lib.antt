@@ -2,9 +2,9 @@ pub mod CountLemmas
 pub mod PlainLemmas
 pub mod BelowLemmas
 pub mod RankLemmas
-pub mod SpellLemmas
+pub mod RepresentLemmas
 pub mod TrackLemmas
 pub mod ConstantLemmas
-pub mod PartSpelling
+pub mod PartRepresentation
 pub mod ReadingLinks
 pub mod ProjectionLinks

@@ -1,4 +1,4 @@
--- Automata that read the tracks at some places, and what a language on each track tells.
+-- Automata that read the tracks at some places, and what a language on each track says.
 use Rattle.std.proofs.Common.{◌≡◌, ℕ, ◌<◌, List, length, sym, ◌∙◌, subst, IsTrue}
 use Rattle.std.specs.List.{All, Contains}
 use Rattle.std.proofs.lemmas.List.{get_or_default}
@@ -8,40 +8,40 @@ use Rattle.digit_tuple.specs.Paddings.{in_order}
 use Rattle.digit_tuple.specs.Deterministic.{Automaton, accepts_of}
 use Rattle.digit_tuple.specs.declared.direction.Direction.{Direction}
 use Rattle.numeration.specs.Systems.{System}
-use Rattle.numeration.specs.Spelling.{sizes_of, letters_in, Spells}
+use Rattle.numeration.specs.Representation.{sizes_of, letters_in, Represents}
 use Rattle.numeration.specs.Relations.{HoldsOf}
 use Rattle.numeration.specs.SomeTracks.{system_at, systems_at}
 use Rattle.digit_tuple.proofs.PaddingLemmas.{IsWord-in_order}
-use Rattle.numeration.proofs.TrackLemmas.{track, numerals_from_spelling, spelling_from_numerals}
-use Rattle.numeration.proofs.PartSpelling.{AreValid, ranks, numerals_valid, holds_at, valid_at}
+use Rattle.numeration.proofs.TrackLemmas.{track, numerals_from_representation, representation_from_numerals}
+use Rattle.numeration.proofs.PartRepresentation.{AreValid, ranks, numerals_valid, holds_at, valid_at}
 
-module _ (way : Direction) (ss : List System) (places : List ℕ) (inside : All (λ place. place < length ss) places)
-    (P : List ℕ → Type 0) (a : Automaton) (holds : HoldsOf way (systems_at places ss) P a) where
+module _ (direction : Direction) (ss : List System) (places : List ℕ) (inside : All (λ place. place < length ss) places)
+    (P : List ℕ → Type 0) (a : Automaton) (holds : HoldsOf direction (systems_at places ss) P a) where
   -- a track that is read is valid where the part is accepted
   pub valid_read : (w : List ℕ) → IsWord (letters_in ss) w → IsTrue (accepts_of a (part (sizes_of ss) places w))
-      → (i : ℕ) → Contains places i → IsTrue ((system_at ss i).test (track ss i (in_order way w)))
+      → (i : ℕ) → Contains places i → IsTrue ((system_at ss i).test (track ss i (in_order direction w)))
   valid_read w over accepted i found =
-      subst (λ (p : ℕ). IsTrue ((system_at ss p).test (track ss p (in_order way w))))
+      subst (λ (p : ℕ). IsTrue ((system_at ss p).test (track ss p (in_order direction w))))
       (get_or_default places found.0 0 i found.1 ∙ found.2)
-      (valid_at ss places inside way P a holds w over (IsWord-in_order way (letters_in ss) w over) accepted found.0 found.1)
+      (valid_at ss places inside direction P a holds w over (IsWord-in_order direction (letters_in ss) w over) accepted found.0 found.1)
 
-  -- where each track is read, an automaton that accepts just where the part is accepted holds of the numbers there
+  -- where each track is read, an automaton that accepts if and only if the part is accepted holds of the numbers there
   pub reading_holds : (e : Automaton) → e.sizes ≡ sizes_of ss → ((i : ℕ) → i < length ss → Contains places i)
       → ((w : List ℕ) → IsWord (letters_in ss) w → accepts_of e w ≡ accepts_of a (part (sizes_of ss) places w))
-      → HoldsOf way ss (λ ns. P (picked places ns)) e
+      → HoldsOf direction ss (λ ns. P (picked places ns)) e
   reading_holds e sizes all says = record { sizes = sizes; accepts = λ w over. (there w over, back w over) }
     where
-      there : (w : List ℕ) → IsWord (letters_in ss) w → IsTrue (accepts_of e w) → (ns : List ℕ) × Spells ss (in_order way w) ns × P (picked places ns)
+      there : (w : List ℕ) → IsWord (letters_in ss) w → IsTrue (accepts_of e w) → (ns : List ℕ) × Represents ss (in_order direction w) ns × P (picked places ns)
       there w over accepted =
           let read : IsTrue (accepts_of a (part (sizes_of ss) places w)) = sym (says w over) ∙ accepted in
-          let valid : AreValid ss (in_order way w) = λ i within. valid_read w over read i (all i within) in
-          let numerals = numerals_valid ss (in_order way w) valid in (
-            ranks ss (in_order way w),
-            spelling_from_numerals ss (in_order way w) (ranks ss (in_order way w)) numerals,
-            (holds_at ss places inside way P a holds w (ranks ss (in_order way w)) over (IsWord-in_order way (letters_in ss) w over) numerals).0 read,
+          let valid : AreValid ss (in_order direction w) = λ i within. valid_read w over read i (all i within) in
+          let numerals = numerals_valid ss (in_order direction w) valid in (
+            ranks ss (in_order direction w),
+            representation_from_numerals ss (in_order direction w) (ranks ss (in_order direction w)) numerals,
+            (holds_at ss places inside direction P a holds w (ranks ss (in_order direction w)) over (IsWord-in_order direction (letters_in ss) w over) numerals).0 read,
           )
 
-      back : (w : List ℕ) → IsWord (letters_in ss) w → (ns : List ℕ) × Spells ss (in_order way w) ns × P (picked places ns) → IsTrue (accepts_of e w)
+      back : (w : List ℕ) → IsWord (letters_in ss) w → (ns : List ℕ) × Represents ss (in_order direction w) ns × P (picked places ns) → IsTrue (accepts_of e w)
       back w over found =
-          let numerals = numerals_from_spelling ss (in_order way w) found.0 found.1 in
-          says w over ∙ (holds_at ss places inside way P a holds w found.0 over (IsWord-in_order way (letters_in ss) w over) numerals).1 found.2
+          let numerals = numerals_from_representation ss (in_order direction w) found.0 found.1 in
+          says w over ∙ (holds_at ss places inside direction P a holds w found.0 over (IsWord-in_order direction (letters_in ss) w over) numerals).1 found.2

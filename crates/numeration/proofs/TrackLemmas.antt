@@ -1,9 +1,9 @@
--- Words that spell tuples, track by track.
+-- Words that represent tuples, track by track.
 use Rattle.std.proofs.Common.{◌≡◌, ℕ, zero, suc, ◌/◌, ◌%◌, ◌<◌, List, [], ◌∷◌, get_or, length, refl, ap, sym, ◌∙◌, subst, arith}
 use Rattle.std.proofs.lemmas.Simd.{map-map}
 use Rattle.digit_tuple.specs.Parts.{part, letter_part}
 use Rattle.numeration.specs.Systems.{System, IsNumeral}
-use Rattle.numeration.specs.Spelling.{sizes_of, letters_in, first_track, other_tracks, Spells}
+use Rattle.numeration.specs.Representation.{sizes_of, letters_in, first_track, other_tracks, Represents}
 
 -- the track at a place
 abbrev pub track : List System → ℕ → List ℕ → List ℕ
@@ -30,19 +30,19 @@ one_more_numeral s ss w n ns first rest = record { count = ap suc rest.count; ea
     at zero d within = subst (λ v. IsNumeral s v n) (sym (track-first s ss w)) first
     at (suc i) d within = subst (λ v. IsNumeral (get_or ss i d) v (get_or ns i 0)) (sym (track-other s ss i w)) (rest.each i d (omega (arith, within)))
 
-pub numerals_from_spelling : (ss : List System) (w ns : List ℕ) → Spells ss w ns → AreNumerals ss w ns
-numerals_from_spelling [] w [] spelled = record { count = refl; each = λ i d within. absurd (omega (arith, within)) }
-numerals_from_spelling [] w (n ∷ ns) spelled = absurd spelled
-numerals_from_spelling (s ∷ ss) w [] spelled = absurd spelled
-numerals_from_spelling (s ∷ ss) w (n ∷ ns) spelled = one_more_numeral s ss w n ns spelled.0 (numerals_from_spelling ss (other_tracks ss w) ns spelled.1)
+pub numerals_from_representation : (ss : List System) (w ns : List ℕ) → Represents ss w ns → AreNumerals ss w ns
+numerals_from_representation [] w [] represented = record { count = refl; each = λ i d within. absurd (omega (arith, within)) }
+numerals_from_representation [] w (n ∷ ns) represented = absurd represented
+numerals_from_representation (s ∷ ss) w [] represented = absurd represented
+numerals_from_representation (s ∷ ss) w (n ∷ ns) represented = one_more_numeral s ss w n ns represented.0 (numerals_from_representation ss (other_tracks ss w) ns represented.1)
 
-pub spelling_from_numerals : (ss : List System) (w ns : List ℕ) → AreNumerals ss w ns → Spells ss w ns
-spelling_from_numerals [] w [] are = tt
-spelling_from_numerals [] w (n ∷ ns) are = absurd (omega (arith, are.count))
-spelling_from_numerals (s ∷ ss) w [] are = absurd (omega (arith, are.count))
-spelling_from_numerals (s ∷ ss) w (n ∷ ns) are = (
+pub representation_from_numerals : (ss : List System) (w ns : List ℕ) → AreNumerals ss w ns → Represents ss w ns
+representation_from_numerals [] w [] are = tt
+representation_from_numerals [] w (n ∷ ns) are = absurd (omega (arith, are.count))
+representation_from_numerals (s ∷ ss) w [] are = absurd (omega (arith, are.count))
+representation_from_numerals (s ∷ ss) w (n ∷ ns) are = (
   subst (λ v. IsNumeral s v n) (track-first s ss w) (are.each 0 s (omega arith)),
-  spelling_from_numerals ss (other_tracks ss w) ns (record {
+  representation_from_numerals ss (other_tracks ss w) ns (record {
     count = omega (arith, are.count);
     each = λ i d within. subst (λ v. IsNumeral (get_or ss i d) v (get_or ns i 0)) (track-other s ss i w) (are.each (suc i) d (omega (arith, within)));
   }),

@@ -1,5 +1,5 @@
 pub mod Words
 pub mod Systems
-pub mod Spelling
+pub mod Representation
 pub mod Relations
 pub mod SomeTracks

@@ -7,17 +7,17 @@ use Rattle.digit_tuple.specs.declared.direction.Direction.{Direction}
 use Rattle.std.specs.declared.cmp.Ordering.{Ordering}
 use Rattle.std.specs.declared.cmp.Ordering.TheVariants.{Less, Equal, Greater}
 use Rattle.numeration.specs.Systems.{System}
-use Rattle.numeration.specs.Spelling.{Spells, letters_in, sizes_of}
+use Rattle.numeration.specs.Representation.{Represents, letters_in, sizes_of}
 
 -- the automaton accepts the valid words
-pub record IsLanguageOf (way : Direction) (s : System) (d : Automaton) : Type 0 where
+pub record IsLanguageOf (direction : Direction) (s : System) (d : Automaton) : Type 0 where
   pub sizes : d.sizes ≡ s.digits ∷ []
-  pub accepts : (w : List ℕ) → accepts_of d w ≡ s.test (in_order way w)
+  pub accepts : (w : List ℕ) → accepts_of d w ≡ s.test (in_order direction w)
 
--- the automaton accepts the words that spell a tuple of which the relation holds
-pub record HoldsOf (way : Direction) (ss : List System) (holds : List ℕ → Type 0) (d : Automaton) : Type 0 where
+-- the automaton accepts the words that represent a tuple of which the relation holds
+pub record HoldsOf (direction : Direction) (ss : List System) (holds : List ℕ → Type 0) (d : Automaton) : Type 0 where
   pub sizes : d.sizes ≡ sizes_of ss
-  pub accepts : (w : List ℕ) → IsWord (letters_in ss) w → IsTrue (accepts_of d w) ↔ ((ns : List ℕ) × Spells ss (in_order way w) ns × holds ns)
+  pub accepts : (w : List ℕ) → IsWord (letters_in ss) w → IsTrue (accepts_of d w) ↔ ((ns : List ℕ) × Represents ss (in_order direction w) ns × holds ns)
 
 -- the third number is the sum of the first two
 abbrev pub IsSum : List ℕ → Type 0
@@ -25,7 +25,7 @@ IsSum ns = (x : ℕ) × (y : ℕ) × (ns ≡ x ∷ y ∷ (x + y) ∷ [])
 
 -- the automaton adds numbers of the system
 abbrev pub IsAdderOf : Direction → System → Automaton → Type 0
-IsAdderOf way s d = HoldsOf way (s ∷ s ∷ s ∷ []) IsSum d
+IsAdderOf direction s d = HoldsOf direction (s ∷ s ∷ s ∷ []) IsSum d
 
 -- the numbers compare so
 abbrev pub IsCompared : Ordering → ℕ → ℕ → Type 0
@@ -51,10 +51,10 @@ IsZero ns = ns ≡ 0 ∷ []
 
 -- the automaton holds of pairs in order, of equal pairs, of 0
 abbrev pub IsOrderOf : Direction → System → Automaton → Type 0
-IsOrderOf way s d = HoldsOf way (s ∷ s ∷ []) IsLess d
+IsOrderOf direction s d = HoldsOf direction (s ∷ s ∷ []) IsLess d
 
 abbrev pub IsEqualityOf : Direction → System → Automaton → Type 0
-IsEqualityOf way s d = HoldsOf way (s ∷ s ∷ []) IsEqual d
+IsEqualityOf direction s d = HoldsOf direction (s ∷ s ∷ []) IsEqual d
 
 abbrev pub IsZeroOf : Direction → System → Automaton → Type 0
-IsZeroOf way s d = HoldsOf way (s ∷ []) IsZero d
+IsZeroOf direction s d = HoldsOf direction (s ∷ []) IsZero d

@@ -35,7 +35,7 @@ is_less w v = is_lt (slice_cmp nat_cmp w v)
 abbrev pub is_before : List ℕ → List ℕ → Bool
 is_before w v = nat_lt (length w) (length v) || (nat_eq (length w) (length v) && is_less w v)
 
--- how many words of the language without leading zero stand before the word, its own leading zeros left out
+-- how many words of the language without leading zero come before the word, its own leading zeros left out
 abbrev pub rank : ℕ → (List ℕ → Bool) → List ℕ → ℕ
 rank d test w = count_by (λ v. test v && (is_plain v && is_before v (without_zeros w))) (words_to d (length w))
 

@@ -2,7 +2,7 @@
 
 ghost use Rattle.numeration.specs.Words.{ZerosKeepTheRank, RanksTellWords, RanksAreInOrder};
 ghost use Rattle.numeration.specs.Systems.{NumbersHaveWords, NumbersTellWords};
-ghost use Rattle.numeration.specs.Spelling.{TuplesHaveSpellings, SpellingsArePaddings};
+ghost use Rattle.numeration.specs.Representation.{TuplesHaveRepresentations, RepresentationsArePaddings};
 
 /// Leading zeros do not change the rank of a word.
 pub fn zeros_keep_the_rank()
@@ -29,12 +29,12 @@ pub fn numbers_tell_words()
     ensures { NumbersTellWords }
 {}
 
-/// Each tuple of numbers has a spelling.
-pub fn tuples_have_spellings()
-    ensures { TuplesHaveSpellings }
+/// Each tuple of numbers has a representation.
+pub fn tuples_have_representations()
+    ensures { TuplesHaveRepresentations }
 {}
 
-/// The spellings of a tuple differ in leading zeros alone.
-pub fn spellings_are_paddings()
-    ensures { SpellingsArePaddings }
+/// The representations of a tuple differ in leading zeros alone.
+pub fn representations_are_paddings()
+    ensures { RepresentationsArePaddings }
 {}

@@ -1,7 +1,7 @@
 //! Numeration systems: words of a language stand for their ranks.
 //!
-//! Here stand the definitions that all systems share, words and their ranks, spellings of tuples of
-//! numbers and what an automaton holds of, with their laws; no automaton is made.
+//! Here are the definitions that all systems share, words and their ranks, representations of tuples of numbers and
+//! what an automaton holds of, with their laws; no automaton is made.
 #![tactic(auto)]
 
 /// What a numeration system gives, and its laws.

@@ -1,4 +1,4 @@
--- The letters by whose parts edges lead on, and letters that are all there are.
+-- The letters by whose parts transitions lead on, and letters that are all there are.
 use Rattle.std.proofs.Common.{◌≡◌, ◌≢◌, ◌==◌, ◌&&◌, ℕ, ◌+◌, ◌<◌, true, List, [], ◌∷◌, ◌++◌, length, nat_cmp, Option, None, Some, unwrap_or, sym, ap, ◌∙◌, subst, arith, if◌then◌else◌}
 use Rattle.std.specs.List.{AllPairs, Contains, dedup, flat_map, range_with_len}
 use Rattle.std.specs.List.Sorted.{IsSorted, IsPermutation}
@@ -9,8 +9,8 @@ use Rattle.std.proofs.lemmas.List.FromFn.{length-range_with_len, get_or-range_wi
 use Rattle.std.proofs.lemmas.List.Kept.{AllPairs-from_increasing, Contains-dedup_nat, Contains-from_dedup}
 use Rattle.std.proofs.lemmas.List.Sorted.{Contains-permutation, IsPermutation-sym}
 use Rattle.std.proofs.lemmas.Map.Keys.{IsStrictlyIncreasing-dedup}
-use Rattle.digit_tuple.specs.declared.edges.Edge.{Edge}
-use Rattle.digit_tuple.specs.Deterministic.{states_of, edges_of}
+use Rattle.digit_tuple.specs.declared.transitions.Transition.{Transition}
+use Rattle.digit_tuple.specs.Deterministic.{states_of, transitions_of}
 use Rattle.digit_tuple.specs.PartIndex.{letters_with}
 use Rattle.digit_tuple.proofs.DfaLemmas.{target_by-none}
 use Rattle.digit_tuple.proofs.MemberLemmas.{Contains-flat_map, Contains-from_flat_map}
@@ -26,16 +26,16 @@ use Rattle.product_op.proofs.SinkKeyLemmas.{are_sinks-all}
 module _ (r : Reading) (state : ℕ) where
   letters_on-below : (a : ℕ) → Contains (letters_on r state) a → a < length r.parts
   letters_on-below a there =
-      let found = Contains-from_flat_map (λ (e : Edge). letters_with r.parts e.letter) (edges_of r.automaton state) a there in
+      let found = Contains-from_flat_map (λ (e : Transition). letters_with r.parts e.letter) (transitions_of r.automaton state) a there in
       (Contains-from_letters r.parts found.0.letter a found.2).0
 
   -- another letter leads to the sink
   letters_on-missing : (a : ℕ) → a < length r.parts → ¬ Contains (letters_on r state) a → next_of r.automaton state (part_read r a) ≡ states_of r.automaton
   letters_on-missing a less missing =
-      ap (λ o. unwrap_or o (states_of r.automaton)) (target_by-none (edges_of r.automaton state) (part_read r a)
-      (All-weaker (Contains (edges_of r.automaton state)) (λ e. e.letter ≢ part_read r a)
-      (λ e there same. missing (Contains-flat_map (λ (f : Edge). letters_with r.parts f.letter) (edges_of r.automaton state) e a there (Contains-letters r.parts e.letter a less (sym same))))
-      (edges_of r.automaton state) (All-contains_itself (edges_of r.automaton state))))
+      ap (λ o. unwrap_or o (states_of r.automaton)) (target_by-none (transitions_of r.automaton state) (part_read r a)
+      (All-weaker (Contains (transitions_of r.automaton state)) (λ e. e.letter ≢ part_read r a)
+      (λ e there same. missing (Contains-flat_map (λ (f : Transition). letters_with r.parts f.letter) (transitions_of r.automaton state) e a there (Contains-letters r.parts e.letter a less (sym same))))
+      (transitions_of r.automaton state) (All-contains_itself (transitions_of r.automaton state))))
 
 -- the letters from the states of the first so many
 abbrev pub letters_to : List Reading → List ℕ → ℕ → List ℕ

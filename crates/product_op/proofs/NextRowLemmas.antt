@@ -1,41 +1,41 @@
--- Rows of where the parts of letters lead: as edges are written into them one by one, and one row after another.
+-- Rows of where the parts of letters lead: as transitions are written into them one by one, and one row after another.
 use Rattle.std.proofs.Common.{◌≡◌, ◌≢◌, ◌==◌, ℕ, ◌+◌, ◌<◌, ◌≤◌, suc, List, [], ◌∷◌, ◌++◌, length, take, get_or, set, replicate, Some, unwrap_or, ◌⊎◌, inl, inr, refl, sym, ap, ◌∙◌, subst, arith, if◌then◌else◌, get_or-set_same, get_or-set_other, below_more}
 use Rattle.std.proofs.Math.Seq.{get_or-append_seam}
 use Rattle.std.specs.List.{All, AllPairs}
 use Rattle.std.proofs.lemmas.Bool.{cases_eq}
 use Rattle.std.proofs.lemmas.List.{take_more, get_or-take, get_or_default, get_or_append_left, get_or-replicate, length-replicate, length-take-le, length-append}
 use Rattle.std.proofs.lemmas.List.FromFn.{fill_by_all, length-map-range_with_len, get_or-map-range_with_len}
-use Rattle.digit_tuple.specs.declared.edges.Edge.{Edge}
-use Rattle.digit_tuple.specs.Deterministic.{Automaton, IsByEarlier, letters_of, states_of, edges_of, target_by}
+use Rattle.digit_tuple.specs.declared.transitions.Transition.{Transition}
+use Rattle.digit_tuple.specs.Deterministic.{Automaton, IsByEarlier, letters_of, states_of, transitions_of, target_by}
 use Rattle.digit_tuple.proofs.DfaLemmas.{target_by-other, target_by-first}
 use Rattle.minimise.specs.Classes.{next_of}
-use Rattle.minimise.proofs.SinkLemmas.{no_edges_past}
+use Rattle.minimise.proofs.SinkLemmas.{no_transitions_past}
 use Rattle.product_op.specs.declared.next_row.NextRow.{NextRow}
 use Rattle.product_op.specs.NextRows.{IsNextRow}
 use Rattle.product_op.specs.NextTables.{next_list}
 use Rattle.product_op.specs.Readings.{state_at}
 
--- one more edge, by another letter
-target_by-more_other : (es : List Edge) (e : Edge) (letter : ℕ) → e.letter ≢ letter → target_by (es ++ e ∷ []) letter ≡ target_by es letter
+-- one more transition, by another letter
+target_by-more_other : (es : List Transition) (e : Transition) (letter : ℕ) → e.letter ≢ letter → target_by (es ++ e ∷ []) letter ≡ target_by es letter
 target_by-more_other [] e letter other = target_by-other e [] letter other
 target_by-more_other (f ∷ es) e letter other = ap (λ o. if f.letter == letter then Some f.target else o) (target_by-more_other es e letter other)
 
--- one more edge, by a letter that no edge before it is by
-target_by-more_same : (es : List Edge) (e : Edge) → All (λ f. f.letter ≢ e.letter) es → target_by (es ++ e ∷ []) e.letter ≡ Some e.target
+-- one more transition, by a letter that no transition before it is by
+target_by-more_same : (es : List Transition) (e : Transition) → All (λ f. f.letter ≢ e.letter) es → target_by (es ++ e ∷ []) e.letter ≡ Some e.target
 target_by-more_same [] e none = target_by-first e [] e.letter refl
 target_by-more_same (f ∷ es) e none =
     target_by-other f (es ++ e ∷ []) e.letter (none 0 f (omega arith)) ∙ target_by-more_same es e (λ k z within. none (suc k) z (omega arith))
 
--- at the letter of each edge stands its target, and elsewhere what was there
-abbrev pub AreWritten : List Edge → List ℕ → List ℕ → Type 0
+-- at the letter of each transition is its target, and elsewhere what was there
+abbrev pub AreWritten : List Transition → List ℕ → List ℕ → Type 0
 AreWritten es old new = (letter : ℕ) → get_or new letter 0 ≡ unwrap_or (target_by es letter) (get_or old letter 0)
 
--- one more edge is written
-pub AreWritten-more : (es : List Edge) (k : ℕ) (z : Edge) (old new : List ℕ) → AllPairs IsByEarlier es → k < length es → (get_or es k z).letter < length new
+-- one more transition is written
+pub AreWritten-more : (es : List Transition) (k : ℕ) (z : Transition) (old new : List ℕ) → AllPairs IsByEarlier es → k < length es → (get_or es k z).letter < length new
     → AreWritten (take k es) old new → AreWritten (take (k + 1) es) old (set new (get_or es k z).letter (get_or es k z).target)
 AreWritten-more es k z old new ascending inside within before letter = by (cases_eq e.letter letter)
   where
-    e : Edge
+    e : Transition
     e = get_or es k z
 
     more : target_by (take (k + 1) es) letter ≡ target_by (take k es ++ e ∷ []) letter
@@ -44,7 +44,7 @@ AreWritten-more es k z old new ascending inside within before letter = by (cases
     earlier : All (λ f. f.letter ≢ e.letter) (take k es)
     earlier i w low same =
         let less : i < k = omega (arith, low, length-take-le k es (omega (arith, inside))) in
-        absurd (omega (arith, ascending i k w less inside, same, ap (λ (f : Edge). f.letter) (get_or-take k es i w less), ap (λ (f : Edge). f.letter) (get_or_default es k w z inside)))
+        absurd (omega (arith, ascending i k w less inside, same, ap (λ (f : Transition). f.letter) (get_or-take k es i w less), ap (λ (f : Transition). f.letter) (get_or_default es k w z inside)))
 
     by : (e.letter ≡ letter) ⊎ (e.letter ≢ letter) → get_or (set new e.letter e.target) letter 0 ≡ unwrap_or (target_by (take (k + 1) es) letter) (get_or old letter 0)
     by (inl same) =
@@ -54,18 +54,18 @@ AreWritten-more es k z old new ascending inside within before letter = by (cases
         get_or-set_other new e.letter letter e.target 0 (λ same. other (sym same)) ∙ before letter
         ∙ sym (ap (λ o. unwrap_or o (get_or old letter 0)) (more ∙ target_by-more_other (take k es) e letter other))
 
--- over a row of sinks the edges of a state make the row of the state
+-- over a row of sinks the transitions of a state make the row of the state
 pub next_list-written : (d : Automaton) (state : ℕ) (old new : List ℕ) → old ≡ replicate (letters_of d) (states_of d) → length new ≡ length old
-    → AreWritten (edges_of d state) old new → new ≡ next_list d state
+    → AreWritten (transitions_of d state) old new → new ≡ next_list d state
 next_list-written d state old new sinks long written =
     fill_by_all (next_of d state) new (letters_of d) 0 (omega (arith, long, ap length sinks, length-replicate (letters_of d) (states_of d)))
     (λ letter less. written letter
-    ∙ ap (unwrap_or (target_by (edges_of d state) letter)) (ap (λ xs. get_or xs letter 0) sinks ∙ get_or-replicate (letters_of d) letter (states_of d) 0 less))
+    ∙ ap (unwrap_or (target_by (transitions_of d state) letter)) (ap (λ xs. get_or xs letter 0) sinks ∙ get_or-replicate (letters_of d) letter (states_of d) 0 less))
 
 -- the row of the sink
 pub next_list-sink : (d : Automaton) (state : ℕ) (old : List ℕ) → old ≡ replicate (letters_of d) (states_of d) → states_of d ≤ state → old ≡ next_list d state
 next_list-sink d state old sinks past =
-    next_list-written d state old old sinks refl (subst (λ es. AreWritten es old old) (sym (no_edges_past d state past)) (λ letter. refl))
+    next_list-written d state old old sinks refl (subst (λ es. AreWritten es old old) (sym (no_transitions_past d state past)) (λ letter. refl))
 
 -- where a letter leads by the row
 module _ (d : Automaton) (state : ℕ) (next : List ℕ) (is : next ≡ next_list d state) where

@@ -20,7 +20,7 @@ rows-more f (suc n) a j is =
     ∙ ap (λ xs. f a ++ xs) (rows-more f n (a + 1) j (omega (arith, is)))
     ∙ sym (append_assoc (f a) (flat_map f (range_with_len (a + 1) n)) (f j))
 
--- rows of one width that stand one behind another
+-- rows of one width that are one after another
 module _ (f : ℕ → List ℕ) (w : ℕ) (even : (i : ℕ) → length (f i) ≡ w) where
   pub length-rows : (n a : ℕ) → length (flat_map f (range_with_len a n)) ≡ n * w
   length-rows zero a = omega arith
@@ -51,7 +51,7 @@ module _ (d : Automaton) where
   pub length-all_rows : length (all_rows d) ≡ (states_of d + 1) * letters_of d
   length-all_rows = length-rows (next_list d) (letters_of d) even (states_of d + 1) 0
 
-  -- a row stands within them
+  -- a row is within them
   pub all_rows-fit : (n w : ℕ) → n ≤ states_of d → w ≡ letters_of d → n * w + w ≤ length (all_rows d)
   all_rows-fit n w within same =
       let part = mul-le-mul_right (letters_of d) within in

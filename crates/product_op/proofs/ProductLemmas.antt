@@ -238,8 +238,8 @@ validity_readings-made d languages r items made sizes same whole one all =
     ∙ ap (λ ss. whole_reading d ∷ track_readings ss languages) same
 
 -- one language more
-pub track_readings_more : (front : List Reading) (sizes : List ℕ) (languages : List Automaton) (track : ℕ)
-    → (front ++ map (track_reading sizes languages) (range_with_len 0 track)) ++ track_reading sizes languages track ∷ [] ≡ front ++ map (track_reading sizes languages) (range_with_len 0 (track + 1))
-track_readings_more front sizes languages track =
-    append_assoc front (map (track_reading sizes languages) (range_with_len 0 track)) (track_reading sizes languages track ∷ [])
-    ∙ ap (λ rs. front ++ rs) (sym (map-range_with_len_more (track_reading sizes languages) 0 track track (omega arith)))
+pub track_readings_more : (prefix : List Reading) (sizes : List ℕ) (languages : List Automaton) (track : ℕ)
+    → (prefix ++ map (track_reading sizes languages) (range_with_len 0 track)) ++ track_reading sizes languages track ∷ [] ≡ prefix ++ map (track_reading sizes languages) (range_with_len 0 (track + 1))
+track_readings_more prefix sizes languages track =
+    append_assoc prefix (map (track_reading sizes languages) (range_with_len 0 track)) (track_reading sizes languages track ∷ [])
+    ∙ ap (λ rs. prefix ++ rs) (sym (map-range_with_len_more (track_reading sizes languages) 0 track track (omega arith)))

@@ -5,11 +5,11 @@ use Rattle.std.proofs.lemmas.Bool.Decides.{Decides-eqb}
 use Rattle.std.proofs.lemmas.List.{ext_get_or, get_or-replicate, length-replicate}
 use Rattle.std.proofs.lemmas.List.FromFn.{fill_by_all, length-range_with_len, get_or-range_with_len, get_or-map-range_with_len}
 use Rattle.std.proofs.lemmas.List.Sums.{AllPass-from_list_all, list_all-from_AllPass}
-use Rattle.digit_tuple.specs.declared.edges.Edge.{Edge}
+use Rattle.digit_tuple.specs.declared.transitions.Transition.{Transition}
 use Rattle.digit_tuple.specs.Deterministic.{states_of, accepting_of, target_by}
 use Rattle.digit_tuple.proofs.RangeLemmas.{map-range-same}
 use Rattle.minimise.specs.Classes.{next_of}
-use Rattle.minimise.proofs.SinkLemmas.{no_edges_past, not_accepting_past}
+use Rattle.minimise.proofs.SinkLemmas.{no_transitions_past, not_accepting_past}
 use Rattle.product_op.specs.declared.rule.Rule.{Rule}
 use Rattle.product_op.specs.Readings.{Reading, reading_at, part_read, state_at, next_key, flags_at, combined}
 use Rattle.product_op.specs.SinkKeys.{are_sinks, refuses_all_sinks, is_dead_key}
@@ -46,7 +46,7 @@ module _ (rs : List Reading) where
   are_sinks-next key a sinks = are_sinks-all (next_key rs key a) (λ i less.
       let d = (reading_at rs i).automaton in
       get_or-map-range_with_len (λ j. next_of (reading_at rs j).automaton (state_at key j) (part_read (reading_at rs j) a)) 0 (length rs) i i 0 less (omega arith)
-      ∙ ap (λ (es : List Edge). unwrap_or (target_by es (part_read (reading_at rs i) a)) (states_of d)) (no_edges_past d (state_at key i) (omega (arith, are_sinks-at key i less sinks))))
+      ∙ ap (λ (es : List Transition). unwrap_or (target_by es (part_read (reading_at rs i) a)) (states_of d)) (no_transitions_past d (state_at key i) (omega (arith, are_sinks-at key i less sinks))))
 
   -- there is one key of sinks
   pub are_sinks-one : (key other : List ℕ) → length key ≡ length rs → length other ≡ length rs → are_sinks rs key ≡ true → are_sinks rs other ≡ true → key ≡ other

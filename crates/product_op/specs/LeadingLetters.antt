@@ -1,14 +1,14 @@
 -- Letters by which states lead on.
 use Rattle.std.specs.Prelude.{◌≡◌, ℕ, ◌<◌, ◌⊎◌, List, [], Option, None}
 use Rattle.std.specs.List.{All, AllPairs, Contains, flat_map, range_with_len}
-use Rattle.digit_tuple.specs.Deterministic.{edges_of}
-use Rattle.digit_tuple.specs.Keys.{KeyEdge}
+use Rattle.digit_tuple.specs.Deterministic.{transitions_of}
+use Rattle.digit_tuple.specs.Keys.{KeyTransition}
 use Rattle.digit_tuple.specs.PartIndex.{letters_with}
 use Rattle.product_op.specs.Readings.{Reading}
 
--- the letters by whose parts an edge leads on from a state, edge by edge
+-- the letters by whose parts a transition leads on from a state, transition by transition
 abbrev pub letters_on : Reading → ℕ → List ℕ
-letters_on r state = flat_map (λ edge. letters_with r.parts edge.letter) (edges_of r.automaton state)
+letters_on r state = flat_map (λ transition. letters_with r.parts transition.letter) (transitions_of r.automaton state)
 
 -- letters of the alphabet, in order, such that all others lead to no key
 pub record AreLeading (letters : ℕ) (after : ℕ → Option (List ℕ)) (some : List ℕ) : Type 0 where
@@ -20,6 +20,6 @@ pub record AreLeading (letters : ℕ) (after : ℕ → Option (List ℕ)) (some 
 abbrev pub AreFewLetters : ℕ → List ℕ → Type 0
 AreFewLetters letters few = (few ≡ []) ⊎ (few ≡ range_with_len 0 letters)
 
--- the edge by the letter to the key
-abbrev pub key_edge : ℕ → List ℕ → KeyEdge
-key_edge a key = record { letter = a; key = key }
+-- the transition by the letter to the key
+abbrev pub key_transition : ℕ → List ℕ → KeyTransition
+key_transition a key = record { letter = a; key = key }

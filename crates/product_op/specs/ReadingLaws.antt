@@ -3,7 +3,7 @@ use Rattle.std.specs.Prelude.{◌==◌, ℕ, ◌≤◌, Bool, true, false, not, 
 use Rattle.std.proofs.Common.{arith, sym, subst}
 use Rattle.std.proofs.lemmas.List.{get_or-map, length-map}
 use Rattle.std.proofs.lemmas.List.FromFn.{length-map-range_with_len, get_or-map-range_with_len}
-use Rattle.digit_tuple.specs.Deterministic.{Automaton, states_of, accepting_of, edges_of}
+use Rattle.digit_tuple.specs.Deterministic.{Automaton, states_of, accepting_of, transitions_of}
 use Rattle.minimise.specs.Classes.{next_of, first_of}
 use Rattle.minimise.proofs.SinkLemmas.{next_within}
 use Rattle.product_op.specs.declared.rule.Rule.{Rule}
@@ -11,7 +11,7 @@ use Rattle.product_op.specs.SinkKeys.{is_dead_key, live_key_after}
 use Rattle.product_op.specs.Readings.{Reading, AreReadings, AreStates, no_reading, reading_at, part_read, state_at, first_key, next_key}
 
 first_within : (d : Automaton) → first_of d ≤ states_of d
-first_within d = by (not (accepting_of d 0) && (length (edges_of d 0) == 0))
+first_within d = by (not (accepting_of d 0) && (length (transitions_of d 0) == 0))
   where
     by : (b : Bool) → (if b then states_of d else 0) ≤ states_of d
     by true = omega arith

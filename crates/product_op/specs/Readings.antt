@@ -1,5 +1,5 @@
--- Automata that read parts of letters side by side; a key has a state of each. The sink of an automaton, where missing edges lead,
--- is the number past its states.
+-- Automata that read parts of letters side by side; a key has a state of each. The sink of an automaton, where missing transitions lead, is
+-- the number past its states.
 use Rattle.std.specs.Prelude.{◌≡◌, ℕ, ◌<◌, ◌≤◌, Bool, false, not, ◌&&◌, List, [], length, map, drop, slice_index_or}
 use Rattle.std.specs.List.{All, list_all, range_with_len}
 use Rattle.digit_tuple.specs.Deterministic.{Automaton, IsTable, states_of, letters_of, accepting_of, accepts_of}

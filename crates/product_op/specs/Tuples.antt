@@ -9,7 +9,7 @@ use Rattle.minimise.proofs.LeadLemmas.{lead}
 use Rattle.product_op.specs.Readings.{Reading, AreStates, word_read}
 use Rattle.product_op.specs.SinkKeys.{are_sinks}
 
--- where a word leads each automaton: to its sink where an edge is missing
+-- where a word leads each automaton: to its sink where a transition is missing
 abbrev pub tuple_after : List Reading → List ℕ → List ℕ
 tuple_after readings w = map (λ r. lead r.automaton (first_of r.automaton) (word_read r w)) readings
 

@@ -22,8 +22,8 @@ pub struct JointTracks {
     pub alphabet: Alphabet,
 }
 
-/// The tracks of two automata as one list. `Letters` comes exactly where there are more than 16
-/// tracks or more than 65,536 letters, and `States` never.
+/// The tracks of two automata as one list. `Letters` comes if and only if there are more than 16 tracks or more than
+/// 65,536 letters, and `States` never.
 pub fn joint_tracks(alloc: Global, a: &Tracked, b: &Tracked) -> Result<JointTracks, OpFault>
     ensures names { IfOk result (λ joint. joint.names.items ≡ joint_names_of a.now.names b.now.names) }
     ensures sizes { IfOk result (λ joint. joint.alphabet ≡ joint_sizes a.now b.now) }

@@ -37,7 +37,7 @@ fn is_language(alloc: Global, size: u32, language: &Dfa) -> Result<bool, OutOfMe
     is_canonical(alloc, language)
 }
 
-// Whether the number stands alone in the list.
+// Whether the number is alone in the list.
 fn is_only(numbers: &[u32], number: u32) -> bool
     ensures { IsTrue result ↔ (numbers.now ≡ number ∷ []) }
 {

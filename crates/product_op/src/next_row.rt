@@ -9,8 +9,8 @@ ghost use Rattle.product_op.specs.Readings.{AreReadings, automata_in, next_key, 
 
 use crate::next_table::{NextTable, next_row};
 use crate::reader::Reader;
-use digit_tuple::edges::Edge;
 use digit_tuple::faults::OutOfMemory;
+use digit_tuple::transitions::Transition;
 use std::alloc::Global;
 
 /// Where each letter of an automaton leads from a state, or from its sink.
@@ -23,15 +23,15 @@ pub enum NextRow<'a> {
 }
 
 impl<'a> NextRow<'a> {
-    /// The row of a state or of the sink, for so many letters that are to be asked for. Where none is kept it is a
-    /// list if they are no fewer than the automaton's letters, and takes time and memory as these are many; else
-    /// there is none. The edges are written over.
+    /// The row of a state or of the sink, for so many letters that are to be asked for. Where none is kept it is a list
+    /// if they are no fewer than the automaton's letters, and takes time and memory as these are many; else there is
+    /// none. The transitions are written over.
     pub fn of_state(
         alloc: Global,
         table: &'a NextTable<'_>,
         state: u32,
         letters: usize,
-        edges: &mut Vec<Edge>,
+        transitions: &mut Vec<Transition>,
     ) -> Result<Option<Self>, OutOfMemory>
         ensures { IfOk result (λ row. IfSome row (IsNextRow table.now state)) }
     {
@@ -42,7 +42,7 @@ impl<'a> NextRow<'a> {
         if letters < dfa.alphabet().letters() as usize {
             return Ok(None);
         }
-        let list = next_row(alloc, dfa, state, edges)?;
+        let list = next_row(alloc, dfa, state, transitions)?;
         Ok(Some(NextRow::Listed(list)))
     }
 
@@ -66,20 +66,21 @@ impl<'a> NextRow<'a> {
 }
 
 /// The rows of the states of a key, for so many letters that are to be asked for, or none where one of them is not
-/// worth its time. They take time and memory as these letters and the automata are many. The edges are written over.
+/// worth its time. They take time and memory as these letters and the automata are many. The transitions are written
+/// over.
 pub fn next_rows<'a>(
     alloc: Global,
     tables: &'a [NextTable<'_>],
     key: &[u32],
     letters: usize,
-    edges: &mut Vec<Edge>,
+    transitions: &mut Vec<Transition>,
 ) -> Result<Option<Vec<NextRow<'a>>>, OutOfMemory>
     requires { length key.now ≡ length tables.now }
     ensures { IfOk result (λ found. IfSome found (λ rows. AreNextRows tables.now key.now rows.items)) }
 {
     let mut rows = Vec::with_capacity(alloc, tables.len())?;
     for (place, table) in tables.iter().enumerate() {
-        match NextRow::of_state(alloc, table, key[place], letters, edges)? {
+        match NextRow::of_state(alloc, table, key[place], letters, transitions)? {
             Some(row) => rows.push(row)?,
             None => return Ok(None),
         }

@@ -6,8 +6,8 @@ ghost use Rattle.digit_tuple.specs.Deterministic.{IsByEarlier, target_by};
 ghost use Rattle.product_op.specs.NextTables.{all_rows, next_list};
 
 use digit_tuple::dfa::Dfa;
-use digit_tuple::edges::Edge;
 use digit_tuple::faults::OutOfMemory;
+use digit_tuple::transitions::Transition;
 use std::alloc::Global;
 use std::marker::Model;
 
@@ -70,7 +70,7 @@ impl<'a> NextTable<'a> {
 // Whether that is little memory, or at least half of the letters lead on.
 fn is_kept(dfa: &Dfa) -> bool {
     let targets = (u64::from(dfa.states()) + 1) * u64::from(dfa.alphabet().letters());
-    targets <= FREE_TARGETS || targets / 2 <= dfa.edges()
+    targets <= FREE_TARGETS || targets / 2 <= dfa.transitions()
 }
 
 // Where each letter leads from each state and last from the sink.
@@ -80,20 +80,20 @@ fn all_rows(alloc: Global, dfa: &Dfa) -> Result<Vec<u32>, OutOfMemory>
     let rows = dfa.states() as usize + 1;
     let letters = dfa.alphabet().letters() as usize;
     let mut next = Vec::with_capacity(alloc, rows * letters)?;
-    let mut edges = Vec::new(alloc);
+    let mut transitions = Vec::new(alloc);
     for state in 0..rows {
-        let row = next_row(alloc, dfa, state as u32, &mut edges)?;
+        let row = next_row(alloc, dfa, state as u32, &mut transitions)?;
         next.extend_from_slice(&row)?;
     }
     Ok(next)
 }
 
-/// Where each letter leads from a state. A number past the states is the sink. The edges are written over.
+/// Where each letter leads from a state. A number past the states is the sink. The transitions are written over.
 pub fn next_row(
     alloc: Global,
     dfa: &Dfa,
     state: u32,
-    edges: &mut Vec<Edge>,
+    transitions: &mut Vec<Transition>,
 ) -> Result<Vec<u32>, OutOfMemory>
     ensures { IfOk result (λ next. next.items ≡ next_list dfa.now state) }
 {
@@ -101,19 +101,19 @@ pub fn next_row(
     let sink = dfa.states();
     let mut next = vec![in alloc; sink; letters]?;
     if state < sink {
-        dfa.edges_into(state, edges)?;
-        write_targets(edges, &mut next);
+        dfa.transitions_into(state, transitions)?;
+        write_targets(transitions, &mut next);
     }
     Ok(next)
 }
 
-// Writes where each edge leads, at the place of its letter.
-fn write_targets(edges: &[Edge], next: &mut [u32])
-    requires within { All (λ edge. edge.letter < length next.old) edges.now }
-    requires ascending { AllPairs IsByEarlier edges.now }
-    ensures { (letter : ℕ) → slice_index next.new letter ≡ unwrap_or (target_by edges.now letter) (slice_index next.old letter) }
+// Writes where each transition leads, at the place of its letter.
+fn write_targets(transitions: &[Transition], next: &mut [u32])
+    requires within { All (λ transition. transition.letter < length next.old) transitions.now }
+    requires ascending { AllPairs IsByEarlier transitions.now }
+    ensures { (letter : ℕ) → slice_index next.new letter ≡ unwrap_or (target_by transitions.now letter) (slice_index next.old letter) }
 {
-    for edge in edges {
-        next[edge.letter as usize] = edge.target;
+    for transition in transitions {
+        next[transition.letter as usize] = transition.target;
     }
 }

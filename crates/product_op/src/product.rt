@@ -28,20 +28,18 @@ use minimise::tracked::Tracked;
 use std::alloc::Global;
 use std::rc::Rc;
 
-/// The words over the tracks of both automata of which the connective says that they are in it, by
-/// whether each automaton accepts the word's part on its tracks; but for `And` and `AndNot` among
-/// the valid words alone, whose track words are each in the track's language. Tracks of one name are
-/// one track, and have one number of digits in both (`agree_on_shared`). The result is canonical; its
-/// tracks stand in byte order of names, as `joint_names` gives them. But for `And` and `AndNot` `valid`
-/// has a canonical language for each of them; for these two it is not looked at.
+/// The words over the tracks of both automata of which the connective says that they are in it, by whether each
+/// automaton accepts the word's part on its tracks; but for `And` and `AndNot` among the valid words alone, whose track
+/// words are each in the track's language. Tracks of one name are one track, and have one number of digits in both
+/// (`agree_on_shared`). The result is canonical; its tracks are in byte order of names, as `joint_names` gives them.
+/// But for `And` and `AndNot` `valid` has a canonical language for each of them; for these two it is not looked at.
 ///
-/// The width is the number of pairs of residuals, of `a` and of `b` after their parts of a word, over
-/// all words, the empty residual counted too; but for `And` and `AndNot` that of these residuals
-/// together with those of all tracks' languages. `Letters` comes exactly where there are more than 16
-/// tracks or more than 65,536 letters, and is looked at first; `States` exactly where the width passes
-/// the limit. The result has at most as many states as the width. Memory may also run out where
-/// 2^32 - 1 states are not enough. Time and memory follow the width and the letters by which some
-/// residual leads to one that is not empty, or all letters where they are at most 32; the residuals of the
+/// The width is the number of pairs of residuals, of `a` and of `b` after their parts of a word, over all words, the
+/// empty residual counted too; but for `And` and `AndNot` that of these residuals together with those of all tracks'
+/// languages. `Letters` comes if and only if there are more than 16 tracks or more than 65,536 letters, and is looked
+/// at first; `States` if and only if the width passes the limit. The result has at most as many states as the width.
+/// Memory may also run out where 2^32 - 1 states are not enough. Time and memory follow the width and the letters by
+/// which some residual leads to one that is not empty, or all letters where they are at most 32; the residuals of the
 /// arguments; and the number of all letters once.
 pub fn product(
     alloc: Global,

@@ -7,13 +7,13 @@ ghost use Rattle.product_op.specs.Readings.{reading_in};
 ghost use Rattle.product_op.specs.LeadingLetters.{letters_on};
 
 use digit_tuple::dfa::Dfa;
-use digit_tuple::edges::Edge;
 use digit_tuple::faults::OutOfMemory;
 use digit_tuple::part_index::PartIndex;
-use minimise::sink::{first_state, is_accepting, next_state};
+use digit_tuple::transitions::Transition;
+use minimise::sink::{initial_state, is_accepting, next_state};
 
-/// An automaton, and the part of each letter that it reads. The number past its states is its sink,
-/// where missing edges lead: the empty residual.
+/// An automaton, and the part of each letter that it reads. The number past its states is its sink, where missing
+/// transitions lead: the empty residual.
 #[derive(Drop)]
 pub struct Reader<'a> {
     pub dfa: &'a Dfa,
@@ -25,7 +25,7 @@ impl Reader<'_> {
     pub fn first(&self) -> u32
         ensures { result ≡ first_of self.now.dfa.now }
     {
-        first_state(self.dfa)
+        initial_state(self.dfa)
     }
 
     /// Where a letter leads from a state or the sink.
@@ -50,12 +50,12 @@ impl Reader<'_> {
         state == self.dfa.states()
     }
 
-    /// Adds the letters by whose parts an edge leads on from a state, those of each part in order.
-    /// The row is written over.
+    /// Adds the letters by whose parts a transition leads on from a state, those of each part in order. The row is
+    /// written over.
     pub fn add_letters(
         &self,
         state: u32,
-        row: &mut Vec<Edge>,
+        row: &mut Vec<Transition>,
         letters: &mut Vec<u32>,
     ) -> Result<(), OutOfMemory>
         ensures { OnOk result (letters.new.items ≡ letters.old.items ++ letters_on (reading_in self.now) state) }
@@ -63,9 +63,9 @@ impl Reader<'_> {
         if state >= self.dfa.states() {
             return Ok(());
         }
-        self.dfa.edges_into(state, row)?;
-        for edge in row.iter() {
-            letters.extend_from_slice(self.parts.letters(edge.letter))?;
+        self.dfa.transitions_into(state, row)?;
+        for transition in row.iter() {
+            letters.extend_from_slice(self.parts.letters(transition.letter))?;
         }
         Ok(())
     }

@@ -2,26 +2,26 @@
 
 ghost use Rattle.std.specs.Prelude.{◌≡◌, ◌++◌, ◌<◌, ℕ, List, [], length, IfOk, IfSome, OnOk};
 ghost use Rattle.std.specs.Option.{option_map, option_to_list};
-ghost use Rattle.digit_tuple.specs.Keys.{AreKeyEdges};
+ghost use Rattle.digit_tuple.specs.Keys.{AreKeyTransitions};
 ghost use Rattle.product_op.specs.NextRows.{AreNextRows};
 ghost use Rattle.product_op.specs.Readings.{readings_in, automata_in, AreSideBySide, AreStates, first_key, next_key, flags_at, combined};
 ghost use Rattle.product_op.specs.ReadingLaws.{first_is_key, live_key_is_key};
 ghost use Rattle.product_op.specs.SinkKeys.{is_dead_key, live_key, live_key_after};
-ghost use Rattle.product_op.specs.LeadingLetters.{AreFewLetters, AreLeading, key_edge};
+ghost use Rattle.product_op.specs.LeadingLetters.{AreFewLetters, AreLeading, key_transition};
 
 use crate::next_row::{NextRow, next_by_rows, next_rows};
 use crate::next_table::NextTable;
 use crate::numbers_below::numbers_below;
 use crate::reader::Reader;
-use crate::reader_states::{all_accept, are_sinks, first_states, next_states};
+use crate::reader_states::{all_accept, are_sinks, initial_states, next_states};
 use crate::rule::Rule;
-use digit_tuple::edges::Edge;
 use digit_tuple::faults::OutOfMemory;
-use digit_tuple::key_edges::KeyEdges;
 use digit_tuple::key_graph::KeyGraph;
+use digit_tuple::key_transitions::KeyTransitions;
+use digit_tuple::transitions::Transition;
 use std::alloc::Global;
 
-// So many letters are all tried, since to gather those with an edge would take longer.
+// So many letters are all tried, since to gather those with a transition would take longer.
 const FEW_LETTERS: u32 = 32;
 
 /// All letters below this number where they are few, else none.
@@ -79,16 +79,21 @@ impl KeyGraph for SideBySide<'_> {
     ghost after_is_key = { λ s key letter graph is small. live_key_is_key s.letters (readings_in s.readers.now) graph.0.readings_are s.rule key letter };
 
     fn first_key(&self, alloc: Global) -> Result<Vec<u32>, OutOfMemory> {
-        first_states(alloc, self.readers)
+        initial_states(alloc, self.readers)
     }
 
-    fn edges(&self, alloc: Global, key: &[u32], out: &mut KeyEdges) -> Result<(), OutOfMemory> {
-        let mut edges = Vec::new(alloc);
+    fn transitions(
+        &self,
+        alloc: Global,
+        key: &[u32],
+        out: &mut KeyTransitions,
+    ) -> Result<(), OutOfMemory> {
+        let mut transitions = Vec::new(alloc);
         if !self.few.is_empty() {
-            return self.push_edges(key, self.few, &mut edges, out);
+            return self.push_transitions(key, self.few, &mut transitions, out);
         }
-        let letters = self.leading_letters(alloc, key, &mut edges)?;
-        self.push_edges(key, &letters, &mut edges, out)
+        let letters = self.leading_letters(alloc, key, &mut transitions)?;
+        self.push_transitions(key, &letters, &mut transitions, out)
     }
 
     fn is_accepting(&self, key: &[u32]) -> bool {
@@ -113,14 +118,13 @@ impl SideBySide<'_> {
         self.rule.refuses_all_sinks(self.readers.len()) && are_sinks(self.readers, key)
     }
 
-    // Letters in order, such that each other leads to no key: those by whose parts an edge leads on
-    // from some state, or all where these are not fewer, or where there is a key of sinks. The edges are
-    // written over.
+    // Letters in order, such that each other leads to no key: those by whose parts a transition leads on from some
+    // state, or all where these are not fewer, or where there is a key of sinks. The transitions are written over.
     fn leading_letters(
         &self,
         alloc: Global,
         key: &[u32],
-        edges: &mut Vec<Edge>,
+        transitions: &mut Vec<Transition>,
     ) -> Result<Vec<u32>, OutOfMemory>
         requires graph { AreSideBySide self.now.letters (readings_in self.now.readers.now) self.now.rule }
         requires key { AreStates (readings_in self.now.readers.now) key.now }
@@ -131,7 +135,7 @@ impl SideBySide<'_> {
         }
         let mut letters = Vec::new(alloc);
         for (place, reader) in self.readers.iter().enumerate() {
-            reader.add_letters(key[place], edges, &mut letters)?;
+            reader.add_letters(key[place], transitions, &mut letters)?;
             if letters.len() >= self.letters as usize {
                 return numbers_below(alloc, self.letters);
             }
@@ -141,20 +145,20 @@ impl SideBySide<'_> {
         Ok(letters)
     }
 
-    // Adds the edges from a key by these letters. The row is written over.
-    fn push_edges(
+    // Adds the transitions from a key by these letters. The row is written over.
+    fn push_transitions(
         &self,
         key: &[u32],
         letters: &[u32],
-        row: &mut Vec<Edge>,
-        out: &mut KeyEdges,
+        row: &mut Vec<Transition>,
+        out: &mut KeyTransitions,
     ) -> Result<(), OutOfMemory>
         requires graph { AreSideBySide self.now.letters (readings_in self.now.readers.now) self.now.rule }
         requires tables { self.now.tables.now ≡ automata_in (readings_in self.now.readers.now) }
         requires key { AreStates (readings_in self.now.readers.now) key.now }
         requires letters { AreLeading self.now.letters (live_key_after self.now.rule (readings_in self.now.readers.now) key.now) letters.now }
         requires empty { out.old ≡ [] }
-        ensures { OnOk result (AreKeyEdges self.now.letters (live_key_after self.now.rule (readings_in self.now.readers.now) key.now) out.new) }
+        ensures { OnOk result (AreKeyTransitions self.now.letters (live_key_after self.now.rule (readings_in self.now.readers.now) key.now) out.new) }
     {
         let alloc = *row.allocator();
         let rows = next_rows(alloc, self.tables, key, letters.len(), row)?;
@@ -190,10 +194,15 @@ impl SideBySide<'_> {
         }
     }
 
-    // Adds an edge to these states, unless no word is accepted from them.
-    fn push_live(&self, letter: u32, key: &[u32], out: &mut KeyEdges) -> Result<(), OutOfMemory>
+    // Adds a transition to these states, unless no word is accepted from them.
+    fn push_live(
+        &self,
+        letter: u32,
+        key: &[u32],
+        out: &mut KeyTransitions,
+    ) -> Result<(), OutOfMemory>
         requires { length key.now ≡ length self.now.readers.now }
-        ensures { OnOk result (out.new ≡ out.old ++ option_to_list (option_map (key_edge letter) (live_key self.now.rule (readings_in self.now.readers.now) key.now))) }
+        ensures { OnOk result (out.new ≡ out.old ++ option_to_list (option_map (key_transition letter) (live_key self.now.rule (readings_in self.now.readers.now) key.now))) }
     {
         if !self.is_dead(key) {
             out.push(letter, key)?;

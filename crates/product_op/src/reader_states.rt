@@ -9,7 +9,7 @@ use digit_tuple::faults::OutOfMemory;
 use std::alloc::Global;
 
 /// The first state of each.
-pub fn first_states(alloc: Global, readers: &[Reader<'_>]) -> Result<Vec<u32>, OutOfMemory>
+pub fn initial_states(alloc: Global, readers: &[Reader<'_>]) -> Result<Vec<u32>, OutOfMemory>
     ensures { IfOk result (λ key. key.items ≡ first_key (readings_in readers.now)) }
 {
     let mut key = Vec::with_capacity(alloc, readers.len())?;

@@ -11,7 +11,7 @@ ghost use Rattle.product_op.specs.Readings.{readings_in, AreSideBySide, AreCanon
 
 use crate::reader::Reader;
 use crate::reader_graph::{SideBySide, few_letters, next_tables};
-use crate::reader_states::first_states;
+use crate::reader_states::initial_states;
 use crate::rule::Rule;
 use digit_tuple::alphabet::Alphabet;
 use digit_tuple::dfa::Dfa;
@@ -23,11 +23,10 @@ use minimise::canonical_exploration::explore_canonical;
 use minimise::tracked::Tracked;
 use std::alloc::Global;
 
-/// The canonical automaton, its tracks under these names, of the words of which the rule holds, by
-/// whether each reader accepts its part. The width is the number of tuples of residuals that words
-/// lead to, the empty residual counted too. `States` comes exactly where it passes the limit, and
-/// `Letters` never. Time and memory follow the tuples and the letters by which some residual of a
-/// tuple leads to one that is not empty, or all letters where they are at most 32.
+/// The canonical automaton, its tracks under these names, of the words of which the rule holds, by whether each reader
+/// accepts its part. The width is the number of tuples of residuals that words lead to, the empty residual counted too.
+/// `States` comes if and only if it passes the limit, and `Letters` never. Time and memory follow the tuples and the
+/// letters by which some residual of a tuple leads to one that is not empty, or all letters where they are at most 32.
 pub fn tracked_side_by_side(
     alloc: Global,
     alphabet: Alphabet,
@@ -88,7 +87,7 @@ fn side_by_side(
         letters,
         few: few.as_slice(),
     };
-    let first = first_states(alloc, readers)?;
+    let first = initial_states(alloc, readers)?;
     if graph.is_dead(&first) {
         no_words_within(alloc, alphabet, limit)
     } else {

@@ -12,7 +12,7 @@ ghost use Rattle.product_op.specs.Tuples.{AreTuples, LeadToOne};
 
 use crate::reader::Reader;
 use crate::reader_graph::{SideBySide, few_letters, next_tables};
-use crate::reader_states::first_states;
+use crate::reader_states::initial_states;
 use crate::rule::Rule;
 use digit_tuple::alphabet::Alphabet;
 use digit_tuple::exploration::{Explored, explore_keys};
@@ -22,13 +22,12 @@ use digit_tuple::numbering::Numbering;
 use digit_tuple::stepped::Stepped;
 use std::alloc::Global;
 
-/// The automaton whose states stand for the tuples of states, one of each reader, that words lead to, the
-/// number past a reader's states being its sink, where missing edges lead. A word that leads each reader
-/// to its sink leads to no state, but for the empty one, which leads to the initial state. The states are
-/// numbered in the order of the first words that lead to them, and what accepts is not said. The width is
-/// the number of tuples that words lead to, that of sinks counted too. `States` comes exactly where it
-/// passes the limit, and `Letters` never. Time and memory follow the tuples and the letters by which some
-/// state of a tuple leads on, or all letters where they are at most 32.
+/// The automaton whose states stand for the tuples of states, one of each reader, that words lead to, the number past a
+/// reader's states being its sink, where missing transitions lead. A word that leads each reader to its sink leads to
+/// no state, but for the empty one, which leads to the initial state. The states are numbered in the order of the first
+/// words that lead to them, and what accepts is not said. The width is the number of tuples that words lead to, that of
+/// sinks counted too. `States` comes if and only if it passes the limit, and `Letters` never. Time and memory follow
+/// the tuples and the letters by which some state of a tuple leads on, or all letters where they are at most 32.
 pub fn explore_tuples(
     alloc: Global,
     alphabet: Alphabet,
@@ -55,7 +54,7 @@ pub fn explore_tuples(
         letters,
         few: few.as_slice(),
     };
-    let first = first_states(alloc, readers)?;
+    let first = initial_states(alloc, readers)?;
     if graph.is_dead(&first) {
         explore_none(alloc, alphabet, &first, limit)
     } else {

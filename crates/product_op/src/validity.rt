@@ -29,12 +29,11 @@ use std::rc::Rc;
 /// The tracks are those of `a`, in their order, and `valid` has a canonical language for each. The
 /// result is canonical.
 ///
-/// The width is the number of tuples of the residual of `a` and those of all tracks' languages, over
-/// all words, the empty residual counted too. `States` comes exactly where it passes the limit, and
-/// `Letters` never. The result has at most as many states as the width. Memory may also run out where
-/// 2^32 - 1 states are not enough. Time and memory follow the width and the letters by which some
-/// residual leads to one that is not empty, or all letters where they are at most 32; the residuals of the
-/// arguments; and the number of all letters once.
+/// The width is the number of tuples of the residual of `a` and those of all tracks' languages, over all words, the
+/// empty residual counted too. `States` comes if and only if it passes the limit, and `Letters` never. The result has
+/// at most as many states as the width. Memory may also run out where 2^32 - 1 states are not enough. Time and memory
+/// follow the width and the letters by which some residual leads to one that is not empty, or all letters where they
+/// are at most 32; the residuals of the arguments; and the number of all letters once.
 pub fn complement_in(
     alloc: Global,
     a: &Tracked,

@@ -19,7 +19,7 @@ use Rattle.project_close.specs.StayingTracks.{staying_sizes}
 use Rattle.project_close.proofs.SubstitutionLemmas.{picked_under, track_digit}
 use Rattle.project_close.proofs.RestrictionLemmas.{HaveTwoTracks, name_for-other, passes, length-names_for, IsSubstitution-restriction, sizes_under-restriction}
 
--- where names stand among names, whose places are given: their places
+-- where names are among names, whose places are given: their places
 pub picked_places : (names some all : List (List ℕ)) → All (Contains some) all → picked (places_of some all) (places_of names some) ≡ places_of names all
 picked_places names some all there = ext_get_or 0 (picked (places_of some all) (places_of names some)) (places_of names all) (long ∙ sym (length-map all (place_of names))) at
   where
@@ -118,7 +118,7 @@ module _ (a : NamedAutomaton) (kept dropped : List ℕ) (two : HaveTwoTracks a k
       get_or-map (place_of rest) under (place name) [] 0 (omega (arith, spot.0, length-names_for a kept dropped two))
       ∙ ap (place_of rest) (get_or-map (name_for kept dropped) a.names (place name) [] [] spot.0 ∙ ap (name_for kept dropped) spot.1)
 
-  -- tracks that stay are read where they stand
+  -- tracks that stay are read where they are
   picked_rest : picked (places_of a.names rest) (places_of rest under) ≡ range_with_len 0 (length rest)
   picked_rest = ext_get_or 0 (picked (places_of a.names rest) (places_of rest under)) (range_with_len 0 (length rest)) (long ∙ sym (length-range_with_len 0 (length rest))) at
     where

@@ -1,4 +1,4 @@
--- Lists without repetition whose elements all stand in another list: they are no longer, and their product is no larger.
+-- Lists without repetition whose elements all are in another list: they are no longer, and their product is no larger.
 use Rattle.std.proofs.Common.{◌≡◌, ◌≢◌, ℕ, zero, suc, ◌+◌, ◌*◌, ◌<◌, ◌≤◌, ◌⊎◌, inl, inr, List, [], ◌∷◌, length, map, get_or, sym, ap, ◌∙◌, subst, arith}
 use Rattle.std.specs.List.{All, AllPairs, Contains}
 use Rattle.std.proofs.lemmas.Bool.{cases_lt}

@@ -1,19 +1,19 @@
--- What is found in the edges of one state more: whether one leads back to the initial state, and whether a letter has none.
+-- What is found in the transitions of one state more: whether one leads back to the initial state, and whether a letter has none.
 use Rattle.std.proofs.Common.{◌≡◌, ◌==◌, ◌&&◌, ℕ, ◌+◌, ◌<◌, ◌≤◌, Bool, true, false, not, List, length, None, Some, ◌⊎◌, inl, inr, refl, sym, ap, ◌∙◌, true≢false, arith}
 use Rattle.std.specs.List.{list_any}
 use Rattle.std.proofs.lemmas.Bool.{cases_lt, eqb-true}
 use Rattle.std.proofs.lemmas.Option.{none-some}
-use Rattle.digit_tuple.specs.declared.edges.Edge.{Edge}
-use Rattle.digit_tuple.specs.Deterministic.{Automaton, IsRow, edges_of, letters_of, states_of, step_of, target_by}
-use Rattle.digit_tuple.specs.Reversed.{edge_to}
+use Rattle.digit_tuple.specs.declared.transitions.Transition.{Transition}
+use Rattle.digit_tuple.specs.Deterministic.{Automaton, IsRow, transitions_of, letters_of, states_of, step_of, target_by}
+use Rattle.digit_tuple.specs.Reversed.{transition_to}
 use Rattle.digit_tuple.proofs.MemberLemmas.{contains_from_list_any, list_any-contains}
 use Rattle.digit_tuple.proofs.ReversedLemmas.{contains_from_target_by, target_by-contains}
 use Rattle.digit_tuple.proofs.RowLemmas.{IsFrom, IsFrom-row, full_of, gap_of}
 use Rattle.project_close.specs.ZerosStay.{AreEnds, HasGap, HasReturn}
 
--- whether an edge of the state leads to the initial one, other than the zero letter's from there
-abbrev pub is_return : ℕ → Edge → Bool
-is_return q edge = (edge.target == 0) && not ((q == 0) && (edge.letter == 0))
+-- whether a transition of the state leads to the initial one, other than the zero letter's from there
+abbrev pub is_return : ℕ → Transition → Bool
+is_return q transition = (transition.target == 0) && not ((q == 0) && (transition.letter == 0))
 
 -- both parts of a test
 both : (b c : Bool) → (b && c) ≡ true → (b ≡ true) × (c ≡ true)
@@ -32,9 +32,9 @@ other_to q a other = by (q == 0) (a == 0) refl refl
     by true false one two = refl
     by false c one two = refl
 
-module _ (d : Automaton) (q : ℕ) (row : List Edge) (is : row ≡ edges_of d q) (fits : IsRow (letters_of d) (states_of d) row) where
+module _ (d : Automaton) (q : ℕ) (row : List Transition) (is : row ≡ transitions_of d q) (fits : IsRow (letters_of d) (states_of d) row) where
   step_is : (a : ℕ) → step_of d q a ≡ target_by row a
-  step_is a = ap (λ (es : List Edge). target_by es a) (sym is)
+  step_is a = ap (λ (es : List Transition). target_by es a) (sym is)
 
   return_from : list_any (is_return q) row ≡ true → (a : ℕ) × ((step_of d q a ≡ Some 0) × ¬ ((q ≡ 0) × (a ≡ 0)))
   return_from found =
@@ -43,7 +43,7 @@ module _ (d : Automaton) (q : ℕ) (row : List Edge) (is : row ≡ edges_of d q)
       (e.0.letter, (step_is e.0.letter ∙ target_by-contains row e.0.letter e.0.target fits.ascending e.1 ∙ ap Some (eqb-true e.0.target 0 parts.0), other_from q e.0.letter parts.1))
 
   return_to : (a : ℕ) → step_of d q a ≡ Some 0 → ¬ ((q ≡ 0) × (a ≡ 0)) → list_any (is_return q) row ≡ true
-  return_to a step other = list_any-contains (is_return q) row (edge_to a 0) (contains_from_target_by row a 0 (sym (step_is a) ∙ step)) (other_to q a other)
+  return_to a step other = list_any-contains (is_return q) row (transition_to a 0) (contains_from_target_by row a 0 (sym (step_is a) ∙ step)) (other_to q a other)
 
   from_first : IsFrom (letters_of d) 0 row
   from_first = IsFrom-row (letters_of d) 0 row (λ k e within. (fits.in_range k e within).0) fits.ascending (λ k e within. omega arith)
@@ -97,7 +97,7 @@ module _ (d : Automaton) (q : ℕ) (row : List Edge) (is : row ≡ edges_of d q)
             let same : found.0 ≡ q = omega (arith, past, found.1.1) in
             absurd (no_gap old.0 found.1.0 found.1.2 (ap (λ p. step_of d p found.1.0) (sym same) ∙ found.1.3))
 
-    -- with the edges of one state more
+    -- with the transitions of one state more
     pub AreEnds-more : AreEnds d (q + 1) more_returns more_gap
     AreEnds-more = record { returns_is = (return_forth, return_back); gap_is = (gap_forth, gap_back) }
 

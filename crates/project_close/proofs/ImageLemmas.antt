@@ -9,22 +9,22 @@ use Rattle.std.proofs.lemmas.List.FromFn.{length-map-range_with_len}
 use Rattle.std.proofs.lemmas.List.Elements.{All-contains, All-contains_itself, All-from_get_or, All-map}
 use Rattle.digit_tuple.specs.Automaton as branching
 use Rattle.digit_tuple.specs.Automaton.{Branching, Branch, IsBefore, IsBranchTable, Leads, Path, no_branch}
-use Rattle.digit_tuple.specs.Deterministic.{Automaton, IsTable, accepting_of, accepts_from, edges_of, letters_of, run_of, states_of, step_of}
+use Rattle.digit_tuple.specs.Deterministic.{Automaton, IsTable, accepting_of, accepts_from, transitions_of, letters_of, run_of, states_of, step_of}
 use Rattle.digit_tuple.specs.Letters.{IsWord, product}
 use Rattle.digit_tuple.specs.Paddings.{zeros}
 use Rattle.digit_tuple.specs.Parts.{letter_part, part, parts_of_letters, picked}
 use Rattle.digit_tuple.specs.declared.direction.Direction.TheVariants.{Lsd}
-use Rattle.digit_tuple.specs.declared.edges.Edge.{Edge}
+use Rattle.digit_tuple.specs.declared.transitions.Transition.{Transition}
 use Rattle.digit_tuple.proofs.DfaLemmas.{row_at}
 use Rattle.digit_tuple.proofs.PartLemmas.{get_or-parts, letter_part-below}
 use Rattle.digit_tuple.proofs.RangeLemmas.{All-range}
 use Rattle.digit_tuple.proofs.TableLemmas.{from_state}
 use Rattle.digit_tuple.specs.AcceptingStates.{AreAccepting}
-use Rattle.digit_tuple.specs.Reversed.{IsReversal, branch_at, edge_to}
+use Rattle.digit_tuple.specs.Reversed.{IsReversal, branch_at, transition_to}
 use Rattle.digit_tuple.proofs.MemberLemmas.{Contains-map, Contains-from_map}
 use Rattle.digit_tuple.proofs.ReversedLemmas.{contains_from_target_by, target_by-contains}
-use Rattle.minimise.proofs.SinkLemmas.{no_edges_past}
-use Rattle.project_close.specs.Image.{AreRelabelled, IsEnd, IsImage, part_at, relabelled_edge}
+use Rattle.minimise.proofs.SinkLemmas.{no_transitions_past}
+use Rattle.project_close.specs.Image.{AreRelabelled, IsEnd, IsImage, part_at, relabelled_transition}
 use Rattle.project_close.specs.ZeroClosure.{IsOverFlagged, IsReached, flag_at}
 use Rattle.project_close.proofs.SinkLeads.{accepting_within}
 use Rattle.project_close.proofs.ZeroClosureLemmas.{IsReached-more}
@@ -35,24 +35,24 @@ step_state d p a q step = by (cases_lt p (states_of d))
   where
     by : (p < states_of d) ⊎ (states_of d ≤ p) → p < states_of d
     by (inl less) = less
-    by (inr past) = absurd (empty (edges_of d p) (no_edges_past d p past) (contains_from_target_by (edges_of d p) a q step))
+    by (inr past) = absurd (empty (transitions_of d p) (no_transitions_past d p past) (contains_from_target_by (transitions_of d p) a q step))
       where
-        empty : (es : List Edge) → es ≡ [] → ¬ Contains es (edge_to a q)
-        empty es none there = omega (arith, there.1, ap (λ (xs : List Edge). length xs) none)
+        empty : (es : List Transition) → es ≡ [] → ¬ Contains es (transition_to a q)
+        empty es none there = omega (arith, there.1, ap (λ (xs : List Transition). length xs) none)
 
 -- rows for the states below a number
 pub record AreImageRows (d : Automaton) (accepting : List Bool) (parts : List ℕ) (rows : List Branch) (count : ℕ) : Type 0 where
   pub size : length rows ≡ count
   pub accepting_are : (q : ℕ) → q < count → (branch_at rows q).accepting ≡ flag_at accepting q
-  pub edges_are : (q : ℕ) → q < count → AreRelabelled parts (edges_of d q) (branch_at rows q).edges
+  pub transitions_are : (q : ℕ) → q < count → AreRelabelled parts (transitions_of d q) (branch_at rows q).transitions
 
 -- one more row
 pub AreImageRows-push : (d : Automaton) (accepting : List Bool) (parts : List ℕ) (rows : List Branch) (count : ℕ) (row : Branch) → AreImageRows d accepting parts rows count
-    → row.accepting ≡ flag_at accepting count → AreRelabelled parts (edges_of d count) row.edges → AreImageRows d accepting parts (rows ++ row ∷ []) (count + 1)
-AreImageRows-push d accepting parts rows count row are flag edges = record {
+    → row.accepting ≡ flag_at accepting count → AreRelabelled parts (transitions_of d count) row.transitions → AreImageRows d accepting parts (rows ++ row ∷ []) (count + 1)
+AreImageRows-push d accepting parts rows count row are flag transitions = record {
   size = omega (arith, length_push rows row, are.size);
   accepting_are = λ q low. flag_of q low (cases_lt q count);
-  edges_are = λ q low. edges_of_row q low (cases_lt q count);
+  transitions_are = λ q low. transitions_of_row q low (cases_lt q count);
 }
   where
     before : (q : ℕ) → q < count → branch_at (rows ++ row ∷ []) q ≡ branch_at rows q
@@ -65,11 +65,11 @@ AreImageRows-push d accepting parts rows count row are flag edges = record {
     flag_of q low (inl less) = ap (λ (b : Branch). b.accepting) (before q less) ∙ are.accepting_are q less
     flag_of q low (inr more) = let is : count ≡ q = omega arith in ap (λ (b : Branch). b.accepting) (here q is) ∙ flag ∙ ap (flag_at accepting) is
 
-    edges_of_row : (q : ℕ) → q < count + 1 → (q < count) ⊎ (count ≤ q) → AreRelabelled parts (edges_of d q) (branch_at (rows ++ row ∷ []) q).edges
-    edges_of_row q low (inl less) = subst (λ (b : Branch). AreRelabelled parts (edges_of d q) b.edges) (sym (before q less)) (are.edges_are q less)
-    edges_of_row q low (inr more) =
+    transitions_of_row : (q : ℕ) → q < count + 1 → (q < count) ⊎ (count ≤ q) → AreRelabelled parts (transitions_of d q) (branch_at (rows ++ row ∷ []) q).transitions
+    transitions_of_row q low (inl less) = subst (λ (b : Branch). AreRelabelled parts (transitions_of d q) b.transitions) (sym (before q less)) (are.transitions_are q less)
+    transitions_of_row q low (inr more) =
         let is : count ≡ q = omega arith in
-        subst (λ (b : Branch). AreRelabelled parts (edges_of d q) b.edges) (sym (here q is)) (subst (λ k. AreRelabelled parts (edges_of d k) row.edges) is edges)
+        subst (λ (b : Branch). AreRelabelled parts (transitions_of d q) b.transitions) (sym (here q is)) (subst (λ k. AreRelabelled parts (transitions_of d k) row.transitions) is transitions)
 
 module _ (d : Automaton) (table : IsTable (letters_of d) d.states) (accepting : List Bool) (parts sizes : List ℕ) (rows : List Branch) (are : AreImageRows d accepting parts rows (states_of d)) where
   -- the rows are a table
@@ -77,24 +77,24 @@ module _ (d : Automaton) (table : IsTable (letters_of d) d.states) (accepting : 
   IsBranchTable-image size small = record {
     initial = omega (arith, are.size, table.initial);
     small = omega (arith, are.size, table.part.small);
-    rows = All-from_get_or (λ (b : Branch). branching.IsRow (product sizes) (length rows) b.edges) rows no_branch row;
+    rows = All-from_get_or (λ (b : Branch). branching.IsRow (product sizes) (length rows) b.transitions) rows no_branch row;
   }
     where
-      edge_in_range : (q : ℕ) → q < states_of d → (edge e : Edge) → Contains (edges_of d q) edge → relabelled_edge parts edge ≡ e → (e.letter < product sizes) × (e.target < length rows)
-      edge_in_range q within edge e there same =
-          let range = All-contains (λ (x : Edge). (x.letter < letters_of d) × (x.target < states_of d)) (edges_of d q) edge (row_at d q table within).in_range there in
-          let low : part_at parts edge.letter < product sizes = small edge.letter 0 (omega (arith, range.0, size)) in
-          (subst (λ (x : Edge). x.letter < product sizes) same low, omega (arith, range.1, are.size, ap (λ (x : Edge). x.target) same))
+      transition_in_range : (q : ℕ) → q < states_of d → (transition e : Transition) → Contains (transitions_of d q) transition → relabelled_transition parts transition ≡ e → (e.letter < product sizes) × (e.target < length rows)
+      transition_in_range q within transition e there same =
+          let range = All-contains (λ (x : Transition). (x.letter < letters_of d) × (x.target < states_of d)) (transitions_of d q) transition (row_at d q table within).in_range there in
+          let low : part_at parts transition.letter < product sizes = small transition.letter 0 (omega (arith, range.0, size)) in
+          (subst (λ (x : Transition). x.letter < product sizes) same low, omega (arith, range.1, are.size, ap (λ (x : Transition). x.target) same))
 
-      row : (q : ℕ) → q < length rows → branching.IsRow (product sizes) (length rows) (branch_at rows q).edges
+      row : (q : ℕ) → q < length rows → branching.IsRow (product sizes) (length rows) (branch_at rows q).transitions
       row q within =
           let low : q < states_of d = omega (arith, within, are.size) in
           record {
             in_range = λ k z inside.
-                let e = get_or (branch_at rows q).edges k z in
-                let from = ((are.edges_are q low).members e).0 (All-contains_itself (branch_at rows q).edges k z inside) in
-                edge_in_range q low from.0 e from.1 from.2;
-            ascending = (are.edges_are q low).ascending;
+                let e = get_or (branch_at rows q).transitions k z in
+                let from = ((are.transitions_are q low).members e).0 (All-contains_itself (branch_at rows q).transitions k z inside) in
+                transition_in_range q low from.0 e from.1 from.2;
+            ascending = (are.transitions_are q low).ascending;
           }
 
   -- they are the automaton's, read by other letters
@@ -113,25 +113,25 @@ module _ (d : Automaton) (table : IsTable (letters_of d) d.states) (accepting : 
       flag_of q (inl less) = are.accepting_are q less
       flag_of q (inr past) = ap (λ (b : Branch). b.accepting) (get_or_past rows q no_branch (omega (arith, are.size))) ∙ sym (get_or_past accepting q false (omega (arith, size)))
 
-      forth : (p a q : ℕ) → Contains (branch_at rows p).edges (edge_to a q) → (letter : ℕ) × (letter < letters_of d) × (step_of d p letter ≡ Some q) × (part_at parts letter ≡ a)
+      forth : (p a q : ℕ) → Contains (branch_at rows p).transitions (transition_to a q) → (letter : ℕ) × (letter < letters_of d) × (step_of d p letter ≡ Some q) × (part_at parts letter ≡ a)
       forth p a q there =
           let low : p < states_of d = omega (arith, from_state m p a q there, are.size) in
-          let from = ((are.edges_are p low).members (edge_to a q)).0 there in
+          let from = ((are.transitions_are p low).members (transition_to a q)).0 there in
           let row = row_at d p table low in
-          let target : from.0.target ≡ q = ap (λ (x : Edge). x.target) from.2 in
-          let range = All-contains (λ (x : Edge). (x.letter < letters_of d) × (x.target < states_of d)) (edges_of d p) from.0 row.in_range from.1 in
-          (from.0.letter, range.0, target_by-contains (edges_of d p) from.0.letter from.0.target row.ascending from.1 ∙ ap Some target, ap (λ (x : Edge). x.letter) from.2)
+          let target : from.0.target ≡ q = ap (λ (x : Transition). x.target) from.2 in
+          let range = All-contains (λ (x : Transition). (x.letter < letters_of d) × (x.target < states_of d)) (transitions_of d p) from.0 row.in_range from.1 in
+          (from.0.letter, range.0, target_by-contains (transitions_of d p) from.0.letter from.0.target row.ascending from.1 ∙ ap Some target, ap (λ (x : Transition). x.letter) from.2)
 
-      back : (p a q letter : ℕ) → step_of d p letter ≡ Some q → part_at parts letter ≡ a → Contains (branch_at rows p).edges (edge_to a q)
+      back : (p a q letter : ℕ) → step_of d p letter ≡ Some q → part_at parts letter ≡ a → Contains (branch_at rows p).transitions (transition_to a q)
       back p a q letter step same =
-          ((are.edges_are p (step_state d p letter q step)).members (edge_to a q)).1
-          (edge_to letter q, contains_from_target_by (edges_of d p) letter q step, ap (λ x. edge_to x q) same)
+          ((are.transitions_are p (step_state d p letter q step)).members (transition_to a q)).1
+          (transition_to letter q, contains_from_target_by (transitions_of d p) letter q step, ap (λ x. transition_to x q) same)
 
--- relabelled edges are those of the list that the code makes
-pub relabelled_members : (parts : List ℕ) (edges : List Edge) (e : Edge) → Contains (map (relabelled_edge parts) edges) e ↔ ((edge : Edge) × Contains edges edge × (relabelled_edge parts edge ≡ e))
-relabelled_members parts edges e = (
-  Contains-from_map (relabelled_edge parts) edges e,
-  (λ from. subst (Contains (map (relabelled_edge parts) edges)) from.2 (Contains-map (relabelled_edge parts) edges from.0 from.1)),
+-- relabelled transitions are those of the list that the code makes
+pub relabelled_members : (parts : List ℕ) (transitions : List Transition) (e : Transition) → Contains (map (relabelled_transition parts) transitions) e ↔ ((transition : Transition) × Contains transitions transition × (relabelled_transition parts transition ≡ e))
+relabelled_members parts transitions e = (
+  Contains-from_map (relabelled_transition parts) transitions e,
+  (λ from. subst (Contains (map (relabelled_transition parts) transitions)) from.2 (Contains-map (relabelled_transition parts) transitions from.0 from.1)),
 )
 
 -- there is a part for each letter, a letter of the tracks that stay
@@ -204,7 +204,7 @@ module _ (d : Automaton) (places : List ℕ) (turned : Branching) (reversal : Is
   abbrev zero_letters : List Bool
   zero_letters = zero_flags d.sizes places
 
-  -- along a turned path zeros are read from its end to an accepting state
+  -- along a reversed path zeros are read from its end to an accepting state
   zeros_along : (w u : List ℕ) (p q : ℕ) → accepts_from d p u ≡ true → IsOverFlagged zero_letters u → IsOverFlagged zero_letters w → Path turned p w q
       → (v : List ℕ) × IsOverFlagged zero_letters v × (accepts_from d q v ≡ true)
   zeros_along [] u p q accepts zeros_u zeros_w path = (u, zeros_u, subst (λ r. accepts_from d r u ≡ true) path accepts)
@@ -220,7 +220,7 @@ module _ (d : Automaton) (places : List ℕ) (turned : Branching) (reversal : Is
       by : (o : Option ℕ) → step_of d q a ≡ o → option_map_or (λ s. accepts_from d s u) o false ≡ true → ((r : ℕ) → accepts_from d r u ≡ true → IsReached turned zero_letters last r) → IsReached turned zero_letters last q
       by None is none rest = absurd (true≢false (sym none))
       by (Some r) is some rest = IsReached-more turned zero_letters last r q (rest r some)
-          (edge_to a q, (reversal.leads r a q).1 (step_state d q a r is, is), zeros_u.0, refl)
+          (transition_to a q, (reversal.leads r a q).1 (step_state d q a r is, is), zeros_u.0, refl)
 
   pub ends_at : (q : ℕ) → IsReached turned zero_letters last q ↔ ((u : List ℕ) × IsWord (letters_of d) u × ((k : ℕ) × (part d.sizes places u ≡ zeros k)) × (accepts_from d q u ≡ true))
   ends_at q = (forth, back)

@@ -6,14 +6,14 @@ pub mod SameBranches
 pub mod SinkLeads
 pub mod TrimmedWords
 pub mod NoWordLemmas
-pub mod PairEdges
+pub mod PairTransitions
 pub mod PaddedPairLemmas
 pub mod PaddedSetLemmas
-pub mod ZeroEdges
+pub mod ZeroTransitions
 pub mod ValueWidths
 pub mod FoundEnds
 pub mod StayingZeros
-pub mod PartEdgeLemmas
+pub mod PartTransitionLemmas
 pub mod PartReadingLemmas
 pub mod FewerLemmas
 pub mod SubstitutionLemmas

@@ -3,10 +3,10 @@ use Rattle.std.proofs.Common.{◌≡◌, ◌==◌, ◌&&◌, ℕ, Bool, true, fa
 use Rattle.std.specs.Option.{option_map_or}
 use Rattle.std.proofs.lemmas.Bool.{eqb-true}
 use Rattle.std.proofs.lemmas.List.{nil_from_length}
-use Rattle.digit_tuple.specs.Deterministic.{Automaton, accepting_of, edges_of, target_by, letters_of, states_of, accepts_from}
+use Rattle.digit_tuple.specs.Deterministic.{Automaton, accepting_of, transitions_of, target_by, letters_of, states_of, accepts_from}
 use Rattle.digit_tuple.specs.Letters.{IsWord}
 use Rattle.digit_tuple.specs.Paddings.{strip}
-use Rattle.digit_tuple.specs.declared.edges.Edge.{Edge}
+use Rattle.digit_tuple.specs.declared.transitions.Transition.{Transition}
 use Rattle.digit_tuple.specs.declared.direction.Direction.{Direction}
 use Rattle.digit_tuple.specs.declared.direction.Direction.TheVariants.{Lsd}
 use Rattle.digit_tuple.proofs.PaddingLemmas.{IsWord-strip}
@@ -36,18 +36,18 @@ pub dead_from_sink : (d : Automaton) → first_of d ≡ states_of d → IsDead d
 dead_from_sink d sink w over = sym (accepts_of-first d w) ∙ ap (λ q. accepts_from d q w) sink ∙ sink_refuses d w
 
 -- where the initial state refuses and no letter leads on, no word is accepted
-pub dead_from_bare : (d : Automaton) → accepting_of d 0 ≡ false → edges_of d 0 ≡ [] → IsDead d 0
+pub dead_from_bare : (d : Automaton) → accepting_of d 0 ≡ false → transitions_of d 0 ≡ [] → IsDead d 0
 dead_from_bare d none bare [] over = none
-dead_from_bare d none bare (a ∷ w) over = ap (λ (es : List Edge). option_map_or (λ p. accepts_from d p w) (target_by es a) false) bare
+dead_from_bare d none bare (a ∷ w) over = ap (λ (es : List Transition). option_map_or (λ p. accepts_from d p w) (target_by es a) false) bare
 
 -- and where no word is accepted no letter leads on from the initial state of a canonical automaton
-pub bare_from_dead : (d : Automaton) → IsCanonical d → IsDead d 0 → edges_of d 0 ≡ []
-bare_from_dead d canonical dead = nil_from_length (edges_of d 0) (eqb-true (length (edges_of d 0)) 0 (by (length (edges_of d 0) == 0) refl))
+pub bare_from_dead : (d : Automaton) → IsCanonical d → IsDead d 0 → transitions_of d 0 ≡ []
+bare_from_dead d canonical dead = nil_from_length (transitions_of d 0) (eqb-true (length (transitions_of d 0)) 0 (by (length (transitions_of d 0) == 0) refl))
   where
-    by : (b : Bool) → (length (edges_of d 0) == 0) ≡ b → b ≡ true
+    by : (b : Bool) → (length (transitions_of d 0) == 0) ≡ b → b ≡ true
     by true is = refl
     by false is =
-        let begins : first_of d ≡ 0 = ap (λ a. if not a && (length (edges_of d 0) == 0) then states_of d else 0) (dead [] tt) ∙ ap (λ b. if b then states_of d else 0) is in
+        let begins : first_of d ≡ 0 = ap (λ a. if not a && (length (transitions_of d 0) == 0) then states_of d else 0) (dead [] tt) ∙ ap (λ b. if b then states_of d else 0) is in
         absurd (omega (arith, begins, sink_from_dead d canonical dead, canonical.table.initial))
 
 module _ (d : Automaton) (dead : IsDead d 0) where

@@ -25,9 +25,9 @@ use Rattle.project_close.specs.PaddedPairs.{AreFinal, KeepsAcceptance, are_sinks
 use Rattle.project_close.specs.ZeroClosure.{IsOverFlagged, IsReached, flag_at}
 use Rattle.digit_tuple.proofs.AcceptedLemmas.{accepted_over}
 use Rattle.digit_tuple.proofs.PaddingLemmas.{strip-zeros, zeros_at_end, IsWord-strip, reverse-zeros}
-use Rattle.project_close.proofs.PairEdges.{are_sinks-one, not_sinks}
+use Rattle.project_close.proofs.PairTransitions.{are_sinks-one, not_sinks}
 use Rattle.project_close.proofs.WidthLaws.{IsEquivalence-padded}
-use Rattle.project_close.proofs.TrimmedWords.{with_front, trimmed, strip-trimmed}
+use Rattle.project_close.proofs.TrimmedWords.{with_prefix, trimmed, strip-trimmed}
 use Rattle.project_close.proofs.SinkLeads.{accepts_of-lead, accepting_within, within_from_lead, run_from_lead, lead_from_run, lead-append, lead-sink, next_past}
 
 module _ (d : Automaton) where
@@ -36,7 +36,7 @@ module _ (d : Automaton) where
   stripped_lead p q [] = p
   stripped_lead p q (a ∷ u) = lead d q (a ∷ u)
 
-  zero_first : (p q : ℕ) (u : List ℕ) → stripped_lead p (next_of d q 0) u ≡ stripped_lead p q (with_front 0 u)
+  zero_first : (p q : ℕ) (u : List ℕ) → stripped_lead p (next_of d q 0) u ≡ stripped_lead p q (with_prefix 0 u)
   zero_first p q [] = refl
   zero_first p q (b ∷ u) = refl
 
@@ -68,7 +68,7 @@ module _ (d : Automaton) where
     where
       by : (b : Bool) → are_sinks d p (next_of d q 0) ≡ b
           → (are_sinks d p (next_of d q 0) ≡ false → key_run (pair_after d) (p ∷ next_of d q 0 ∷ []) w ≡ some_pair d (stripped_lead p (next_of d q 0) (trimmed w)) (lead d (next_of d q 0) w))
-          → option_and_then (λ next. key_run (pair_after d) next w) (if b then None else Some (p ∷ next_of d q 0 ∷ [])) ≡ some_pair d (stripped_lead p q (with_front 0 (trimmed w))) (lead d (next_of d q 0) w)
+          → option_and_then (λ next. key_run (pair_after d) next w) (if b then None else Some (p ∷ next_of d q 0 ∷ [])) ≡ some_pair d (stripped_lead p q (with_prefix 0 (trimmed w))) (lead d (next_of d q 0) w)
       by true is rest = sym (sinks_stay p (next_of d q 0) (trimmed w) w is) ∙ ap (λ r. some_pair d r (lead d (next_of d q 0) w)) (zero_first p q (trimmed w))
       by false is rest = rest is ∙ ap (λ r. some_pair d r (lead d (next_of d q 0) w)) (zero_first p q (trimmed w))
   pair_run (suc a ∷ w) p q live = by (are_sinks d (next_of d q (suc a)) (next_of d q (suc a))) refl (pair_run w (next_of d q (suc a)) (next_of d q (suc a)))
@@ -85,7 +85,7 @@ module _ (d : Automaton) where
   pair_run-first live w = pair_run w (first_of d) (first_of d) (not_sinks d (first_of d) (first_of d) live)
       ∙ ap (λ r. some_pair d r (lead d (first_of d) w)) (one_state (first_of d) (trimmed w) ∙ ap (lead d (first_of d)) (sym (strip-trimmed w)))
 
-  -- pairs tell their states
+  -- pairs determine their states
   pub same_pairs : (p q r s : ℕ) → some_pair d p q ≡ some_pair d r s → (p ≡ r) × (q ≡ s)
   same_pairs p q r s = by (are_sinks d p q) (are_sinks d r s) refl refl
     where
@@ -195,7 +195,7 @@ module _ (d : Automaton) (canonical : IsCanonical d) (n : Branching) (turned : I
   zeros_flagged zero = tt
   zeros_flagged (suc k) = (refl, zeros_flagged k)
 
-  -- the search over turned edges finds the states from which zeros lead to accepting ones
+  -- the search over reversed transitions finds the states from which zeros lead to accepting ones
   pub AreFinal-reached : AreFinal d flags
   AreFinal-reached q = ((λ is. forth ((reached q).0 is)), (λ found. (reached q).1 (back found)))
     where

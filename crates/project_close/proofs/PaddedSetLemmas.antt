@@ -191,8 +191,8 @@ module _ (d : Automaton) (canonical : IsCanonical d) where
 
         back : IsPadded Msd d w → (k : ℕ) × (accepts_of d (zeros k ++ without_zeros w) ≡ true)
         back padded =
-            let front = zeros_in_front padded.0 in
-            (front.0, ap (accepts_of d) (ap (λ (u : List ℕ). zeros front.0 ++ u) (sym padded.2) ∙ sym front.1) ∙ padded.3)
+            let prefix = zeros_in_front padded.0 in
+            (prefix.0, ap (accepts_of d) (ap (λ (u : List ℕ). zeros prefix.0 ++ u) (sym padded.2) ∙ sym prefix.1) ∙ padded.3)
 
     -- words after which the sets are one have the same residuals after zeros
     residuals_from_set : (w v : List ℕ) → IsWord (letters_of d) w → ((k : ℕ) → IsWord (letters_of d) (zeros k)) → key_run (set_after (branching_as d)) first w ≡ key_run (set_after (branching_as d)) first v → HasResidualsOf d w v

@@ -6,8 +6,8 @@ use Rattle.std.proofs.lemmas.Bool.{cases_lt}
 use Rattle.std.proofs.lemmas.List.{map-append, length_push, get_or_append_left, get_or_push}
 use Rattle.std.proofs.lemmas.List.FromFn.{length-map-range_with_len}
 use Rattle.std.proofs.lemmas.List.Elements.{All-contains, All-contains_itself, All-weaker}
-use Rattle.digit_tuple.specs.declared.edges.Edge.{Edge}
-use Rattle.digit_tuple.specs.Deterministic.{Automaton, State, IsTable, step_of, edges_of, states_of, letters_of, accepts_from, accepts_of, no_state}
+use Rattle.digit_tuple.specs.declared.transitions.Transition.{Transition}
+use Rattle.digit_tuple.specs.Deterministic.{Automaton, State, IsTable, step_of, transitions_of, states_of, letters_of, accepts_from, accepts_of, no_state}
 use Rattle.digit_tuple.specs.DfaRows.{state_in, states_in}
 use Rattle.digit_tuple.specs.declared.dfa.DfaState.{DfaState}
 use Rattle.digit_tuple.specs.Letters.{product, IsWord}
@@ -15,15 +15,15 @@ use Rattle.digit_tuple.specs.Parts.{letter_part, part, parts_of_letters}
 use Rattle.digit_tuple.proofs.PartLemmas.{get_or-parts}
 use Rattle.digit_tuple.proofs.DfaLemmas.{row_at, target_by-in_range}
 use Rattle.digit_tuple.proofs.ReversedLemmas.{target_by-contains}
-use Rattle.project_close.specs.PartReading.{AreEdgesByParts, AreReading, IsReading}
+use Rattle.project_close.specs.PartReading.{AreTransitionsByParts, AreReading, IsReading}
 
--- an edge of a row in order leads where its letter does, and so to a state
-within_states : (parts : List ℕ) (row edges : List Edge) (letters states : ℕ) → All (λ (x : Edge). (x.letter < letters) × (x.target < states)) row → AreEdgesByParts parts row edges → All (λ (x : Edge). (x.letter < length parts) × (x.target < states)) edges
-within_states parts row edges letters states range are =
-    All-weaker (Contains edges) (λ (x : Edge). (x.letter < length parts) × (x.target < states)) (λ e there. let small = All-contains (λ (x : Edge). x.letter < length parts) edges e are.in_range there in (
+-- a transition of a row in order leads where its letter does, and so to a state
+within_states : (parts : List ℕ) (row transitions : List Transition) (letters states : ℕ) → All (λ (x : Transition). (x.letter < letters) × (x.target < states)) row → AreTransitionsByParts parts row transitions → All (λ (x : Transition). (x.letter < length parts) × (x.target < states)) transitions
+within_states parts row transitions letters states range are =
+    All-weaker (Contains transitions) (λ (x : Transition). (x.letter < length parts) × (x.target < states)) (λ e there. let small = All-contains (λ (x : Transition). x.letter < length parts) transitions e are.in_range there in (
       small,
-      subst (λ o. IfSome o (λ q. q < states)) (sym (are.lead e.letter small) ∙ target_by-contains edges e.letter e.target are.ascending there) (target_by-in_range letters states row (get_or parts e.letter 0) range),
-    )) edges (All-contains_itself edges)
+      subst (λ o. IfSome o (λ q. q < states)) (sym (are.lead e.letter small) ∙ target_by-contains transitions e.letter e.target are.ascending there) (target_by-in_range letters states row (get_or parts e.letter 0) range),
+    )) transitions (All-contains_itself transitions)
 
 -- one more state
 pub AreReading-push : (d : Automaton) (parts : List ℕ) (count : ℕ) (rows all : List DfaState) (row : DfaState) → all ≡ rows ++ row ∷ []
@@ -66,25 +66,25 @@ module _ (d e : Automaton) (sizes places : List ℕ) (table : IsTable (letters_o
       small = omega (arith, table.part.small, reading.count_is);
       rows = λ q z within.
           let state = reading.are q z (omega (arith, within, reading.count_is)) in
-          let range = within_states parts (edges_of d q) (get_or e.states q z).edges (letters_of d) (states_of d) (row_at d q table (omega (arith, within, reading.count_is))).in_range state.edges_are in
+          let range = within_states parts (transitions_of d q) (get_or e.states q z).transitions (letters_of d) (states_of d) (row_at d q table (omega (arith, within, reading.count_is))).in_range state.transitions_are in
           record {
-            in_range = subst (λ m. All (λ (x : Edge). (x.letter < m) × (x.target < states_of e)) (get_or e.states q z).edges) length-parts
-                (subst (λ n. All (λ (x : Edge). (x.letter < length parts) × (x.target < n)) (get_or e.states q z).edges) (sym reading.count_is) range);
-            ascending = state.edges_are.ascending;
+            in_range = subst (λ m. All (λ (x : Transition). (x.letter < m) × (x.target < states_of e)) (get_or e.states q z).transitions) length-parts
+                (subst (λ n. All (λ (x : Transition). (x.letter < length parts) × (x.target < n)) (get_or e.states q z).transitions) (sym reading.count_is) range);
+            ascending = state.transitions_are.ascending;
           };
     };
   }
 
   -- a letter leads where its part leads
   step : (q a : ℕ) → q < states_of d → a < product sizes → step_of e q a ≡ step_of d q (get_or parts a 0)
-  step q a within small = (reading.are q no_state within).edges_are.lead a (omega (arith, small, length-parts))
+  step q a within small = (reading.are q no_state within).transitions_are.lead a (omega (arith, small, length-parts))
 
   -- and a word is accepted where its part is
   accepted : (w : List ℕ) (q : ℕ) → q < states_of d → IsWord (product sizes) w → accepts_from e q w ≡ accepts_from d q (map (λ a. get_or parts a 0) w)
   accepted [] q within over = (reading.are q no_state within).accepting_is
   accepted (a ∷ w) q within over =
       ap (λ o. option_map_or (λ p. accepts_from e p w) o false) (step q a within over.0)
-      ∙ by (step_of d q (get_or parts a 0)) (target_by-in_range (letters_of d) (states_of d) (edges_of d q) (get_or parts a 0) (row_at d q table within).in_range) (λ p inside. accepted w p inside over.1)
+      ∙ by (step_of d q (get_or parts a 0)) (target_by-in_range (letters_of d) (states_of d) (transitions_of d q) (get_or parts a 0) (row_at d q table within).in_range) (λ p inside. accepted w p inside over.1)
     where
       by : (o : Option ℕ) → IfSome o (λ p. p < states_of d) → ((p : ℕ) → p < states_of d → accepts_from e p w ≡ accepts_from d p (map (λ a. get_or parts a 0) w))
           → option_map_or (λ p. accepts_from e p w) o false ≡ option_map_or (λ p. accepts_from d p (map (λ a. get_or parts a 0) w)) o false

@@ -22,7 +22,7 @@ use Rattle.digit_tuple.proofs.NameLemmas.{places_of-within}
 use Rattle.digit_tuple.proofs.PartLemmas.{part-append}
 use Rattle.digit_tuple.specs.Width.{HasApart, HasWidth}
 use Rattle.digit_tuple.proofs.WidthLemmas.{HasApart-same, HasWidth-same}
-use Rattle.digit_tuple.proofs.WordLemmas.{IsWord-append, IsWord-front, IsWord-back, accepts_from-append, run_of-append}
+use Rattle.digit_tuple.proofs.WordLemmas.{IsWord-append, IsWord-prefix, IsWord-back, accepts_from-append, run_of-append}
 use Rattle.determinise.specs.Subsets.{IsStateSet, has_accepting, set_after}
 use Rattle.determinise.specs.SubsetLaws.{start_is_state_set}
 use Rattle.digit_tuple.proofs.MemberLemmas.{Contains-cases, Contains-head, Contains-none, contains_from_list_any, list_any-contains}
@@ -40,23 +40,23 @@ use Rattle.project_close.proofs.ImageLemmas.{path_of_word, word_of_path}
 
 -- a word whose part is two words in turn is two words with these parts
 pub record IsParted (sizes places x u v : List ℕ) : Type 0 where
-  pub front : List ℕ
+  pub prefix : List ℕ
   pub back : List ℕ
-  pub is : x ≡ front ++ back
-  pub front_part : part sizes places front ≡ u
+  pub is : x ≡ prefix ++ back
+  pub prefix_part : part sizes places prefix ≡ u
   pub back_part : part sizes places back ≡ v
 
 pub part_split : (sizes places x u v : List ℕ) → part sizes places x ≡ u ++ v → IsParted sizes places x u v
-part_split sizes places x [] v is = record { front = []; back = x; is = refl; front_part = refl; back_part = is }
+part_split sizes places x [] v is = record { prefix = []; back = x; is = refl; prefix_part = refl; back_part = is }
 part_split sizes places [] (a ∷ u) v is = absurd (let size = ap (λ (w : List ℕ). length w) is in omega (arith, size))
 part_split sizes places (b ∷ x) (a ∷ u) v is =
     let tail : part sizes places x ≡ u ++ v = cc in
     let rest = part_split sizes places x u v tail in
     record {
-      front = b ∷ rest.front;
+      prefix = b ∷ rest.prefix;
       back = rest.back;
       is = ap (λ w. b ∷ w) rest.is;
-      front_part = let one : part sizes places rest.front ≡ u = rest.front_part in cc;
+      prefix_part = let one : part sizes places rest.prefix ≡ u = rest.prefix_part in cc;
       back_part = rest.back_part;
     }
 
@@ -68,17 +68,17 @@ module _ (d : Automaton) (places : List ℕ) where
 
   -- a word with the part w begins with such a word
   pub record IsBegun (direction : Direction) (w x : List ℕ) : Type 0 where
-    pub front : List ℕ
+    pub prefix : List ℕ
     pub back : List ℕ
-    pub is : x ≡ front ++ back
-    pub begins : HasPart direction d places [] front
+    pub is : x ≡ prefix ++ back
+    pub begins : HasPart direction d places [] prefix
     pub part_is : part d.sizes places back ≡ w
 
   pub HasPart-split : (direction : Direction) (w x : List ℕ) → HasPart direction d places w x → IsBegun direction w x
   HasPart-split Msd w x has_part =
       let parted = part_split d.sizes places x (zeros has_part.0) w has_part.1 in
-      record { front = parted.front; back = parted.back; is = parted.is; begins = (has_part.0, parted.front_part ∙ sym (append-nil (zeros has_part.0))); part_is = parted.back_part }
-  HasPart-split Lsd w x has_part = record { front = []; back = x; is = refl; begins = refl; part_is = has_part }
+      record { prefix = parted.prefix; back = parted.back; is = parted.is; begins = (has_part.0, parted.prefix_part ∙ sym (append-nil (zeros has_part.0))); part_is = parted.back_part }
+  HasPart-split Lsd w x has_part = record { prefix = []; back = x; is = refl; begins = refl; part_is = has_part }
 
 module _ (d : Automaton) where
   -- a run over two words
@@ -134,9 +134,9 @@ module _ (d : Automaton) (places : List ℕ) where
       (found.0, (x, inside.1.1, (inside.0, inside.1.2), found.1), found.2)
   end_from_in Lsd w inside =
       let parted = part_split d.sizes places inside.1.0 w (zeros inside.0) inside.1.2 in
-      let over : IsWord (letters_of d) (parted.front ++ parted.back) = subst (IsWord (letters_of d)) parted.is inside.1.1 in
-      let found = run_accepted d parted.front parted.back (ap (accepts_of d) (sym parted.is) ∙ inside.1.3) in
-      (found.0, (parted.front, IsWord-front (letters_of d) parted.front parted.back over, parted.front_part, found.1), (parted.back, IsWord-back (letters_of d) parted.front parted.back over, (inside.0, parted.back_part), found.2))
+      let over : IsWord (letters_of d) (parted.prefix ++ parted.back) = subst (IsWord (letters_of d)) parted.is inside.1.1 in
+      let found = run_accepted d parted.prefix parted.back (ap (accepts_of d) (sym parted.is) ∙ inside.1.3) in
+      (found.0, (parted.prefix, IsWord-prefix (letters_of d) parted.prefix parted.back over, parted.prefix_part, found.1), (parted.back, IsWord-back (letters_of d) parted.prefix parted.back over, (inside.0, parted.back_part), found.2))
 
 module _ (d : Automaton) (canonical : IsCanonical d) (live : ¬ IsDead d 0) (places : List ℕ) (direction : Direction) where
   -- each state that a word leads to is live
@@ -217,12 +217,12 @@ module _ (d : Automaton) (places sizes : List ℕ) (ends : List Bool) (n : Branc
     pub members_from : (w : List ℕ) (q : ℕ) → LeadsTo d places direction w q → Contains (set_of n table (key_run (set_after n) first w)) q
     members_from w q leads =
         let split = HasPart-split d places direction w leads.0 leads.2 in
-        let over : IsWord (letters_of d) (split.front ++ split.back) = subst (IsWord (letters_of d)) split.is leads.1 in
-        let run = run_part d split.front split.back 0 q (ap (run_of d 0) (sym split.is) ∙ leads.3) in
+        let over : IsWord (letters_of d) (split.prefix ++ split.back) = subst (IsWord (letters_of d)) split.is leads.1 in
+        let run = run_part d split.prefix split.back 0 q (ap (run_of d 0) (sym split.is) ∙ leads.3) in
         (key_run-members n table w first q).1 (
           run.0,
-          first_from direction first are run.0 (split.front, IsWord-front (letters_of d) split.front split.back over, split.begins, run.1),
-          subst (λ v. Path n run.0 v q) split.part_is (path_of_word d ends places sizes n image split.back run.0 q (IsWord-back (letters_of d) split.front split.back over) run.2),
+          first_from direction first are run.0 (split.prefix, IsWord-prefix (letters_of d) split.prefix split.back over, split.begins, run.1),
+          subst (λ v. Path n run.0 v q) split.part_is (path_of_word d ends places sizes n image split.back run.0 q (IsWord-back (letters_of d) split.prefix split.back over) run.2),
         )
 
     -- the sets accept what is in the projection

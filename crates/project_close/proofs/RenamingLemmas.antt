@@ -17,7 +17,7 @@ AreDistinct-ordered names up i j d before within same =
     let both : Less ≡ Equal = sym less ∙ ap (λ n. slice_cmp nat_cmp (get_or names i d) n) (sym same) ∙ tied in
     cc
 
--- the tracks may stand under new names in byte order
+-- the tracks may be under new names in byte order
 pub IsSubstitution-renaming : (sizes : List ℕ) (names ordered : List (List ℕ)) → length names ≡ length sizes → AreDistinct names → AreJoint names [] ordered → IsSubstitution sizes names ordered
 IsSubstitution-renaming sizes names ordered count distinct joint =
     IsSubstitution-distinct sizes names ordered count distinct (AreDistinct-ordered ordered joint.ordered) joint.all_first

@@ -6,23 +6,23 @@ use Rattle.std.proofs.lemmas.Bool.{cases_lt}
 use Rattle.std.proofs.lemmas.Option.{none-some, same_Some}
 use Rattle.std.proofs.lemmas.List.{get_or-map, get_or_past, length-map}
 use Rattle.std.proofs.lemmas.List.Elements.{All-contains_itself, All-from_get_or}
-use Rattle.digit_tuple.specs.declared.edges.Edge.{Edge}
+use Rattle.digit_tuple.specs.declared.transitions.Transition.{Transition}
 use Rattle.digit_tuple.specs.AcceptingStates.{AreAccepting}
 use Rattle.digit_tuple.specs.Automaton as branching
 use Rattle.digit_tuple.specs.Automaton.{Branch, Branching, IsBefore, IsBranchTable, Leads, Path, no_branch}
-use Rattle.digit_tuple.specs.Deterministic.{Automaton, IsTable, no_state, state_of, letters_of, states_of, accepting_of, edges_of, step_of, target_by, run_of, accepts_of}
+use Rattle.digit_tuple.specs.Deterministic.{Automaton, IsTable, no_state, state_of, letters_of, states_of, accepting_of, transitions_of, step_of, target_by, run_of, accepts_of}
 use Rattle.digit_tuple.proofs.DfaLemmas.{row_at}
-use Rattle.digit_tuple.specs.Reversed.{edge_to}
+use Rattle.digit_tuple.specs.Reversed.{transition_to}
 use Rattle.digit_tuple.proofs.ReversedLemmas.{target_by-contains, contains_from_target_by}
 use Rattle.minimise.specs.Classes.{next_of, first_of}
 use Rattle.minimise.proofs.LeadLemmas.{lead, accepting_of-lead, accepts_of-first}
-use Rattle.minimise.proofs.SinkLemmas.{no_edges_past, not_accepting_past, row_of, next_within}
+use Rattle.minimise.proofs.SinkLemmas.{no_transitions_past, not_accepting_past, row_of, next_within}
 use Rattle.project_close.specs.SameBranching.{branch_as, branching_as}
 
 module _ (d : Automaton) where
   -- from the sink on no letter leads away
   pub next_past : (q a : ℕ) → states_of d ≤ q → next_of d q a ≡ states_of d
-  next_past q a past = ap (λ (es : List Edge). unwrap_or (target_by es a) (states_of d)) (no_edges_past d q past)
+  next_past q a past = ap (λ (es : List Transition). unwrap_or (target_by es a) (states_of d)) (no_transitions_past d q past)
 
   pub lead-sink : (w : List ℕ) → lead d (states_of d) w ≡ states_of d
   lead-sink [] = refl
@@ -35,7 +35,7 @@ module _ (d : Automaton) where
 
   -- the initial state or the sink
   pub first_cases : (first_of d ≡ states_of d) ⊎ (first_of d ≡ 0)
-  first_cases = by (not (accepting_of d 0) && (length (edges_of d 0) == 0))
+  first_cases = by (not (accepting_of d 0) && (length (transitions_of d 0) == 0))
     where
       by : (b : Bool) → ((if b then states_of d else 0) ≡ states_of d) ⊎ ((if b then states_of d else 0) ≡ 0)
       by true = inl refl
@@ -97,10 +97,10 @@ module _ (d : Automaton) where
     lead_within (a ∷ w) q within = lead_within w (next_of d q a) (next_within d table q a)
 
     pub step_from_leads : (p a q : ℕ) → Leads (branching_as d) p a q → step_of d p a ≡ Some q
-    step_from_leads p a q leads = target_by-contains (edges_of d p) a q (row_of d table p).ascending (subst (λ (b : Branch). Contains b.edges (edge_to a q)) (branch_is p) leads)
+    step_from_leads p a q leads = target_by-contains (transitions_of d p) a q (row_of d table p).ascending (subst (λ (b : Branch). Contains b.transitions (transition_to a q)) (branch_is p) leads)
 
     pub leads_from_step : (p a q : ℕ) → step_of d p a ≡ Some q → Leads (branching_as d) p a q
-    leads_from_step p a q is = subst (λ (b : Branch). Contains b.edges (edge_to a q)) (sym (branch_is p)) (contains_from_target_by (edges_of d p) a q is)
+    leads_from_step p a q is = subst (λ (b : Branch). Contains b.transitions (transition_to a q)) (sym (branch_is p)) (contains_from_target_by (transitions_of d p) a q is)
 
     pub lead_from_path : (w : List ℕ) (p q : ℕ) → Path (branching_as d) p w q → run_of d p w ≡ Some q
     lead_from_path [] p q path = ap Some path
@@ -119,14 +119,14 @@ module _ (d : Automaton) where
     IsBranchTable-as = record {
       initial = omega (arith, size, table.initial);
       small = omega (arith, size, table.part.small);
-      rows = All-from_get_or (λ (b : Branch). branching.IsRow (letters_of d) (length (map branch_as d.states)) b.edges) (map branch_as d.states) no_branch
-          (λ q within. subst (λ (b : Branch). branching.IsRow (letters_of d) (length (map branch_as d.states)) b.edges) (sym (branch_is q)) (row q (omega (arith, size, within))));
+      rows = All-from_get_or (λ (b : Branch). branching.IsRow (letters_of d) (length (map branch_as d.states)) b.transitions) (map branch_as d.states) no_branch
+          (λ q within. subst (λ (b : Branch). branching.IsRow (letters_of d) (length (map branch_as d.states)) b.transitions) (sym (branch_is q)) (row q (omega (arith, size, within))));
     }
       where
         size : length (map branch_as d.states) ≡ length d.states
         size = length-map d.states branch_as
 
-        row : (q : ℕ) → q < states_of d → branching.IsRow (letters_of d) (length (map branch_as d.states)) (edges_of d q)
+        row : (q : ℕ) → q < states_of d → branching.IsRow (letters_of d) (length (map branch_as d.states)) (transitions_of d q)
         row q within = record {
           in_range = λ k e inside. let both = (row_at d q table within).in_range k e inside in (both.0, omega (arith, both.1, size));
           ascending = λ i j e before inside. inl ((row_at d q table within).ascending i j e before inside);

@@ -1,13 +1,13 @@
--- Automata at whose initial state zeros stay: where words lead, and what tells them apart.
+-- Automata at whose initial state zeros stay: where words lead, and what distinguishes them.
 use Rattle.std.proofs.Common.{◌≡◌, ◌==◌, ℕ, zero, suc, ◌+◌, ◌<◌, ◌≤◌, Bool, true, false, List, [], ◌∷◌, ◌++◌, get_or, Option, None, Some, unwrap_or, ◌⊎◌, inl, inr, IsTrue, ◌↔◌, refl, sym, ap, ◌∙◌, subst, true≢false, arith}
 use Rattle.std.proofs.lemmas.Bool.{cases_lt, eqb-false, eqb-true}
 use Rattle.std.proofs.lemmas.List.Elements.{All-contains}
 use Rattle.digit_tuple.specs.declared.direction.Direction.TheVariants.{Msd}
-use Rattle.digit_tuple.specs.declared.edges.Edge.{Edge}
-use Rattle.digit_tuple.specs.Deterministic.{Automaton, accepting_of, accepts_of, edges_of, letters_of, states_of, step_of, target_by}
+use Rattle.digit_tuple.specs.declared.transitions.Transition.{Transition}
+use Rattle.digit_tuple.specs.Deterministic.{Automaton, accepting_of, accepts_of, transitions_of, letters_of, states_of, step_of, target_by}
 use Rattle.digit_tuple.specs.Letters.{IsWord}
 use Rattle.digit_tuple.specs.Paddings.{zeros, without_zeros}
-use Rattle.digit_tuple.specs.Reversed.{edge_to}
+use Rattle.digit_tuple.specs.Reversed.{transition_to}
 use Rattle.digit_tuple.specs.Width.{HasApart, HasWidth}
 use Rattle.digit_tuple.proofs.PaddingLemmas.{IsWord-without_zeros, IsWord-zeros_before, without_zeros-twice}
 use Rattle.digit_tuple.proofs.ReversedLemmas.{contains_from_target_by}
@@ -17,7 +17,7 @@ use Rattle.minimise.specs.Classes.{first_of, next_of}
 use Rattle.minimise.specs.Residuals.{IsDead, IsEmptyAfter, SameAfter}
 use Rattle.minimise.proofs.CanonicalLemmas.{step_within}
 use Rattle.minimise.proofs.LeadLemmas.{IsPlace, SameAfter-lead, accepting_of-lead, accepts_from-lead, first_place, lead, lead_place, one_lead}
-use Rattle.minimise.proofs.SinkLemmas.{no_edges_past, row_of}
+use Rattle.minimise.proofs.SinkLemmas.{no_transitions_past, row_of}
 use Rattle.project_close.specs.Padding.{AreZeros, HasResidualsOf, IsPadded, MsdPaddedAlike}
 use Rattle.project_close.specs.ZerosStay.{AreEnds, HasGap, HasReturn, ZerosStay}
 use Rattle.project_close.proofs.NoWordLemmas.{dead_from_sink}
@@ -39,14 +39,14 @@ zeros_push (suc b ∷ w) a are = let no : (suc b ∷ (w ++ a ∷ [])) ≡ [] = a
 module _ (d : Automaton) (canonical : IsCanonical d) where
   -- a letter that leads to a state is a letter, and leads from a state
   letter_of_step : (q a t : ℕ) → step_of d q a ≡ Some t → a < letters_of d
-  letter_of_step q a t step = (All-contains (λ (e : Edge). (e.letter < letters_of d) × (e.target < states_of d)) (edges_of d q) (edge_to a t) (row_of d canonical.table q).in_range (contains_from_target_by (edges_of d q) a t step)).0
+  letter_of_step q a t step = (All-contains (λ (e : Transition). (e.letter < letters_of d) × (e.target < states_of d)) (transitions_of d q) (transition_to a t) (row_of d canonical.table q).in_range (contains_from_target_by (transitions_of d q) a t step)).0
 
   from_state : (q a t : ℕ) → step_of d q a ≡ Some t → q < states_of d
   from_state q a t step = by (cases_lt q (states_of d))
     where
       by : (q < states_of d) ⊎ (states_of d ≤ q) → q < states_of d
       by (inl within) = within
-      by (inr past) = absurd (let none : None ≡ Some t = sym (ap (λ (es : List Edge). target_by es a) (no_edges_past d q past)) ∙ step in cc)
+      by (inr past) = absurd (let none : None ≡ Some t = sym (ap (λ (es : List Transition). target_by es a) (no_transitions_past d q past)) ∙ step in cc)
 
   -- a word that leads from a state to the sink shows a letter that leads nowhere
   gap_from : (u : List ℕ) (q : ℕ) → q < states_of d → IsWord (letters_of d) u → lead d q u ≡ states_of d → HasGap d (states_of d)

@@ -141,7 +141,7 @@ module _ (sizes : List ℕ) (under names : List (List ℕ)) (is : IsSubstitution
         tracks = λ i within. ap (λ v. drop 1 v) (read.tracks i within);
       }))
 
--- names that are distinct stand at the places in order
+-- names that are distinct are at the places in order
 pub places_of-themselves : (names : List (List ℕ)) → AreDistinct names → places_of names names ≡ range_with_len 0 (length names)
 places_of-themselves names distinct =
     ext_get_or 0 (places_of names names) (range_with_len 0 (length names)) (length-map names (place_of names) ∙ sym (length-range_with_len 0 (length names)))
@@ -161,7 +161,7 @@ module _ (sizes : List ℕ) (names : List (List ℕ)) (distinct : AreDistinct na
   word_under-themselves w over =
       ap (λ ss. part ss (places_of names names) w) sizes_under-themselves ∙ ap (λ ps. part sizes ps w) places_in_order ∙ part-all sizes w over
 
--- no two of the names are the same: they may stand under themselves in any order
+-- no two of the names are the same: they may be under themselves in any order
 pub IsSubstitution-distinct : (sizes : List ℕ) (under names : List (List ℕ)) → length under ≡ length sizes → AreDistinct under → AreDistinct names
     → All (Contains names) under → All (Contains under) names → IsSubstitution sizes under names
 IsSubstitution-distinct sizes under names count apart distinct there no_others = record {

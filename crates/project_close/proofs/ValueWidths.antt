@@ -1,4 +1,4 @@
--- Widths of relations that a number tells: words are alike exactly where they have one value.
+-- Widths of relations that a number says: words are alike if and only if they have one value.
 use Rattle.std.proofs.Common.{◌≡◌, ◌<◌, ◌≤◌, ℕ, List, [], map, length, get_or, ◌⊎◌, inl, inr, sym, subst, arith}
 use Rattle.std.specs.List.{All, AllPairs, range_with_len}
 use Rattle.std.proofs.lemmas.Bool.{cases_lt}

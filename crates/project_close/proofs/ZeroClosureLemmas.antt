@@ -8,9 +8,9 @@ use Rattle.std.proofs.lemmas.List.Elements.{Contains-append_left, Contains-push,
 use Rattle.std.proofs.lemmas.List.Folds.{Any-from_list_any}
 use Rattle.std.proofs.lemmas.List.Quantifiers.{all_pairs_push}
 use Rattle.std.proofs.lemmas.Map.Steps.{length-le_from_distinct_below}
-use Rattle.digit_tuple.specs.Automaton.{Branching, IsBranchTable, Leads, Path, edges_of, letters_of, states_of}
+use Rattle.digit_tuple.specs.Automaton.{Branching, IsBranchTable, Leads, Path, transitions_of, letters_of, states_of}
 use Rattle.digit_tuple.specs.Paddings.{zeros}
-use Rattle.digit_tuple.specs.declared.edges.Edge.{Edge}
+use Rattle.digit_tuple.specs.declared.transitions.Transition.{Transition}
 use Rattle.digit_tuple.proofs.PathLemmas.{Path-push, Path-in_range}
 use Rattle.digit_tuple.proofs.MemberLemmas.{Contains-head, Contains-cases, Contains-none}
 use Rattle.project_close.specs.ZeroClosure.{AreAfterZeros, AreFlagged, AreFound, AreFoundToo, IsOverFlagged, IsReached, IsTargetOf, flag_at}
@@ -78,21 +78,21 @@ AreFoundToo-state old mid new states i state within at one two =
     by q (inl there) = inl there
     by q (inr is) = inr (sym at ∙ is)
 
--- the target of one more edge
-pub AreFoundToo-edge : (letters : List Bool) (old mid new : List ℕ) (edges : List Edge) (i : ℕ) (edge : Edge) → i < length edges → get_or edges i edge ≡ edge
-    → AreFoundToo old mid (IsTargetOf letters (take i edges)) → AreFoundToo mid new (λ q. (flag_at letters edge.letter ≡ true) × (edge.target ≡ q)) → AreFoundToo old new (IsTargetOf letters (take (i + 1) edges))
-AreFoundToo-edge letters old mid new edges i edge within at one two =
-    AreFoundToo-more old mid new (IsTargetOf letters (take i edges)) (λ q. (flag_at letters edge.letter ≡ true) × (edge.target ≡ q)) (IsTargetOf letters (take (i + 1) edges))
-    (λ q is. by q is (Contains-take_more edges i edge is.0 within is.1))
-    (λ q is. (is.0, Contains-take_old edges i edge is.0 within is.1, is.2, is.3))
-    (λ q is. (edge, subst (Contains (take (i + 1) edges)) at (Contains-take_new edges i edge within), is.0, is.1))
+-- the target of one more transition
+pub AreFoundToo-transition : (letters : List Bool) (old mid new : List ℕ) (transitions : List Transition) (i : ℕ) (transition : Transition) → i < length transitions → get_or transitions i transition ≡ transition
+    → AreFoundToo old mid (IsTargetOf letters (take i transitions)) → AreFoundToo mid new (λ q. (flag_at letters transition.letter ≡ true) × (transition.target ≡ q)) → AreFoundToo old new (IsTargetOf letters (take (i + 1) transitions))
+AreFoundToo-transition letters old mid new transitions i transition within at one two =
+    AreFoundToo-more old mid new (IsTargetOf letters (take i transitions)) (λ q. (flag_at letters transition.letter ≡ true) × (transition.target ≡ q)) (IsTargetOf letters (take (i + 1) transitions))
+    (λ q is. by q is (Contains-take_more transitions i transition is.0 within is.1))
+    (λ q is. (is.0, Contains-take_old transitions i transition is.0 within is.1, is.2, is.3))
+    (λ q is. (transition, subst (Contains (take (i + 1) transitions)) at (Contains-take_new transitions i transition within), is.0, is.1))
     one two
   where
-    by : (q : ℕ) (is : IsTargetOf letters (take (i + 1) edges) q) → Contains (take i edges) is.0 ⊎ (get_or edges i edge ≡ is.0) → IsTargetOf letters (take i edges) q ⊎ ((flag_at letters edge.letter ≡ true) × (edge.target ≡ q))
+    by : (q : ℕ) (is : IsTargetOf letters (take (i + 1) transitions) q) → Contains (take i transitions) is.0 ⊎ (get_or transitions i transition ≡ is.0) → IsTargetOf letters (take i transitions) q ⊎ ((flag_at letters transition.letter ≡ true) × (transition.target ≡ q))
     by q is (inl there) = inl (is.0, there, is.2, is.3)
     by q is (inr same) =
-        let one : edge ≡ is.0 = sym at ∙ same in
-        inr (ap (λ (e : Edge). flag_at letters e.letter) one ∙ is.2, ap (λ (e : Edge). e.target) one ∙ is.3)
+        let one : transition ≡ is.0 = sym at ∙ same in
+        inr (ap (λ (e : Transition). flag_at letters e.letter) one ∙ is.2, ap (λ (e : Transition). e.target) one ∙ is.3)
 
 -- no more states are found than there are
 different : (x : ℕ) (xs : List ℕ) → ((j : ℕ) → j < length xs → x ≢ get_or xs j 0) → AllByRecursion (λ y. eqb x y ≡ false) xs
@@ -114,13 +114,13 @@ AreFound-few count flags found are = length-le_from_distinct_below found count (
         let at : get_or found any.0 0 ≡ any.1 = get_or_default found any.0 0 any.1 any.2 ∙ any.3 in
         omega (arith, are.in_range any.0 0 any.2, at, same)
 
--- The search so far: the found states up to a place have had their edges looked at.
+-- The search so far: the found states up to a place have had their transitions looked at.
 pub record IsSearch (n : Branching) (letters : List Bool) (first : List ℕ) (flags : List Bool) (found : List ℕ) (next : ℕ) : Type 0 where
   pub are : AreFound (states_of n) flags found
   pub low : next ≤ length found
   pub begun : (q : ℕ) → Contains first q → Contains found q
   pub sound : (q : ℕ) → Contains found q → IsReached n letters first q
-  pub closed : (i q : ℕ) → i < next → IsTargetOf letters (edges_of n (get_or found i 0)) q → Contains found q
+  pub closed : (i q : ℕ) → i < next → IsTargetOf letters (transitions_of n (get_or found i 0)) q → Contains found q
 
 -- it begins with the first states
 pub IsSearch-begin : (n : Branching) (letters flags : List Bool) (first none found : List ℕ) → none ≡ [] → AreFound (states_of n) flags found → AreFoundToo none found (Contains first) → IsSearch n letters first flags found 0
@@ -141,15 +141,15 @@ IsOverFlagged-push letters [] a over is = (is, tt)
 IsOverFlagged-push letters (b ∷ w) a over is = (over.0, IsOverFlagged-push letters w a over.1 is)
 
 -- one more letter leads on
-pub IsReached-more : (n : Branching) (letters : List Bool) (first : List ℕ) (p q : ℕ) → IsReached n letters first p → IsTargetOf letters (edges_of n p) q → IsReached n letters first q
+pub IsReached-more : (n : Branching) (letters : List Bool) (first : List ℕ) (p q : ℕ) → IsReached n letters first p → IsTargetOf letters (transitions_of n p) q → IsReached n letters first q
 IsReached-more n letters first p q reached target =
-    let edge = target.0 in
-    let leads : Leads n p edge.letter q = subst (λ t. Leads n p edge.letter t) target.3 target.1 in
-    (reached.0, reached.1, (reached.2.0 ++ edge.letter ∷ [], IsOverFlagged-push letters reached.2.0 edge.letter reached.2.1 target.2, Path-push n reached.2.0 edge.letter reached.0 p q reached.2.2 leads))
+    let transition = target.0 in
+    let leads : Leads n p transition.letter q = subst (λ t. Leads n p transition.letter t) target.3 target.1 in
+    (reached.0, reached.1, (reached.2.0 ++ transition.letter ∷ [], IsOverFlagged-push letters reached.2.0 transition.letter reached.2.1 target.2, Path-push n reached.2.0 transition.letter reached.0 p q reached.2.2 leads))
 
--- the edges of one more state are looked at
+-- the transitions of one more state are looked at
 pub IsSearch-next : (n : Branching) (letters flags news : List Bool) (first found more : List ℕ) (next state : ℕ) → next < length found → get_or found next 0 ≡ state
-    → IsSearch n letters first flags found next → AreFound (states_of n) news more → AreFoundToo found more (IsTargetOf letters (edges_of n state)) → IsSearch n letters first news more (next + 1)
+    → IsSearch n letters first flags found next → AreFound (states_of n) news more → AreFoundToo found more (IsTargetOf letters (transitions_of n state)) → IsSearch n letters first news more (next + 1)
 IsSearch-next n letters flags news first found more next state within at search are too = record {
   are = are;
   low = longer;
@@ -159,7 +159,7 @@ IsSearch-next n letters flags news first found more next state within at search 
 }
   where
     old : (q : ℕ) → Contains found q → Contains more q
-    old q there = AreFoundToo-old found more (IsTargetOf letters (edges_of n state)) too q there
+    old q there = AreFoundToo-old found more (IsTargetOf letters (transitions_of n state)) too q there
 
     read : (i : ℕ) → i < length found → get_or more i 0 ≡ get_or found i 0
     read i less = ap (λ (xs : List ℕ). get_or xs i 0) too.new_is ∙ get_or_append_left found too.later 0 i less
@@ -170,25 +170,25 @@ IsSearch-next n letters flags news first found more next state within at search 
     here : Contains found state
     here = subst (Contains found) at (All-contains_itself found next 0 within)
 
-    by : (q : ℕ) → Contains found q ⊎ IsTargetOf letters (edges_of n state) q → IsReached n letters first q
+    by : (q : ℕ) → Contains found q ⊎ IsTargetOf letters (transitions_of n state) q → IsReached n letters first q
     by q (inl before) = search.sound q before
     by q (inr target) = IsReached-more n letters first state q (search.sound state here) target
 
-    close : (i q : ℕ) → (i < next) ⊎ (next ≤ i) → i < next + 1 → IsTargetOf letters (edges_of n (get_or more i 0)) q → Contains more q
-    close i q (inl before) less target = old q (search.closed i q before (subst (λ p. IsTargetOf letters (edges_of n p) q) (read i (omega arith)) target))
+    close : (i q : ℕ) → (i < next) ⊎ (next ≤ i) → i < next + 1 → IsTargetOf letters (transitions_of n (get_or more i 0)) q → Contains more q
+    close i q (inl before) less target = old q (search.closed i q before (subst (λ p. IsTargetOf letters (transitions_of n p) q) (read i (omega arith)) target))
     close i q (inr after) less target =
         let is : next ≡ i = omega arith in
         let same : get_or more i 0 ≡ state = ap (λ j. get_or more j 0) (sym is) ∙ read next within ∙ at in
-        too.all q (subst (λ p. IsTargetOf letters (edges_of n p) q) same target)
+        too.all q (subst (λ p. IsTargetOf letters (transitions_of n p) q) same target)
 
--- where all edges have been looked at, all reached states are found
+-- where all transitions have been looked at, all reached states are found
 module _ (n : Branching) (letters flags : List Bool) (first found : List ℕ) (next : ℕ) (search : IsSearch n letters first flags found next) (all : length found ≤ next) where
   found_after : (w : List ℕ) (p q : ℕ) → Contains found p → IsOverFlagged letters w → Path n p w q → Contains found q
   found_after [] p q there over path = subst (Contains found) path there
   found_after (a ∷ w) p q there over path =
       let at : get_or found there.0 0 ≡ p = get_or_default found there.0 0 p there.1 ∙ there.2 in
-      let target : IsTargetOf letters (edges_of n p) path.0 = (record { letter = a; target = path.0 }, path.1, over.0, refl) in
-      found_after w path.0 q (search.closed there.0 path.0 (omega (arith, there.1)) (subst (λ r. IsTargetOf letters (edges_of n r) path.0) (sym at) target)) over.1 path.2
+      let target : IsTargetOf letters (transitions_of n p) path.0 = (record { letter = a; target = path.0 }, path.1, over.0, refl) in
+      found_after w path.0 q (search.closed there.0 path.0 (omega (arith, there.1)) (subst (λ r. IsTargetOf letters (transitions_of n r) path.0) (sym at) target)) over.1 path.2
 
   pub IsReached-flagged : (q : ℕ) → (flag_at flags q ≡ true) ↔ IsReached n letters first q
   IsReached-flagged q = (

@@ -9,23 +9,23 @@ use Rattle.digit_tuple.specs.Paddings.{zeros}
 use Rattle.digit_tuple.specs.Parts.{part, parts_of_letters, picked}
 use Rattle.digit_tuple.specs.declared.direction.Direction.{Direction}
 use Rattle.digit_tuple.specs.declared.direction.Direction.TheVariants.{Msd, Lsd}
-use Rattle.digit_tuple.specs.declared.edges.Edge.{Edge}
+use Rattle.digit_tuple.specs.declared.transitions.Transition.{Transition}
 use Rattle.project_close.specs.ZeroClosure.{AreAfterZeros, flag_at}
 
 -- the letter that stands for a letter
 abbrev pub part_at : List ℕ → ℕ → ℕ
 part_at parts letter = slice_index_or parts letter 0
 
--- the edge with another letter in place of its own
-abbrev pub relabelled_edge : List ℕ → Edge → Edge
-relabelled_edge parts edge = record { letter = part_at parts edge.letter; target = edge.target }
+-- the transition with another letter in place of its own
+abbrev pub relabelled_transition : List ℕ → Transition → Transition
+relabelled_transition parts transition = record { letter = part_at parts transition.letter; target = transition.target }
 
--- the edges are these with other letters in place of theirs, in order, none twice
-pub record AreRelabelled (parts : List ℕ) (edges new : List Edge) : Type 0 where
+-- the transitions are these with other letters in place of theirs, in order, none twice
+pub record AreRelabelled (parts : List ℕ) (transitions new : List Transition) : Type 0 where
   pub ascending : AllPairs IsBefore new
-  pub members : (e : Edge) → Contains new e ↔ ((edge : Edge) × Contains edges edge × (relabelled_edge parts edge ≡ e))
+  pub members : (e : Transition) → Contains new e ↔ ((transition : Transition) × Contains transitions transition × (relabelled_transition parts transition ≡ e))
 
--- the states and edges are those of the deterministic automaton, with other letters in place of its own; the flagged states accept
+-- the states and transitions are those of the deterministic automaton, with other letters in place of its own; the flagged states accept
 pub record IsImage (d : Automaton) (accepting : List Bool) (parts sizes : List ℕ) (n : Branching) : Type 0 where
   pub sizes_are : n.sizes ≡ sizes
   pub states : branching.states_of n ≡ states_of d
@@ -44,7 +44,7 @@ abbrev pub AreFirst : Direction → Branching → List ℕ → Type 0
 AreFirst Msd n first = AreAfterZeros n first
 AreFirst Lsd n first = first ≡ 0 ∷ []
 
--- The automaton n reads d's words on the tracks at the places, from the first states on.
+-- The automaton n reads d's words on the tracks at the places, from the initial states on.
 pub record ReadsProjection (d : Automaton) (places : List ℕ) (direction : Direction) (n : Branching) (first : List ℕ) : Type 0 where
   pub ends : List Bool
   pub image : IsImage d ends (parts_of_letters d.sizes places) (picked places d.sizes) n

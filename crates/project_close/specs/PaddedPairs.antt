@@ -2,10 +2,10 @@
 -- where it leads with them. The sink is the number past the states. Two sinks are no key but the first.
 use Rattle.std.specs.Prelude.{◌≡◌, ◌==◌, ℕ, zero, suc, ◌<◌, ◌≤◌, ◌↔◌, Bool, true, false, not, ◌&&◌, List, [], ◌∷◌, filter, map, length, slice_index, Option, None, Some, MatchOption, ⊤, if◌then◌else◌}
 use Rattle.std.proofs.Common.{refl, arith}
-use Rattle.digit_tuple.specs.Deterministic.{Automaton, IsTable, states_of, letters_of, accepting_of, edges_of}
-use Rattle.digit_tuple.specs.Keys.{KeyEdge}
+use Rattle.digit_tuple.specs.Deterministic.{Automaton, IsTable, states_of, letters_of, accepting_of, transitions_of}
+use Rattle.digit_tuple.specs.Keys.{KeyTransition}
 use Rattle.digit_tuple.specs.Paddings.{zeros}
-use Rattle.digit_tuple.specs.declared.edges.Edge.{Edge}
+use Rattle.digit_tuple.specs.declared.transitions.Transition.{Transition}
 use Rattle.minimise.specs.Classes.{next_of, first_of}
 use Rattle.minimise.proofs.LeadLemmas.{lead}
 use Rattle.minimise.proofs.SinkLemmas.{next_within}
@@ -20,7 +20,7 @@ pub record AreFinalFlags (d : Automaton) (flags : List Bool) : Type 0 where
   pub count : length flags ≡ states_of d
   pub final : AreFinal d flags
 
--- each state accepts exactly where the one does that the zero letter leads to, so that zeros after a word change nothing
+-- each state accepts if and only if the one does that the zero letter leads to, so that zeros after a word change nothing
 abbrev pub KeepsAcceptance : Automaton → Type 0
 KeepsAcceptance d = (q : ℕ) → q < states_of d → accepting_of d (next_of d q 0) ≡ accepting_of d q
 
@@ -41,22 +41,22 @@ abbrev pub pair_after : Automaton → List ℕ → ℕ → Option (List ℕ)
 pair_after d key zero = some_pair d (slice_index key 0) (next_of d (slice_index key 1) 0)
 pair_after d key (suc a) = some_pair d (next_of d (slice_index key 1) (suc a)) (next_of d (slice_index key 1) (suc a))
 
--- the edge from a pair by the zero letter, if there is such a letter, and it does not lead to two sinks
-abbrev pub edges_by_zero : Automaton → ℕ → List ℕ → List KeyEdge
-edges_by_zero d zero key = []
-edges_by_zero d (suc letters) key = if are_sinks d (slice_index key 0) (next_of d (slice_index key 1) 0) then [] else (record { letter = 0; key = slice_index key 0 ∷ next_of d (slice_index key 1) 0 ∷ [] }) ∷ []
+-- the transition from a pair by the zero letter, if there is such a letter, and it does not lead to two sinks
+abbrev pub transitions_by_zero : Automaton → ℕ → List ℕ → List KeyTransition
+transitions_by_zero d zero key = []
+transitions_by_zero d (suc letters) key = if are_sinks d (slice_index key 0) (next_of d (slice_index key 1) 0) then [] else (record { letter = 0; key = slice_index key 0 ∷ next_of d (slice_index key 1) 0 ∷ [] }) ∷ []
 
--- the letter of the edge is not zero
-abbrev pub is_by_other : Edge → Bool
-is_by_other edge = not (edge.letter == 0)
+-- the letter of the transition is not zero
+abbrev pub is_by_other : Transition → Bool
+is_by_other transition = not (transition.letter == 0)
 
--- the edge leads to the pair of its target
-abbrev pub pair_edge : Edge → KeyEdge
-pair_edge edge = record { letter = edge.letter; key = twice edge.target }
+-- the transition leads to the pair of its target
+abbrev pub pair_transition : Transition → KeyTransition
+pair_transition transition = record { letter = transition.letter; key = twice transition.target }
 
--- the edges from a pair by other letters than zero, which are those of its second state
-abbrev pub edges_by_others : List Edge → List KeyEdge
-edges_by_others edges = map pair_edge (filter is_by_other edges)
+-- the transitions from a pair by other letters than zero, which are those of its second state
+abbrev pub transitions_by_others : List Transition → List KeyTransition
+transitions_by_others transitions = map pair_transition (filter is_by_other transitions)
 
 -- two states, each of which may be the sink
 pub record IsPair (d : Automaton) (key : List ℕ) : Type 0 where
@@ -66,7 +66,7 @@ pub record IsPair (d : Automaton) (key : List ℕ) : Type 0 where
 
 -- the initial state, or the sink
 pub first_within : (d : Automaton) → first_of d ≤ states_of d
-first_within d = by (not (accepting_of d 0) && (length (edges_of d 0) == 0))
+first_within d = by (not (accepting_of d 0) && (length (transitions_of d 0) == 0))
   where
     by : (b : Bool) → (if b then states_of d else 0) ≤ states_of d
     by true = omega arith

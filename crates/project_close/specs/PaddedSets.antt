@@ -5,7 +5,7 @@ use Rattle.std.specs.List.{All, AllPairs, Contains}
 use Rattle.digit_tuple.specs.Automaton as branching
 use Rattle.digit_tuple.specs.Automaton.{Branching}
 use Rattle.digit_tuple.specs.Deterministic.{Automaton, states_of}
-use Rattle.digit_tuple.specs.Keys.{KeyEdge}
+use Rattle.digit_tuple.specs.Keys.{KeyTransition}
 use Rattle.digit_tuple.specs.Paddings.{zeros}
 use Rattle.determinise.specs.Subsets.{IsStateSet, set_after, has_accepting}
 use Rattle.determinise.specs.SubsetLaws.{after_is_state_set}
@@ -33,14 +33,14 @@ abbrev pub padded_accepts : Branching → List ℕ → List ℕ → Bool
 padded_accepts n first [] = has_accepting n first
 padded_accepts n first (q ∷ qs) = has_accepting n (q ∷ qs)
 
--- the edge by the zero letter to the empty list, if there is such a letter
-abbrev pub edges_by_zero : ℕ → List KeyEdge
-edges_by_zero zero = []
-edges_by_zero (suc letters) = (record { letter = 0; key = [] }) ∷ []
+-- the transition by the zero letter to the empty list, if there is such a letter
+abbrev pub transitions_by_zero : ℕ → List KeyTransition
+transitions_by_zero zero = []
+transitions_by_zero (suc letters) = (record { letter = 0; key = [] }) ∷ []
 
--- the letter of the edge is not zero
-abbrev pub is_by_other : KeyEdge → Bool
-is_by_other edge = not (edge.letter == 0)
+-- the letter of the transition is not zero
+abbrev pub is_by_other : KeyTransition → Bool
+is_by_other transition = not (transition.letter == 0)
 
 -- the empty list
 pub nothing_is_state_list : (n : Branching) → IsStateList n []

@@ -1,4 +1,4 @@
--- Closure under zeros at the end of the most significant letters, and the kinds of words that it tells apart.
+-- Closure under zeros at the end of the most significant letters, and the kinds of words that it distinguishes.
 use Rattle.std.specs.Prelude.{◌≡◌, ℕ, List, [], ◌++◌, ◌↔◌, IsTrue}
 use Rattle.digit_tuple.specs.declared.direction.Direction.{Direction}
 use Rattle.digit_tuple.specs.declared.direction.Direction.TheVariants.{Msd, Lsd}

@@ -1,19 +1,19 @@
 -- States that read parts of letters.
 use Rattle.std.specs.Prelude.{◌≡◌, ℕ, ◌<◌, List, length, slice_index_or}
 use Rattle.std.specs.List.{All, AllPairs}
-use Rattle.digit_tuple.specs.Deterministic.{Automaton, State, IsByEarlier, target_by, accepting_of, edges_of}
-use Rattle.digit_tuple.specs.declared.edges.Edge.{Edge}
+use Rattle.digit_tuple.specs.Deterministic.{Automaton, State, IsByEarlier, target_by, accepting_of, transitions_of}
+use Rattle.digit_tuple.specs.declared.transitions.Transition.{Transition}
 
--- the edges are by letters, in order, and each letter leads where its part leads by the row
-pub record AreEdgesByParts (parts : List ℕ) (row edges : List Edge) : Type 0 where
-  pub in_range : All (λ edge. edge.letter < length parts) edges
-  pub ascending : AllPairs IsByEarlier edges
-  pub lead : (letter : ℕ) → letter < length parts → target_by edges letter ≡ target_by row (slice_index_or parts letter 0)
+-- the transitions are by letters, in order, and each letter leads where its part leads by the row
+pub record AreTransitionsByParts (parts : List ℕ) (row transitions : List Transition) : Type 0 where
+  pub in_range : All (λ transition. transition.letter < length parts) transitions
+  pub ascending : AllPairs IsByEarlier transitions
+  pub lead : (letter : ℕ) → letter < length parts → target_by transitions letter ≡ target_by row (slice_index_or parts letter 0)
 
 -- the state accepts as the automaton's does, and each letter leads where its part leads from that
 pub record IsReading (d : Automaton) (q : ℕ) (parts : List ℕ) (state : State) : Type 0 where
   pub accepting_is : state.accepting ≡ accepting_of d q
-  pub edges_are : AreEdgesByParts parts (edges_of d q) state.edges
+  pub transitions_are : AreTransitionsByParts parts (transitions_of d q) state.transitions
 
 -- there are so many states, which read parts of letters as the automaton's do
 pub record AreReading (d : Automaton) (parts : List ℕ) (count : ℕ) (states : List State) : Type 0 where

@@ -5,7 +5,7 @@ use Rattle.digit_tuple.specs.Deterministic.{Automaton, State}
 
 -- the same state
 abbrev pub branch_as : State → Branch
-branch_as state = record { accepting = state.accepting; edges = state.edges }
+branch_as state = record { accepting = state.accepting; transitions = state.transitions }
 
 -- the same automaton
 abbrev pub branching_as : Automaton → Branching

@@ -1,4 +1,4 @@
--- Automata whose tracks stand under other names, of which some may be the same: tracks under one name are read as one track.
+-- Automata whose tracks are under other names, of which some may be the same: tracks under one name are read as one track.
 use Rattle.std.specs.Prelude.{◌≡◌, ℕ, ◌<◌, List, [], ◌∷◌, length, slice_index_or}
 use Rattle.std.specs.List.{All, Contains}
 use Rattle.digit_tuple.specs.Letters.{product, IsWord}

@@ -3,7 +3,7 @@ use Rattle.std.specs.Prelude.{◌≡◌, ◌≢◌, ℕ, ◌<◌, Bool, true, fa
 use Rattle.std.specs.List.{All, AllByRecursion, AllPairs, Contains}
 use Rattle.digit_tuple.specs.Automaton.{Branching, Path, states_of}
 use Rattle.digit_tuple.specs.Paddings.{zeros}
-use Rattle.digit_tuple.specs.declared.edges.Edge.{Edge}
+use Rattle.digit_tuple.specs.declared.transitions.Transition.{Transition}
 
 -- the set has the states that some number of zero letters leads to from the initial one, in order
 pub record AreAfterZeros (n : Branching) (set : List ℕ) : Type 0 where
@@ -19,7 +19,7 @@ flag_at flags place = slice_index_or flags place false
 abbrev pub IsOverFlagged : List Bool → List ℕ → Type 0
 IsOverFlagged flags word = AllByRecursion (λ letter. flag_at flags letter ≡ true) word
 
--- the state is led to from one of the first states by a word over the flagged letters
+-- the state is led to from one of the initial states by a word over the flagged letters
 abbrev pub IsReached : Branching → List Bool → List ℕ → ℕ → Type 0
 IsReached n letters first q = (p : ℕ) × Contains first p × ((word : List ℕ) × IsOverFlagged letters word × Path n p word q)
 
@@ -37,9 +37,9 @@ pub record AreFoundToo (old new : List ℕ) (IsMore : ℕ → Type 0) : Type 0 w
   pub from : (q : ℕ) → Contains new q → Contains old q ⊎ IsMore q
   pub all : (q : ℕ) → IsMore q → Contains new q
 
--- an edge by a flagged letter leads to the state
-abbrev pub IsTargetOf : List Bool → List Edge → ℕ → Type 0
-IsTargetOf letters edges q = (edge : Edge) × Contains edges edge × (flag_at letters edge.letter ≡ true) × (edge.target ≡ q)
+-- a transition by a flagged letter leads to the state
+abbrev pub IsTargetOf : List Bool → List Transition → ℕ → Type 0
+IsTargetOf letters transitions q = (transition : Transition) × Contains transitions transition × (flag_at letters transition.letter ≡ true) × (transition.target ≡ q)
 
 -- the list has the flagged places, in order
 pub record AreFlagged (flags : List Bool) (set : List ℕ) : Type 0 where

@@ -6,7 +6,7 @@ use Rattle.digit_tuple.specs.Deterministic.{Automaton, letters_of, step_of}
 abbrev pub ZerosStay : Automaton → Type 0
 ZerosStay d = step_of d 0 0 ≡ Some 0
 
--- from one of the first so many states an edge leads to the initial one, other than the zero letter's from there
+-- from one of the first so many states a transition leads to the initial one, other than the zero letter's from there
 abbrev pub HasReturn : Automaton → ℕ → Type 0
 HasReturn d count = (q : ℕ) × ((a : ℕ) × (q < count) × (step_of d q a ≡ Some 0) × ¬ ((q ≡ 0) × (a ≡ 0)))
 

@@ -20,10 +20,10 @@ use digit_tuple::stepped::Stepped;
 use minimise::canonical::canonical_of_numbered;
 use std::alloc::Global;
 
-/// The canonical automaton of the words that lead to sets with an accepting state. The width is the
-/// number of kinds of words, where two are alike that lead to one set, or both to none. `States`
-/// comes exactly where the width passes the limit, and `Letters` never. Memory may also run out where
-/// 2^32 - 1 states are not enough. The image is let go before the automaton is made canonical.
+/// The canonical automaton of the words that lead to sets with an accepting state. The width is the number of kinds of
+/// words, where two are alike that lead to one set, or both to none. `States` comes if and only if the width passes the
+/// limit, and `Letters` never. Memory may also run out where 2^32 - 1 states are not enough. The image is let go before
+/// the automaton is made canonical.
 pub fn canonical_sets(
     alloc: Global,
     reading: Reading,

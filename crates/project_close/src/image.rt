@@ -15,11 +15,11 @@ use digit_tuple::accepting_states::{accepting_flags, accepting_states};
 use digit_tuple::alphabet::Alphabet;
 use digit_tuple::dfa::Dfa;
 use digit_tuple::direction::Direction;
-use digit_tuple::edges::{Edge, NfaState};
 use digit_tuple::faults::OutOfMemory;
 use digit_tuple::letter_parts::letter_parts;
 use digit_tuple::nfa::Nfa;
 use digit_tuple::reversed::reversed;
+use digit_tuple::transitions::{NfaState, Transition};
 use std::alloc::Global;
 
 /// An automaton read on some of its tracks, and the states at which reading begins.
@@ -46,7 +46,7 @@ pub fn reading_on(
     let parts = letter_parts(alloc, d.alphabet(), places, alphabet)?;
     let ends = ends(alloc, d, &parts, direction)?;
     let image = image(alloc, d, &ends, &parts, alphabet.copy(alloc)?)?;
-    let first = first_states(alloc, &image, direction)?;
+    let first = initial_states(alloc, &image, direction)?;
     Ok(Reading { image, first })
 }
 
@@ -69,25 +69,29 @@ fn image(
     let mut rows = Vec::with_capacity(alloc, states as usize)?;
     let mut row = Vec::new(alloc);
     for state in 0..states {
-        d.edges_into(state, &mut row)?;
+        d.transitions_into(state, &mut row)?;
         rows.push(NfaState {
             accepting: accepting[state as usize],
-            edges: relabelled(alloc, &row, parts)?,
+            transitions: relabelled(alloc, &row, parts)?,
         })?;
     }
     Nfa::from_states(alloc, alphabet, rows)
 }
 
-// The edges with other letters in place of theirs, in order.
-fn relabelled(alloc: Global, edges: &[Edge], parts: &[u32]) -> Result<Vec<Edge>, OutOfMemory>
-    requires { All (λ edge. edge.letter < length parts.now) edges.now }
-    ensures { IfOk result (λ new. AreRelabelled parts.now edges.now new.items) }
+// The transitions with other letters in place of theirs, in order.
+fn relabelled(
+    alloc: Global,
+    transitions: &[Transition],
+    parts: &[u32],
+) -> Result<Vec<Transition>, OutOfMemory>
+    requires { All (λ transition. transition.letter < length parts.now) transitions.now }
+    ensures { IfOk result (λ new. AreRelabelled parts.now transitions.now new.items) }
 {
-    let mut new = Vec::with_capacity(alloc, edges.len())?;
-    for edge in edges {
-        new.push(Edge {
-            letter: parts[edge.letter as usize],
-            target: edge.target,
+    let mut new = Vec::with_capacity(alloc, transitions.len())?;
+    for transition in transitions {
+        new.push(Transition {
+            letter: parts[transition.letter as usize],
+            target: transition.target,
         })?;
     }
     new.sort()?;
@@ -128,7 +132,7 @@ fn zero_flags(alloc: Global, numbers: &[u32]) -> Result<Vec<bool>, OutOfMemory>
 
 // The states at which reading begins: with the most significant digit first those that some number
 // of zero letters leads to, in order, else the initial one.
-fn first_states(alloc: Global, nfa: &Nfa, direction: Direction) -> Result<Vec<u32>, OutOfMemory>
+fn initial_states(alloc: Global, nfa: &Nfa, direction: Direction) -> Result<Vec<u32>, OutOfMemory>
     ensures { IfOk result (λ first. AreFirst direction nfa.now first.items) }
 {
     match direction {

@@ -41,7 +41,7 @@ pub mod padding;
 /// Automata that read the parts of letters.
 mod part_reading;
 
-/// Automata whose tracks stand under other names, of which some may be the same.
+/// Automata whose tracks are under other names, of which some may be the same.
 pub mod substitution;
 
 /// Automata with new names for their tracks.

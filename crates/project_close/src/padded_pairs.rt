@@ -1,17 +1,17 @@
 //! The graph of the pairs of states that words lead to without their trailing zeros and with them.
 
 ghost use Rattle.std.specs.Prelude.{◌≡◌, ◌++◌, slice_index, IfOk, OnOk};
-ghost use Rattle.digit_tuple.specs.Deterministic.{IsTable, edges_of, letters_of};
+ghost use Rattle.digit_tuple.specs.Deterministic.{IsTable, transitions_of, letters_of};
 ghost use Rattle.minimise.specs.Classes.{first_of};
-ghost use Rattle.project_close.specs.PaddedPairs.{IsPair, twice, pair_after, edges_by_zero, edges_by_others, first_is_pair, pair_after_is_pair};
+ghost use Rattle.project_close.specs.PaddedPairs.{IsPair, twice, pair_after, transitions_by_zero, transitions_by_others, first_is_pair, pair_after_is_pair};
 ghost use Rattle.project_close.specs.ZeroClosure.{flag_at};
 
 use digit_tuple::dfa::Dfa;
-use digit_tuple::edges::Edge;
 use digit_tuple::faults::OutOfMemory;
-use digit_tuple::key_edges::KeyEdges;
 use digit_tuple::key_graph::KeyGraph;
-use minimise::sink::{first_state, next_state};
+use digit_tuple::key_transitions::KeyTransitions;
+use digit_tuple::transitions::Transition;
+use minimise::sink::{initial_state, next_state};
 use std::alloc::Global;
 
 /// The pairs of states that words lead to without their trailing zeros and with them, how many letters
@@ -42,11 +42,16 @@ impl KeyGraph for PaddedPairs<'_> {
     ghost after_is_key = { λ s key letter graph is_pair small. pair_after_is_pair s.dfa.now graph.0 key letter is_pair };
 
     fn first_key(&self, alloc: Global) -> Result<Vec<u32>, OutOfMemory> {
-        let state = first_state(self.dfa);
+        let state = initial_state(self.dfa);
         Ok(Vec::from_slice(alloc, &[state, state])?)
     }
 
-    fn edges(&self, alloc: Global, key: &[u32], out: &mut KeyEdges) -> Result<(), OutOfMemory> {
+    fn transitions(
+        &self,
+        alloc: Global,
+        key: &[u32],
+        out: &mut KeyTransitions,
+    ) -> Result<(), OutOfMemory> {
         push_by_zero(self.dfa, self.letters, key, out)?;
         let row = row_of(alloc, self.dfa, key[1])?;
         push_by_others(&row, out)
@@ -58,10 +63,15 @@ impl KeyGraph for PaddedPairs<'_> {
     }
 }
 
-// Adds the edge from a pair by the zero letter: zeros may be trailing ones.
-fn push_by_zero(d: &Dfa, letters: u32, key: &[u32], out: &mut KeyEdges) -> Result<(), OutOfMemory>
+// Adds the transition from a pair by the zero letter: zeros may be trailing ones.
+fn push_by_zero(
+    d: &Dfa,
+    letters: u32,
+    key: &[u32],
+    out: &mut KeyTransitions,
+) -> Result<(), OutOfMemory>
     requires { IsPair d.now key.now }
-    ensures { OnOk result (out.new ≡ out.old ++ edges_by_zero d.now letters key.now) }
+    ensures { OnOk result (out.new ≡ out.old ++ transitions_by_zero d.now letters key.now) }
 {
     if letters == 0 {
         return Ok(());
@@ -74,25 +84,25 @@ fn push_by_zero(d: &Dfa, letters: u32, key: &[u32], out: &mut KeyEdges) -> Resul
     out.push(0, &[key[0], whole])
 }
 
-// Adds the edges from a pair by the other letters, after which no zeros trail.
-fn push_by_others(row: &[Edge], out: &mut KeyEdges) -> Result<(), OutOfMemory>
-    ensures { OnOk result (out.new ≡ out.old ++ edges_by_others row.now) }
+// Adds the transitions from a pair by the other letters, after which no zeros trail.
+fn push_by_others(row: &[Transition], out: &mut KeyTransitions) -> Result<(), OutOfMemory>
+    ensures { OnOk result (out.new ≡ out.old ++ transitions_by_others row.now) }
 {
-    for edge in row {
-        if edge.letter != 0 {
-            out.push(edge.letter, &[edge.target, edge.target])?;
+    for transition in row {
+        if transition.letter != 0 {
+            out.push(transition.letter, &[transition.target, transition.target])?;
         }
     }
     Ok(())
 }
 
-// The edges of a state, of which the sink has none.
-fn row_of(alloc: Global, d: &Dfa, state: u32) -> Result<Vec<Edge>, OutOfMemory>
-    ensures { IfOk result (λ row. row.items ≡ edges_of d.now state) }
+// The transitions of a state, of which the sink has none.
+fn row_of(alloc: Global, d: &Dfa, state: u32) -> Result<Vec<Transition>, OutOfMemory>
+    ensures { IfOk result (λ row. row.items ≡ transitions_of d.now state) }
 {
     let mut row = Vec::new(alloc);
     if state < d.states() {
-        d.edges_into(state, &mut row)?;
+        d.transitions_into(state, &mut row)?;
     }
     Ok(row)
 }

@@ -20,16 +20,15 @@ use std::alloc::Global;
 /// end of the most significant ones: those in front where the most significant digit comes first,
 /// else those at the back. The zero letter has the digit 0 on each track. The result is canonical.
 ///
-/// The width counts kinds of words, over all words. Where the most significant digit comes first two
-/// words are alike when both or neither are all zeros, and the same set of non-empty residuals of `a`
-/// is that after zeros and the one without its leading zeros as after zeros and the other without its
-/// own. Where the least significant digit comes first they are alike when one residual, which may be
-/// empty, is that after both, and one that after both without their trailing zeros. The result has at
-/// most as many states. `States` comes exactly where the width passes the limit, and `Letters` never.
-/// Memory may also run out where 2^32 - 1 states are not enough. Only what words lead to is made: time
-/// and memory follow the size of `a` and the edges from these sets, or from these pairs, of residuals,
-/// and for sets also their sizes. Where the words are all there already the result is a copy of `a`, and
-/// nothing is made least; where the most significant digit comes first no set is made then either.
+/// The width counts kinds of words, over all words. Where the most significant digit comes first two words are alike
+/// when both or neither are all zeros, and the same set of non-empty residuals of `a` is that after zeros and the one
+/// without its leading zeros as after zeros and the other without its own. Where the least significant digit comes
+/// first they are alike when one residual, which may be empty, is that after both, and one that after both without
+/// their trailing zeros. The result has at most as many states. `States` comes if and only if the width passes the
+/// limit, and `Letters` never. Memory may also run out where 2^32 - 1 states are not enough. Only what words lead to is
+/// made: time and memory follow the size of `a` and the transitions from these sets, or from these pairs, of residuals,
+/// and for sets also their sizes. Where the words are all there already the result is a copy of `a`, and nothing is
+/// minimised; where the most significant digit comes first no set is made then either.
 pub fn pad(
     alloc: Global,
     a: &Dfa,

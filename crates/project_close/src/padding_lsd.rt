@@ -26,7 +26,7 @@ use minimise::canonical_exploration::explore_canonical;
 use minimise::sink::{is_accepting, next_state};
 use std::alloc::Global;
 
-// For each state whether zero letters lead from it to an accepting one. Each edge is looked at once.
+// For each state whether zero letters lead from it to an accepting one. Each transition is looked at once.
 fn final_flags(alloc: Global, a: &Dfa) -> Result<Vec<bool>, OutOfMemory>
     requires { IsCanonical a.now }
     ensures { IfOk result (λ flags. AreFinalFlags a.now flags.items) }

@@ -6,14 +6,14 @@ ghost use Rattle.std.specs.Result.{IsErrOf};
 ghost use Rattle.digit_tuple.specs.Automaton as branching;
 ghost use Rattle.digit_tuple.specs.Automaton.{IsBranchTable};
 ghost use Rattle.digit_tuple.specs.Deterministic.{accepts_of, letters_of, states_of};
-ghost use Rattle.digit_tuple.specs.Keys.{AreKeyEdges};
+ghost use Rattle.digit_tuple.specs.Keys.{AreKeyTransitions};
 ghost use Rattle.digit_tuple.specs.Letters.{IsWord};
 ghost use Rattle.digit_tuple.specs.Width.{HasApart, HasWidth};
 ghost use Rattle.digit_tuple.specs.declared.direction.Direction.TheVariants.{Msd};
 ghost use Rattle.determinise.specs.Subsets.{set_after, has_accepting};
 ghost use Rattle.minimise.specs.Canonical.{IsCanonical};
 ghost use Rattle.project_close.specs.Padding.{IsPadded, PaddedAlike};
-ghost use Rattle.project_close.specs.PaddedSets.{IsStateList, AreFirst, padded_after, padded_accepts, edges_by_zero, is_by_other, nothing_is_state_list, padded_after_is_state_list};
+ghost use Rattle.project_close.specs.PaddedSets.{IsStateList, AreFirst, padded_after, padded_accepts, transitions_by_zero, is_by_other, nothing_is_state_list, padded_after_is_state_list};
 ghost use Rattle.project_close.specs.SameBranching.{branching_as};
 
 use crate::emptiness::accepts_nothing;
@@ -23,8 +23,8 @@ use crate::zeros_stay::{pad_itself, zeros_stay};
 use determinise::subsets::Subsets;
 use digit_tuple::dfa::Dfa;
 use digit_tuple::faults::{OpFault, OutOfMemory};
-use digit_tuple::key_edges::KeyEdges;
 use digit_tuple::key_graph::KeyGraph;
+use digit_tuple::key_transitions::KeyTransitions;
 use digit_tuple::nfa::Nfa;
 use digit_tuple::stepped::Stepped;
 use minimise::canonical_exploration::explore_canonical;
@@ -60,11 +60,16 @@ impl KeyGraph for PaddedSets<'_> {
         Ok(Vec::new(alloc))
     }
 
-    fn edges(&self, alloc: Global, key: &[u32], out: &mut KeyEdges) -> Result<(), OutOfMemory> {
+    fn transitions(
+        &self,
+        alloc: Global,
+        key: &[u32],
+        out: &mut KeyTransitions,
+    ) -> Result<(), OutOfMemory> {
         if key.is_empty() {
-            first_edges(alloc, self.nfa, self.first, out)
+            first_transitions(alloc, self.nfa, self.first, out)
         } else {
-            set_edges(alloc, self.nfa, key, out)
+            set_transitions(alloc, self.nfa, key, out)
         }
     }
 
@@ -85,27 +90,27 @@ fn any_accepting(nfa: &Nfa, set: &[u32]) -> bool
     set.iter().any(|state| nfa.is_accepting(*state))
 }
 
-// Writes the edges after zeros alone: zeros stay, and the other letters lead from the first set on.
-fn first_edges(
+// Writes the transitions after zeros alone: zeros stay, and the other letters lead from the first set on.
+fn first_transitions(
     alloc: Global,
     nfa: &Nfa,
     first: &[u32],
-    out: &mut KeyEdges,
+    out: &mut KeyTransitions,
 ) -> Result<(), OutOfMemory>
     requires table { IsBranchTable (branching.letters_of nfa.now) nfa.now.states }
     requires first { IsStateList nfa.now first.now }
     requires empty { out.old ≡ [] }
-    ensures { OnOk result (AreKeyEdges (branching.letters_of nfa.now) (padded_after nfa.now first.now []) out.new) }
+    ensures { OnOk result (AreKeyTransitions (branching.letters_of nfa.now) (padded_after nfa.now first.now []) out.new) }
 {
-    let mut others = KeyEdges::new(alloc);
-    set_edges(alloc, nfa, first, &mut others)?;
+    let mut others = KeyTransitions::new(alloc);
+    set_transitions(alloc, nfa, first, &mut others)?;
     push_by_zero(nfa.alphabet().letters(), out)?;
     push_by_others(&others, out)
 }
 
-// Adds the edge by the zero letter to the empty list, if there is such a letter.
-fn push_by_zero(letters: u32, out: &mut KeyEdges) -> Result<(), OutOfMemory>
-    ensures { OnOk result (out.new ≡ out.old ++ edges_by_zero letters) }
+// Adds the transition by the zero letter to the empty list, if there is such a letter.
+fn push_by_zero(letters: u32, out: &mut KeyTransitions) -> Result<(), OutOfMemory>
+    ensures { OnOk result (out.new ≡ out.old ++ transitions_by_zero letters) }
 {
     if letters == 0 {
         return Ok(());
@@ -113,30 +118,35 @@ fn push_by_zero(letters: u32, out: &mut KeyEdges) -> Result<(), OutOfMemory>
     out.push(0, &[])
 }
 
-// Adds the edges that are by other letters.
-fn push_by_others(edges: &KeyEdges, out: &mut KeyEdges) -> Result<(), OutOfMemory>
-    ensures { OnOk result (out.new ≡ out.old ++ filter is_by_other edges.now) }
+// Adds the transitions that are by other letters.
+fn push_by_others(transitions: &KeyTransitions, out: &mut KeyTransitions) -> Result<(), OutOfMemory>
+    ensures { OnOk result (out.new ≡ out.old ++ filter is_by_other transitions.now) }
 {
-    for place in 0..edges.len() {
-        if edges.letter(place) != 0 {
-            out.push(edges.letter(place), edges.key(place))?;
+    for place in 0..transitions.len() {
+        if transitions.letter(place) != 0 {
+            out.push(transitions.letter(place), transitions.key(place))?;
         }
     }
     Ok(())
 }
 
-// Writes the edges from a set.
-fn set_edges(alloc: Global, nfa: &Nfa, set: &[u32], out: &mut KeyEdges) -> Result<(), OutOfMemory>
+// Writes the transitions from a set.
+fn set_transitions(
+    alloc: Global,
+    nfa: &Nfa,
+    set: &[u32],
+    out: &mut KeyTransitions,
+) -> Result<(), OutOfMemory>
     requires table { IsBranchTable (branching.letters_of nfa.now) nfa.now.states }
     requires set { IsStateList nfa.now set.now }
     requires empty { out.old ≡ [] }
-    ensures { OnOk result (AreKeyEdges (branching.letters_of nfa.now) (set_after nfa.now set.now) out.new) }
+    ensures { OnOk result (AreKeyTransitions (branching.letters_of nfa.now) (set_after nfa.now set.now) out.new) }
 {
     if set.is_empty() {
         return Ok(());
     }
     let subsets = Subsets { nfa, first: set };
-    subsets.edges(alloc, set, out)
+    subsets.transitions(alloc, set, out)
 }
 
 // The states that some number of zero letters leads to. None are where nothing is accepted.

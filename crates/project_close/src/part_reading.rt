@@ -6,20 +6,19 @@ ghost use Rattle.digit_tuple.specs.Deterministic.{IsByEarlier, accepts_of, state
 ghost use Rattle.digit_tuple.specs.DfaRows.{state_in, states_in};
 ghost use Rattle.digit_tuple.specs.Letters.{product, IsWord};
 ghost use Rattle.digit_tuple.specs.Parts.{picked, part};
-ghost use Rattle.digit_tuple.specs.Reversed.{edge_to};
-ghost use Rattle.project_close.specs.PartReading.{AreEdgesByParts, AreReading, IsReading};
+ghost use Rattle.digit_tuple.specs.Reversed.{transition_to};
+ghost use Rattle.project_close.specs.PartReading.{AreTransitionsByParts, AreReading, IsReading};
 
 use digit_tuple::alphabet::Alphabet;
 use digit_tuple::dfa::{Dfa, DfaState};
-use digit_tuple::edges::Edge;
 use digit_tuple::faults::OutOfMemory;
 use digit_tuple::letter_parts::letter_parts;
 use digit_tuple::part_index::PartIndex;
+use digit_tuple::transitions::Transition;
 use std::alloc::Global;
 
-/// The automaton that accepts a word of the alphabet exactly where `dfa` accepts its part on the
-/// tracks at these places, counted from 0, one for each track of `dfa` and of its size. A place may
-/// stand there more than once.
+/// The automaton that accepts a word of the alphabet if and only if `dfa` accepts its part on the tracks at these
+/// places, counted from 0, one for each track of `dfa` and of its size. A place may be there more than once.
 pub fn read_parts(
     alloc: Global,
     dfa: &Dfa,
@@ -41,7 +40,7 @@ pub fn read_parts(
     Dfa::from_states(alloc, alphabet, states)
 }
 
-// The states of the automaton, each with the edges by the letters of which these parts lead on.
+// The states of the automaton, each with the transitions by the letters of which these parts lead on.
 fn states_reading(alloc: Global, dfa: &Dfa, parts: &PartIndex) -> Result<Vec<DfaState>, OutOfMemory>
     ensures { IfOk result (λ states. AreReading dfa.now parts.now (states_of dfa.now) (states_in states.items)) }
 {
@@ -54,43 +53,55 @@ fn states_reading(alloc: Global, dfa: &Dfa, parts: &PartIndex) -> Result<Vec<Dfa
     Ok(states)
 }
 
-// The state whose edges are by the letters of which these parts lead on. The row is written over.
+// The state whose transitions are by the letters of which these parts lead on. The row is written over.
 fn state_reading(
     alloc: Global,
     dfa: &Dfa,
     state: u32,
     parts: &PartIndex,
-    row: &mut Vec<Edge>,
+    row: &mut Vec<Transition>,
 ) -> Result<DfaState, OutOfMemory>
     requires { state < states_of dfa.now }
     ensures { IfOk result (λ made. IsReading dfa.now state parts.now (state_in made)) }
 {
-    dfa.edges_into(state, row)?;
+    dfa.transitions_into(state, row)?;
     Ok(DfaState {
         accepting: dfa.accepting(state),
-        edges: edges_by_parts(alloc, row, parts)?,
+        transitions: transitions_by_parts(alloc, row, parts)?,
     })
 }
 
-// The edges by the letters whose parts the row has an edge by, in order.
-fn edges_by_parts(alloc: Global, row: &[Edge], parts: &PartIndex) -> Result<Vec<Edge>, OutOfMemory>
+// The transitions by the letters whose parts the row has a transition by, in order.
+fn transitions_by_parts(
+    alloc: Global,
+    row: &[Transition],
+    parts: &PartIndex,
+) -> Result<Vec<Transition>, OutOfMemory>
     requires { AllPairs IsByEarlier row.now }
-    ensures { IfOk result (λ edges. AreEdgesByParts parts.now row.now edges.items) }
+    ensures { IfOk result (λ transitions. AreTransitionsByParts parts.now row.now transitions.items) }
 {
-    let mut edges = Vec::new(alloc);
-    for edge in row {
-        add_edges(parts.letters(edge.letter), edge.target, &mut edges)?;
+    let mut transitions = Vec::new(alloc);
+    for transition in row {
+        add_transitions(
+            parts.letters(transition.letter),
+            transition.target,
+            &mut transitions,
+        )?;
     }
-    edges.sort_unstable_by_key(|edge| edge.letter);
-    Ok(edges)
+    transitions.sort_unstable_by_key(|transition| transition.letter);
+    Ok(transitions)
 }
 
-// Adds an edge by each of the letters to the target.
-fn add_edges(letters: &[u32], target: u32, edges: &mut Vec<Edge>) -> Result<(), OutOfMemory>
-    ensures { OnOk result (edges.new.items ≡ edges.old.items ++ map (λ letter. edge_to letter target) letters.now) }
+// Adds a transition by each of the letters to the target.
+fn add_transitions(
+    letters: &[u32],
+    target: u32,
+    transitions: &mut Vec<Transition>,
+) -> Result<(), OutOfMemory>
+    ensures { OnOk result (transitions.new.items ≡ transitions.old.items ++ map (λ letter. transition_to letter target) letters.now) }
 {
     for letter in letters {
-        edges.push(Edge {
+        transitions.push(Transition {
             letter: *letter,
             target,
         })?;

@@ -29,20 +29,18 @@ use digit_tuple::stepped::Stepped;
 use minimise::tracked::Tracked;
 use std::alloc::Global;
 
-/// The words over the tracks but one for which there is a value on that track, which is one of the
-/// automaton's: a word is in the projection where some number of zeros, before it with the most
-/// significant digit first and after it else, and some digits on the dropped track make it a word that
-/// the automaton accepts. So the value may be longer than those on the tracks that stay. The result is
-/// canonical, and its tracks stand in the order in which they stood. Where no track stays there is one
-/// letter, the empty tuple.
+/// The words over the tracks but one for which there is a value on that track, which is one of the automaton's: a word
+/// is in the projection where some number of zeros, before it with the most significant digit first and after it else,
+/// and some digits on the dropped track make it a word that the automaton accepts. So the value may be longer than
+/// those on the tracks that stay. The result is canonical, and its tracks are in the order in which they were. Where no
+/// track stays there is one letter, the empty tuple.
 ///
-/// The width is the number of sets of residuals that words have: the residuals of the automaton after
-/// the words over all its tracks that have the word as their part on the tracks that stay, with the
-/// most significant digit first after any number of zeros. The empty residual isn't counted in a set;
-/// the empty set is counted. `Letters` comes exactly where the tracks that stay have more than 65,536
-/// letters, as they may where the dropped one has no digit, and is looked at first; `States` exactly
-/// where the width passes the limit. Memory may also run out where 2^32 - 1 states are not enough. Time
-/// and memory follow the width times the states and edges of the automaton.
+/// The width is the number of sets of residuals that words have: the residuals of the automaton after the words over
+/// all its tracks that have the word as their part on the tracks that stay, with the most significant digit first after
+/// any number of zeros. The empty residual isn't counted in a set; the empty set is counted. `Letters` comes if and
+/// only if the tracks that stay have more than 65,536 letters, as they may where the dropped one has no digit, and is
+/// looked at first; `States` if and only if the width passes the limit. Memory may also run out where 2^32 - 1 states
+/// are not enough. Time and memory follow the width times the states and transitions of the automaton.
 ///
 /// This is the existential quantifier of Büchi's decision procedure, as in Bruyère, Hansel, Michaux
 /// and Villemaire, "Logic and p-recognizable sets of integers".
@@ -89,7 +87,7 @@ struct StayingTracks {
     alphabet: Alphabet,
 }
 
-// The tracks that stay when one is dropped. `Letters` comes exactly where they have too many letters.
+// The tracks that stay when one is dropped. `Letters` comes if and only if they have too many letters.
 fn staying_tracks(alloc: Global, a: &Tracked, track: &Name) -> Result<StayingTracks, OpFault>
     ensures names { IfOk result (λ staying. staying.names.items ≡ names_without_of a.now.names track.now) }
     ensures places { IfOk result (λ staying. staying.places.items ≡ staying_places a.now track.now) }

@@ -15,12 +15,11 @@ use digit_tuple::names::joint_names;
 use minimise::tracked::Tracked;
 use std::alloc::Global;
 
-/// The automaton with these names for its tracks: one for each, in the order of the tracks of `a`, no
-/// two the same. The result is canonical; its tracks stand in byte order of the new names, and it
-/// accepts a word exactly where `a` accepts the word that has, on each track, the digits of the track of
-/// its new name. Where the new names stand in byte order already its table is a copy of that of `a`, and
-/// time and memory follow its edges; else they follow its states, edges and letters, and OutOfMemory
-/// comes too where 2^32 - 1 states are not enough.
+/// The automaton with these names for its tracks: one for each, in the order of the tracks of `a`, no two the same. The
+/// result is canonical; its tracks are in byte order of the new names, and it accepts a word if and only if `a` accepts
+/// the word that has, on each track, the digits of the track of its new name. Where the new names are in byte order
+/// already its table is a copy of that of `a`, and time and memory follow its transitions; else they follow its states,
+/// transitions and letters, and OutOfMemory comes too where 2^32 - 1 states are not enough.
 pub fn rename(alloc: Global, a: &Tracked, names: &[Name]) -> Result<Tracked, OutOfMemory>
     requires count { length names.now ≡ length a.now.names }
     requires distinct { AreDistinct names.now }

@@ -15,11 +15,11 @@ use digit_tuple::names::{find_name, names_without};
 use minimise::tracked::Tracked;
 use std::alloc::Global;
 
-/// The words of `a` of which the tracks of these two names are equal, without the second of these
-/// tracks. They are two of its tracks, and have one number of digits (`are_two_tracks`). The result is
-/// canonical; its tracks stand as in `a`, and it accepts a word exactly where `a` accepts the one word
-/// with equal tracks that this is without the dropped track. OutOfMemory comes too where 2^32 - 1 states
-/// are not enough. Time and memory follow the states, edges and letters of `a`.
+/// The words of `a` of which the tracks of these two names are equal, without the second of these tracks. They are two
+/// of its tracks, and have one number of digits (`are_two_tracks`). The result is canonical; its tracks are as in `a`,
+/// and it accepts a word if and only if `a` accepts the one word with equal tracks that this is without the dropped
+/// track. OutOfMemory comes too where 2^32 - 1 states are not enough. Time and memory follow the states, transitions
+/// and letters of `a`.
 pub fn restrict(
     alloc: Global,
     a: &Tracked,

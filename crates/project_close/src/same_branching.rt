@@ -4,9 +4,9 @@ ghost use Rattle.std.specs.Prelude.{◌≡◌, IfOk};
 ghost use Rattle.project_close.specs.SameBranching.{branching_as};
 
 use digit_tuple::dfa::Dfa;
-use digit_tuple::edges::NfaState;
 use digit_tuple::faults::OutOfMemory;
 use digit_tuple::nfa::Nfa;
+use digit_tuple::transitions::NfaState;
 use std::alloc::Global;
 
 /// The same automaton, as a nondeterministic one.
@@ -16,11 +16,11 @@ pub fn same_branching(alloc: Global, d: &Dfa) -> Result<Nfa, OutOfMemory>
     let states = d.states();
     let mut rows = Vec::with_capacity(alloc, states as usize)?;
     for state in 0..states {
-        let mut edges = Vec::new(alloc);
-        d.edges_into(state, &mut edges)?;
+        let mut transitions = Vec::new(alloc);
+        d.transitions_into(state, &mut transitions)?;
         rows.push(NfaState {
             accepting: d.accepting(state),
-            edges,
+            transitions,
         })?;
     }
     let alphabet = d.alphabet().copy(alloc)?;

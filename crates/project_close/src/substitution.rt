@@ -1,4 +1,4 @@
-//! Automata whose tracks stand under other names.
+//! Automata whose tracks are under other names.
 
 ghost use Rattle.std.specs.Prelude.{◌≡◌, ℕ, List, IfOk, OnOk};
 ghost use Rattle.digit_tuple.specs.Deterministic.{accepts_of};
@@ -16,14 +16,13 @@ use digit_tuple::names::places_in;
 use minimise::tracked::Tracked;
 use std::alloc::Global;
 
-/// The canonical automaton whose tracks have these names, and that accepts a word exactly where `dfa`
-/// accepts the word that is read in it: the one that has on each track of `dfa` the digits of the track
-/// of its name. `under` has a name for each track of `dfa`, in their order, and `names` each of these
-/// names once, in any order. `under` may name several tracks alike, if they have one size: then the
-/// result has one track of that name, and its digits are read on each of them, as where a relation of
-/// two arguments is asked of x and x. Only OutOfMemory is answered, which comes too where 2^32 - 1
-/// states are not enough. Time and memory follow the states of `dfa`, the letters of the result, and the
-/// letters by which these states lead on.
+/// The canonical automaton whose tracks have these names, and that accepts a word if and only if `dfa` accepts the word
+/// that is read in it: the one that has on each track of `dfa` the digits of the track of its name. `under` has a name
+/// for each track of `dfa`, in their order, and `names` each of these names once, in any order. `under` may name
+/// several tracks alike, if they have one size: then the result has one track of that name, and its digits are read on
+/// each of them, as where a relation of two arguments is asked of x and x. Only OutOfMemory is answered, which comes
+/// too where 2^32 - 1 states are not enough. Time and memory follow the states of `dfa`, the letters of the result, and
+/// the letters by which these states lead on.
 pub fn substitute(
     alloc: Global,
     dfa: &Dfa,

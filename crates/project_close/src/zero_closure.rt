@@ -5,9 +5,9 @@ ghost use Rattle.std.specs.List.{All, Contains};
 ghost use Rattle.digit_tuple.specs.Automaton.{states_of};
 ghost use Rattle.project_close.specs.ZeroClosure.{AreAfterZeros, AreFlagged, AreFound, AreFoundToo, IsReached, IsTargetOf, flag_at};
 
-use digit_tuple::edges::Edge;
 use digit_tuple::faults::OutOfMemory;
 use digit_tuple::nfa::Nfa;
+use digit_tuple::transitions::Transition;
 use std::alloc::Global;
 
 /// The states that zero letters alone lead to from the initial one, in order: those that some number
@@ -15,14 +15,14 @@ use std::alloc::Global;
 pub fn zero_closure(alloc: Global, nfa: &Nfa) -> Result<Vec<u32>, OutOfMemory>
     ensures { IfOk result (λ set. AreAfterZeros nfa.now set.items) }
 {
-    // The call tells that there is an initial state.
+    // The call reports that there is an initial state.
     let _states = nfa.states();
     let reached = reached(alloc, nfa, &[true], &[0])?;
     flagged(alloc, &reached)
 }
 
-/// For each state whether it is reached: whether a word over the flagged letters leads to it from one
-/// of the first states, which are states of the automaton. Each state and edge is looked at once.
+/// For each state whether it is reached: whether a word over the flagged letters leads to it from one of the initial
+/// states, which are states of the automaton. Each state and transition is looked at once.
 pub fn reached(
     alloc: Global,
     nfa: &Nfa,
@@ -38,8 +38,8 @@ pub fn reached(
     find_all(&mut flags, &mut found, first)?;
     let mut next = 0;
     while next < found.len() {
-        let edges = nfa.edges(found[next]);
-        find_targets(&mut flags, &mut found, letters, edges)?;
+        let transitions = nfa.transitions(found[next]);
+        find_targets(&mut flags, &mut found, letters, transitions)?;
         next += 1;
     }
     Ok(flags)
@@ -58,38 +58,38 @@ fn find_all(flags: &mut [bool], found: &mut Vec<u32>, states: &[u32]) -> Result<
     Ok(())
 }
 
-// Finds the targets of the edges by flagged letters.
+// Finds the targets of the transitions by flagged letters.
 fn find_targets(
     flags: &mut [bool],
     found: &mut Vec<u32>,
     letters: &[bool],
-    edges: &[Edge],
+    transitions: &[Transition],
 ) -> Result<(), OutOfMemory>
     requires found { AreFound (length flags.old) flags.old found.old.items }
-    requires targets { All (λ edge. edge.target < length flags.old) edges.now }
+    requires targets { All (λ transition. transition.target < length flags.old) transitions.now }
     ensures found { OnOk result (AreFound (length flags.old) flags.new found.new.items) }
-    ensures too { OnOk result (AreFoundToo found.old.items found.new.items (IsTargetOf letters.now edges.now)) }
+    ensures too { OnOk result (AreFoundToo found.old.items found.new.items (IsTargetOf letters.now transitions.now)) }
 {
-    for edge in edges {
-        find_target(flags, found, letters, *edge)?;
+    for transition in transitions {
+        find_target(flags, found, letters, *transition)?;
     }
     Ok(())
 }
 
-// Finds the target of an edge, if its letter is flagged.
+// Finds the target of a transition, if its letter is flagged.
 fn find_target(
     flags: &mut [bool],
     found: &mut Vec<u32>,
     letters: &[bool],
-    edge: Edge,
+    transition: Transition,
 ) -> Result<(), OutOfMemory>
     requires found { AreFound (length flags.old) flags.old found.old.items }
-    requires target { edge.target < length flags.old }
+    requires target { transition.target < length flags.old }
     ensures found { OnOk result (AreFound (length flags.old) flags.new found.new.items) }
-    ensures too { OnOk result (AreFoundToo found.old.items found.new.items (λ q. (flag_at letters.now edge.letter ≡ true) × (edge.target ≡ q))) }
+    ensures too { OnOk result (AreFoundToo found.old.items found.new.items (λ q. (flag_at letters.now transition.letter ≡ true) × (transition.target ≡ q))) }
 {
-    if is_set(letters, edge.letter) {
-        find(flags, found, edge.target)?;
+    if is_set(letters, transition.letter) {
+        find(flags, found, transition.target)?;
     }
     Ok(())
 }

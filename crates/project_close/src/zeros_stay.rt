@@ -12,22 +12,22 @@ ghost use Rattle.project_close.specs.Padding.{IsPadded, PaddedAlike};
 ghost use Rattle.project_close.specs.ZerosStay.{AreEnds, ZerosStay};
 
 use digit_tuple::dfa::Dfa;
-use digit_tuple::edges::Edge;
 use digit_tuple::faults::{OpFault, OutOfMemory};
 use digit_tuple::stepped::Stepped;
+use digit_tuple::transitions::Transition;
 use std::alloc::Global;
 
 /// Whether zeros stay at the initial state.
 pub fn zeros_stay(a: &Dfa) -> bool
     ensures { IsTrue result ↔ ZerosStay a.now }
 {
-    // The call tells that there is an initial state.
+    // The call reports that there is an initial state.
     let _states = a.states();
     matches!(a.step(0, 0), Some(0))
 }
 
-/// The closure of a canonical automaton under leading zeros, where zeros stay at its initial state: the
-/// automaton itself, of which each edge is looked at once. `pad` says more.
+/// The closure of a canonical automaton under leading zeros, where zeros stay at its initial state: the automaton
+/// itself, of which each transition is looked at once. `pad` says more.
 pub fn pad_itself(alloc: Global, a: &Dfa, limit: u32) -> Result<Stepped<Dfa>, OpFault>
     requires canonical { IsCanonical a.now }
     requires stay { ZerosStay a.now }
@@ -62,7 +62,7 @@ struct Ends {
     gap: bool,
 }
 
-// What is found in the edges of the states.
+// What is found in the transitions of the states.
 fn find_ends(alloc: Global, a: &Dfa) -> Result<Ends, OutOfMemory>
     ensures { IfOk result (λ ends. AreEnds a.now (states_of a.now) ends.returns ends.gap) }
 {
@@ -71,7 +71,7 @@ fn find_ends(alloc: Global, a: &Dfa) -> Result<Ends, OutOfMemory>
     let mut returns = false;
     let mut gap = false;
     for state in 0..a.states() {
-        a.edges_into(state, &mut row)?;
+        a.transitions_into(state, &mut row)?;
         if has_return(&row, state) {
             returns = true;
         }
@@ -82,9 +82,9 @@ fn find_ends(alloc: Global, a: &Dfa) -> Result<Ends, OutOfMemory>
     Ok(Ends { returns, gap })
 }
 
-// Whether one of the edges of a state leads to the initial one, other than the zero letter's from there.
-fn has_return(row: &[Edge], state: u32) -> bool
-    ensures { result ≡ list_any (λ edge. (edge.target == 0) && not ((state == 0) && (edge.letter == 0))) row.now }
+// Whether one of the transitions of a state leads to the initial one, other than the zero letter's from there.
+fn has_return(row: &[Transition], state: u32) -> bool
+    ensures { result ≡ list_any (λ transition. (transition.target == 0) && not ((state == 0) && (transition.letter == 0))) row.now }
 {
-    row.iter().any(|edge| edge.target == 0 && !(state == 0 && edge.letter == 0))
+    row.iter().any(|transition| transition.target == 0 && !(state == 0 && transition.letter == 0))
 }

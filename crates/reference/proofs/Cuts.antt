@@ -7,18 +7,18 @@ use Rattle.std.specs.List.{AllByRecursion}
 use Rattle.regex_build.specs.Expression.{Expression, any, follow, star, plus}
 use Rattle.regex_build.specs.Matches.{Matches, joined}
 
--- at no cut from this one to before that one the one expression matches what stands before it, and the other what stands behind it
+-- at no cut from this one to before that one the one expression matches what comes before it, and the other what follows it
 abbrev pub NoCut : {L : Type 0} → Expression L → Expression L → List L → ℕ → ℕ → Type 0
 NoCut e f w low high = (k : ℕ) → low ≤ k → k < high → Matches e (take k w) → Matches f (drop k w) → ⊥
 
 pub no_follow : {L : Type 0} (e f : Expression L) (w : List L) (high : ℕ) → length w < high → NoCut e f w 0 high → Matches (follow e f) w → ⊥
-no_follow {L} e f w high whole none (u, v, split, front, back) =
+no_follow {L} e f w high whole none (u, v, split, prefix, back) =
     none (length u) (omega arith) (omega (arith, ap length split, length-append u v))
-    (subst (λ (t : List L). Matches e t) (sym (rw split (take-append_seam u v))) front)
+    (subst (λ (t : List L). Matches e t) (sym (rw split (take-append_seam u v))) prefix)
     (subst (λ (t : List L). Matches f t) (sym (rw split (drop-append_seam u v))) back)
 
 pub star_cut : {L : Type 0} (e : Expression L) (w : List L) (k : ℕ) → Matches e (take k w) → Matches (star e) (drop k w) → Matches (star e) w
-star_cut e w k front (pieces, split, all) = (take k w ∷ pieces, rw (← split) (sym (take-append-drop k w)), (front, all))
+star_cut e w k prefix (pieces, split, all) = (take k w ∷ pieces, rw (← split) (sym (take-append-drop k w)), (prefix, all))
 
 pieces_cut : {L : Type 0} (e : Expression L) (w : List L) (high : ℕ) → 0 < length w → length w < high → NoCut e (star e) w 1 high → (pieces : List (List L)) → w ≡ joined pieces → AllByRecursion (Matches e) pieces → ⊥
 pieces_cut e w high some whole none [] split all = omega (arith, ap length split)
@@ -33,9 +33,9 @@ no_star e w high some whole none (pieces, split, all) = pieces_cut e w high some
 
 -- one more cut at which they don't
 pub one_more_cut : {L : Type 0} (e f : Expression L) (w : List L) (low high : ℕ) → NoCut e f w low high → (Matches e (take high w) → Matches f (drop high w) → ⊥) → NoCut e f w low (high + 1)
-one_more_cut {L} e f w low high none here k from less front back = elim (cases_lt k high) [
-  | inl before ↦ none k from before front back
-  | inr behind ↦ let same : k ≡ high = omega arith in here (subst (λ (i : ℕ). Matches e (take i w)) same front) (subst (λ (i : ℕ). Matches f (drop i w)) same back)
+one_more_cut {L} e f w low high none here k from less prefix back = elim (cases_lt k high) [
+  | inl before ↦ none k from before prefix back
+  | inr suffix ↦ let same : k ≡ high = omega arith in here (subst (λ (i : ℕ). Matches e (take i w)) same prefix) (subst (λ (i : ℕ). Matches f (drop i w)) same back)
 ]
 
 -- pieces that are empty together
@@ -44,11 +44,11 @@ empty_piece e [] some none all = absurd (some refl)
 empty_piece e ([] ∷ pieces) some none all = all.0
 empty_piece e ((x ∷ p) ∷ pieces) some none all = absurd (cc)
 
--- a cut whose front does not match
-pub no_front : {L : Type 0} (e f : Expression L) (w front : List L) (low k : ℕ) → front ≡ take k w → (Matches e front → ⊥) → NoCut e f w low k → NoCut e f w low (k + 1)
-no_front {L} e f w front low k front_is none before = one_more_cut e f w low k before (λ first others. none (subst (λ (t : List L). Matches e t) (sym front_is) first))
+-- a cut whose prefix does not match
+pub no_prefix : {L : Type 0} (e f : Expression L) (w prefix : List L) (low k : ℕ) → prefix ≡ take k w → (Matches e prefix → ⊥) → NoCut e f w low k → NoCut e f w low (k + 1)
+no_prefix {L} e f w prefix low k prefix_is none before = one_more_cut e f w low k before (λ first others. none (subst (λ (t : List L). Matches e t) (sym prefix_is) first))
 
--- a cut behind which the rest does not match
+-- a cut after which the rest does not match
 pub no_back : {L : Type 0} (e f : Expression L) (w back : List L) (low k : ℕ) → back ≡ drop k w → (Matches f back → ⊥) → NoCut e f w low k → NoCut e f w low (k + 1)
 no_back {L} e f w back low k back_is none before = one_more_cut e f w low k before (λ first others. none (subst (λ (t : List L). Matches f t) (sym back_is) others))
 
@@ -75,7 +75,7 @@ one_letter [] t some few is = absurd (omega arith)
 one_letter {L} (x ∷ []) t some few is = ap (λ (y : L). y ∷ []) (sym is)
 one_letter (x ∷ y ∷ w) t some few is = absurd (omega arith)
 
--- a word of one letter is another letter exactly where the two are equal
+-- a word of one letter is another letter if and only if the two are equal
 pub same_letter : {L : Type 0} (w : List L) (t x : L) (r : Bool) → 1 ≤ length w → length w < 2 → t ≡ get_or w 0 t → Decides r (t ≡ x) → IsTrue r ↔ (w ≡ x ∷ [])
 same_letter {L} w t x r some few is same =
     let alone : w ≡ t ∷ [] = one_letter w t some few is in

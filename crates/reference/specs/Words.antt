@@ -11,6 +11,6 @@ pub record AreAllWords (letters n : ℕ) (words : List (List ℕ)) : Type 0 wher
   pub whole : (w : List ℕ) → IsWord letters w → length w ≡ n → Contains words w
   pub ordered : AllPairs IsLetterwiseBefore words
 
--- each word behind a letter
-abbrev pub behind_letter : List (List ℕ) → ℕ → List (List ℕ)
-behind_letter words letter = map (λ w. letter ∷ w) words
+-- each word after a letter
+abbrev pub after_letter : List (List ℕ) → ℕ → List (List ℕ)
+after_letter words letter = map (λ w. letter ∷ w) words

@@ -31,7 +31,7 @@ pub fn matches(tree: &Tree, word: &[Tuple]) -> bool
     }
 }
 
-// Whether the word matches the two, one behind the other.
+// Whether the word matches the two, one after the other.
 #[cycle(matches)]
 fn matches_follow(first: &Tree, second: &Tree, word: &[Tuple]) -> bool
     ensures { IsTrue result ↔ Matches (follow (expression first.now) (expression second.now)) word.now }

@@ -21,7 +21,7 @@ pub enum Tree {
     Any,
     /// One of the two.
     Either(Box<Tree>, Box<Tree>),
-    /// The two, one behind the other.
+    /// The two, one after the other.
     Follow(Box<Tree>, Box<Tree>),
     /// Any number of times.
     Star(Box<Tree>),

@@ -1,7 +1,7 @@
 //! Words of letters, and all of a length.
 
 ghost use Rattle.std.specs.Prelude.{◌≡◌, ◌++◌, ◌∷◌, [], IfOk, OnOk};
-ghost use Rattle.reference.specs.Words.{AreAllWords, behind_letter};
+ghost use Rattle.reference.specs.Words.{AreAllWords, after_letter};
 
 use digit_tuple::faults::OutOfMemory;
 use std::alloc::Global;
@@ -36,8 +36,8 @@ impl Word {
         &self.places
     }
 
-    // The word behind a letter.
-    fn behind(&self, alloc: Global, letter: u32) -> Result<Self, OutOfMemory>
+    // The word after a letter.
+    fn suffix(&self, alloc: Global, letter: u32) -> Result<Self, OutOfMemory>
         ensures { IfOk result (λ word. word ≡ letter ∷ self.now) }
     {
         let mut places = Vec::new(alloc);
@@ -57,7 +57,7 @@ pub fn all_words(alloc: Global, letters: u32, length: usize) -> Result<Vec<Word>
     let shorter = all_words(alloc, letters, length - 1)?;
     let mut words = Vec::new(alloc);
     for letter in 0..letters {
-        push_behind(alloc, &mut words, letter, &shorter)?;
+        push_after(alloc, &mut words, letter, &shorter)?;
     }
     Ok(words)
 }
@@ -72,16 +72,16 @@ fn one_empty(alloc: Global) -> Result<Vec<Word>, OutOfMemory>
 }
 
 // Appends each word, with the letter before it.
-fn push_behind(
+fn push_after(
     alloc: Global,
     words: &mut Vec<Word>,
     letter: u32,
     shorter: &[Word],
 ) -> Result<(), OutOfMemory>
-    ensures { OnOk result (words.new.items ≡ words.old.items ++ behind_letter shorter.now letter) }
+    ensures { OnOk result (words.new.items ≡ words.old.items ++ after_letter shorter.now letter) }
 {
     for word in shorter {
-        words.push(word.behind(alloc, letter)?)?;
+        words.push(word.suffix(alloc, letter)?)?;
     }
     Ok(())
 }

@@ -1,5 +1,5 @@
 pub mod ValidWords
-pub mod SpelledWords
+pub mod RepresentedWords
 pub mod OneRegex
 pub mod RelationLemmas
 pub mod OneRelation

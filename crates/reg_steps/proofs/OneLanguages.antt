@@ -6,9 +6,9 @@ use Rattle.digit_tuple.specs.declared.direction.Direction.{Direction}
 use Rattle.minimise.proofs.CanonicalLemmas.{canonical_forms}
 use Rattle.product_op.specs.Validity.{AreLanguages, language_at, no_language}
 use Rattle.numeration.specs.Systems.{System}
-use Rattle.numeration.specs.Spelling.{sizes_of}
+use Rattle.numeration.specs.Representation.{sizes_of}
 use Rattle.reg_steps.specs.Relations.{IsSystemLanguage, AreSystemLanguages}
-use Rattle.reg_steps.proofs.SpelledWords.{no_system}
+use Rattle.reg_steps.proofs.RepresentedWords.{no_system}
 
 one_language : (direction : Direction) (s : System) (c d : Automaton) → IsSystemLanguage direction s c → IsSystemLanguage direction s d → c ≡ d
 one_language direction s c d one other =

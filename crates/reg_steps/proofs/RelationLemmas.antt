@@ -13,30 +13,30 @@ use Rattle.minimise.proofs.CanonicalLemmas.{canonical_forms}
 use Rattle.product_op.specs.Validity.{is_valid}
 use Rattle.project_close.specs.Padding.{IsPadded}
 use Rattle.numeration.specs.Systems.{System, AreSystems}
-use Rattle.numeration.specs.Spelling as spelling
-use Rattle.numeration.specs.Spelling.{Spells, letters_in}
+use Rattle.numeration.specs.Representation as representation
+use Rattle.numeration.specs.Representation.{Represents, letters_in}
 use Rattle.digit_tuple.proofs.PaddingLemmas.{IsWord-in_order}
-use Rattle.numeration.proofs.SpellLemmas.{spellings}
+use Rattle.numeration.proofs.RepresentLemmas.{representations}
 use Rattle.regex_build.specs.Expression.{Expression}
 use Rattle.reg_steps.specs.RelationSteps.{AreRelationSteps}
 use Rattle.reg_steps.specs.Relations.{HasMatch, IsRelation, AreSystemLanguages}
 use Rattle.reg_steps.specs.Laws.{StepsMakeTheRelation, OneRelation}
 use Rattle.reg_steps.proofs.OneRegex.{same_truth}
 use Rattle.automaton_steps.proofs.DirectionLemmas.{same_without_zeros, same_strip}
-use Rattle.reg_steps.proofs.SpelledWords.{valid_spells, spelled_valid}
+use Rattle.reg_steps.proofs.RepresentedWords.{valid_represents, represented_valid}
 
 module _ (limit : ℕ) (direction : Direction) (ss : List System) (languages : List Automaton) (sets : List (List ℤ)) (e : Expression (List ℤ)) (d : Automaton) (valid : StepLine)
-    (systems : AreSystems ss) (are : AreSystemLanguages direction ss languages) (sizes : sizes_of sets ≡ spelling.sizes_of ss) (steps : AreRelationSteps limit direction languages sets e d valid) where
+    (systems : AreSystems ss) (are : AreSystemLanguages direction ss languages) (sizes : sizes_of sets ≡ representation.sizes_of ss) (steps : AreRelationSteps limit direction languages sets e d valid) where
   abbrev matches : Automaton
   matches = steps.before.matches
 
   abbrev closed : Automaton
   closed = steps.before.closed
 
-  matches_sizes : matches.sizes ≡ spelling.sizes_of ss
+  matches_sizes : matches.sizes ≡ representation.sizes_of ss
   matches_sizes = steps.before.regex_step.of_regex.sizes ∙ sizes
 
-  closed_sizes : closed.sizes ≡ spelling.sizes_of ss
+  closed_sizes : closed.sizes ≡ representation.sizes_of ss
   closed_sizes = steps.before.pad_step.closure.sizes ∙ matches_sizes
 
   over_matches : (w : List ℕ) → IsWord (letters_in ss) w → IsWord (letters_of matches) w
@@ -54,51 +54,51 @@ module _ (limit : ℕ) (direction : Direction) (ss : List System) (languages : L
   of_matches : (w : List ℕ) → IsWord (letters_of matches) w → IsWord (letters_in ss) w
   of_matches w over = subst (λ (s : List ℕ). IsWord (product s) w) matches_sizes over
 
-  -- of a word whose paddings are accepted some spelling matches
-  has_match : (word ns : List ℕ) → IsWord (letters_in ss) word → Spells ss (in_order direction word) ns → IsPadded direction matches word → HasMatch direction ss sets e ns
-  has_match word ns over spelled (v, inside, same, accepted) =
+  -- of a word whose paddings are accepted some representation matches
+  has_match : (word ns : List ℕ) → IsWord (letters_in ss) word → Represents ss (in_order direction word) ns → IsPadded direction matches word → HasMatch direction ss sets e ns
+  has_match word ns over represented (v, inside, same, accepted) =
       let there : IsWord (letters_in ss) v = of_matches v inside in
       let coded : (tuples : List (List ℤ)) × Codes sets tuples v = tuples_from_word sets v (over_sets v there) in
       record {
         word = v;
         tuples = coded.0;
         codes = coded.1;
-        spells = (spellings ss (in_order direction word) (in_order direction v) ns systems (IsWord-in_order direction (letters_in ss) word over) (IsWord-in_order direction (letters_in ss) v there) spelled).1
+        represents = (representations ss (in_order direction word) (in_order direction v) ns systems (IsWord-in_order direction (letters_in ss) word over) (IsWord-in_order direction (letters_in ss) v there) represented).1
             (same_without_zeros direction word v same);
         matches = (steps.before.regex_step.of_regex.language coded.0 v coded.1).0 accepted;
       }
 
-  -- and of a word that spells what some spelling matches a padding is accepted
-  is_padded : (word ns : List ℕ) → IsWord (letters_in ss) word → Spells ss (in_order direction word) ns → HasMatch direction ss sets e ns → IsPadded direction matches word
-  is_padded word ns over spelled match =
+  -- and of a word that represents what some representation matches a padding is accepted
+  is_padded : (word ns : List ℕ) → IsWord (letters_in ss) word → Represents ss (in_order direction word) ns → HasMatch direction ss sets e ns → IsPadded direction matches word
+  is_padded word ns over represented match =
       let there : IsWord (letters_in ss) match.word = over_systems match.word (IsWord-codes sets match.tuples match.word match.codes) in (
         match.word,
         over_matches match.word there,
         same_strip direction word match.word
-            ((spellings ss (in_order direction word) (in_order direction match.word) ns systems (IsWord-in_order direction (letters_in ss) word over) (IsWord-in_order direction (letters_in ss) match.word there) spelled).0 match.spells),
+            ((representations ss (in_order direction word) (in_order direction match.word) ns systems (IsWord-in_order direction (letters_in ss) word over) (IsWord-in_order direction (letters_in ss) match.word there) represented).0 match.represents),
         (steps.before.regex_step.of_regex.language match.tuples match.word match.codes).1 match.matches,
       )
 
-  accepts_is : (word : List ℕ) → IsWord (letters_in ss) word → accepts_of d word ≡ (accepts_of closed word && is_valid (spelling.sizes_of ss) languages word)
+  accepts_is : (word : List ℕ) → IsWord (letters_in ss) word → accepts_of d word ≡ (accepts_of closed word && is_valid (representation.sizes_of ss) languages word)
   accepts_is word over = steps.valid_step.valid_part.language word (over_closed word over) ∙ ap (λ (s : List ℕ). accepts_of closed word && is_valid s languages word) closed_sizes
 
-  spelled_from : (word : List ℕ) → IsWord (letters_in ss) word → IsTrue (accepts_of d word) → (ns : List ℕ) × Spells ss (in_order direction word) ns × HasMatch direction ss sets e ns
-  spelled_from word over accepted =
-      let both = and_parts (accepts_of closed word) (is_valid (spelling.sizes_of ss) languages word) (sym (accepts_is word over) ∙ accepted) in
-      let spelled = valid_spells direction ss languages are word both.1 in
-      (spelled.0, spelled.1, has_match word spelled.0 over spelled.1 ((steps.before.pad_step.closure.language word (over_matches word over)).0 both.0))
+  represented_from : (word : List ℕ) → IsWord (letters_in ss) word → IsTrue (accepts_of d word) → (ns : List ℕ) × Represents ss (in_order direction word) ns × HasMatch direction ss sets e ns
+  represented_from word over accepted =
+      let both = and_parts (accepts_of closed word) (is_valid (representation.sizes_of ss) languages word) (sym (accepts_is word over) ∙ accepted) in
+      let represented = valid_represents direction ss languages are word both.1 in
+      (represented.0, represented.1, has_match word represented.0 over represented.1 ((steps.before.pad_step.closure.language word (over_matches word over)).0 both.0))
 
-  accepted_from : (word : List ℕ) → IsWord (letters_in ss) word → (ns : List ℕ) × Spells ss (in_order direction word) ns × HasMatch direction ss sets e ns → IsTrue (accepts_of d word)
-  accepted_from word over (ns, spelled, match) =
+  accepted_from : (word : List ℕ) → IsWord (letters_in ss) word → (ns : List ℕ) × Represents ss (in_order direction word) ns × HasMatch direction ss sets e ns → IsTrue (accepts_of d word)
+  accepted_from word over (ns, represented, match) =
       accepts_is word over
-      ∙ and_from (accepts_of closed word) (is_valid (spelling.sizes_of ss) languages word)
-      ((steps.before.pad_step.closure.language word (over_matches word over)).1 (is_padded word ns over spelled match)) (spelled_valid direction ss languages are word ns spelled)
+      ∙ and_from (accepts_of closed word) (is_valid (representation.sizes_of ss) languages word)
+      ((steps.before.pad_step.closure.language word (over_matches word over)).1 (is_padded word ns over represented match)) (represented_valid direction ss languages are word ns represented)
 
   pub makes_relation : IsRelation direction ss sets e d
   makes_relation = record {
     sizes = steps.valid_step.valid_part.sizes ∙ closed_sizes;
     canonical = steps.valid_step.valid_part.canonical;
-    language = λ word over. (spelled_from word over, accepted_from word over);
+    language = λ word over. (represented_from word over, accepted_from word over);
   }
 
 pub relation_made : StepsMakeTheRelation
@@ -110,4 +110,4 @@ relation_is_one direction ss sets e c d one other = canonical_forms c d one.cano
     same : (word : List ℕ) → IsWord (letters_of c) word → accepts_of c word ≡ accepts_of d word
     same word over =
         let inside : IsWord (letters_in ss) word = subst (λ (s : List ℕ). IsWord (product s) word) one.sizes over in
-        same_truth (accepts_of c word) (accepts_of d word) ((ns : List ℕ) × Spells ss (in_order direction word) ns × HasMatch direction ss sets e ns) (one.language word inside) (other.language word inside)
+        same_truth (accepts_of c word) (accepts_of d word) ((ns : List ℕ) × Represents ss (in_order direction word) ns × HasMatch direction ss sets e ns) (one.language word inside) (other.language word inside)

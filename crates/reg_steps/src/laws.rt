@@ -2,8 +2,8 @@
 
 ghost use Rattle.reg_steps.specs.Laws.{StepsMakeTheRelation, OneRelation};
 
-/// The steps over numeration systems make the automaton of the spellings of the tuples of which some
-/// spelling matches the expression.
+/// The steps over numeration systems make the automaton of the representations of the tuples of which some
+/// representation matches the expression.
 pub fn steps_make_the_relation()
     ensures { StepsMakeTheRelation }
 {}

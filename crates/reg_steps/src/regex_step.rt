@@ -17,9 +17,8 @@ use std::alloc::Global;
 /// automaton's states.
 ///
 /// # Errors
-/// `Letters` exactly where the sets are too many or have too many tuples for an alphabet, looked at
-/// first; `States` exactly where the width passes the limit. The steps are as before then, also where
-/// memory is wanting.
+/// `Letters` if and only if the sets are too many or have too many tuples for an alphabet, looked at first; `States` if
+/// and only if the width passes the limit. The steps are as before then, also where memory is wanting.
 pub fn regex_step(alloc: Global, regex: &Regex, steps: &mut Steps) -> Result<Dfa, StepFault>
     ensures { DoesRegex steps.old regex.now.sets regex.now.tree result steps.new }
 {

@@ -24,9 +24,9 @@ use std::rc::Rc;
 /// canonical language for each track: that of its system. The result is canonical, its tracks under
 /// their numbers.
 ///
-/// It accepts the words whose tracks are valid and of which some word matches the expression that is
-/// the same but for zeros at the end of the most significant letters: by a law of `laws` the spellings
-/// of the tuples of numbers of which some spelling matches.
+/// It accepts the words whose tracks are valid and of which some word matches the expression that is the same but for
+/// zeros at the end of the most significant letters: by a law of `laws` the representations of the tuples of numbers of
+/// which some representation matches.
 ///
 /// # Errors
 /// `Letters` and `States` exactly at the first step that passes a limit, letters before states.

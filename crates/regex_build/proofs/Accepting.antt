@@ -105,10 +105,10 @@ module _ {L : Type 0} (code : L → ℕ → Type 0) (e : Expression L) (n : Bran
 
   pub matches_from_accepts : ((x y : L) (a : ℕ) → code x a → code y a → x ≡ y) → (word : List L) (letters : List ℕ) → AllZip code word letters → Accepts n letters → Matches e word
   matches_from_accepts once word letters z accepted =
-      let way = chain_of_path 0 letters accepted.0 accepted.1 accepted.2 in
-      let spelled : AllZip (StandsAt 1 (occurrences_in e)) way.0 word =
-      zip-through (IsWritten code (occurrences_in e)) code (StandsAt 1 (occurrences_in e)) stands way.0 letters word way.2 z in
-      word_spelled 1 e way.0 word (word_of_chain e way.0 way.1) spelled
+      let direction = chain_of_path 0 letters accepted.0 accepted.1 accepted.2 in
+      let spelled : AllZip (StandsAt 1 (occurrences_in e)) direction.0 word =
+      zip-through (IsWritten code (occurrences_in e)) code (StandsAt 1 (occurrences_in e)) stands direction.0 letters word direction.2 z in
+      word_spelled 1 e direction.0 word (word_of_chain e direction.0 direction.1) spelled
     where
       stands : (place a : ℕ) (x : L) → IsWritten code (occurrences_in e) place a → code x a → StandsAt 1 (occurrences_in e) place x
       stands place a x h c =

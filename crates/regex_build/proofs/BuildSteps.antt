@@ -33,10 +33,10 @@ module _ (sets : List (List ℤ)) (e : Expression (List ℤ)) (n : Branching) (s
       (λ w v over too same. alike_from_marks (IsLetterOf sets) e n table w v same) apart)
 
   -- automata of the language of the table accept the matches
-  pub matches_accepted : (d least : Automaton) → d.sizes ≡ n.sizes → AcceptsTheMatches sets e n
-      → ((word : List ℕ) → IsWord (branching.letters_of n) word → IsTrue (accepts_of d word) ↔ Accepts n word) → SameLanguage d least
-      → (tuples : List (List ℤ)) (word : List ℕ) → Codes sets tuples word → IsTrue (accepts_of least word) ↔ Matches e tuples
-  matches_accepted d least sizes_too matches language same tuples word codes =
+  pub matches_accepted : (d minimal : Automaton) → d.sizes ≡ n.sizes → AcceptsTheMatches sets e n
+      → ((word : List ℕ) → IsWord (branching.letters_of n) word → IsTrue (accepts_of d word) ↔ Accepts n word) → SameLanguage d minimal
+      → (tuples : List (List ℤ)) (word : List ℕ) → Codes sets tuples word → IsTrue (accepts_of minimal word) ↔ Matches e tuples
+  matches_accepted d minimal sizes_too matches language same tuples word codes =
       let over = IsWord-codes sets tuples word codes in
       let over_n : IsWord (branching.letters_of n) word = subst (λ letters. IsWord letters word) (sym (ap product sizes)) over in
       let over_d : IsWord (product d.sizes) word = subst (λ letters. IsWord letters word) (sym (ap product sizes_too)) over_n in

@@ -127,18 +127,18 @@ and_to : (x y : Bool) → IsTrue x → IsTrue y → (x && y) ≡ true
 and_to true y h k = k
 and_to false y h k = cc
 
--- two expressions, one behind the other
-module _ (left right made : Fragment) (between before behind : List Crossing) (old one two new : List (List ℕ)) where
+-- two expressions, one after the other
+module _ (left right made : Fragment) (between before after_token : List Crossing) (old one two new : List (List ℕ)) where
   -- what the code makes
   pub record AreJoined : Type 0 where
     pub nullable : made.nullable ≡ (left.nullable && right.nullable)
     pub repeats : made.repeats ≡ false
     pub firsts : AreBothIf left.nullable made.firsts.items left.firsts.items right.firsts.items
     pub lasts : AreBothIf right.nullable made.lasts.items right.lasts.items left.lasts.items
-    pub owed : (c : Crossing) → Contains made.owed.items c ↔ (Contains between c ⊎ (Contains before c ⊎ Contains behind c))
+    pub owed : (c : Crossing) → Contains made.owed.items c ↔ (Contains between c ⊎ (Contains before c ⊎ Contains after_token c))
     pub crossed : AreSettled (λ p q. Contains left.lasts.items p × Contains right.firsts.items q) (left.nullable && right.nullable) between old one
     pub settles_left : AreSettled (Crosses left.owed.items) right.nullable before one two
-    pub settles_right : AreSettled (Crosses right.owed.items) left.nullable behind two new
+    pub settles_right : AreSettled (Crosses right.owed.items) left.nullable after_token two new
 
   module _ (j : AreJoined) (n : ℕ) (e f : Expression (List ℤ)) (a : IsFragment n e left old) (b : IsFragment (n + length (occurrences_in e)) f right old) where
     abbrev is_e : Expression ℕ
@@ -185,7 +185,7 @@ module _ (left right made : Fragment) (between before behind : List Crossing) (o
           ]
         ]
 
-    owed_of : (p q : ℕ) (c : Crossing) → Contains between c ⊎ (Contains before c ⊎ Contains behind c) → Contains c.lasts.items p → Contains c.firsts.items q → Crosses made.owed.items p q
+    owed_of : (p q : ℕ) (c : Crossing) → Contains between c ⊎ (Contains before c ⊎ Contains after_token c) → Contains c.lasts.items p → Contains c.firsts.items q → Crosses made.owed.items p q
     owed_of p q c h l s = (c, (j.owed c).1 h, l, s)
 
     whole_of : (p q : ℕ) → IsNext (follow is_e is_f) p q → Follows new p q ⊎ Crosses made.owed.items p q
@@ -362,7 +362,7 @@ star_fragment made n e rows a =
       | inr x ↦ let r = next_again i p q x.0 x.1 in (r.0, r.1, inr r.2)
     ]
 
--- two lists, one behind the other
+-- two lists, one after the other
 pub both_appended : {X : Type 0} (both left right : List X) → both ≡ left ++ right → AreBoth both left right
 both_appended {X} both left right e x = (
   λ h. let P : List X → Type 0 = λ xs. Contains xs x in Contains-append_cases left right x (subst P e h),

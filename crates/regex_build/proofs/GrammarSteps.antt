@@ -1,4 +1,4 @@
--- The symbols of a derivation behind others, and the expressions that then wait.
+-- The symbols of a derivation after others, and the expressions that then wait.
 use Rattle.std.proofs.Common.{◌≡◌, refl, sym, ◌∙◌, ap, List, [], ◌∷◌, ◌++◌}
 use Rattle.std.specs.Prelude.{ℤ, pos}
 use Rattle.regex_build.specs.declared.postfix_symbol.PostfixSymbol.{PostfixSymbol}
@@ -33,7 +33,7 @@ stacked-push : (st : List (Expression (List ℤ))) (ss : List PostfixSymbol) (x 
 stacked-push st [] x = refl
 stacked-push st (s ∷ ss) x = stacked-push (after_symbol st s) ss x
 
--- a symbol behind symbols behind which a stack waits
+-- a symbol after symbols after which a stack waits
 pushes : (ss : List PostfixSymbol) (x : PostfixSymbol) (st : List (Expression (List ℤ))) → stacked [] ss ≡ st → stacked [] (ss ++ x ∷ []) ≡ after_symbol st x
 pushes ss x st e = stacked-push [] ss x ∙ ap (λ w. after_symbol w x) e
 

@@ -9,11 +9,11 @@ use Rattle.regex_build.specs.declared.postfix_symbol.PostfixSymbol.{PostfixSymbo
 use Rattle.regex_build.specs.declared.postfix_symbol.PostfixSymbol.TheVariants as kinds
 use Rattle.regex_build.specs.declared.reading.Group.{Group}
 use Rattle.regex_build.specs.declared.reading.Place.{Place}
-use Rattle.regex_build.specs.declared.reading.Place.TheVariants.{AtPost, Behind, AtNumber, BehindNumber}
+use Rattle.regex_build.specs.declared.reading.Place.TheVariants.{AtPost, After, AtNumber, AfterNumber}
 use Rattle.regex_build.specs.Tokens.{Token, bar, star, plus, optional, dot, opening, closing, bracket, comma, unbracket, digit, number, other}
-use Rattle.regex_build.specs.Spots.{inside_behind}
+use Rattle.regex_build.specs.Spots.{inside_after}
 use Rattle.regex_build.specs.Patterns.{AreMembers, IsOver}
-use Rattle.regex_build.specs.Limits.{Around, behind, set_at, IsAllowed}
+use Rattle.regex_build.specs.Limits.{Around, after_token, set_at, IsAllowed}
 use Rattle.regex_build.specs.Machine.{State, gate, symbol_if, pushed, followed, joined, is_fresh, close, enter, step, in_bracket}
 use Rattle.regex_build.specs.Reading.{around}
 use Rattle.regex_build.proofs.ListSteps.{contains_none}
@@ -43,8 +43,8 @@ pub record IsKept (sets : List (List ℤ)) (s : State) : Type 0 where
   pub letter : Partly sets s.letter
 
 pub record Keeps (sets : List (List ℤ)) (s : State) (inside : Bool) (t : Token) (n : State) : Type 0 where
-  pub around_is : behind (around s) t ≡ around n
-  pub inside_is : inside_behind inside t ≡ in_bracket n.place
+  pub around_is : after_token (around s) t ≡ around n
+  pub inside_is : inside_after inside t ≡ in_bracket n.place
   pub kept : IsAllowed sets (around s) t → IsKept sets s → IsKept sets n
 
 abbrev pub KeepsIf : List (List ℤ) → State → Bool → Token → Option State → Type 0
@@ -66,7 +66,7 @@ pub joined_over : (sets : List (List ℤ)) (s : State) → AllByRecursion (IsOve
 joined_over sets s k = if_over sets s.group.alternatives (followed s).symbols kinds.Either tt (if_over sets s.group.sequence s.symbols kinds.Follow tt k)
 
 module _ (sets : List (List ℤ)) where
-  pushes : (os : List Group) (g : Group) (p : Place) (l : List ℤ) (ss : List PostfixSymbol) (t : Token) (x : PostfixSymbol) → behind (around (st os g p l ss)) t ≡ around (st os g p l ss) → inside_behind false t ≡ false → (IsAllowed sets (around (st os g p l ss)) t → IsOver sets x) → Keeps sets (st os g p l ss) false t (pushed (st os g p l ss) x)
+  pushes : (os : List Group) (g : Group) (p : Place) (l : List ℤ) (ss : List PostfixSymbol) (t : Token) (x : PostfixSymbol) → after_token (around (st os g p l ss)) t ≡ around (st os g p l ss) → inside_after false t ≡ false → (IsAllowed sets (around (st os g p l ss)) t → IsOver sets x) → Keeps sets (st os g p l ss) false t (pushed (st os g p l ss) x)
   pushes os g p l ss t x e f o = record { around_is = e; inside_is = f; kept = λ a k. record { symbols = pushed_over sets ss x (o a) k.symbols; letter = k.letter } }
 
   enters : (os : List Group) (g : Group) (p : Place) (l : List ℤ) (ss : List PostfixSymbol) (t : Token) → KeepsIf sets (st os g p l ss) false t (enter (length sets) (st os g p l ss) t)
@@ -94,7 +94,7 @@ module _ (sets : List (List ℤ)) where
   closes (f ∷ os) g p l ss us h q o = record { around_is = refl; inside_is = refl; kept = λ a k. record { symbols = o k.symbols; letter = k.letter } }
 
   -- where a sequence ends with a post first
-  from_followed : (os : List Group) (g : Group) (l : List ℤ) (ss : List PostfixSymbol) (t : Token) (o : Option State) → KeepsIf sets (followed (st os g Behind l ss)) false t o → KeepsIf sets (st os g Behind l ss) false t o
+  from_followed : (os : List Group) (g : Group) (l : List ℤ) (ss : List PostfixSymbol) (t : Token) (o : Option State) → KeepsIf sets (followed (st os g After l ss)) false t o → KeepsIf sets (st os g After l ss) false t o
   from_followed os g l ss t None h = tt
   from_followed os g l ss t (Some n) h = record {
     around_is = h.around_is;
@@ -102,12 +102,12 @@ module _ (sets : List (List ℤ)) where
     kept = λ a k. h.kept a (record { symbols = if_over sets g.sequence ss kinds.Follow tt k.symbols; letter = k.letter });
   }
 
-  new_post : (os : List Group) (g : Group) (l : List ℤ) (ss : List PostfixSymbol) (t : Token) → KeepsIf sets (st os g Behind l ss) false t (enter (length sets) (followed (st os g Behind l ss)) t)
-  new_post os g l ss t = from_followed os g l ss t _ (enters os (record g { sequence = true }) Behind l (symbol_if g.sequence kinds.Follow ss) t)
+  new_post : (os : List Group) (g : Group) (l : List ℤ) (ss : List PostfixSymbol) (t : Token) → KeepsIf sets (st os g After l ss) false t (enter (length sets) (followed (st os g After l ss)) t)
+  new_post os g l ss t = from_followed os g l ss t _ (enters os (record g { sequence = true }) After l (symbol_if g.sequence kinds.Follow ss) t)
 
   keeps_at : (os : List Group) (g : Group) (p : Place) (l : List ℤ) (ss : List PostfixSymbol) (t : Token) → KeepsIf sets (st os g p l ss) (in_bracket p) t (step (length sets) (st os g p l ss) t)
   keeps_at os g AtPost l ss closing =
-      gated sets (st os g AtPost l ss) false closing (is_fresh g) _ (λ e. closes os g AtPost l ss (ss ++ kinds.Empty ∷ []) g Behind (λ k. pushed_over sets ss kinds.Empty tt k))
+      gated sets (st os g AtPost l ss) false closing (is_fresh g) _ (λ e. closes os g AtPost l ss (ss ++ kinds.Empty ∷ []) g After (λ k. pushed_over sets ss kinds.Empty tt k))
   keeps_at os g AtPost l ss (digit d) = enters os g AtPost l ss (digit d)
   keeps_at os g AtPost l ss dot = enters os g AtPost l ss dot
   keeps_at os g AtPost l ss opening = enters os g AtPost l ss opening
@@ -120,20 +120,20 @@ module _ (sets : List (List ℤ)) where
   keeps_at os g AtPost l ss unbracket = tt
   keeps_at os g AtPost l ss (number z) = tt
   keeps_at os g AtPost l ss other = tt
-  keeps_at os g Behind l ss star = pushes os g Behind l ss star kinds.Star refl refl (λ a. tt)
-  keeps_at os g Behind l ss plus = pushes os g Behind l ss plus kinds.Plus refl refl (λ a. tt)
-  keeps_at os g Behind l ss optional = pushes os g Behind l ss optional kinds.Optional refl refl (λ a. tt)
-  keeps_at os g Behind l ss bar = record { around_is = refl; inside_is = refl; kept = λ a k. record { symbols = joined_over sets (st os g Behind l ss) k.symbols; letter = k.letter } }
-  keeps_at os g Behind l ss closing =
-      closes os g Behind l ss (joined (st os g Behind l ss)).symbols (record { alternatives = true; sequence = false }) Behind (λ k. joined_over sets (st os g Behind l ss) k)
-  keeps_at os g Behind l ss (digit d) = new_post os g l ss (digit d)
-  keeps_at os g Behind l ss dot = new_post os g l ss dot
-  keeps_at os g Behind l ss opening = new_post os g l ss opening
-  keeps_at os g Behind l ss bracket = new_post os g l ss bracket
-  keeps_at os g Behind l ss comma = tt
-  keeps_at os g Behind l ss unbracket = tt
-  keeps_at os g Behind l ss (number z) = tt
-  keeps_at os g Behind l ss other = tt
+  keeps_at os g After l ss star = pushes os g After l ss star kinds.Star refl refl (λ a. tt)
+  keeps_at os g After l ss plus = pushes os g After l ss plus kinds.Plus refl refl (λ a. tt)
+  keeps_at os g After l ss optional = pushes os g After l ss optional kinds.Optional refl refl (λ a. tt)
+  keeps_at os g After l ss bar = record { around_is = refl; inside_is = refl; kept = λ a k. record { symbols = joined_over sets (st os g After l ss) k.symbols; letter = k.letter } }
+  keeps_at os g After l ss closing =
+      closes os g After l ss (joined (st os g After l ss)).symbols (record { alternatives = true; sequence = false }) After (λ k. joined_over sets (st os g After l ss) k)
+  keeps_at os g After l ss (digit d) = new_post os g l ss (digit d)
+  keeps_at os g After l ss dot = new_post os g l ss dot
+  keeps_at os g After l ss opening = new_post os g l ss opening
+  keeps_at os g After l ss bracket = new_post os g l ss bracket
+  keeps_at os g After l ss comma = tt
+  keeps_at os g After l ss unbracket = tt
+  keeps_at os g After l ss (number z) = tt
+  keeps_at os g After l ss other = tt
   keeps_at os g AtNumber l ss (number z) =
       let e : suc (length l) ≡ length (l ++ z ∷ []) = (let f = length-append l (z ∷ []) in omega (arith, f)) in
       record {
@@ -142,17 +142,17 @@ module _ (sets : List (List ℤ)) where
         kept = λ a k. record { symbols = k.symbols; letter = partly_more sets l z k.letter a.1 };
       }
   keeps_at os g AtNumber l ss _ = tt
-  keeps_at os g BehindNumber l ss comma =
-      gated sets (st os g BehindNumber l ss) true comma (nat_lt (length l) (length sets)) _ (λ e. record { around_is = refl; inside_is = refl; kept = λ a k. record { symbols = k.symbols; letter = k.letter } })
-  keeps_at os g BehindNumber l ss unbracket =
-      gated sets (st os g BehindNumber l ss) true unbracket (length l == length sets) _
+  keeps_at os g AfterNumber l ss comma =
+      gated sets (st os g AfterNumber l ss) true comma (nat_lt (length l) (length sets)) _ (λ e. record { around_is = refl; inside_is = refl; kept = λ a k. record { symbols = k.symbols; letter = k.letter } })
+  keeps_at os g AfterNumber l ss unbracket =
+      gated sets (st os g AfterNumber l ss) true unbracket (length l == length sets) _
       (λ e. record {
         around_is = refl;
         inside_is = refl;
         kept = λ a k. record { symbols = pushed_over sets ss (kinds.Letter l) (partly_all sets l k.letter (grind (arith, nat_tests))) k.symbols; letter = tt };
       })
-  keeps_at os g BehindNumber l ss _ = tt
+  keeps_at os g AfterNumber l ss _ = tt
 
--- behind a token that is read
+-- after a token that is read
 pub keeps : (sets : List (List ℤ)) (s n : State) (t : Token) → step (length sets) s t ≡ Some n → Keeps sets s (in_bracket s.place) t n
 keeps sets s n t e = subst (λ (o : Option State). KeepsIf sets s (in_bracket s.place) t o) e (keeps_at sets s.outer s.group s.place s.letter s.symbols t)

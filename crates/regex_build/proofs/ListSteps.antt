@@ -105,7 +105,7 @@ zip_at R (a ∷ xs) [] i x y h l = absurd h
 zip_at R (a ∷ xs) (b ∷ ys) zero x y h l = h.0
 zip_at R (a ∷ xs) (b ∷ ys) (suc i) x y h l = zip_at R xs ys i x y h.1 (omega arith)
 
--- what stands beside two lists, one behind the other
+-- what is beside two lists, one after the other
 pub record ZipParts {X Y : Type 0} (R : X → Y → Type 0) (xs us : List X) (ys : List Y) : Type 0 where
   pub first : List Y
   pub second : List Y
@@ -128,15 +128,15 @@ zip_weaker_where P R S f (x ∷ xs) (y ∷ ys) p h = (f x y p.0 h.0, zip_weaker_
 
 -- two lists that are the same have the same last element, and the same before it
 pub record SameEnds {X : Type 0} (xs : List X) (x : X) (ys : List X) (y : X) : Type 0 where
-  pub front : xs ≡ ys
+  pub prefix : xs ≡ ys
   pub last : x ≡ y
 
 pub same_ends : {X : Type 0} (xs : List X) (x : X) (ys : List X) (y : X) → xs ++ x ∷ [] ≡ ys ++ y ∷ [] → SameEnds xs x ys y
-same_ends [] x [] y h = record { front = refl; last = cc }
+same_ends [] x [] y h = record { prefix = refl; last = cc }
 same_ends [] x (z ∷ ys) y h = let e : [] ≡ ys ++ y ∷ [] = cc in absurd (middle_is_some ys y [] (sym e))
 same_ends (z ∷ xs) x [] y h = let e : xs ++ x ∷ [] ≡ [] = cc in absurd (middle_is_some xs x [] e)
 same_ends (z ∷ xs) x (t ∷ ys) y h =
     let e : xs ++ x ∷ [] ≡ ys ++ y ∷ [] = cc in
     let s = same_ends xs x ys y e in
     let head : z ≡ t = cc in
-    record { front = ap (λ w. w ∷ xs) head ∙ ap (λ ws. t ∷ ws) s.front; last = s.last }
+    record { prefix = ap (λ w. w ∷ xs) head ∙ ap (λ ws. t ∷ ws) s.prefix; last = s.last }

@@ -1,4 +1,4 @@
--- Words over the places that pass through one place may be crossed there, so such a word is told by its pairs of neighbours.
+-- Words over the places that pass through one place may be crossed there, so such a word is determined by its pairs of neighbours.
 use Rattle.std.proofs.Common.{◌≡◌, ℕ, zero, suc, ◌+◌, List, [], ◌∷◌, ◌++◌, length, inl, inr, refl, sym, ap, ◌∙◌, subst, arith, append_assoc}
 use Rattle.std.specs.List.{AllByRecursion}
 use Rattle.digit_tuple.proofs.AllLemmas.{all_append}
@@ -8,7 +8,7 @@ use Rattle.regex_build.specs.Positions.{ComesNext, MayEnd}
 use Rattle.regex_build.proofs.ListSteps.{middle_is_some, middle_of_one, middle-append, joined-append}
 use Rattle.regex_build.proofs.PlaceWords.{IsWithin, place_within}
 
--- the piece in which an element stands, and the pieces round it
+-- the piece in which an element is, and the pieces round it
 pub record InPiece (P : List ℕ → Type 0) (u : List ℕ) (place : ℕ) (v : List ℕ) : Type 0 where
   pub pieces : List (List ℕ)
   pub first : List ℕ
@@ -40,21 +40,21 @@ in_piece P (piece ∷ pieces) u place v all h =
           }
     ]
 
--- the pieces before an element and its piece's front, then the rest of another piece and the pieces after it
+-- the pieces before an element and its piece's prefix, then the rest of another piece and the pieces after it
 crossed : (pieces : List (List ℕ)) (first : List ℕ) (place : ℕ) (last : List ℕ) (more : List (List ℕ))
     → (joined pieces ++ first) ++ place ∷ (last ++ joined more) ≡ joined (pieces ++ (first ++ place ∷ last) ∷ more)
 crossed pieces first place last more =
     append_assoc (joined pieces) first (place ∷ (last ++ joined more))
     ∙ (ap (λ w. joined pieces ++ w) (sym (append_assoc first (place ∷ last) (joined more))) ∙ sym (joined-append pieces ((first ++ place ∷ last) ∷ more)))
 
--- no place is one of two expressions one behind the other
+-- no place is one of two expressions one after the other
 pub places_apart : {L : Type 0} (n : ℕ) (e f : Expression L) (u : List ℕ) (place : ℕ) (v s t : List ℕ) → Matches (placed n e) (u ++ place ∷ v) → Matches (placed (n + length (occurrences_in e)) f) (s ++ place ∷ t) → ⊥
 places_apart n e f u place v s t a b =
     let w : IsWithin n (n + length (occurrences_in e)) place = place_within n e u place v a in
     let x : IsWithin (n + length (occurrences_in e)) (n + length (occurrences_in e) + length (occurrences_in f)) place = place_within (n + length (occurrences_in e)) f s place t b in
     omega arith
 
--- two words through one place: the front of the one and the rest of the other
+-- two words through one place: the prefix of the one and the rest of the other
 pub merged : {L : Type 0} (n : ℕ) (e : Expression L) (place : ℕ) (u v s t : List ℕ) → Matches (placed n e) (u ++ place ∷ v) → Matches (placed n e) (s ++ place ∷ t) → Matches (placed n e) (u ++ place ∷ t)
 merged n empty place u v s t a b = absurd (middle_is_some u place v a)
 merged n (letter x) place u v s t a b =

@@ -26,7 +26,7 @@ nothing_right : (u v : List ℕ) → [] ≡ u ++ v → v ≡ []
 nothing_right [] v h = sym h
 nothing_right (x ∷ u) v h = cc
 
--- a word through two elements, cut behind the first
+-- a word through two elements, cut after the first
 cut : (u : List ℕ) (x y : ℕ) (v : List ℕ) → (u ++ x ∷ []) ++ y ∷ v ≡ u ++ x ∷ y ∷ v
 cut u x y v = append_assoc u (x ∷ []) (y ∷ v)
 
@@ -40,7 +40,7 @@ last_of_either e f x h = elim h.1 [ inl m ↦ inl (h.0, m) | inr m ↦ inr (h.0,
 pub next_of_either : (e f : Expression ℕ) (x y : ℕ) → IsNext (either e f) x y → IsNext e x y ⊎ IsNext f x y
 next_of_either e f x y h = elim h.2 [ inl m ↦ inl (h.0, h.1, m) | inr m ↦ inr (h.0, h.1, m) ]
 
--- two expressions, one behind the other
+-- two expressions, one after the other
 pub nullable_of_follow : (e f : Expression ℕ) → Matches (follow e f) [] → Matches e [] × Matches f []
 nullable_of_follow e f m =
     let P : List ℕ → Type 0 = λ w. Matches e w in
@@ -99,7 +99,7 @@ next_in_right e f x y h = let a = some_word e in (a.0 ++ h.0, h.1, (a.0, h.0 ++ 
 pub next_between : (e f : Expression ℕ) (x y : ℕ) → IsLast e x → IsFirst f y → IsNext (follow e f) x y
 next_between e f x y h k = (h.0, k.0, (h.0 ++ x ∷ [], y ∷ k.0, sym (cut h.0 x y k.0), h.1, k.1))
 
--- pieces of an expression, one behind the other
+-- pieces of an expression, one after the other
 first_of_pieces : (e : Expression ℕ) (y : ℕ) (v : List ℕ) (pieces : List (List ℕ)) → AllByRecursion (Matches e) pieces → y ∷ v ≡ joined pieces → IsFirst e y
 first_of_pieces e y v [] all s = cc
 first_of_pieces e y v ([] ∷ pieces) all s = first_of_pieces e y v pieces all.1 s

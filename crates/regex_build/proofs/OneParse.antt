@@ -10,16 +10,16 @@ use Rattle.regex_build.specs.Tokens.{Token, bar, star, plus, optional, dot, open
 use Rattle.regex_build.specs.Spots.{tokens, byte_of}
 use Rattle.regex_build.specs.Grammar.{Spells}
 use Rattle.regex_build.specs.Patterns.{Pattern}
-use Rattle.regex_build.specs.Limits.{Around, nothing, behind, behind_all, IsAllowed, AreAllowed}
+use Rattle.regex_build.specs.Limits.{Around, nothing, after_token, after_all, IsAllowed, AreAllowed}
 use Rattle.regex_build.specs.Parsing.{token_at, IsNumber, IsOpening, IsStuckAt, IsRefusedAt, IsTextOf, OneAnswer}
 use Rattle.regex_build.proofs.Law.{one_tree}
 
--- each token of a front is allowed
-allowed_at : (sets : List (List ℤ)) (a : Around) (ts : List Token) (i j : ℕ) → j < i → j < length ts → AreAllowed sets a (take i ts) → IsAllowed sets (behind_all a (take j ts)) (token_at ts j)
+-- each token of a prefix is allowed
+allowed_at : (sets : List (List ℤ)) (a : Around) (ts : List Token) (i j : ℕ) → j < i → j < length ts → AreAllowed sets a (take i ts) → IsAllowed sets (after_all a (take j ts)) (token_at ts j)
 allowed_at sets a ts zero j l m h = absurd (omega arith)
 allowed_at sets a [] (suc i) j l m h = absurd (omega arith)
 allowed_at sets a (t ∷ ts) (suc i) zero l m h = h.0
-allowed_at sets a (t ∷ ts) (suc i) (suc j) l m h = allowed_at sets (behind a t) ts i j (omega arith) (omega arith) h.1
+allowed_at sets a (t ∷ ts) (suc i) (suc j) l m h = allowed_at sets (after_token a t) ts i j (omega arith) (omega arith) h.1
 
 not_both : (sets : List (List ℤ)) (ts : List Token) (i j : ℕ) → IsStuckAt sets ts i → IsRefusedAt sets ts j → ⊥
 not_both sets ts i j a b =

@@ -7,12 +7,12 @@ use Rattle.regex_build.specs.Expression.{Expression, empty, letter, any, either,
 use Rattle.regex_build.specs.Matches.{Matches, joined}
 use Rattle.regex_build.proofs.ListSteps.{zip-append, zip-weaker, zip_parts, zip_weaker_where}
 
--- the letter may stand at the occurrence
+-- the letter may be at the occurrence
 abbrev pub Allows : {L : Type 0} → Option L → L → Type 0
 Allows (Some y) x = y ≡ x
 Allows {L} None x = Unit {0}
 
--- the letter may stand at a place of a list of occurrences whose first place is n
+-- the letter may be at a place of a list of occurrences whose first place is n
 abbrev pub StandsAt : {L : Type 0} → ℕ → List (Option L) → ℕ → L → Type 0
 StandsAt n [] place x = ⊥
 StandsAt n (o ∷ os) place x = ((place ≡ n) × Allows o x) ⊎ StandsAt (n + 1) os place x
@@ -32,7 +32,7 @@ stands_within n (o ∷ os) place x h =
       | inr q ↦ let w : IsWithin (n + 1) (n + 1 + length os) place = stands_within (n + 1) os place x q in record { low_le = omega arith; below = omega arith }
     ]
 
--- of two lists of occurrences one behind the other
+-- of two lists of occurrences one after the other
 pub stands_left : {L : Type 0} (n : ℕ) (os ps : List (Option L)) (place : ℕ) (x : L) → StandsAt n os place x → StandsAt n (os ++ ps) place x
 stands_left n [] ps place x h = absurd h
 stands_left n (o ∷ os) ps place x h =

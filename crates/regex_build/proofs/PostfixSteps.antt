@@ -53,7 +53,7 @@ counts_follow symbol waiting after e few many = let P : PostfixSymbol → Type 0
     one (x ∷ []) h = let k : after ≡ waiting = few (omega arith) in omega arith
     one (x ∷ y ∷ stack) h = let k : after + 1 ≡ waiting = many (omega arith) in omega arith
 
--- a sign behind one expression
+-- a sign after one expression
 pub counts_other : (symbol : PostfixSymbol) (waiting : ℕ) → (symbol ≡ Empty → ⊥) → ((x : List ℤ) → symbol ≡ Letter x → ⊥) → (symbol ≡ Any → ⊥) → (symbol ≡ Either → ⊥) → (symbol ≡ Follow → ⊥) → Counts symbol waiting waiting
 counts_other Empty waiting a b c d e = absurd (a refl)
 counts_other (Letter x) waiting a b c d e = absurd (b x refl)
@@ -88,7 +88,7 @@ count_more symbols i symbol waiting after l e h counts =
     let one : take (i + 1) symbols ≡ take i symbols ++ symbol ∷ [] = take_more symbols i symbol l ∙ ap (λ s. take i symbols ++ s ∷ []) (sym e) in
     sym (ap (λ xs. length (stacked [] xs)) one ∙ (ap length (stacked-push [] (take i symbols) symbol) ∙ counts (stacked [] (take i symbols)) (sym h)))
 
--- one expression waits at the end exactly where the symbols are in postfix order
+-- one expression waits at the end if and only if the symbols are in postfix order
 pub postfix_from_count : (symbols : List PostfixSymbol) (i waiting : ℕ) → length symbols ≤ i → waiting ≡ length (stacked [] (take i symbols)) → waiting ≡ 1 → IsPostfix symbols
 postfix_from_count symbols i waiting l h one = alone (stacked [] symbols) (ap (λ xs. length (stacked [] xs)) (sym (take_all i symbols l)) ∙ (sym h ∙ one))
   where

@@ -1,4 +1,4 @@
--- The letters that may stand at the occurrences of an expression.
+-- The letters that may be at the occurrences of an expression.
 use Rattle.std.proofs.Common.{◌≡◌, ℕ, zero, suc, ◌+◌, ◌<◌, ◌≤◌, ◌↔◌, ℤ, List, [], ◌∷◌, ◌++◌, length, refl, sym, ap, ◌∙◌, subst, arith, get_or, take, append_assoc, append-nil, Option, None, Some}
 use Rattle.std.specs.Prelude.{All, slice_get, IsSomeAnd}
 use Rattle.std.specs.List.{AllZip, flat_map}
@@ -18,7 +18,7 @@ use Rattle.regex_build.specs.Codes.{IsInRange, IsRangeOf, occurrence_in, occurre
 use Rattle.regex_build.specs.Rows.{IsLetterAt}
 use Rattle.regex_build.proofs.ListSteps.{zip-append}
 
--- a letter stands alone in its range
+-- a letter is alone in its range
 pub range_of_letter : (sets : List (List ℤ)) (x : List ℤ) (number : ℕ) → All IsLetterSet sets → IsLetterOf sets x number → IsRangeOf sets (Some x) (record { first = number; end = number + 1 })
 range_of_letter sets x number are is a =
     let up : All IsAscending sets = All-weaker IsLetterSet IsAscending (λ s h. h.ascending) sets are in

@@ -8,7 +8,7 @@ use Rattle.regex_build.specs.declared.postfix_symbol.PostfixSymbol.TheVariants a
 use Rattle.regex_build.specs.declared.fault.Refusal.{Refusal}
 use Rattle.regex_build.specs.declared.reading.Group.{Group}
 use Rattle.regex_build.specs.declared.reading.Place.{Place}
-use Rattle.regex_build.specs.declared.reading.Place.TheVariants.{AtPost, Behind, AtNumber, BehindNumber}
+use Rattle.regex_build.specs.declared.reading.Place.TheVariants.{AtPost, After, AtNumber, AfterNumber}
 use Rattle.regex_build.specs.declared.reading.Reading.{Reading}
 use Rattle.regex_build.specs.Tokens.{opening, closing}
 use Rattle.regex_build.specs.Machine.{State, fresh, pushed, joined, close, is_fresh, ended, ended_at}
@@ -30,15 +30,15 @@ unclosed_at (g ∷ gs) p s h = refl
 pub unclosed : (r : Reading) → (length r.outer.items ≡ 0 → ⊥) → ended (state_view r) ≡ None
 unclosed r h = unclosed_at (fold (λ gs g. g ∷ gs) [] r.outer.items) r.place (state_view r) (λ e. let l = length_reversed r.outer.items in h (omega (arith, l, e)))
 
-unended_at : (gs : List Group) (p : Place) (s : State) → (p ≡ Behind → ⊥) → ended_at gs p s ≡ None
+unended_at : (gs : List Group) (p : Place) (s : State) → (p ≡ After → ⊥) → ended_at gs p s ≡ None
 unended_at [] AtPost s h = refl
-unended_at [] Behind s h = absurd (h refl)
+unended_at [] After s h = absurd (h refl)
 unended_at [] AtNumber s h = refl
-unended_at [] BehindNumber s h = refl
+unended_at [] AfterNumber s h = refl
 unended_at (g ∷ gs) p s h = refl
 
 -- a text that ends where a post or a number must come
-pub unended : (r : Reading) → (r.place ≡ Behind → ⊥) → ended (state_view r) ≡ None
+pub unended : (r : Reading) → (r.place ≡ After → ⊥) → ended (state_view r) ≡ None
 unended r h = unended_at (fold (λ gs g. g ∷ gs) [] r.outer.items) r.place (state_view r) h
 
 -- a `)` where nothing has come in its parentheses
@@ -46,8 +46,8 @@ pub closes_empty : (sets : List (List ℤ)) (s m n : State) (result : Result (Un
 closes_empty sets s m n result f e h =
     subst (λ o. Answers o ⊤ closing n result) (ap (λ (x : State). close x.outer x) e ∙ sym (opened (is_fresh s.group) (close s.outer (pushed s kinds.Empty)) f)) h
 
--- a `)` behind a post
-pub closes_group : (sets : List (List ℤ)) (s m n : State) (result : Result (Unit {0}) Refusal) → m ≡ joined s → Answers (close m.outer m) ⊤ closing n result → GivesAt Behind sets s closing n result
+-- a `)` after a post
+pub closes_group : (sets : List (List ℤ)) (s m n : State) (result : Result (Unit {0}) Refusal) → m ≡ joined s → Answers (close m.outer m) ⊤ closing n result → GivesAt After sets s closing n result
 closes_group sets s m n result e h = subst (λ o. Answers o ⊤ closing n result) (ap (λ (x : State). close x.outer x) e) h
 
 -- a group is opened

@@ -1,4 +1,4 @@
--- The edges of a state, as they are added.
+-- The transitions of a state, as they are added.
 use Rattle.std.proofs.Common.{◌≡◌, ◌==◌, ◌&&◌, ℕ, zero, suc, ◌+◌, ◌-◌, ◌<◌, ◌≤◌, ◌↔◌, Bool, List, [], ◌∷◌, ◌++◌, length, ◌⊎◌, inl, inr, sym, ap, ◌∙◌, subst, arith, get_or, take}
 use Rattle.std.specs.Prelude.{Contains, slice_get, IsSomeAnd}
 use Rattle.std.specs.List.{dedup}
@@ -8,56 +8,56 @@ use Rattle.std.proofs.lemmas.List.{take_all, get_or_append_left, get_or_push, le
 use Rattle.std.proofs.lemmas.List.Elements.{Contains-append_left, Contains-push, Contains-push_cases}
 use Rattle.std.proofs.lemmas.List.Kept.{Contains-from_dedup}
 use Rattle.std.proofs.lemmas.List.Sorted.{Contains-permutation, IsPermutation-sym}
-use Rattle.digit_tuple.specs.declared.edges.Edge.{Edge}
-use Rattle.digit_tuple.specs.declared.edges.NfaState.{NfaState}
-use Rattle.digit_tuple.proofs.EdgeLemmas.{Contains-dedup, edges_tell}
+use Rattle.digit_tuple.specs.declared.transitions.Transition.{Transition}
+use Rattle.digit_tuple.specs.declared.transitions.NfaState.{NfaState}
+use Rattle.digit_tuple.proofs.TransitionLemmas.{Contains-dedup, transitions_tell}
 use Rattle.regex_build.specs.declared.codes.LetterRange.{LetterRange}
 use Rattle.regex_build.specs.declared.next_places.NextPlaces.{NextPlaces}
 use Rattle.regex_build.specs.Codes.{IsInRange}
-use Rattle.regex_build.specs.Rows.{IsLetterAt, IsEdgeTo, IsStateAt, AreStates}
+use Rattle.regex_build.specs.Rows.{IsLetterAt, IsTransitionTo, IsStateAt, AreStates}
 use Rattle.regex_build.proofs.ListSteps.{contains_none}
 use Rattle.regex_build.proofs.LinkSteps.{contained_more}
 
--- the edge has this target, and a letter from the first one on and before the other
-abbrev pub IsBetween : ℕ → ℕ → ℕ → Edge → Type 0
+-- the transition has this target, and a letter from the first one on and before the other
+abbrev pub IsBetween : ℕ → ℕ → ℕ → Transition → Type 0
 IsBetween place low high x = (x.target ≡ place) × ((low ≤ x.letter) × (x.letter < high))
 
-abbrev edge : ℕ → ℕ → Edge
-edge a place = record { letter = a; target = place }
+abbrev transition : ℕ → ℕ → Transition
+transition a place = record { letter = a; target = place }
 
-same_edge : (x : Edge) (a place : ℕ) → x.letter ≡ a → x.target ≡ place → edge a place ≡ x
-same_edge x a place e f = ap (λ (b : ℕ). let y : Edge = record { letter = b; target = place } in y) (sym e) ∙ ap (λ (t : ℕ). let y : Edge = record { letter = x.letter; target = t } in y) (sym f)
+same_transition : (x : Transition) (a place : ℕ) → x.letter ≡ a → x.target ≡ place → transition a place ≡ x
+same_transition x a place e f = ap (λ (b : ℕ). let y : Transition = record { letter = b; target = place } in y) (sym e) ∙ ap (λ (t : ℕ). let y : Transition = record { letter = x.letter; target = t } in y) (sym f)
 
 -- one letter more
-pub edges_more : (start old new : List Edge) (place low a : ℕ) → low ≤ a → ((x : Edge) → Contains old x ↔ (Contains start x ⊎ IsBetween place low a x)) → new ≡ old ++ edge a place ∷ []
-    → (x : Edge) → Contains new x ↔ (Contains start x ⊎ IsBetween place low (a + 1) x)
-edges_more start old new place low a l so e x =
-    let P : List Edge → Type 0 = λ xs. Contains xs x in (
-      λ h. elim (Contains-push_cases old (edge a place) x (subst P e h)) [
+pub transitions_more : (start old new : List Transition) (place low a : ℕ) → low ≤ a → ((x : Transition) → Contains old x ↔ (Contains start x ⊎ IsBetween place low a x)) → new ≡ old ++ transition a place ∷ []
+    → (x : Transition) → Contains new x ↔ (Contains start x ⊎ IsBetween place low (a + 1) x)
+transitions_more start old new place low a l so e x =
+    let P : List Transition → Type 0 = λ xs. Contains xs x in (
+      λ h. elim (Contains-push_cases old (transition a place) x (subst P e h)) [
         | inl k ↦ elim ((so x).0 k) [ inl s ↦ inl s | inr s ↦ let high : x.letter < a = s.1.1 in inr (s.0, (s.1.0, omega arith)) ]
         | inr k ↦
-            let is : a ≡ x.letter = ap (λ (y : Edge). y.letter) k in
-            let at : place ≡ x.target = ap (λ (y : Edge). y.target) k in
+            let is : a ≡ x.letter = ap (λ (y : Transition). y.letter) k in
+            let at : place ≡ x.target = ap (λ (y : Transition). y.target) k in
             inr (sym at, (omega arith, omega arith))
       ],
       λ h. subst P (sym e) (elim h [
-        | inl s ↦ Contains-append_left old (edge a place ∷ []) x ((so x).1 (inl s))
+        | inl s ↦ Contains-append_left old (transition a place ∷ []) x ((so x).1 (inl s))
         | inr s ↦ elim (cases_lt x.letter a) [
-          | inl below ↦ Contains-append_left old (edge a place ∷ []) x ((so x).1 (inr (s.0, (s.1.0, below))))
+          | inl below ↦ Contains-append_left old (transition a place ∷ []) x ((so x).1 (inr (s.0, (s.1.0, below))))
           | inr above ↦
               let high : x.letter < a + 1 = s.1.1 in
               let is : x.letter ≡ a = omega arith in
-              let Q : Edge → Type 0 = λ y. Contains (old ++ edge a place ∷ []) y in
-              subst Q (same_edge x a place is s.0) (Contains-push old (edge a place))
+              let Q : Transition → Type 0 = λ y. Contains (old ++ transition a place ∷ []) y in
+              subst Q (same_transition x a place is s.0) (Contains-push old (transition a place))
         ]
       ]),
     )
 
-pub edges_none : (start : List Edge) (place low : ℕ) (x : Edge) → Contains start x ↔ (Contains start x ⊎ IsBetween place low low x)
-edges_none start place low x = (λ h. inl h, λ h. elim h [ inl s ↦ s | inr s ↦ let a : low ≤ x.letter = s.1.0 in let b : x.letter < low = s.1.1 in absurd (omega arith) ])
+pub transitions_none : (start : List Transition) (place low : ℕ) (x : Transition) → Contains start x ↔ (Contains start x ⊎ IsBetween place low low x)
+transitions_none start place low x = (λ h. inl h, λ h. elim h [ inl s ↦ s | inr s ↦ let a : low ≤ x.letter = s.1.0 in let b : x.letter < low = s.1.1 in absurd (omega arith) ])
 
-pub edges_whole : (start edges : List Edge) (place low a high : ℕ) → high ≤ a → low ≤ a → (a ≡ low) ⊎ (a ≤ high) → ((x : Edge) → Contains edges x ↔ (Contains start x ⊎ IsBetween place low a x)) → (x : Edge) → Contains edges x ↔ (Contains start x ⊎ IsBetween place low high x)
-edges_whole start edges place low a high l m n so x = (
+pub transitions_whole : (start transitions : List Transition) (place low a high : ℕ) → high ≤ a → low ≤ a → (a ≡ low) ⊎ (a ≤ high) → ((x : Transition) → Contains transitions x ↔ (Contains start x ⊎ IsBetween place low a x)) → (x : Transition) → Contains transitions x ↔ (Contains start x ⊎ IsBetween place low high x)
+transitions_whole start transitions place low a high l m n so x = (
   λ h. elim ((so x).0 h) [ inl s ↦ inl s | inr s ↦ inr (s.0, (s.1.0, within s.1.0 s.1.1)) ],
   λ h. (so x).1 (elim h [ inl s ↦ inl s | inr s ↦ let b : x.letter < high = s.1.1 in inr (s.0, (s.1.0, omega arith)) ]),
 )
@@ -77,13 +77,13 @@ letter_at_place ranges (suc k) range a l m e =
     let s : suc k - 1 ≡ k = omega arith in
     range_at ranges k range a (omega arith) (e ∙ ap (λ j. get_or ranges j range) s)
 
-pub edge_to_none : (ranges : List LetterRange) (edges : List Edge) → edges ≡ [] → (x : Edge) → Contains edges x ↔ IsEdgeTo ranges [] x
-edge_to_none ranges edges e x = let P : List Edge → Type 0 = λ xs. Contains xs x in (λ h. absurd (contains_none x (subst P e h)), λ h. absurd (contains_none x.target h.0))
+pub transition_to_none : (ranges : List LetterRange) (transitions : List Transition) → transitions ≡ [] → (x : Transition) → Contains transitions x ↔ IsTransitionTo ranges [] x
+transition_to_none ranges transitions e x = let P : List Transition → Type 0 = λ xs. Contains xs x in (λ h. absurd (contains_none x (subst P e h)), λ h. absurd (contains_none x.target h.0))
 
 -- one next place more
-pub edge_to_more : (ranges : List LetterRange) (next : List ℕ) (i place : ℕ) (range : LetterRange) (old new : List Edge) → i < length next → place ≡ get_or next i place → 0 < place → place ≤ length ranges → range ≡ get_or ranges (place - 1) range
-    → ((x : Edge) → Contains old x ↔ IsEdgeTo ranges (take i next) x) → ((x : Edge) → Contains new x ↔ (Contains old x ⊎ ((x.target ≡ place) × IsInRange range x.letter))) → (x : Edge) → Contains new x ↔ IsEdgeTo ranges (take (i + 1) next) x
-edge_to_more ranges next i place range old new l at low high is so also x =
+pub transition_to_more : (ranges : List LetterRange) (next : List ℕ) (i place : ℕ) (range : LetterRange) (old new : List Transition) → i < length next → place ≡ get_or next i place → 0 < place → place ≤ length ranges → range ≡ get_or ranges (place - 1) range
+    → ((x : Transition) → Contains old x ↔ IsTransitionTo ranges (take i next) x) → ((x : Transition) → Contains new x ↔ (Contains old x ⊎ ((x.target ≡ place) × IsInRange range x.letter))) → (x : Transition) → Contains new x ↔ IsTransitionTo ranges (take (i + 1) next) x
+transition_to_more ranges next i place range old new l at low high is so also x =
     let c = contained_more next i place l at x.target in
     let P : ℕ → Type 0 = λ p. IsLetterAt ranges p x.letter in (
       λ h. elim ((also x).0 h) [
@@ -96,18 +96,18 @@ edge_to_more ranges next i place range old new l at low high is so also x =
       ]),
     )
 
-abbrev pub same : Edge → Edge → Bool
+abbrev pub same : Transition → Transition → Bool
 same e f = (e.letter == f.letter) && (e.target == f.target)
 
--- the edges, sorted and none twice
-pub edge_to_all : (ranges : List LetterRange) (next : List ℕ) (i : ℕ) (edges sorted made : List Edge) → length next ≤ i → IsPermutation edges sorted → made ≡ dedup same sorted → ((x : Edge) → Contains edges x ↔ IsEdgeTo ranges (take i next) x)
-    → (x : Edge) → Contains made x ↔ IsEdgeTo ranges next x
-edge_to_all ranges next i edges sorted made l moved left so x =
-    let P : List ℕ → Type 0 = λ xs. (Contains edges x → IsEdgeTo ranges xs x) × (IsEdgeTo ranges xs x → Contains edges x) in
+-- the transitions, sorted and none twice
+pub transition_to_all : (ranges : List LetterRange) (next : List ℕ) (i : ℕ) (transitions sorted made : List Transition) → length next ≤ i → IsPermutation transitions sorted → made ≡ dedup same sorted → ((x : Transition) → Contains transitions x ↔ IsTransitionTo ranges (take i next) x)
+    → (x : Transition) → Contains made x ↔ IsTransitionTo ranges next x
+transition_to_all ranges next i transitions sorted made l moved left so x =
+    let P : List ℕ → Type 0 = λ xs. (Contains transitions x → IsTransitionTo ranges xs x) × (IsTransitionTo ranges xs x → Contains transitions x) in
     let r = subst P (take_all i next l) (so x) in
-    let Q : List Edge → Type 0 = λ es. Contains es x in (
-      λ h. r.0 (Contains-permutation sorted edges x (IsPermutation-sym edges sorted moved) (Contains-from_dedup same sorted x (subst Q left h))),
-      λ h. subst Q (sym left) (Contains-dedup same edges_tell sorted x (Contains-permutation edges sorted x moved (r.1 h))),
+    let Q : List Transition → Type 0 = λ es. Contains es x in (
+      λ h. r.0 (Contains-permutation sorted transitions x (IsPermutation-sym transitions sorted moved) (Contains-from_dedup same sorted x (subst Q left h))),
+      λ h. subst Q (sym left) (Contains-dedup same transitions_tell sorted x (Contains-permutation transitions sorted x moved (r.1 h))),
     )
 
 -- one state more

@@ -6,11 +6,11 @@ use Rattle.std.proofs.Math.Seq.{drop-cons, drop-length}
 use Rattle.std.proofs.lemmas.List.{length-drop}
 use Rattle.text_grammar.specs.declared.class.Class.TheVariants.{Blank, Digit, DigitOrBlank}
 use Rattle.text_grammar.specs.Bytes.{is_blank, is_digit}
-use Rattle.text_grammar.specs.Fronts.{begins_in, behind_front}
+use Rattle.text_grammar.specs.Prefixes.{begins_in, after_prefix}
 use Rattle.text_grammar.specs.Numbers.{value_after}
 use Rattle.text_grammar.specs.Spots.{Lexeme, lexeme_of, spots_from}
 use Rattle.text_grammar.specs.Signs.{sign_of}
-use Rattle.text_grammar.proofs.FrontLemmas.{front_begins}
+use Rattle.text_grammar.proofs.PrefixLemmas.{prefix_begins}
 use Rattle.text_grammar.proofs.SpotLemmas.{spots_token}
 use Rattle.text_grammar.proofs.SignLemmas.{sign_each}
 use Rattle.regex_build.specs.Tokens.{Token, digit, other}
@@ -62,8 +62,8 @@ digit_in b e = rw e refl
 
 lexeme_some : (m : Bool) (b : ℕ) (bs : List ℕ) → 0 < (lexeme m (b ∷ bs)).len
 lexeme_some true b bs =
-    some_if (is_digit b) (number_lexeme false 0 (b ∷ bs)) _ (λ e. let some = front_begins DigitOrBlank b bs (digit_in b e) in omega (arith, some))
-    (some_if (b == 45 && begins_in Digit (behind_front Blank bs)) (number_lexeme true 1 bs) _ (λ e. omega arith) (sign_some (b ∷ bs)))
+    some_if (is_digit b) (number_lexeme false 0 (b ∷ bs)) _ (λ e. let some = prefix_begins DigitOrBlank b bs (digit_in b e) in omega (arith, some))
+    (some_if (b == 45 && begins_in Digit (after_prefix Blank bs)) (number_lexeme true 1 bs) _ (λ e. omega arith) (sign_some (b ∷ bs)))
 lexeme_some false b bs = some_if (is_digit b) (record { token = digit (b - 48); len = 1 }) _ (λ e. omega arith) (sign_some (b ∷ bs))
 
 pub no_next : (m : Bool) (text : List ℕ) (start at : ℕ) → at ≡ length text → spots_from lexing m start 0 (drop start text) ≡ spots_from lexing m at 0 (drop at text) → spots_from lexing m start 0 (drop start text) ≡ []
@@ -89,7 +89,7 @@ next_token m text start at l from less h b is within written =
     }
 
 -- a byte that begins no number is a sign, or begins no token
-pub sign_inside : (b : ℕ) (bs : List ℕ) (t : Token) → is_digit b ≡ false → (b == 45 && begins_in Digit (behind_front Blank bs)) ≡ false → sign_of signs other (b ∷ bs) ≡ lexeme_of t 1 → lexeme_of t 1 ≡ lexeme true (b ∷ bs)
+pub sign_inside : (b : ℕ) (bs : List ℕ) (t : Token) → is_digit b ≡ false → (b == 45 && begins_in Digit (after_prefix Blank bs)) ≡ false → sign_of signs other (b ∷ bs) ≡ lexeme_of t 1 → lexeme_of t 1 ≡ lexeme true (b ∷ bs)
 sign_inside b bs t d n e = rw (d, n) (sym e)
 
 pub sign_outside : (b : ℕ) (bs : List ℕ) (t : Token) → is_digit b ≡ false → sign_of signs other (b ∷ bs) ≡ lexeme_of t 1 → lexeme_of t 1 ≡ lexeme false (b ∷ bs)

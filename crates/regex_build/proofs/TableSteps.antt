@@ -5,8 +5,8 @@ use Rattle.std.specs.List.{AllZip}
 use Rattle.std.proofs.lemmas.Bool.{cases_lt, false≢true}
 use Rattle.std.proofs.lemmas.List.{length-map, get_or-map, get_or_past}
 use Rattle.std.proofs.lemmas.List.Elements.{Contains-get_or, All-map}
-use Rattle.digit_tuple.specs.declared.edges.Edge.{Edge}
-use Rattle.digit_tuple.specs.declared.edges.NfaState.{NfaState}
+use Rattle.digit_tuple.specs.declared.transitions.Transition.{Transition}
+use Rattle.digit_tuple.specs.declared.transitions.NfaState.{NfaState}
 use Rattle.digit_tuple.specs.Automaton.{Branching, Branch, no_branch, branch_of, accepting_of, Leads, IsRow, IsBranchTable}
 use Rattle.digit_tuple.specs.Letters.{product}
 use Rattle.digit_tuple.specs.Rows.{branch_in, branches_in}
@@ -26,8 +26,8 @@ use Rattle.regex_build.proofs.PlaceWords.{IsWithin, place_within}
 use Rattle.regex_build.proofs.LinkSteps.{length-rows_in}
 use Rattle.regex_build.proofs.RangeSteps.{letter_at, written_below}
 
-abbrev pub edge : ℕ → ℕ → Edge
-edge a place = record { letter = a; target = place }
+abbrev pub transition : ℕ → ℕ → Transition
+transition a place = record { letter = a; target = place }
 
 -- what comes next is a place of the expression
 pub next_place_within : {L : Type 0} (e : Expression L) (q place : ℕ) → ComesNext (placed 1 e) q place → IsWithin 1 (1 + length (occurrences_in e)) place
@@ -76,10 +76,10 @@ module _ (sets : List (List ℤ)) (e : Expression (List ℤ)) (places : NextPlac
   comes_from_leads : (q a place : ℕ) → Leads table q a place → ComesNext (placed 1 e) q place × IsWritten (IsLetterOf sets) (occurrences_in e) place a
   comes_from_leads q a place h = elim (cases_lt q (length states)) [
     | inl l ↦
-        let P : Branch → Type 0 = λ b. Contains b.edges (edge a place) in
-        let r = ((are q other l).edges (edge a place)).0 (subst P (row_is q l) h) in
+        let P : Branch → Type 0 = λ b. Contains b.transitions (transition a place) in
+        let r = ((are q other l).transitions (transition a place)).0 (subst P (row_is q l) h) in
         ((made.next q place).0 r.0, (letter_at sets (occurrences_in e) ranges place a zip).0 r.1)
-    | inr l ↦ let P : Branch → Type 0 = λ b. Contains b.edges (edge a place) in absurd (contains_none (edge a place) (subst P (no_row q l) h))
+    | inr l ↦ let P : Branch → Type 0 = λ b. Contains b.transitions (transition a place) in absurd (contains_none (transition a place) (subst P (no_row q l) h))
   ]
 
   leads_from_comes : (q a place : ℕ) → ComesNext (placed 1 e) q place → IsWritten (IsLetterOf sets) (occurrences_in e) place a → Leads table q a place
@@ -88,8 +88,8 @@ module _ (sets : List (List ℤ)) (e : Expression (List ℤ)) (places : NextPlac
       let n : length (rows_in places.next.items) ≡ length places.next.items = length-rows_in places.next.items in
       elim (cases_lt q (length states)) [
         | inl l ↦
-            let P : Branch → Type 0 = λ b. Contains b.edges (edge a place) in
-            subst P (sym (row_is q l)) (((are q other l).edges (edge a place)).1 (there, (letter_at sets (occurrences_in e) ranges place a zip).1 k))
+            let P : Branch → Type 0 = λ b. Contains b.transitions (transition a place) in
+            subst P (sym (row_is q l)) (((are q other l).transitions (transition a place)).1 (there, (letter_at sets (occurrences_in e) ranges place a zip).1 k))
         | inr l ↦ let P : List ℕ → Type 0 = λ xs. Contains xs place in absurd (contains_none place (subst P (get_or_past (rows_in places.next.items) q [] (omega arith)) there))
       ]
 
@@ -108,16 +108,16 @@ unfolding table
 made_table sets e places ranges sizes [] made zip count are = let n : length places.next.items ≡ length (occurrences_in e) + 1 = made.count in absurd (omega arith)
 made_table sets e places ranges sizes (state ∷ states) made zip count are = position_table sets e places ranges sizes (state ∷ states) state made zip count are
 
--- the edges of a state are in range
+-- the transitions of a state are in range
 row_in_range : (sets : List (List ℤ)) (e : Expression (List ℤ)) (places : NextPlaces) (ranges : List LetterRange) (q : ℕ) (state : NfaState) → AllZip (IsRangeOf sets) (occurrences_in e) ranges → IsStateAt places ranges q state
-    → IsRow (product (sizes_of sets)) (length (occurrences_in e) + 1) state.edges.items
+    → IsRow (product (sizes_of sets)) (length (occurrences_in e) + 1) state.transitions.items
 row_in_range sets e places ranges q state zip is = record {
-  in_range = λ k other l. each (get_or state.edges.items k other) (Contains-get_or state.edges.items k other l);
+  in_range = λ k other l. each (get_or state.transitions.items k other) (Contains-get_or state.transitions.items k other l);
   ascending = is.ascending;
 }
   where
-    each : (x : Edge) → Contains state.edges.items x → (x.letter < product (sizes_of sets)) × (x.target < length (occurrences_in e) + 1)
-    each x h = let r = written_below sets (occurrences_in e) x.target x.letter ((letter_at sets (occurrences_in e) ranges x.target x.letter zip).0 ((is.edges x).0 h).1) in (r.1, r.0)
+    each : (x : Transition) → Contains state.transitions.items x → (x.letter < product (sizes_of sets)) × (x.target < length (occurrences_in e) + 1)
+    each x h = let r = written_below sets (occurrences_in e) x.target x.letter ((letter_at sets (occurrences_in e) ranges x.target x.letter zip).0 ((is.transitions x).0 h).1) in (r.1, r.0)
 
 -- the states are a table
 pub made_rows : (sets : List (List ℤ)) (e : Expression (List ℤ)) (places : NextPlaces) (ranges : List LetterRange) (sizes : List ℕ) (states : List NfaState) → sizes ≡ sizes_of sets → AreNextPlaces e places → length places.next.items < 2 ^ 32
@@ -129,13 +129,13 @@ made_rows sets e places ranges sizes states same made small zip count are =
     subst P (ap product (sym same)) (record {
       initial = omega arith;
       small = omega arith;
-      rows = All-map (λ (state : Branch). IsRow (product (sizes_of sets)) (length (branches_in states)) state.edges) branch_in states (λ k other l. each k other l);
+      rows = All-map (λ (state : Branch). IsRow (product (sizes_of sets)) (length (branches_in states)) state.transitions) branch_in states (λ k other l. each k other l);
     })
   where
-    each : (k : ℕ) (other : NfaState) → k < length states → IsRow (product (sizes_of sets)) (length (branches_in states)) (get_or states k other).edges.items
+    each : (k : ℕ) (other : NfaState) → k < length states → IsRow (product (sizes_of sets)) (length (branches_in states)) (get_or states k other).transitions.items
     each k other l =
         let m : length (branches_in states) ≡ length states = length-map states branch_in in
         let n : length places.next.items ≡ length (occurrences_in e) + 1 = made.count in
         let total : length (occurrences_in e) + 1 ≡ length (branches_in states) = omega arith in
-        let P : ℕ → Type 0 = λ i. IsRow (product (sizes_of sets)) i (get_or states k other).edges.items in
+        let P : ℕ → Type 0 = λ i. IsRow (product (sizes_of sets)) i (get_or states k other).transitions.items in
         subst P total (row_in_range sets e places ranges k (get_or states k other) zip (are k other l))

@@ -61,7 +61,7 @@ top_of_waiting e stack others fragment next rows w =
     let s = same_ends others fragment w.0 w.1 w.3 in
     let P : Fragment → Type 0 = λ x. IsFragment w.2 e x rows in
     let Q : List Fragment → Type 0 = λ xs. AreWaiting stack xs w.2 rows in
-    record { n = w.2; end = w.4; top = subst P (sym s.last) w.5; below = subst Q (sym s.front) w.6 }
+    record { n = w.2; end = w.4; top = subst P (sym s.last) w.5; below = subst Q (sym s.prefix) w.6 }
 
 -- what was taken off
 pub popped : {X : Type 0} (old new : List X) (o : Option X) (x : X) → old ≡ new ++ option_to_list o → o ≡ Some x → old ≡ new ++ x ∷ []
@@ -142,7 +142,7 @@ occurrence_is_letter x old new rows more adds stack w = let P : List (Expression
 pub occurrence_is_any : (old new : List Fragment) (rows more : List (List ℕ)) → AddsOccurrence old rows new more → Takes old rows Any new more
 occurrence_is_any old new rows more adds stack w = let P : List (Expression (List ℤ)) → Type 0 = λ s. Waits s new more in subst P (after_symbol-any stack) (adds stack any tt w)
 
--- a sign behind one expression
+-- a sign after one expression
 pub takes_star : (old popped new : List Fragment) (fragment made : Fragment) (rows : List (List ℕ)) → old ≡ popped ++ fragment ∷ [] → IsStar fragment made → new ≡ popped ++ made ∷ [] → Takes old rows Star new rows
 takes_star old popped new fragment made rows e is f [] w = absurd (middle_is_some popped fragment [] (sym e ∙ w.0))
 takes_star old popped new fragment made rows e is f (x ∷ stack) w =

@@ -7,7 +7,7 @@ use Rattle.regex_build.specs.declared.postfix_symbol.PostfixSymbol.{PostfixSymbo
 use Rattle.regex_build.specs.declared.postfix_symbol.PostfixSymbol.TheVariants.{Letter, Any}
 use Rattle.regex_build.specs.Positions.{IsOf}
 
--- the members stand at these places of the sets
+-- the members are at these places of the sets
 abbrev pub ArePlaces : List (List ℤ) → List ℤ → List ℕ → Type 0
 ArePlaces [] [] [] = ⊤
 ArePlaces [] [] (place ∷ places) = ⊥
@@ -20,7 +20,7 @@ ArePlaces (set ∷ sets) (member ∷ members) (place ∷ places) = (place < leng
 abbrev pub IsInRange : LetterRange → ℕ → Type 0
 IsInRange range a = (range.first ≤ a) × (a < range.end)
 
--- the letters in the range are those that may stand at the occurrence
+-- the letters in the range are those that may be at the occurrence
 abbrev pub IsRangeOf : List (List ℤ) → Option (List ℤ) → LetterRange → Type 0
 IsRangeOf sets occurrence range = (a : ℕ) → IsInRange range a ↔ IsOf (IsLetterOf sets) occurrence a
 

@@ -1,8 +1,8 @@
 -- Expressions over letters of any type, and the places of their letters.
 use Rattle.std.specs.Prelude.{ℕ, ◌+◌, List, [], ◌∷◌, ◌++◌, length, Option, None, Some}
 
--- an expression: the empty word, a letter, any letter, one of two expressions, two expressions one behind the other, an
--- expression any number of times, at least once, or at most once
+-- an expression: the empty word, a letter, any letter, one of two expressions, two expressions one after the other, an expression any
+-- number of times, at least once, or at most once
 pub data Expression (L : Type 0) : Type 0 where
   empty : Expression L
   letter : L → Expression L
@@ -13,7 +13,7 @@ pub data Expression (L : Type 0) : Type 0 where
   plus : Expression L → Expression L
   optional : Expression L → Expression L
 
--- the occurrences of letters in an expression, in the order of its text: a letter, or none where any letter may stand
+-- the occurrences of letters in an expression, in the order of its text: a letter, or none where any letter may be
 abbrev pub occurrences_in : {L : Type 0} → Expression L → List (Option L)
 occurrences_in empty = []
 occurrences_in (letter x) = Some x ∷ []

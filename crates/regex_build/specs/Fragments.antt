@@ -19,8 +19,8 @@ Follows rows p q = Contains (slice_index_or rows p []) q
 abbrev pub Crosses : List Crossing → ℕ → ℕ → Type 0
 Crosses crossings p q = (c : Crossing) × Contains crossings c × Contains c.lasts.items p × Contains c.firsts.items q
 
--- What a fragment says of an expression whose places are counted from a number on. Which place comes right behind which is told by
--- the lists, and by the pairs that are owed: these lead from a last place to a first one.
+-- What a fragment says of an expression whose places are counted from a number on. Which place comes right after which is determined by the
+-- lists, and by the pairs that are owed: these lead from a last place to a first one.
 pub record IsFragment {L : Type 0} (n : ℕ) (e : Expression L) (fragment : Fragment) (rows : List (List ℕ)) : Type 0 where
   pub nullable : IsTrue fragment.nullable ↔ Matches (placed n e) []
   pub firsts : (q : ℕ) → Contains fragment.firsts.items q ↔ IsFirst (placed n e) q
@@ -56,7 +56,7 @@ pub record HasRows (count : ℕ) (fragment : Fragment) : Type 0 where
 abbrev pub IsEither : Fragment → Fragment → Fragment → Type 0
 IsEither left right made = (n : ℕ) (e f : Expression (List ℤ)) (rows : List (List ℕ)) → IsFragment n e left rows → IsFragment (n + length (occurrences_in e)) f right rows → IsFragment n (either e f) made rows
 
--- the fragment of two expressions, one behind the other
+-- the fragment of two expressions, one after the other
 pub record IsFollow (left right made : Fragment) (old new : List (List ℕ)) : Type 0 where
   pub count : length new ≡ length old
   pub fragment : (n : ℕ) (e f : Expression (List ℤ)) → IsFragment n e left old → IsFragment (n + length (occurrences_in e)) f right old → IsFragment n (follow e f) made new

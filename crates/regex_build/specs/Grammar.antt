@@ -34,7 +34,7 @@ mutual
     only : Cat → Alt
     either : Alt → Cat → Alt
 
--- the tokens that are spelled, and the rest behind them
+-- the tokens that are spelled, and the rest after them
 abbrev pub numbers_then : Numbers → List Token → List Token
 numbers_then (one z) r = tokens.number z ∷ r
 numbers_then (more ns z) r = numbers_then ns (tokens.comma ∷ tokens.number z ∷ r)

@@ -3,7 +3,7 @@ use Rattle.std.specs.Prelude.{ℕ, suc, pred, ◌<◌, ◌^◌, ℤ, pos, IsTrue
 use Rattle.text_grammar.specs.Numbers.{is_short}
 use Rattle.regex_build.specs.Tokens.{Token, opening, closing, unbracket, digit, number}
 
--- what a token stands within and behind: how many open parentheses, and how many numbers of its brackets
+-- what a token is within and after: how many open parentheses, and how many numbers of its brackets
 pub record Around : Type 0 where
   pub nesting : ℕ
   pub numbers : ℕ
@@ -11,17 +11,17 @@ pub record Around : Type 0 where
 abbrev pub nothing : Around
 nothing = record { nesting = 0; numbers = 0 }
 
--- what stands around the next token
-abbrev pub behind : Around → Token → Around
-behind a opening = record a { nesting = suc a.nesting }
-behind a closing = record a { nesting = pred a.nesting }
-behind a (number z) = record a { numbers = suc a.numbers }
-behind a unbracket = record a { numbers = 0 }
-behind a _ = a
+-- what is around the next token
+abbrev pub after_token : Around → Token → Around
+after_token a opening = record a { nesting = suc a.nesting }
+after_token a closing = record a { nesting = pred a.nesting }
+after_token a (number z) = record a { numbers = suc a.numbers }
+after_token a unbracket = record a { numbers = 0 }
+after_token a _ = a
 
-abbrev pub behind_all : Around → List Token → Around
-behind_all a [] = a
-behind_all a (t ∷ ts) = behind_all (behind a t) ts
+abbrev pub after_all : Around → List Token → Around
+after_all a [] = a
+after_all a (t ∷ ts) = after_all (after_token a t) ts
 
 -- the set of a track
 abbrev pub set_at : List (List ℤ) → ℕ → List ℤ
@@ -40,4 +40,4 @@ IsAllowed sets a _ = ⊤
 
 abbrev pub AreAllowed : List (List ℤ) → Around → List Token → Type 0
 AreAllowed sets a [] = ⊤
-AreAllowed sets a (t ∷ ts) = IsAllowed sets a t × AreAllowed sets (behind a t) ts
+AreAllowed sets a (t ∷ ts) = IsAllowed sets a t × AreAllowed sets (after_token a t) ts

@@ -4,7 +4,7 @@ use Rattle.regex_build.specs.declared.postfix_symbol.PostfixSymbol.{PostfixSymbo
 use Rattle.regex_build.specs.declared.postfix_symbol.PostfixSymbol.TheVariants as kinds
 use Rattle.regex_build.specs.declared.reading.Group.{Group}
 use Rattle.regex_build.specs.declared.reading.Place.{Place}
-use Rattle.regex_build.specs.declared.reading.Place.TheVariants.{AtPost, Behind, AtNumber, BehindNumber}
+use Rattle.regex_build.specs.declared.reading.Place.TheVariants.{AtPost, After, AtNumber, AfterNumber}
 use Rattle.regex_build.specs.Tokens.{Token, bar, star, plus, optional, dot, opening, closing, bracket, comma, unbracket, digit, number}
 
 -- the groups around, the innermost first; the group that is read; the numbers of an open bracket; the symbols so far
@@ -29,9 +29,9 @@ abbrev pub symbol_if : Bool → PostfixSymbol → List PostfixSymbol → List Po
 symbol_if true x ss = ss ++ x ∷ []
 symbol_if false x ss = ss
 
--- behind one symbol more
+-- after one symbol more
 abbrev pub pushed : State → PostfixSymbol → State
-pushed s x = record s { place = Behind; symbols = s.symbols ++ x ∷ [] }
+pushed s x = record s { place = After; symbols = s.symbols ++ x ∷ [] }
 
 -- the last post ends the sequence so far
 abbrev pub followed : State → State
@@ -44,7 +44,7 @@ joined s = record s { group = record { alternatives = true; sequence = false }; 
 -- a group ends
 abbrev pub close : List Group → State → Option State
 close [] s = None
-close (g ∷ gs) s = Some (record s { outer = gs; group = g; place = Behind })
+close (g ∷ gs) s = Some (record s { outer = gs; group = g; place = After })
 
 -- a post begins
 abbrev pub enter : ℕ → State → Token → Option State
@@ -60,17 +60,17 @@ is_fresh g = not g.alternatives && not g.sequence
 abbrev pub step_at : ℕ → State → Place → Token → Option State
 step_at tracks s AtPost closing = gate (is_fresh s.group) (close s.outer (pushed s kinds.Empty))
 step_at tracks s AtPost t = enter tracks s t
-step_at tracks s Behind star = Some (pushed s kinds.Star)
-step_at tracks s Behind plus = Some (pushed s kinds.Plus)
-step_at tracks s Behind optional = Some (pushed s kinds.Optional)
-step_at tracks s Behind bar = Some (record (joined s) { place = AtPost })
-step_at tracks s Behind closing = close s.outer (joined s)
-step_at tracks s Behind t = enter tracks (followed s) t
-step_at tracks s AtNumber (number z) = Some (record s { place = BehindNumber; letter = s.letter ++ z ∷ [] })
+step_at tracks s After star = Some (pushed s kinds.Star)
+step_at tracks s After plus = Some (pushed s kinds.Plus)
+step_at tracks s After optional = Some (pushed s kinds.Optional)
+step_at tracks s After bar = Some (record (joined s) { place = AtPost })
+step_at tracks s After closing = close s.outer (joined s)
+step_at tracks s After t = enter tracks (followed s) t
+step_at tracks s AtNumber (number z) = Some (record s { place = AfterNumber; letter = s.letter ++ z ∷ [] })
 step_at tracks s AtNumber _ = None
-step_at tracks s BehindNumber comma = gate (nat_lt (length s.letter) tracks) (Some (record s { place = AtNumber }))
-step_at tracks s BehindNumber unbracket = gate (length s.letter == tracks) (Some (record (pushed s (kinds.Letter s.letter)) { letter = [] }))
-step_at tracks s BehindNumber _ = None
+step_at tracks s AfterNumber comma = gate (nat_lt (length s.letter) tracks) (Some (record s { place = AtNumber }))
+step_at tracks s AfterNumber unbracket = gate (length s.letter == tracks) (Some (record (pushed s (kinds.Letter s.letter)) { letter = [] }))
+step_at tracks s AfterNumber _ = None
 
 -- one token more; none where no text goes on with it
 abbrev pub step : ℕ → State → Token → Option State
@@ -78,7 +78,7 @@ step tracks s t = step_at tracks s s.place t
 
 -- the symbols of a text that ends
 abbrev pub ended_at : List Group → Place → State → Option (List PostfixSymbol)
-ended_at [] Behind s = Some (joined s).symbols
+ended_at [] After s = Some (joined s).symbols
 ended_at _ _ s = None
 
 abbrev pub ended : State → Option (List PostfixSymbol)
@@ -87,6 +87,6 @@ ended s = ended_at s.outer s.place s
 -- whether a bracket is open
 abbrev pub in_bracket : Place → Bool
 in_bracket AtPost = false
-in_bracket Behind = false
+in_bracket After = false
 in_bracket AtNumber = true
-in_bracket BehindNumber = true
+in_bracket AfterNumber = true

@@ -3,7 +3,7 @@ use Rattle.std.specs.Prelude.{◌≡◌, ◌≢◌, ◌⊎◌, List, [], ◌∷�
 use Rattle.std.specs.List.{AllByRecursion, flat_map}
 use Rattle.regex_build.specs.Expression.{Expression, empty, letter, any, either, follow, star, plus, optional}
 
--- the pieces, one behind the other
+-- the pieces, one after the other
 abbrev pub joined : {L : Type 0} → List (List L) → List L
 joined pieces = flat_map (λ piece. piece) pieces
 

@@ -1,4 +1,4 @@
--- What may stand right behind the places of an expression.
+-- What may come right after the places of an expression.
 use Rattle.std.specs.Prelude.{◌≡◌, ℕ, ◌+◌, ◌↔◌, ℤ, false, List, length, slice_index_or, IsTrue}
 use Rattle.regex_build.specs.declared.fragment.Fragment.{Fragment}
 use Rattle.regex_build.specs.declared.next_places.NextPlaces.{NextPlaces}

@@ -7,7 +7,7 @@ use Rattle.regex_build.specs.Tokens.{Token, opening, digit, number, other}
 use Rattle.regex_build.specs.Spots.{tokens, byte_of}
 use Rattle.regex_build.specs.Patterns.{Pattern}
 use Rattle.regex_build.specs.Grammar.{Spells}
-use Rattle.regex_build.specs.Limits.{nothing, behind_all, IsAllowed, AreAllowed}
+use Rattle.regex_build.specs.Limits.{nothing, after_all, IsAllowed, AreAllowed}
 
 abbrev pub token_at : List Token → ℕ → Token
 token_at ts i = slice_index_or ts i other
@@ -32,7 +32,7 @@ pub record IsRefusedAt (sets : List (List ℤ)) (ts : List Token) (i : ℕ) : Ty
   pub within : i < length ts
   pub begins : Begins (Spells (length sets)) (take (i + 1) ts)
   pub before : AreAllowed sets nothing (take i ts)
-  pub refused : IsAllowed sets (behind_all nothing (take i ts)) (token_at ts i) → ⊥
+  pub refused : IsAllowed sets (after_all nothing (take i ts)) (token_at ts i) → ⊥
 
 -- the text spells the pattern's expression, whose letters have a member of each set
 pub record IsTextOf (sets : List (List ℤ)) (text : List ℕ) (pattern : Pattern) : Type 0 where
@@ -48,6 +48,6 @@ Parses sets text (Err (Number at)) = (i : ℕ) × (at ≡ byte_of text i) × IsR
 Parses sets text (Err (Depth at)) = (i : ℕ) × (at ≡ byte_of text i) × IsRefusedAt sets (tokens text) i × IsOpening (token_at (tokens text) i)
 Parses sets text (Err Memory) = ⊤
 
--- parsing a text over sets has one answer, beside want of memory
+-- parsing a text over sets has one answer, apart from out of memory
 abbrev pub OneAnswer : Type 0
 OneAnswer = (sets : List (List ℤ)) (text : List ℕ) (result other : Result Pattern RegexFault) → Parses sets text result → Parses sets text other → result ≢ Err Memory → other ≢ Err Memory → result ≡ other

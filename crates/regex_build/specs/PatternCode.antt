@@ -1,4 +1,4 @@
--- How an expression over sets is stored: a list that gives it back, each sign behind what it is about.
+-- How an expression over sets is stored: a list that gives it back, each sign after what it is about.
 use Rattle.std.specs.Prelude.{◌≡◌, ℕ, zero, suc, ℤ, List, [], ◌∷◌, ◌++◌, refl}
 use Rattle.std.specs.Coded.{Coded, code_by, coded×, coded_ℕ, coded_ℤ, coded_list}
 use Rattle.std.proofs.Common.{ap, ◌∙◌, append_assoc, append-nil, sym}

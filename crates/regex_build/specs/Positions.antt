@@ -6,12 +6,12 @@ use Rattle.digit_tuple.specs.Tuples.{IsLetterOf, Codes}
 use Rattle.regex_build.specs.Expression.{Expression, occurrences_in, placed}
 use Rattle.regex_build.specs.Matches.{Matches}
 
--- some word over the places begins with the place, or in a state behind the first has it right behind that state's place
+-- some word over the places begins with the place, or in a state after the first has it right after that state's place
 abbrev pub ComesNext : Expression ℕ → ℕ → ℕ → Type 0
 ComesNext e zero place = (after : List ℕ) × Matches e (place ∷ after)
 ComesNext e (suc state) place = (before : List ℕ) × (after : List ℕ) × Matches e (before ++ suc state ∷ place ∷ after)
 
--- the empty word is matched, or in a state behind the first some word ends with that state's place
+-- the empty word is matched, or in a state after the first some word ends with that state's place
 abbrev pub MayEnd : Expression ℕ → ℕ → Type 0
 MayEnd e zero = Matches e []
 MayEnd e (suc state) = (before : List ℕ) × Matches e (before ++ suc state ∷ [])
@@ -21,7 +21,7 @@ abbrev pub IsOf : {L : Type 0} → (L → ℕ → Type 0) → Option L → ℕ �
 IsOf code (Some x) a = code x a
 IsOf {L} code None a = (x : L) × code x a
 
--- a letter that is written so may stand at the place, counted from 1
+-- a letter that is written so may be at the place, counted from 1
 abbrev pub IsWritten : {L : Type 0} → (L → ℕ → Type 0) → List (Option L) → ℕ → ℕ → Type 0
 IsWritten code occurrences zero a = ⊥
 IsWritten code occurrences (suc k) a = IsSomeAnd (slice_get occurrences k) (λ occurrence. IsOf code occurrence a)
@@ -33,7 +33,7 @@ pub record IsPositionTable {L : Type 0} (code : L → ℕ → Type 0) (e : Expre
   pub accepts : (q : ℕ) → IsTrue (accepting_of n q) ↔ MayEnd (placed 1 e) q
   pub leads : (q a place : ℕ) → Leads n q a place ↔ (ComesNext (placed 1 e) q place × IsWritten code (occurrences_in e) place a)
 
--- the automaton accepts a word of letters exactly where the expression matches the word of tuples that it stands for
+-- the automaton accepts a word of letters if and only if the expression matches the word of tuples that it stands for
 abbrev pub AcceptsTheMatches : List (List ℤ) → Expression (List ℤ) → Branching → Type 0
 AcceptsTheMatches sets e n = (tuples : List (List ℤ)) (word : List ℕ) → Codes sets tuples word → Accepts n word ↔ Matches e tuples
 

@@ -16,7 +16,7 @@ use Rattle.regex_build.specs.declared.reading.Reading.{Reading}
 use Rattle.regex_build.specs.Tokens as tokens
 use Rattle.regex_build.specs.Tokens.{Token}
 use Rattle.text_grammar.specs.Spots.{Lexeme, spots_from}
-use Rattle.regex_build.specs.Spots.{inside_behind, lexing}
+use Rattle.regex_build.specs.Spots.{inside_after, lexing}
 use Rattle.regex_build.specs.Patterns.{IsOver}
 use Rattle.regex_build.specs.Postfix.{IsPostfix, tree_of}
 use Rattle.regex_build.specs.Limits.{Around, IsAllowed}
@@ -51,7 +51,7 @@ pub record IsNext (inside : Bool) (text : List ℕ) (start : ℕ) (s : Spot') : 
   pub within : s.end ≤ length text
   pub moves : start < s.end
   pub written : IsWritten (token_view s.token)
-  pub spots_are : spots_from lexing inside start 0 (drop start text) ≡ record { token = token_view s.token; at = s.at; after = s.end } ∷ spots_from lexing (inside_behind inside (token_view s.token)) s.end 0 (drop s.end text)
+  pub spots_are : spots_from lexing inside start 0 (drop start text) ≡ record { token = token_view s.token; at = s.at; after = s.end } ∷ spots_from lexing (inside_after inside (token_view s.token)) s.end 0 (drop s.end text)
 
 abbrev pub IsNextOrNone : Bool → List ℕ → ℕ → Option Spot' → Type 0
 IsNextOrNone inside text start None = spots_from lexing inside start 0 (drop start text) ≡ []

@@ -3,7 +3,7 @@ use Rattle.std.specs.Prelude.{ℕ, ◌+◌, ◌-◌, min, ◌==◌, Bool, true, 
 use Rattle.std.specs.List.{filter}
 use Rattle.text_grammar.specs.declared.class.Class.TheVariants.{Blank, Digit, DigitOrBlank}
 use Rattle.text_grammar.specs.Bytes.{is_blank, is_digit}
-use Rattle.text_grammar.specs.Fronts.{begins_in, behind_front, front_len, front_of}
+use Rattle.text_grammar.specs.Prefixes.{begins_in, after_prefix, prefix_len, prefix_of}
 use Rattle.text_grammar.specs.Numbers.{signed, value_of}
 use Rattle.text_grammar.specs.Signs.{sign_of}
 use Rattle.text_grammar.specs.Spots.{Lexeme, lexeme_of, Lexing, Spot, spots_from}
@@ -28,7 +28,7 @@ signs =
 -- a number, whose digits blanks may divide, after a sign of so many bytes; 2 ^ 32 - 1 stands for each distance from 0 that is greater
 abbrev pub number_lexeme : Bool → ℕ → List ℕ → Lexeme Token
 number_lexeme negative sign bytes =
-    lexeme_of (number (signed negative (min (value_of (filter is_digit (front_of DigitOrBlank bytes))) 4294967295))) (sign + front_len DigitOrBlank bytes)
+    lexeme_of (number (signed negative (min (value_of (filter is_digit (prefix_of DigitOrBlank bytes))) 4294967295))) (sign + prefix_len DigitOrBlank bytes)
 
 -- the token with which bytes begin, inside of brackets or not; a `-` is of its number
 abbrev pub lexeme : Bool → List ℕ → Lexeme Token
@@ -36,18 +36,18 @@ lexeme inside [] = lexeme_of other 1
 lexeme true (b ∷ bs) =
     if is_digit b
     then number_lexeme false 0 (b ∷ bs)
-    else if b == 45 && begins_in Digit (behind_front Blank bs) then number_lexeme true 1 bs else sign_of signs other (b ∷ bs)
+    else if b == 45 && begins_in Digit (after_prefix Blank bs) then number_lexeme true 1 bs else sign_of signs other (b ∷ bs)
 lexeme false (b ∷ bs) = if is_digit b then lexeme_of (digit (b - 48)) 1 else sign_of signs other (b ∷ bs)
 
 -- whether a bracket is open after a token
-abbrev pub inside_behind : Bool → Token → Bool
-inside_behind inside bracket = true
-inside_behind inside unbracket = false
-inside_behind inside _ = inside
+abbrev pub inside_after : Bool → Token → Bool
+inside_after inside bracket = true
+inside_after inside unbracket = false
+inside_after inside _ = inside
 
 -- how expressions are cut
 abbrev pub lexing : Lexing Bool Token
-lexing = record { lexeme = λ inside at b bs. lexeme inside (b ∷ bs); mode_after = inside_behind; divides = is_blank; ends = [] }
+lexing = record { lexeme = λ inside at b bs. lexeme inside (b ∷ bs); mode_after = inside_after; divides = is_blank; ends = [] }
 
 -- the tokens of a text, each at its byte
 abbrev pub spots : List ℕ → List (Spot Token)

@@ -12,7 +12,7 @@ pub data Token : Type 0 where
   bracket : Token
   comma : Token
   unbracket : Token
-  -- a digit that stands in no brackets
+  -- a digit that is in no brackets
   digit : ℕ → Token
   -- a number in brackets
   number : ℤ → Token

@@ -6,8 +6,8 @@ use Rattle.regex_build.specs.Expression.{Expression, occurrences_in}
 use Rattle.regex_build.specs.Postfix.{after_symbol}
 use Rattle.regex_build.specs.Fragments.{IsFragment, IsOccurrence}
 
--- The fragments of the expressions that wait, the last one on top: each begins at the place behind the one before it, and the
--- number is the next place.
+-- The fragments of the expressions that wait, the last one on top: each begins at the place after the one before it, and the number is the
+-- next place.
 abbrev pub AreWaiting : List (Expression (List ℤ)) → List Fragment → ℕ → List (List ℕ) → Type 0
 AreWaiting [] fragments next rows = (fragments ≡ []) × (next ≡ 1)
 AreWaiting (e ∷ stack) fragments next rows =

@@ -25,11 +25,10 @@ use std::alloc::Global;
 /// The canonical automaton of the words that the expression matches, over a track for each set, on
 /// which each member of the set has its place in the set as its digit.
 ///
-/// The width is the number of sets of last marks: mark each letter of the expression with its place;
-/// the last marks of a word are the places at which the beginnings of matches that spell the word
-/// end. The empty word counts as one of its own. `Letters` comes exactly where there are more than 16
-/// tracks or more than 65,536 letters, and is looked at first; `States` only where the width passes
-/// the limit.
+/// The width is the number of sets of last marks: mark each letter of the expression with its place; the last marks of
+/// a word are the places at which the beginnings of matches that spell the word end. The empty word counts as one of
+/// its own. `Letters` comes if and only if there are more than 16 tracks or more than 65,536 letters, and is looked at
+/// first; `States` only where the width passes the limit.
 ///
 /// The automaton of the expression's letters is that of V. M. Glushkov, "The abstract theory of
 /// automata".

@@ -17,7 +17,7 @@ use digit_tuple::letter_set::LetterSet;
 use smallvec::SmallVec;
 use std::alloc::Global;
 
-/// The letters that may stand at an occurrence, from the first to the one before the end.
+/// The letters that may be at an occurrence, from the first to the one before the end.
 #[derive(Clone, Copy)]
 pub struct LetterRange {
     pub first: u32,
@@ -57,7 +57,7 @@ fn number_of(
     Ok(alphabet.letter_of(places.as_slice()))
 }
 
-// The letters that may stand at the occurrence that the symbol is, if it is one.
+// The letters that may be at the occurrence that the symbol is, if it is one.
 fn range_of(
     alloc: Global,
     alphabet: &Alphabet,
@@ -86,8 +86,7 @@ fn range_of(
     }
 }
 
-/// The letters that may stand at each occurrence, as numbers of an alphabet whose tracks have these
-/// sets as their digits.
+/// The letters that may be at each occurrence, as numbers of an alphabet whose tracks have these sets as their digits.
 pub fn ranges_of(
     alloc: Global,
     alphabet: &Alphabet,

@@ -13,15 +13,14 @@ pub struct Crossing {
     pub firsts: Vec<u32>,
 }
 
-/// A part of an expression. What may stand right behind its places is listed elsewhere, but for the
-/// pairs that are owed. Each of these leads from a last place to a first one, so where the part is
-/// repeated they need not be listed: repetition pairs all last places with all first ones, and no
-/// pair is listed twice.
+/// A part of an expression. What may come right after its places is listed elsewhere, but for the pairs that are owed.
+/// Each of these leads from a last place to a first one, so where the part is repeated they need not be listed:
+/// repetition pairs all last places with all first ones, and no pair is listed twice.
 #[derive(Drop)]
 pub struct Fragment {
     /// Whether the empty word matches.
     pub nullable: bool,
-    /// Whether each first place may stand right behind each last one.
+    /// Whether each first place may come right after each last one.
     pub repeats: bool,
     pub firsts: Vec<u32>,
     pub lasts: Vec<u32>,
@@ -120,7 +119,7 @@ fn one(alloc: Global, place: u32) -> Result<Vec<u32>, OutOfMemory>
     Ok(places)
 }
 
-/// The elements of both lists. The shorter is moved behind the longer.
+/// The elements of both lists. The shorter is moved after the longer.
 pub fn merged<T: Drop>(mut left: Vec<T>, mut right: Vec<T>) -> Result<Vec<T>, OutOfMemory>
     ensures { IfOk result (λ both. (x : T) → Contains both.items x ↔ (Contains left.items x ⊎ Contains right.items x)) }
 {

@@ -7,7 +7,7 @@ use smallvec::SmallVec;
 use std::alloc::Global;
 use std::marker::Model;
 
-/// A letter: a member for each track. Up to four stand in the value itself.
+/// A letter: a member for each track. Up to four are in the value itself.
 #[derive(Drop)]
 pub struct LetterTuple {
     tracks: SmallVec<i32, 4>,

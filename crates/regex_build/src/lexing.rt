@@ -4,7 +4,7 @@ ghost use Rattle.std.specs.Prelude.{◌≡◌, ◌≤◌, ◌<◌, ◌+◌, ◌�
 ghost use Rattle.std.specs.List.{filter};
 ghost use Rattle.text_grammar.specs.declared.class.Class.TheVariants.{Blank, Digit};
 ghost use Rattle.text_grammar.specs.Bytes.{is_blank, is_digit};
-ghost use Rattle.text_grammar.specs.Fronts.{begins_in, behind_front};
+ghost use Rattle.text_grammar.specs.Prefixes.{begins_in, after_prefix};
 ghost use Rattle.text_grammar.specs.Numbers.{signed as signed_number, value_of};
 ghost use Rattle.text_grammar.specs.Signs.{sign_of};
 ghost use Rattle.text_grammar.specs.Spots.{lexeme_of, spots_from};
@@ -13,7 +13,7 @@ ghost use Rattle.regex_build.specs.Spots as spots;
 ghost use Rattle.regex_build.specs.Reading.{token_view, lexeme_view, IsWritten, IsNextOrNone};
 
 use crate::token::Token;
-use text_grammar::{Class, begins_in as begins_in_class, front_len};
+use text_grammar::{Class, begins_in as begins_in_class, prefix_len};
 
 /// What stands for each greater number: no such number has 32 bits, with either sign.
 const GREATEST: u64 = 4294967295;
@@ -25,7 +25,7 @@ pub(crate) struct Lexeme {
     pub len: usize,
 }
 
-/// A token with the byte at which it begins, and the byte behind it.
+/// A token with the byte at which it begins, and the byte after it.
 #[derive(Drop)]
 pub(crate) struct Spot {
     pub token: Token,
@@ -90,7 +90,7 @@ impl Lexeme {
         ensures within { result.len ≤ sign + length bytes.now }
         ensures written { IsWritten (token_view result.token) }
     {
-        let len = front_len(Class::DigitOrBlank, bytes);
+        let len = prefix_len(Class::DigitOrBlank, bytes);
         let distance = distance(&bytes[..len]);
         Lexeme {
             token: Token::Number(signed(negative, distance)),
@@ -100,32 +100,36 @@ impl Lexeme {
 }
 
 /// Whether a `-` and a number begin with this byte and those after it.
-fn leads_number(first: u8, behind: &[u8]) -> bool
-    ensures { result ≡ (first == 45 && begins_in Digit (behind_front Blank behind.now)) }
+fn leads_number(first: u8, after_token: &[u8]) -> bool
+    ensures { result ≡ (first == 45 && begins_in Digit (after_prefix Blank after_token.now)) }
 {
-    first == b'-' && begins_in_class(Class::Digit, &behind[front_len(Class::Blank, behind)..])
+    first == b'-'
+        && begins_in_class(
+            Class::Digit,
+            &after_token[prefix_len(Class::Blank, after_token)..],
+        )
 }
 
 /// The token with which bytes inside of brackets begin: a first byte, and those after it.
-fn lexeme_inside(first: u8, behind: &[u8], all: &[u8]) -> Lexeme
-    requires { all.now ≡ first ∷ behind.now }
-    ensures is { lexeme_view result ≡ spots.lexeme true (first ∷ behind.now) }
-    ensures within { result.len ≤ length behind.now + 1 }
+fn lexeme_inside(first: u8, after_token: &[u8], all: &[u8]) -> Lexeme
+    requires { all.now ≡ first ∷ after_token.now }
+    ensures is { lexeme_view result ≡ spots.lexeme true (first ∷ after_token.now) }
+    ensures within { result.len ≤ length after_token.now + 1 }
     ensures written { IsWritten (token_view result.token) }
 {
     if Class::Digit.contains(first) {
         return Lexeme::number(false, 0, all);
     }
-    if leads_number(first, behind) {
-        return Lexeme::number(true, 1, behind);
+    if leads_number(first, after_token) {
+        return Lexeme::number(true, 1, after_token);
     }
     Lexeme::short(sign_token(first))
 }
 
 /// The token with which bytes outside of brackets begin: a first byte, and those after it.
-fn lexeme_outside(first: u8, behind: &[u8]) -> Lexeme
-    ensures is { lexeme_view result ≡ spots.lexeme false (first ∷ behind.now) }
-    ensures within { result.len ≤ length behind.now + 1 }
+fn lexeme_outside(first: u8, after_token: &[u8]) -> Lexeme
+    ensures is { lexeme_view result ≡ spots.lexeme false (first ∷ after_token.now) }
+    ensures within { result.len ≤ length after_token.now + 1 }
     ensures written { IsWritten (token_view result.token) }
 {
     if Class::Digit.contains(first) {
@@ -135,16 +139,16 @@ fn lexeme_outside(first: u8, behind: &[u8]) -> Lexeme
 }
 
 /// The token with which bytes begin, inside of brackets or not.
-fn lexeme_of_text(inside: bool, first: u8, behind: &[u8], all: &[u8]) -> Lexeme
-    requires { all.now ≡ first ∷ behind.now }
-    ensures is { lexeme_view result ≡ spots.lexeme inside (first ∷ behind.now) }
-    ensures within { result.len ≤ length behind.now + 1 }
+fn lexeme_of_text(inside: bool, first: u8, after_token: &[u8], all: &[u8]) -> Lexeme
+    requires { all.now ≡ first ∷ after_token.now }
+    ensures is { lexeme_view result ≡ spots.lexeme inside (first ∷ after_token.now) }
+    ensures within { result.len ≤ length after_token.now + 1 }
     ensures written { IsWritten (token_view result.token) }
 {
     if inside {
-        lexeme_inside(first, behind, all)
+        lexeme_inside(first, after_token, all)
     } else {
-        lexeme_outside(first, behind)
+        lexeme_outside(first, after_token)
     }
 }
 
@@ -156,10 +160,10 @@ fn blanks_end(text: &[u8], start: usize) -> usize
     ensures spots { (m : Bool) → spots_from spots.lexing m start 0 (drop start text.now) ≡ spots_from spots.lexing m result 0 (drop result text.now) }
     ensures stops { result < length text.now → is_blank (slice_index text.now result) ≡ false }
 {
-    start + front_len(Class::Blank, &text[start..])
+    start + prefix_len(Class::Blank, &text[start..])
 }
 
-/// The token at or behind `start`, if there is one.
+/// The token at or after `start`, if there is one.
 #[tactic(auto, using(crate::proofs::SpotSteps::no_next, crate::proofs::SpotSteps::next_token))]
 pub(crate) fn next_spot(text: &[u8], start: usize, inside: bool) -> Option<Spot>
     requires { start ≤ length text.now }

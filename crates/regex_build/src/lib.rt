@@ -34,10 +34,10 @@ mod codes;
 /// Parts of expressions.
 mod fragment;
 
-/// Which places may stand right behind which.
+/// Which places may come right after which.
 mod links;
 
-/// What may stand right behind the places of an expression.
+/// What may come right after the places of an expression.
 mod next_places;
 
 /// Rows of the automaton of an expression's letters.

@@ -1,4 +1,4 @@
-//! Which places may stand right behind which.
+//! Which places may come right after which.
 
 ghost use Rattle.std.specs.Prelude.{◌≡◌, ℕ, ◌<◌, ◌&&◌, length, Contains, IfOk, OnOk};
 ghost use Rattle.regex_build.specs.Fragments.{rows_in, Crosses, AreLinked, AreSettled, IsFollow, HasRows};
@@ -7,7 +7,7 @@ use crate::fragment::{Crossing, Fragment, merged, merged_if};
 use digit_tuple::faults::OutOfMemory;
 use std::alloc::Global;
 
-// Lists each of the first places behind each of the last ones.
+// Lists each of the first places after each of the last ones.
 fn link(next: &mut Vec<Vec<u32>>, lasts: &[u32], firsts: &[u32]) -> Result<(), OutOfMemory>
     requires { (p q : ℕ) → Contains lasts.now p → Contains firsts.now q → p < length next.old.items }
     ensures { OnOk result (AreLinked (λ p q. Contains lasts.now p × Contains firsts.now q) (rows_in next.old.items) (rows_in next.new.items)) }
@@ -73,8 +73,8 @@ fn crossed(
     Ok(owed)
 }
 
-/// Two expressions, one behind the other. What leads from a last place to a first one of both
-/// together may be owed, and all else is listed.
+/// Two expressions, one after the other. What leads from a last place to a first one of both together may be owed, and
+/// all else is listed.
 pub fn follow(
     alloc: Global,
     next: &mut Vec<Vec<u32>>,
@@ -88,12 +88,12 @@ pub fn follow(
     let nullable = left.nullable && right.nullable;
     let between = crossed(alloc, next, &left.lasts, &right.firsts, nullable)?;
     let before = settled(alloc, next, left.owed, right.nullable)?;
-    let behind = settled(alloc, next, right.owed, left.nullable)?;
+    let after_token = settled(alloc, next, right.owed, left.nullable)?;
     Ok(Fragment {
         nullable,
         repeats: false,
         firsts: merged_if(left.nullable, left.firsts, right.firsts)?,
         lasts: merged_if(right.nullable, right.lasts, left.lasts)?,
-        owed: merged(between, merged(before, behind)?)?,
+        owed: merged(between, merged(before, after_token)?)?,
     })
 }

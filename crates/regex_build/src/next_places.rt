@@ -1,4 +1,4 @@
-//! The places of an expression's letters, and what may stand right behind each.
+//! The places of an expression's letters, and what may come right after each.
 
 ghost use Rattle.std.specs.Prelude.{◌≡◌, ℕ, ◌<◌, ◌^◌, ◌++◌, ◌∷◌, [], ℤ, List, length, false, slice_index_or, Contains, IsTrue, ◌↔◌, IfOk, OnOk, MatchOption};
 ghost use Rattle.regex_build.specs.Expression.{Expression, occurrences_in};
@@ -169,11 +169,10 @@ fn finished(
 /// The next places of an expression. There are fewer than 2^32 - 1 letters: else it is out of
 /// memory.
 ///
-/// The pairs of places that stand beside each other are found from the parts to the whole
-/// (V. M. Glushkov, "The abstract theory of automata"). What a repetition gives is listed only once,
-/// however deep repetitions stand in each other (after A. Brüggemann-Klein, "Regular expressions into
-/// finite automata"), so all is linear in the pairs, but for moving lists of places from part to
-/// part, where each place is moved as often as its list doubles.
+/// The pairs of places that are beside each other are found from the parts to the whole (V. M. Glushkov, "The abstract
+/// theory of automata"). What a repetition gives is listed only once, however deep repetitions are in each other (after
+/// A. Brüggemann-Klein, "Regular expressions into finite automata"), so all is linear in the pairs, but for moving
+/// lists of places from part to part, where each place is moved as often as its list doubles.
 pub fn next_places(alloc: Global, symbols: &[PostfixSymbol]) -> Result<NextPlaces, OutOfMemory>
     requires { IsPostfix symbols.now }
     ensures small { IfOk result (λ made. length made.next.items < 2 ^ 32) }

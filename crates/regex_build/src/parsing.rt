@@ -26,10 +26,10 @@ use std::alloc::Global;
 /// int for each track. An int is digits, as many as there are, with or without a `-` before them.
 /// Blanks count for nothing.
 ///
-/// `Syntax` answers the first token with which no expression goes on, or the end of a text that ends
-/// too early. A token with which one goes on is answered by `Number` where it is a digit or an int
-/// that is no member of its track's set, and by `Depth` where it is a `(` that stands within 128
-/// others. The first of all these decides. `Memory` answers a refused growth.
+/// `Syntax` answers the first token with which no expression goes on, or the end of a text that ends too early. A token
+/// with which one goes on is answered by `Number` where it is a digit or an int that is no member of its track's set,
+/// and by `Depth` where it is a `(` that is within 128 others. The first of all these decides. `Memory` answers a
+/// refused growth.
 pub fn parse(alloc: Global, text: &[u8], header: &Header) -> Result<Regex, RegexFault>
     ensures { Parses (sets_of header.now) text.now result }
 {

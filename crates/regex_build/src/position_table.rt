@@ -17,10 +17,9 @@ use digit_tuple::letter_set::LetterSet;
 use digit_tuple::nfa::Nfa;
 use std::alloc::Global;
 
-/// The automaton of the expression's letters: state 0 is initial, and state i stands behind the
-/// i-th letter of the expression, where a `.` is a letter that may be any of the alphabet. From each
-/// state each letter that can come next leads to that letter's state. The edges of all states are
-/// made, so the automaton is as large as its table.
+/// The automaton of the expression's letters: state 0 is initial, and state i comes after the i-th letter of the
+/// expression, where a `.` is a letter that may be any of the alphabet. From each state each letter that can come next
+/// leads to that letter's state. The transitions of all states are made, so the automaton is as large as its table.
 ///
 /// An expression of 2^32 - 1 letters or more has more states than their numbers can count. It is
 /// answered by out of memory.

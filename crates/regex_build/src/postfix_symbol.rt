@@ -13,7 +13,7 @@ pub enum PostfixSymbol {
     Any,
     /// One of the last two expressions.
     Either,
-    /// The last two expressions, one behind the other.
+    /// The last two expressions, one after the other.
     Follow,
     /// The last expression any number of times.
     Star,

@@ -1,7 +1,7 @@
 //! The tokens of an expression, read one after the other to its symbols.
 //!
-//! A sign between two operands waits for the second, as in Dijkstra's shunting-yard algorithm ("Algol
-//! 60 translation"). In each group at most one of each kind waits, so two flags tell which do.
+//! A sign between two operands waits for the second, as in Dijkstra's shunting-yard algorithm ("Algol 60 translation").
+//! In each group at most one of each kind waits, so two flags say which do.
 
 ghost use Rattle.std.specs.Prelude.{◌≡◌, ◌<◌, ℤ, List, length, MatchOption, IfOk, OnOk, ⊤};
 ghost use Rattle.regex_build.specs.Tokens as tokens;
@@ -22,25 +22,25 @@ use std::mem;
 /// The greatest nesting of parentheses.
 const MOST_NESTED: usize = 128;
 
-/// What stands before the post that is read, in the same parentheses: alternatives with a `|`
-/// behind them, and a sequence.
+/// What comes before the post that is read, in the same parentheses: alternatives with a `|` after them, and a
+/// sequence.
 #[derive(Clone, Copy, Debug, PartialEq, Eq)]
 pub(crate) struct Group {
     pub alternatives: bool,
     pub sequence: bool,
 }
 
-/// Where a reading stands.
+/// Where a reading is.
 #[derive(Clone, Copy, Debug, PartialEq, Eq)]
 pub(crate) enum Place {
     /// A post begins here.
     AtPost,
-    /// Behind a post, which more signs may follow.
-    Behind,
+    /// After a post, which more signs may follow.
+    After,
     /// In brackets, before a number.
     AtNumber,
-    /// In brackets, behind a number.
-    BehindNumber,
+    /// In brackets, after a number.
+    AfterNumber,
 }
 
 /// An expression that is being read: the groups around, the innermost last, the group that is
@@ -106,15 +106,15 @@ impl Reading {
     pub fn in_bracket(&self) -> bool
         ensures { result ≡ machine.in_bracket self.now.place }
     {
-        matches!(self.place, Place::AtNumber | Place::BehindNumber)
+        matches!(self.place, Place::AtNumber | Place::AfterNumber)
     }
 
-    /// Adds a symbol, behind which the reading then stands.
+    /// Adds a symbol, after which the reading then is.
     fn push(&mut self, symbol: PostfixSymbol) -> Result<(), OutOfMemory>
         ensures { OnOk result (state_view self.new ≡ machine.pushed (state_view self.old) symbol) }
     {
         self.symbols.push(symbol)?;
-        self.place = Place::Behind;
+        self.place = Place::After;
         Ok(())
     }
 
@@ -151,7 +151,7 @@ impl Reading {
         match self.outer.pop() {
             Some(group) => {
                 self.group = group;
-                self.place = Place::Behind;
+                self.place = Place::After;
                 Ok(())
             }
             None => Err(Refusal::Syntax),
@@ -226,10 +226,10 @@ impl Reading {
         }
     }
 
-    /// Reads a token behind a post.
-    fn behind(&mut self, alloc: Global, sets: &Sets, token: Token) -> Result<(), Refusal>
+    /// Reads a token after a post.
+    fn after_token(&mut self, alloc: Global, sets: &Sets, token: Token) -> Result<(), Refusal>
         requires { IsWritten (token_view token) }
-        ensures { GivesAt Place.Behind sets.now (state_view self.old) (token_view token) (state_view self.new) result }
+        ensures { GivesAt Place.After sets.now (state_view self.old) (token_view token) (state_view self.new) result }
     {
         match token {
             Token::Star => Ok(self.push(PostfixSymbol::Star)?),
@@ -262,13 +262,13 @@ impl Reading {
             return Err(Refusal::Number);
         };
         self.letter.push(member)?;
-        self.place = Place::BehindNumber;
+        self.place = Place::AfterNumber;
         Ok(())
     }
 
-    /// Reads a token behind a number of a bracket.
-    fn behind_number(&mut self, alloc: Global, sets: &Sets, token: Token) -> Result<(), Refusal>
-        ensures { GivesAt Place.BehindNumber sets.now (state_view self.old) (token_view token) (state_view self.new) result }
+    /// Reads a token after a number of a bracket.
+    fn after_number(&mut self, alloc: Global, sets: &Sets, token: Token) -> Result<(), Refusal>
+        ensures { GivesAt Place.AfterNumber sets.now (state_view self.old) (token_view token) (state_view self.new) result }
     {
         match token {
             Token::Comma if self.letter.len() < sets.len() => {
@@ -291,9 +291,9 @@ impl Reading {
     {
         match self.place {
             Place::AtPost => self.at_post(alloc, sets, token),
-            Place::Behind => self.behind(alloc, sets, token),
+            Place::After => self.after_token(alloc, sets, token),
             Place::AtNumber => self.at_number(sets, token),
-            Place::BehindNumber => self.behind_number(alloc, sets, token),
+            Place::AfterNumber => self.after_number(alloc, sets, token),
         }
     }
 
@@ -305,7 +305,7 @@ impl Reading {
         if !self.outer.is_empty() {
             return Ok(None);
         }
-        if self.place != Place::Behind {
+        if self.place != Place::After {
             return Ok(None);
         }
         self.join()?;

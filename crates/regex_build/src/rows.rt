@@ -4,20 +4,24 @@ ghost use Rattle.std.specs.Prelude.{◌≡◌, ℕ, ◌+◌, ◌<◌, ◌≤◌,
 ghost use Rattle.digit_tuple.specs.Automaton.{IsBefore};
 ghost use Rattle.regex_build.specs.Codes.{IsInRange};
 ghost use Rattle.regex_build.specs.Fragments.{rows_in, Follows};
-ghost use Rattle.regex_build.specs.Rows.{IsEdgeTo, AreStates};
+ghost use Rattle.regex_build.specs.Rows.{IsTransitionTo, AreStates};
 
 use crate::codes::LetterRange;
 use crate::next_places::NextPlaces;
-use digit_tuple::edges::{Edge, NfaState};
 use digit_tuple::faults::OutOfMemory;
+use digit_tuple::transitions::{NfaState, Transition};
 use std::alloc::Global;
 
-// Adds an edge to the place for each of its letters.
-fn push_edges(edges: &mut Vec<Edge>, range: LetterRange, place: u32) -> Result<(), OutOfMemory>
-    ensures { OnOk result ((x : Edge) → Contains edges.new.items x ↔ (Contains edges.old.items x ⊎ ((x.target ≡ place) × IsInRange range x.letter))) }
+// Adds a transition to the place for each of its letters.
+fn push_transitions(
+    transitions: &mut Vec<Transition>,
+    range: LetterRange,
+    place: u32,
+) -> Result<(), OutOfMemory>
+    ensures { OnOk result ((x : Transition) → Contains transitions.new.items x ↔ (Contains transitions.old.items x ⊎ ((x.target ≡ place) × IsInRange range x.letter))) }
 {
     for letter in range.first..range.end {
-        edges.push(Edge {
+        transitions.push(Transition {
             letter,
             target: place,
         })?;
@@ -25,19 +29,23 @@ fn push_edges(edges: &mut Vec<Edge>, range: LetterRange, place: u32) -> Result<(
     Ok(())
 }
 
-// The edges to these places, in order, none twice.
-fn edges_to(alloc: Global, next: &[u32], ranges: &[LetterRange]) -> Result<Vec<Edge>, OutOfMemory>
+// The transitions to these places, in order, none twice.
+fn transitions_to(
+    alloc: Global,
+    next: &[u32],
+    ranges: &[LetterRange],
+) -> Result<Vec<Transition>, OutOfMemory>
     requires { (place : ℕ) → Contains next.now place → (0 < place) × (place ≤ length ranges.now) }
-    ensures ascending { IfOk result (λ edges. AllPairs IsBefore edges.items) }
-    ensures edges { IfOk result (λ edges. (x : Edge) → Contains edges.items x ↔ IsEdgeTo ranges.now next.now x) }
+    ensures ascending { IfOk result (λ transitions. AllPairs IsBefore transitions.items) }
+    ensures transitions { IfOk result (λ transitions. (x : Transition) → Contains transitions.items x ↔ IsTransitionTo ranges.now next.now x) }
 {
-    let mut edges = Vec::new(alloc);
+    let mut transitions = Vec::new(alloc);
     for place in next {
-        push_edges(&mut edges, ranges[*place as usize - 1], *place)?;
+        push_transitions(&mut transitions, ranges[*place as usize - 1], *place)?;
     }
-    edges.sort()?;
-    edges.dedup();
-    Ok(edges)
+    transitions.sort()?;
+    transitions.dedup();
+    Ok(transitions)
 }
 
 /// The states of the automaton of these places, one after another from the first on.
@@ -55,7 +63,7 @@ pub fn states_of(
     for (state, next) in places.next.iter().enumerate() {
         states.push(NfaState {
             accepting: places.ends[state],
-            edges: edges_to(alloc, next, ranges)?,
+            transitions: transitions_to(alloc, next, ranges)?,
         })?;
     }
     Ok(states)

@@ -13,7 +13,7 @@ pub(crate) enum Token {
     Bracket,
     Comma,
     Unbracket,
-    /// A digit that stands in no brackets.
+    /// A digit that is in no brackets.
     Digit(u8),
     /// A number in brackets. One further than 2^32 - 1 from 0 is kept as one at that distance.
     Number(i64),

@@ -21,18 +21,18 @@ not_ended false true is = refl
 not_ended false false is = refl
 
 -- the text at the front has no terminator outside quotes
-pub unbroken-front : (inside : Bool) (bytes : List ℕ) → IsTrue (unbroken inside (take (text_count inside bytes) bytes))
-unbroken-front inside [] = refl
-unbroken-front inside (b ∷ bs) = more inside b bs (is_terminator b && not inside) refl (unbroken-front (after_byte inside b) bs)
+pub unbroken-prefix : (inside : Bool) (bytes : List ℕ) → IsTrue (unbroken inside (take (text_count inside bytes) bytes))
+unbroken-prefix inside [] = refl
+unbroken-prefix inside (b ∷ bs) = more inside b bs (is_terminator b && not inside) refl (unbroken-prefix (after_byte inside b) bs)
   where
     more : (inside : Bool) (b : ℕ) (bs : List ℕ) (v : Bool) → (is_terminator b && not inside) ≡ v → IsTrue (unbroken (after_byte inside b) (take (text_count (after_byte inside b) bs) bs)) → IsTrue (unbroken inside (take (if v then 0 else suc (text_count (after_byte inside b) bs)) (b ∷ bs)))
     more inside b bs true is rest = refl
     more inside b bs false is rest = both _ _ (not_ended (is_terminator b) inside is) rest
 
--- whether a quote is open behind it
-pub quoted-front : (inside : Bool) (bytes : List ℕ) → quoted inside (take (text_count inside bytes) bytes) ≡ text_open inside bytes
-quoted-front inside [] = refl
-quoted-front inside (b ∷ bs) = more inside b bs (is_terminator b && not inside) (quoted-front (after_byte inside b) bs)
+-- whether a quote is open after it
+pub quoted-prefix : (inside : Bool) (bytes : List ℕ) → quoted inside (take (text_count inside bytes) bytes) ≡ text_open inside bytes
+quoted-prefix inside [] = refl
+quoted-prefix inside (b ∷ bs) = more inside b bs (is_terminator b && not inside) (quoted-prefix (after_byte inside b) bs)
   where
     more : (inside : Bool) (b : ℕ) (bs : List ℕ) (v : Bool) → quoted (after_byte inside b) (take (text_count (after_byte inside b) bs) bs) ≡ text_open (after_byte inside b) bs → quoted inside (take (if v then 0 else suc (text_count (after_byte inside b) bs)) (b ∷ bs)) ≡ (if v then inside else text_open (after_byte inside b) bs)
     more inside b bs true rest = refl
@@ -48,10 +48,10 @@ ended true true is = cc
 ended true false is = (refl, refl)
 ended false inside is = cc
 
--- behind it the terminator stands, and no quote is open
-pub ends-behind : (inside : Bool) (bytes : List ℕ) → text_count inside bytes < length bytes → (text_open inside bytes ≡ false) × Ends (drop (text_count inside bytes) bytes)
-ends-behind inside [] less = absurd (omega arith)
-ends-behind inside (b ∷ bs) less = more inside b bs (is_terminator b && not inside) refl less (ends-behind (after_byte inside b) bs)
+-- after it the terminator is, and no quote is open
+pub ends-suffix : (inside : Bool) (bytes : List ℕ) → text_count inside bytes < length bytes → (text_open inside bytes ≡ false) × Ends (drop (text_count inside bytes) bytes)
+ends-suffix inside [] less = absurd (omega arith)
+ends-suffix inside (b ∷ bs) less = more inside b bs (is_terminator b && not inside) refl less (ends-suffix (after_byte inside b) bs)
   where
     more : (inside : Bool) (b : ℕ) (bs : List ℕ) (v : Bool) → (is_terminator b && not inside) ≡ v → (if v then 0 else suc (text_count (after_byte inside b) bs)) < suc (length bs)
         → (text_count (after_byte inside b) bs < length bs → (text_open (after_byte inside b) bs ≡ false) × Ends (drop (text_count (after_byte inside b) bs) bs))
@@ -104,9 +104,9 @@ at_least : (v : Bool) (n m : ℕ) → v ≡ false → m ≤ n → suc m ≤ (if 
 at_least true n m is e = cc
 at_least false n m is e = omega arith
 
--- and at least so far, whatever comes behind it
-pub text_count-front : (inside : Bool) (text behind : List ℕ) → IsTrue (unbroken inside text) → length text ≤ text_count inside (text ++ behind)
-text_count-front inside [] behind whole = omega arith
-text_count-front inside (b ∷ bs) behind whole =
+-- and at least so far, whatever comes after it
+pub text_count-prefix : (inside : Bool) (text suffix : List ℕ) → IsTrue (unbroken inside text) → length text ≤ text_count inside (text ++ suffix)
+text_count-prefix inside [] suffix whole = omega arith
+text_count-prefix inside (b ∷ bs) suffix whole =
     let parts : ((inside || not (is_terminator b)) ≡ true) × (unbroken (after_byte inside b) bs ≡ true) = both_true (inside || not (is_terminator b)) (unbroken (after_byte inside b) bs) whole in
-    at_least (is_terminator b && not inside) (text_count (after_byte inside b) (bs ++ behind)) (length bs) (goes_on (is_terminator b) inside parts.0) (text_count-front (after_byte inside b) bs behind parts.1)
+    at_least (is_terminator b && not inside) (text_count (after_byte inside b) (bs ++ suffix)) (length bs) (goes_on (is_terminator b) inside parts.0) (text_count-prefix (after_byte inside b) bs suffix parts.1)

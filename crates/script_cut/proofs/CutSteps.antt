@@ -10,7 +10,7 @@ use Rattle.script_cut.specs.Texts.{is_gap, AreGaps, quoted, unbroken, Starts, Is
 use Rattle.script_cut.specs.Cuts.{Ended, Terminated, Unterminated, Next, HasNoCommand}
 use Rattle.script_cut.specs.Kept.{Kept}
 use Rattle.script_cut.specs.Cutting.{place_of, MayCome, HasCut, HasFailed}
-use Rattle.script_cut.specs.Passing.{Passes, IsBounded, AllGave, IsOver, Stops, IsAtText, PassesGaps, PassesText, HasScanned, IsBehindText, IsBehindAll}
+use Rattle.script_cut.specs.Passing.{Passes, IsBounded, AllGave, IsOver, Stops, IsAtText, PassesGaps, PassesText, HasScanned, IsAfterText, IsAfterAll}
 use Rattle.script_cut.specs.Reading.{IsStillInGaps}
 use Rattle.script_cut.specs.declared.cut.Cut.TheVariants as cuts
 use Rattle.script_cut.specs.declared.cut.CutFault.{CutFault}
@@ -23,9 +23,9 @@ use Rattle.script_cut.proofs.AskingSteps.{asked_then, asked_so}
 not_both : (b : Bool) → b ≡ false → b ≡ true → ⊥
 not_both b p q = cc
 
--- what is still to come stands behind all of them
-come_behind : (held given more passed rest : List ℕ) → held ++ given ≡ passed ++ rest → held ++ (given ++ more) ≡ passed ++ (rest ++ more)
-come_behind held given more passed rest split = sym (append_assoc held given more) ∙ ap (λ bytes. bytes ++ more) split ∙ append_assoc passed rest more
+-- what is still to come comes after all of them
+come_after : (held given more passed rest : List ℕ) → held ++ given ≡ passed ++ rest → held ++ (given ++ more) ≡ passed ++ (rest ++ more)
+come_after held given more passed rest split = sym (append_assoc held given more) ∙ ap (λ bytes. bytes ++ more) split ∙ append_assoc passed rest more
 
 -- once the source has ended nothing comes
 come_none : (over : Bool) (now : Option (List ℕ)) (more : List ℕ) → over ≡ true → MayCome over now more → more ≡ []
@@ -33,10 +33,10 @@ come_none true now more is may = may
 come_none false now more is may = cc
 
 -- a text starts as what was held does
-starts_front : (held given text rest : List ℕ) → Starts held → held ++ given ≡ text ++ rest → 0 < length text → Starts text
-starts_front [] given text rest starts split some = absurd starts
-starts_front (b ∷ bs) given [] rest starts split some = absurd (omega arith)
-starts_front (b ∷ bs) given (x ∷ xs) rest starts split some = let same : b ≡ x = cc in let P : ℕ → Type 0 = λ n. is_gap n ≡ false in subst P same starts
+starts_prefix : (held given text rest : List ℕ) → Starts held → held ++ given ≡ text ++ rest → 0 < length text → Starts text
+starts_prefix [] given text rest starts split some = absurd starts
+starts_prefix (b ∷ bs) given [] rest starts split some = absurd (omega arith)
+starts_prefix (b ∷ bs) given (x ∷ xs) rest starts split some = let same : b ≡ x = cc in let P : ℕ → Type 0 = λ n. is_gap n ≡ false in subst P same starts
 
 gap_ends : (shown : Bool) → is_gap (terminator_of shown) ≡ true
 gap_ends true = refl
@@ -46,7 +46,7 @@ line_ends-terminator : (shown : Bool) → line_ends (terminator_of shown ∷ [])
 line_ends-terminator true = refl
 line_ends-terminator false = refl
 
--- no terminator stands where a command begins
+-- no terminator is where a command begins
 some_before : (shown : Bool) (held given text rest : List ℕ) → Starts held → held ++ given ≡ (text ++ terminator_of shown ∷ []) ++ rest → 0 < length text
 some_before shown [] given text rest starts split = absurd starts
 some_before shown (b ∷ bs) given [] rest starts split = let same : b ≡ terminator_of shown = cc in let is : is_gap b ≡ true = rw same (gap_ends shown) in absurd (not_both (is_gap b) starts is)
@@ -65,24 +65,24 @@ within_of old told new now passed p bounded some = rw (p.split, length-append pa
 room_of : (old : Kept) (told : SourceView) (new : Kept) (now : SourceView) (passed : List ℕ) (p : Passes old told new now passed) → new.room + length (old.held ++ concat p.pieces) ≡ old.room + length new.held
 room_of old told new now passed p = rw (p.split, length-append passed new.held) (omega (arith, p.room_is))
 
--- a text starts as each front of it does
+-- a text starts as each prefix of it does
 starts-append : (xs ys : List ℕ) → Starts xs → Starts (xs ++ ys)
 starts-append [] ys starts = absurd starts
 starts-append (x ∷ xs) ys starts = starts
 
 -- calls were made where a text had begun and not ended
-asked_behind : (before mid : List ℕ) (qs : List (List ℕ)) → AreGaps before → Starts mid → AreAsked is_text mid qs → AreAsked HasNoCommand (before ++ mid) qs
-asked_behind before mid [] gaps starts asked = tt
-asked_behind before mid (q ∷ []) gaps starts asked = inr (record { before = before; text = mid; gaps = gaps; begun = record { starts = starts; unbroken = asked }; split = refl })
-asked_behind before mid (q ∷ r ∷ qs) gaps starts asked =
+asked_after : (before mid : List ℕ) (qs : List (List ℕ)) → AreGaps before → Starts mid → AreAsked is_text mid qs → AreAsked HasNoCommand (before ++ mid) qs
+asked_after before mid [] gaps starts asked = tt
+asked_after before mid (q ∷ []) gaps starts asked = inr (record { before = before; text = mid; gaps = gaps; begun = record { starts = starts; unbroken = asked }; split = refl })
+asked_after before mid (q ∷ r ∷ qs) gaps starts asked =
     let P : List ℕ → Type 0 = λ xs. AreAsked HasNoCommand xs (r ∷ qs) in
-    (asked.0, subst P (sym (append_assoc before mid q)) (asked_behind before (mid ++ q) (r ∷ qs) gaps (starts-append mid q starts) asked.1))
+    (asked.0, subst P (sym (append_assoc before mid q)) (asked_after before (mid ++ q) (r ∷ qs) gaps (starts-append mid q starts) asked.1))
 
 -- calls among the gaps, and then in a text
 asked_both : (old mid new : Kept) (told between now : SourceView) (p : PassesGaps old told (Ok true) mid between) (gave : AllGave p.passes.pieces) (closed : AreGaps p.before) (starts : Starts mid.held) (qs : List (List ℕ)) → AreAsked is_text mid.held qs → AreAsked HasNoCommand old.held (p.passes.pieces ++ qs)
 asked_both old mid new told between now p gave closed starts qs asked =
     let P : List ℕ → Type 0 = λ xs. AreAsked HasNoCommand xs qs in
-    asked_then HasNoCommand old.held p.passes.pieces qs gave (asked_so _ HasNoCommand old.held p.passes.pieces (λ bytes gaps. inl gaps) p.asked) (subst P (sym p.passes.split) (asked_behind p.before mid.held qs closed starts asked))
+    asked_then HasNoCommand old.held p.passes.pieces qs gave (asked_so _ HasNoCommand old.held p.passes.pieces (λ bytes gaps. inl gaps) p.asked) (subst P (sym p.passes.split) (asked_after p.before mid.held qs closed starts asked))
 
 -- a text was found: it is the next item, whatever is still to come
 pub record HasFound (old : Kept) (told : SourceView) (new : Kept) (now : SourceView) (ended : Ended) (line len : ℕ) : Type 0 where
@@ -105,7 +105,7 @@ command_next old mid new told between now shown before text more p q t over over
   cut = record {
     gaps = gaps;
     command = record { begun = begun; closed = closed };
-    split = rw (over, over') (come_behind old.held (concat t.pieces) more (before ++ (text ++ terminator_of shown ∷ [])) new.held t.split ∙ simp append_assoc);
+    split = rw (over, over') (come_after old.held (concat t.pieces) more (before ++ (text ++ terminator_of shown ∷ [])) new.held t.split ∙ simp append_assoc);
     room = omega (arith, p.room_is, q.room_is, length-append text (terminator_of shown ∷ []));
   };
   line_is = p.line_is;
@@ -128,7 +128,7 @@ open_next old mid new told between now before text more p q t over over' none no
   next_line = omega (arith, q.line_is, line_ends-append text []);
 }
 
--- the same, with what stands after the text
+-- the same, with what follows the text
 abbrev ended_by : (mid : Kept) (between : SourceView) (new : Kept) (now : SourceView) (text end other : List ℕ) → end ≡ other → Passes mid between new now (text ++ end) → Passes mid between new now (text ++ other)
 ended_by mid between new now text end other is q = record {
   pieces = q.pieces;
@@ -144,8 +144,8 @@ pub found_command : (old mid new : Kept) (told between now : SourceView) (len : 
 found_command old mid new told between now len shown over p q =
     let at : IsAtText p.before p.passes.pieces mid = p.stops in
     let scanned : HasScanned (record { len = len; shown = Some shown }) q.text q.end new now = q.stops in
-    let behind : IsBehindText q.text q.end shown new = scanned.ends in
-    let text_passes : Passes mid between new now (q.text ++ terminator_of shown ∷ []) = ended_by mid between new now q.text q.end (terminator_of shown ∷ []) behind.end_is q.passes in
+    let suffix : IsAfterText q.text q.end shown new = scanned.ends in
+    let text_passes : Passes mid between new now (q.text ++ terminator_of shown ∷ []) = ended_by mid between new now q.text q.end (terminator_of shown ∷ []) suffix.end_is q.passes in
     let whole : Passes old told new now (p.before ++ (q.text ++ terminator_of shown ∷ [])) = passes-then old mid new told between now p.before (q.text ++ terminator_of shown ∷ []) p.passes text_passes in
     let some : 0 < length q.text = some_before shown mid.held (concat text_passes.pieces) q.text new.held at.starts text_passes.split in
     let split : mid.held ++ (concat text_passes.pieces) ≡ q.text ++ ((terminator_of shown ∷ []) ++ new.held) = text_passes.split ∙ append_assoc q.text (terminator_of shown ∷ []) new.held in
@@ -155,14 +155,14 @@ found_command old mid new told between now len shown over p q =
       asked = asked_both old mid new told between now p at.gave (record { all = p.gaps; closed = at.closed }) at.starts q.passes.pieces q.asked;
       within = within_of old told new now _ whole (bounded-then p.passes.pieces q.passes.pieces mid new (q.text ++ q.end) p.bounded q.bounded q.passes.split q.passes.room_is);
       room = room_of old told new now _ whole;
-      last = λ is. absurd (not_both new.over behind.over is);
+      last = λ is. absurd (not_both new.over suffix.over is);
       text = q.text;
       len_is = scanned.len_is;
       text_is = scanned.text_is;
-      next = λ more may. command_next old mid new told between now shown p.before q.text more p.passes text_passes whole over behind.over
+      next = λ more may. command_next old mid new told between now shown p.before q.text more p.passes text_passes whole over suffix.over
           (record { all = p.gaps; closed = at.closed })
-          (record { starts = starts_front mid.held (concat text_passes.pieces) q.text ((terminator_of shown ∷ []) ++ new.held) at.starts split some; unbroken = q.whole })
-          behind.closed;
+          (record { starts = starts_prefix mid.held (concat text_passes.pieces) q.text ((terminator_of shown ∷ []) ++ new.held) at.starts split some; unbroken = q.whole })
+          suffix.closed;
     }
 
 -- a text that ended by the script's end
@@ -171,9 +171,9 @@ pub found_open : (old mid new : Kept) (told between now : SourceView) (len : ℕ
 found_open old mid new told between now len over p q =
     let at : IsAtText p.before p.passes.pieces mid = p.stops in
     let scanned : HasScanned (record { len = len; shown = None }) q.text q.end new now = q.stops in
-    let behind : IsBehindAll q.end new now = scanned.ends in
-    let all : IsOver new now = behind.over in
-    let text_passes : Passes mid between new now (q.text ++ []) = ended_by mid between new now q.text q.end [] behind.no_end q.passes in
+    let suffix : IsAfterAll q.end new now = scanned.ends in
+    let all : IsOver new now = suffix.over in
+    let text_passes : Passes mid between new now (q.text ++ []) = ended_by mid between new now q.text q.end [] suffix.no_end q.passes in
     let whole : Passes old told new now (p.before ++ (q.text ++ [])) = passes-then old mid new told between now p.before (q.text ++ []) p.passes text_passes in
     let ends : mid.held ++ (concat text_passes.pieces) ≡ (q.text ++ []) ++ [] = rw all.held at text_passes.split in
     let split : mid.held ++ (concat text_passes.pieces) ≡ q.text ++ [] = ends ∙ append-nil (q.text ++ []) in
@@ -189,7 +189,7 @@ found_open old mid new told between now len over p q =
       text_is = scanned.text_is;
       next = λ more may. open_next old mid new told between now p.before q.text more p.passes text_passes whole over all.over all.held (come_none new.over now.left more all.over may)
           (record { all = p.gaps; closed = at.closed })
-          (record { starts = starts_front mid.held (concat text_passes.pieces) q.text [] at.starts split (some_at_end mid.held (concat text_passes.pieces) q.text at.starts ends); unbroken = q.whole });
+          (record { starts = starts_prefix mid.held (concat text_passes.pieces) q.text [] at.starts split (some_at_end mid.held (concat text_passes.pieces) q.text at.starts ends); unbroken = q.whole });
     }
 
 -- answers of a text that was found
@@ -263,7 +263,7 @@ cut_stop old new told now passed (faults.ScriptLimit line) over p asked bounded 
         full = omega (arith, p.room_is, stops.1);
         past = new.held ++ more;
         more = some_held new.held more stops.0;
-        split = rw over (come_behind old.held (concat p.pieces) more passed new.held p.split);
+        split = rw over (come_after old.held (concat p.pieces) more passed new.held p.split);
         no_text = refl;
         nothing_left = refl;
         no_room = refl;
@@ -294,7 +294,7 @@ none_so_far held given before (x ∷ xs) rest gaps starts split whole = inr (rec
   before = before;
   text = x ∷ xs;
   gaps = gaps;
-  begun = record { starts = starts_front held given (x ∷ xs) rest starts split (omega arith); unbroken = whole };
+  begun = record { starts = starts_prefix held given (x ∷ xs) rest starts split (omega arith); unbroken = whole };
   split = refl;
 })
 
@@ -352,7 +352,7 @@ cut_end old new told now begun p = record {
   ended = λ was is. p.stops.ended;
   item = λ more may.
       let left : (place_of old (concat p.passes.pieces ++ more)).left ≡ p.before =
-      rw begun (come_behind old.held (concat p.passes.pieces) more p.before new.held p.passes.split ∙ rw (p.stops.held, come_none new.over now.left more p.stops.over may, append-nil p.before) refl) in
+      rw begun (come_after old.held (concat p.passes.pieces) more p.before new.held p.passes.split ∙ rw (p.stops.held, come_none new.over now.left more p.stops.over may, append-nil p.before) refl) in
       record { gaps = rw left p.gaps; within = rw left (omega (arith, p.passes.room_is)) };
   failed = λ is. cc;
 }

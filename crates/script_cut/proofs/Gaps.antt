@@ -1,4 +1,4 @@
--- What stands before commands.
+-- What comes before commands.
 use Rattle.std.proofs.Common.{◌≡◌, ℕ, zero, suc, ◌+◌, ◌<◌, Bool, true, false, ◌||◌, ◌&&◌, if◌then◌else◌, IsTrue, List, [], ◌∷◌, ◌++◌, length, take, drop, refl, arith}
 use Rattle.std.proofs.lemmas.List.Sums.{sum_by-append}
 use Rattle.script_cut.specs.Texts.{is_gap, comment_after, commented, all_gaps, Starts, line_ends}
@@ -26,18 +26,18 @@ all_gaps-append inside (x ∷ xs) ys a b =
     both (inside || is_gap x) (all_gaps (comment_after inside x) (xs ++ ys)) parts.0 (all_gaps-append (comment_after inside x) xs ys parts.1 b)
 
 -- the gaps at the front are gaps
-pub all_gaps-front : (inside : Bool) (bytes : List ℕ) → IsTrue (all_gaps inside (take (gap_count inside bytes) bytes))
-all_gaps-front inside [] = refl
-all_gaps-front inside (b ∷ bs) = more inside b bs (inside || is_gap b) refl (all_gaps-front (comment_after inside b) bs)
+pub all_gaps-prefix : (inside : Bool) (bytes : List ℕ) → IsTrue (all_gaps inside (take (gap_count inside bytes) bytes))
+all_gaps-prefix inside [] = refl
+all_gaps-prefix inside (b ∷ bs) = more inside b bs (inside || is_gap b) refl (all_gaps-prefix (comment_after inside b) bs)
   where
     more : (inside : Bool) (b : ℕ) (bs : List ℕ) (v : Bool) → (inside || is_gap b) ≡ v → IsTrue (all_gaps (comment_after inside b) (take (gap_count (comment_after inside b) bs) bs)) → IsTrue (all_gaps inside (take (if v then suc (gap_count (comment_after inside b) bs) else 0) (b ∷ bs)))
     more inside b bs true is rest = both _ _ is rest
     more inside b bs false is rest = refl
 
--- what is open behind them
-pub commented-front : (inside : Bool) (bytes : List ℕ) → commented inside (take (gap_count inside bytes) bytes) ≡ gap_open inside bytes
-commented-front inside [] = refl
-commented-front inside (b ∷ bs) = more inside b bs (inside || is_gap b) (commented-front (comment_after inside b) bs)
+-- what is open after them
+pub commented-prefix : (inside : Bool) (bytes : List ℕ) → commented inside (take (gap_count inside bytes) bytes) ≡ gap_open inside bytes
+commented-prefix inside [] = refl
+commented-prefix inside (b ∷ bs) = more inside b bs (inside || is_gap b) (commented-prefix (comment_after inside b) bs)
   where
     more : (inside : Bool) (b : ℕ) (bs : List ℕ) (v : Bool) → commented (comment_after inside b) (take (gap_count (comment_after inside b) bs) bs) ≡ gap_open (comment_after inside b) bs → commented inside (take (if v then suc (gap_count (comment_after inside b) bs) else 0) (b ∷ bs)) ≡ (if v then gap_open (comment_after inside b) bs else inside)
     more inside b bs true rest = rest
@@ -47,10 +47,10 @@ neither : (inside v : Bool) → (inside || v) ≡ false → (inside ≡ false) �
 neither true v is = cc
 neither false v is = (refl, is)
 
--- behind them no comment is open, and no gap stands
-pub starts-behind : (inside : Bool) (bytes : List ℕ) → gap_count inside bytes < length bytes → (gap_open inside bytes ≡ false) × Starts (drop (gap_count inside bytes) bytes)
-starts-behind inside [] less = absurd (omega arith)
-starts-behind inside (b ∷ bs) less = more inside b bs (inside || is_gap b) refl less (starts-behind (comment_after inside b) bs)
+-- after them no comment is open, and no gap is
+pub starts-suffix : (inside : Bool) (bytes : List ℕ) → gap_count inside bytes < length bytes → (gap_open inside bytes ≡ false) × Starts (drop (gap_count inside bytes) bytes)
+starts-suffix inside [] less = absurd (omega arith)
+starts-suffix inside (b ∷ bs) less = more inside b bs (inside || is_gap b) refl less (starts-suffix (comment_after inside b) bs)
   where
     more : (inside : Bool) (b : ℕ) (bs : List ℕ) (v : Bool) → (inside || is_gap b) ≡ v → (if v then suc (gap_count (comment_after inside b) bs) else 0) < suc (length bs)
         → (gap_count (comment_after inside b) bs < length bs → (gap_open (comment_after inside b) bs ≡ false) × Starts (drop (gap_count (comment_after inside b) bs) bs))
@@ -58,7 +58,7 @@ starts-behind inside (b ∷ bs) less = more inside b bs (inside || is_gap b) ref
     more inside b bs true is less rest = rest (omega arith)
     more inside b bs false is less rest = neither inside (is_gap b) is
 
--- a text starts as each front of it does
+-- a text starts as each prefix of it does
 pub starts-take : (n m : ℕ) (bytes : List ℕ) → Starts (drop n (take m bytes)) → Starts (drop n bytes)
 starts-take zero zero bytes starts = absurd starts
 starts-take zero (suc m) [] starts = starts
@@ -75,14 +75,14 @@ counts_none : (v : Bool) (n : ℕ) → v ≡ false → (if v then suc n else 0) 
 counts_none true n is = cc
 counts_none false n is = refl
 
--- gaps come first, and then those behind them
-pub gap_count-gaps : (inside : Bool) (before behind : List ℕ) → IsTrue (all_gaps inside before) → gap_count inside (before ++ behind) ≡ length before + gap_count (commented inside before) behind
-gap_count-gaps inside [] behind gaps = omega arith
-gap_count-gaps inside (b ∷ bs) behind gaps =
+-- gaps come first, and then those after them
+pub gap_count-gaps : (inside : Bool) (before suffix : List ℕ) → IsTrue (all_gaps inside before) → gap_count inside (before ++ suffix) ≡ length before + gap_count (commented inside before) suffix
+gap_count-gaps inside [] suffix gaps = omega arith
+gap_count-gaps inside (b ∷ bs) suffix gaps =
     let parts : ((inside || is_gap b) ≡ true) × (all_gaps (comment_after inside b) bs ≡ true) = both_true (inside || is_gap b) (all_gaps (comment_after inside b) bs) gaps in
-    counts_one (inside || is_gap b) (gap_count (comment_after inside b) (bs ++ behind)) (length bs) (gap_count (commented (comment_after inside b) bs) behind) parts.0 (gap_count-gaps (comment_after inside b) bs behind parts.1)
+    counts_one (inside || is_gap b) (gap_count (comment_after inside b) (bs ++ suffix)) (length bs) (gap_count (commented (comment_after inside b) bs) suffix) parts.0 (gap_count-gaps (comment_after inside b) bs suffix parts.1)
 
 -- a text that starts has none
-pub gap_count-starts : (text behind : List ℕ) → Starts text → gap_count false (text ++ behind) ≡ 0
-gap_count-starts [] behind starts = absurd starts
-gap_count-starts (b ∷ bs) behind starts = counts_none (is_gap b) (gap_count (comment_after false b) (bs ++ behind)) starts
+pub gap_count-starts : (text suffix : List ℕ) → Starts text → gap_count false (text ++ suffix) ≡ 0
+gap_count-starts [] suffix starts = absurd starts
+gap_count-starts (b ∷ bs) suffix starts = counts_none (is_gap b) (gap_count (comment_after false b) (bs ++ suffix)) starts

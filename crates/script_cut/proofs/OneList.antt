@@ -2,9 +2,9 @@
 use Rattle.std.proofs.Common.{◌≡◌, ℕ, ◌+◌, Bool, true, false, List, [], ◌∷◌, length, refl, sym, ap, ◌∙◌, subst, arith}
 use Rattle.script_cut.specs.Texts.{terminator_of, line_ends}
 use Rattle.script_cut.specs.Cuts.{Ended, Terminated, Unterminated, PastLimit, Item, Rest, Next, IsAtEnd, CutsTo, HasItems}
-use Rattle.script_cut.proofs.FirstCut.{behind_gaps, IsFirst, first_of_next, none_behind}
+use Rattle.script_cut.proofs.FirstCut.{after_gaps, IsFirst, first_of_next, none_after}
 
--- two items and the places behind them are equal
+-- two items and the places after them are equal
 pub record Same (i j : Item) (p q : Rest) : Type 0 where
   pub item : i ≡ j
   pub place : p ≡ q
@@ -46,8 +46,8 @@ pub same_next : (old : Rest) (i j : Item) (p q : Rest) → Next old i p → Next
 same_next old i j p q a b = same_first old i.ended j.ended i.text j.text i.line j.line p q (first_of_next old i.ended i.text i.line p a) (first_of_next old j.ended j.text j.line q b) a.next_line b.next_line
 
 no_first : (old : Rest) (e : Ended) (t : List ℕ) (m : ℕ) (p : Rest) → IsFirst e old t m p → IsAtEnd old → ⊥
-no_first old (Terminated v) t m p a end = let none : length (behind_gaps old.left) ≡ 0 = ap length (none_behind old end) in omega (arith, a.found)
-no_first old Unterminated t m p a end = let none : length (behind_gaps old.left) ≡ 0 = ap length (none_behind old end) in omega (arith, a.some)
+no_first old (Terminated v) t m p a end = let none : length (after_gaps old.left) ≡ 0 = ap length (none_after old end) in omega (arith, a.found)
+no_first old Unterminated t m p a end = let none : length (after_gaps old.left) ≡ 0 = ap length (none_after old end) in omega (arith, a.some)
 no_first old PastLimit t m p a end = omega (arith, a.more, end.within)
 
 -- at the end no item comes

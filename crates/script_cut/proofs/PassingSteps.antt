@@ -12,8 +12,8 @@ use Rattle.script_cut.specs.Lengths.{gap_count, gap_open, text_count, text_open}
 use Rattle.script_cut.specs.Kept.{Kept, advance}
 use Rattle.script_cut.specs.Passing.{Passes, IsBounded, AllGave, AsksOnce, IsSupplied, HasHeld, IsOver, Stops, PassesGaps, PassesText}
 use Rattle.script_cut.specs.declared.cut.CutFault.{CutFault}
-use Rattle.script_cut.proofs.Gaps.{line_ends-append, commented-append, all_gaps-append, all_gaps-front, commented-front, starts-behind, starts-take}
-use Rattle.script_cut.proofs.Commands.{quoted-append, unbroken-append, unbroken-front, quoted-front, Ends, ends-behind, ends-take, ends-first}
+use Rattle.script_cut.proofs.Gaps.{line_ends-append, commented-append, all_gaps-append, all_gaps-prefix, commented-prefix, starts-suffix, starts-take}
+use Rattle.script_cut.proofs.Commands.{quoted-append, unbroken-append, unbroken-prefix, quoted-prefix, Ends, ends-suffix, ends-take, ends-first}
 
 pub passes-none : (old : Kept) (told : SourceView) → Passes old told old told []
 passes-none old told = record {
@@ -108,8 +108,8 @@ unfolding by-supplied
 gave-supplied P old mid new told between now a p gave has q some = gave_once p.passes.pieces q.passes.pieces mid.held new.held gave q.once q.passes.split some
 
 -- bytes at the front are passed after what was passed
-pub by-front : (P : List ℕ → Type 0) (n : ℕ) (old new : Kept) (told now : SourceView) (a : List ℕ) (p : PassesBy P old told new now a) → n ≤ length new.held → n ≤ new.room → PassesBy P old told (advance n new) now (a ++ take n new.held)
-by-front P n old new told now a p held room = record {
+pub by-prefix : (P : List ℕ → Type 0) (n : ℕ) (old new : Kept) (told now : SourceView) (a : List ℕ) (p : PassesBy P old told new now a) → n ≤ length new.held → n ≤ new.room → PassesBy P old told (advance n new) now (a ++ take n new.held)
+by-prefix P n old new told now a p held room = record {
   passes = record {
     pieces = p.passes.pieces;
     given = p.passes.given;
@@ -121,9 +121,9 @@ by-front P n old new told now a p held room = record {
   bounded = λ some. omega (arith, p.bounded some, length-drop n new.held);
 }
 
-pub gave-front : (P : List ℕ → Type 0) (n : ℕ) (old new : Kept) (told now : SourceView) (a : List ℕ) (p : PassesBy P old told new now a) (held : n ≤ length new.held) (room : n ≤ new.room) → AllGave p.passes.pieces → AllGave (by-front P n old new told now a p held room).passes.pieces
-unfolding by-front
-gave-front P n old new told now a p held room gave = gave
+pub gave-prefix : (P : List ℕ → Type 0) (n : ℕ) (old new : Kept) (told now : SourceView) (a : List ℕ) (p : PassesBy P old told new now a) (held : n ≤ length new.held) (room : n ≤ new.room) → AllGave p.passes.pieces → AllGave (by-prefix P n old new told now a p held room).passes.pieces
+unfolding by-prefix
+gave-prefix P n old new told now a p held room gave = gave
 
 abbrev pub are_gaps : List ℕ → Type 0
 are_gaps bytes = IsTrue (all_gaps false bytes)
@@ -152,25 +152,25 @@ gaps_none old told over = record { before = []; by = by-none are_gaps old told; 
 pub gaps_more : (old mid new : Kept) (told between now : SourceView) (inside : Bool) (count n : ℕ) → IsInGaps old told mid between inside → IsSupplied mid between new now → HasHeld count new → n ≡ gap_count inside (take count new.held) → n ≤ count
     → IsInGaps old told (advance n new) now (gap_open inside (take count new.held))
 gaps_more old mid new told between now inside count n p q h n_is within =
-    let front : take n (take count new.held) ≡ take n new.held = take-take n count new.held within in
+    let prefix : take n (take count new.held) ≡ take n new.held = take-take n count new.held within in
     let few : n ≤ length new.held = omega (arith, h.held) in
     let room : n ≤ new.room = omega (arith, h.room) in
     let read : PassesBy are_gaps old told new now p.before = by-supplied are_gaps old mid new told between now p.before p.by p.gave p.gaps q in
     let gave : AllGave read.passes.pieces = gave-supplied are_gaps old mid new told between now p.before p.by p.gave p.gaps q (some_held count new h) in
     record {
       before = p.before ++ take n new.held;
-      by = by-front are_gaps n old new told now p.before read few room;
-      gave = gave-front are_gaps n old new told now p.before read few room gave;
-      gaps = all_gaps-append false p.before (take n new.held) p.gaps (rw (p.open_is, ← front, n_is) (all_gaps-front inside (take count new.held)));
-      open_is = rw (commented-append false p.before (take n new.held), p.open_is, ← front, n_is) (commented-front inside (take count new.held));
+      by = by-prefix are_gaps n old new told now p.before read few room;
+      gave = gave-prefix are_gaps n old new told now p.before read few room gave;
+      gaps = all_gaps-append false p.before (take n new.held) p.gaps (rw (p.open_is, ← prefix, n_is) (all_gaps-prefix inside (take count new.held)));
+      open_is = rw (commented-append false p.before (take n new.held), p.open_is, ← prefix, n_is) (commented-prefix inside (take count new.held));
       over = h.over;
     }
 
--- where they are fewer, no comment is open and no gap stands behind them
+-- where they are fewer, no comment is open and no gap comes after them
 pub gaps_end : (new : Kept) (inside : Bool) (count n : ℕ) → HasHeld count new → n ≡ gap_count inside (take count new.held) → n < count → (gap_open inside (take count new.held) ≡ false) × Starts (drop n new.held)
 gaps_end new inside count n h n_is less =
     let size : length (take count new.held) ≡ count = length-take-le count new.held h.held in
-    let stands : (gap_open inside (take count new.held) ≡ false) × Starts (drop (gap_count inside (take count new.held)) (take count new.held)) = starts-behind inside (take count new.held) (omega arith) in
+    let stands : (gap_open inside (take count new.held) ≡ false) × Starts (drop (gap_count inside (take count new.held)) (take count new.held)) = starts-suffix inside (take count new.held) (omega arith) in
     (stands.0, starts-take n count new.held (rw n_is stands.1))
 
 pub gaps_done : (old new : Kept) (told now : SourceView) (inside : Bool) → IsInGaps old told new now inside → inside ≡ false → Starts new.held → 0 < new.room → PassesGaps old told (Ok true) new now
@@ -224,7 +224,7 @@ pub text_more : (old mid new : Kept) (told between now : SourceView) (len : ℕ)
     → IsInText old told (record (advance n new) { text = (if nat_le (len + n) 65536 then new.text ++ take n new.held else []) }) now (len + n) (text_open inside (take count new.held))
 unfolding by-text
 text_more old mid new told between now len inside count n p q same h n_is within =
-    let front : take n (take count new.held) ≡ take n new.held = take-take n count new.held within in
+    let prefix : take n (take count new.held) ≡ take n new.held = take-take n count new.held within in
     let few : n ≤ length new.held = omega (arith, h.held) in
     let room : n ≤ new.room = omega (arith, h.room) in
     let size : length (take n new.held) ≡ n = length-take-le n new.held few in
@@ -232,10 +232,10 @@ text_more old mid new told between now len inside count n p q same h n_is within
     let gave : AllGave read.passes.pieces = gave-supplied is_text old mid new told between now p.text p.by p.gave p.whole q (some_held count new h) in
     record {
       text = p.text ++ take n new.held;
-      by = by-text is_text old (advance n new) told now (p.text ++ take n new.held) (if nat_le (len + n) 65536 then new.text ++ take n new.held else []) (by-front is_text n old new told now p.text read few room);
-      gave = gave-front is_text n old new told now p.text read few room gave;
-      whole = unbroken-append false p.text (take n new.held) p.whole (rw (p.open_is, ← front, n_is) (unbroken-front inside (take count new.held)));
-      open_is = rw (quoted-append false p.text (take n new.held), p.open_is, ← front, n_is) (quoted-front inside (take count new.held));
+      by = by-text is_text old (advance n new) told now (p.text ++ take n new.held) (if nat_le (len + n) 65536 then new.text ++ take n new.held else []) (by-prefix is_text n old new told now p.text read few room);
+      gave = gave-prefix is_text n old new told now p.text read few room gave;
+      whole = unbroken-append false p.text (take n new.held) p.whole (rw (p.open_is, ← prefix, n_is) (unbroken-prefix inside (take count new.held)));
+      open_is = rw (quoted-append false p.text (take n new.held), p.open_is, ← prefix, n_is) (quoted-prefix inside (take count new.held));
       len_is = omega (arith, p.len_is, size, length-append p.text (take n new.held));
       text_is = λ short. let text : mid.text ≡ p.text = p.text_is (omega arith) in
           let kept : (if nat_le (len + n) 65536 then new.text ++ take n new.held else []) ≡ new.text ++ take n new.held = kept_short (len + n) (new.text ++ take n new.held) short in
@@ -243,17 +243,17 @@ text_more old mid new told between now len inside count n p q same h n_is within
       over = h.over;
     }
 
--- where it is shorter, no quote is open and a terminator stands behind it
+-- where it is shorter, no quote is open and a terminator comes after it
 pub text_end : (new : Kept) (inside : Bool) (count n : ℕ) → HasHeld count new → n ≡ text_count inside (take count new.held) → n < count → (text_open inside (take count new.held) ≡ false) × Ends (drop n new.held)
 text_end new inside count n h n_is less =
     let size : length (take count new.held) ≡ count = length-take-le count new.held h.held in
-    let stands : (text_open inside (take count new.held) ≡ false) × Ends (drop (text_count inside (take count new.held)) (take count new.held)) = ends-behind inside (take count new.held) (omega arith) in
+    let stands : (text_open inside (take count new.held) ≡ false) × Ends (drop (text_count inside (take count new.held)) (take count new.held)) = ends-suffix inside (take count new.held) (omega arith) in
     (stands.0, ends-take n count new.held (rw n_is stands.1))
 
 pub text_done : (old new : Kept) (told now : SourceView) (len : ℕ) (inside : Bool) → IsInText old told new now len inside → inside ≡ false → Ends new.held → 0 < length new.held → 0 < new.room
     → PassesText old told (Ok (record { len = len; shown = Some (slice_index new.held 0 == 58) })) (advance 1 new) now
 text_done old new told now len inside p closed ends some room =
-    let end : PassesBy is_text old told (advance 1 new) now (p.text ++ take 1 new.held) = by-front is_text 1 old new told now p.text p.by (omega arith) (omega arith) in
+    let end : PassesBy is_text old told (advance 1 new) now (p.text ++ take 1 new.held) = by-prefix is_text 1 old new told now p.text p.by (omega arith) (omega arith) in
     record {
       text = p.text;
       end = take 1 new.held;

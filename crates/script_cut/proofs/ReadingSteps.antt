@@ -4,8 +4,8 @@ use Rattle.std.proofs.lemmas.List.{take-append-drop, take-take}
 use Rattle.script_cut.specs.Lengths.{gap_count, gap_open, text_count, text_open}
 use Rattle.script_cut.specs.Kept.{Kept, advance}
 use Rattle.script_cut.specs.Reading.{IsStillInGaps, IsStillInText, IsStill}
-use Rattle.script_cut.proofs.Gaps.{commented-append, all_gaps-append, all_gaps-front, commented-front}
-use Rattle.script_cut.proofs.Commands.{quoted-append, unbroken-append, unbroken-front, quoted-front}
+use Rattle.script_cut.proofs.Gaps.{commented-append, all_gaps-append, all_gaps-prefix, commented-prefix}
+use Rattle.script_cut.proofs.Commands.{quoted-append, unbroken-append, unbroken-prefix, quoted-prefix}
 
 none_or_some : (xs : List ℕ) → (xs ≡ []) ⊎ (xs ≢ [])
 none_or_some [] = inl refl
@@ -25,14 +25,14 @@ gaps_still-read same more then old mid new inside join (inl here) still = elim (
 pub gaps_still-more : (same : Type 0) (old new : Kept) (inside : Bool) (count n : ℕ) → IsStillInGaps same old new inside → n ≡ gap_count inside (take count new.held) → n ≤ count → IsStillInGaps same old (advance n new) (gap_open inside (take count new.held))
 gaps_still-more same old new inside count n (inr all) n_is within = inr all
 gaps_still-more same old new inside count n (inl here) n_is within =
-    let front : take n (take count new.held) ≡ take n new.held = take-take n count new.held within in
+    let prefix : take n (take count new.held) ≡ take n new.held = take-take n count new.held within in
     inl (
       here.0,
       record {
         before = here.1.before ++ take n new.held;
         split = split_more old.held here.1.before new.held n here.1.split;
-        gaps = all_gaps-append false here.1.before (take n new.held) here.1.gaps (rw (here.1.open_is, ← front, n_is) (all_gaps-front inside (take count new.held)));
-        open_is = rw (commented-append false here.1.before (take n new.held), here.1.open_is, ← front, n_is) (commented-front inside (take count new.held));
+        gaps = all_gaps-append false here.1.before (take n new.held) here.1.gaps (rw (here.1.open_is, ← prefix, n_is) (all_gaps-prefix inside (take count new.held)));
+        open_is = rw (commented-append false here.1.before (take n new.held), here.1.open_is, ← prefix, n_is) (commented-prefix inside (take count new.held));
       },
     )
 
@@ -46,13 +46,13 @@ text_still-read same more then old mid new inside join (inl here) still = elim (
 pub text_still-more : (same : Type 0) (old new : Kept) (inside : Bool) (count n : ℕ) (text : List ℕ) → IsStillInText same old new inside → n ≡ text_count inside (take count new.held) → n ≤ count → IsStillInText same old (record (advance n new) { text = text }) (text_open inside (take count new.held))
 text_still-more same old new inside count n text (inr all) n_is within = inr all
 text_still-more same old new inside count n text (inl here) n_is within =
-    let front : take n (take count new.held) ≡ take n new.held = take-take n count new.held within in
+    let prefix : take n (take count new.held) ≡ take n new.held = take-take n count new.held within in
     inl (
       here.0,
       record {
         text = here.1.text ++ take n new.held;
         split = split_more old.held here.1.text new.held n here.1.split;
-        whole = unbroken-append false here.1.text (take n new.held) here.1.whole (rw (here.1.open_is, ← front, n_is) (unbroken-front inside (take count new.held)));
-        open_is = rw (quoted-append false here.1.text (take n new.held), here.1.open_is, ← front, n_is) (quoted-front inside (take count new.held));
+        whole = unbroken-append false here.1.text (take n new.held) here.1.whole (rw (here.1.open_is, ← prefix, n_is) (unbroken-prefix inside (take count new.held)));
+        open_is = rw (quoted-append false here.1.text (take n new.held), here.1.open_is, ← prefix, n_is) (quoted-prefix inside (take count new.held));
       },
     )

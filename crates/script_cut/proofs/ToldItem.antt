@@ -1,4 +1,4 @@
--- The item of a source that tells what it has left.
+-- The item of a source that says what it has left.
 use Rattle.std.proofs.Common.{◌≡◌, ℕ, Bool, true, false, List, [], ◌++◌, Option, Some, Result, refl, sym, subst}
 use Rattle.std.specs.List.{concat}
 use Rattle.std.specs.Io.KnownBytes.{Consumes, IsAtEnd as HasGivenAll}

@@ -62,14 +62,14 @@ pub record CutsOff (old : Rest) (before text : List ℕ) (new : Rest) : Type 0 w
   pub nothing_left : new.left ≡ []
   pub no_room : new.room ≡ 0
 
--- what stands before an item, the item's text, and the place behind it
+-- what comes before an item, the item's text, and the place after it
 abbrev pub IsCut : Ended → Rest → List ℕ → List ℕ → Rest → Type 0
 IsCut (Terminated shown) old before text new = CutsCommand shown old before text new
 IsCut Unterminated old before text new = CutsOpen old before text new
 IsCut PastLimit old before text new = CutsOff old before text new
 
--- The next item from a place on, and the place behind it. Its line is that of its first byte; past the limit
--- it is the line of the first byte that may not be passed.
+-- The next item from a place on, and the place after it. Its line is that of its first byte; past the limit it is the line of the first
+-- byte that may not be passed.
 pub record Next (old : Rest) (item : Item) (new : Rest) : Type 0 where
   pub before : List ℕ
   pub cut : IsCut item.ended old before item.text new
@@ -81,7 +81,7 @@ pub record IsAtEnd (place : Rest) : Type 0 where
   pub gaps : IsTrue (all_gaps false place.left)
   pub within : length place.left ≤ place.room
 
--- these items one after another, and the place behind them
+-- these items one after another, and the place after them
 abbrev pub CutsTo : Rest → List Item → Rest → Type 0
 CutsTo old [] new = new ≡ old
 CutsTo old (item ∷ items) new = (mid : Rest) × Next old item mid × CutsTo mid items new

@@ -11,12 +11,12 @@ use Rattle.script_cut.specs.declared.cut.Cut.TheVariants as cuts
 use Rattle.script_cut.specs.declared.cut.CutFault.{CutFault}
 use Rattle.script_cut.specs.declared.cut.CutFault.TheVariants as faults
 
--- Where a cutter stands in the script, if these bytes are still to come: what it holds is left, and then they
--- are. Once the source has ended nothing is left.
+-- Where a cutter is in the script, if these bytes are still to come: what it holds is left, and then they are. Once the source has ended
+-- nothing is left.
 abbrev pub place_of : Kept → List ℕ → Rest
 place_of kept more = record { left = if kept.over then [] else kept.held ++ more; room = kept.room; line = kept.line }
 
--- these bytes may still come: all that the source tells, any where it tells nothing, and none behind its end
+-- these bytes may still come: all that the source reports, any where it reports nothing, and none after its end
 abbrev pub MayCome : Bool → Option (List ℕ) → List ℕ → Type 0
 MayCome true told more = more ≡ []
 MayCome false None more = ⊤
@@ -42,10 +42,10 @@ pub record HasFailed (old : Kept) (given : List ℕ) : Type 0 where
   pub within : length (old.held ++ given) ≤ old.room
 
 -- One call. The source gave pieces, each in a call of its own. Whatever comes after the bytes that were held and those that were given, the
--- item is the next one of all these bytes, and what is left is what stands after it. Each call of the source but the last gave bytes, and
--- before the last one no command had its terminator in what was held and given; so no call is made once a whole command is there or the
--- source has ended. Where calls are made, at most one byte past those that may be passed is held and given; and with each byte that is passed
--- one less may be.
+-- item is the next one of all these bytes, and what is left is what follows it. Each call of the source but the last gave bytes, and before
+-- the last one no command had its terminator in what was held and given; so no call is made once a whole command is there or the source has
+-- ended. Where calls are made, at most one byte past those that may be passed is held and given; and with each byte that is passed one less
+-- may be.
 pub record HasCut (old : Kept) (told : SourceView) (result : Result Cut CutFault) (new : Kept) (now : SourceView) : Type 0 where
   pub pieces : List (List ℕ)
   pub given : Gives told pieces now

@@ -7,7 +7,7 @@ use Rattle.script_cut.specs.Cutting.{place_of, GivesItem, HasCut}
 use Rattle.script_cut.specs.declared.cut.Cut.{Cut}
 use Rattle.script_cut.specs.declared.cut.CutFault.{CutFault}
 
--- a place has at most one next item, with one place behind it
+-- a place has at most one next item, with one place after it
 abbrev pub HasOneNext : Rest → Type 0
 HasOneNext place = (i j : Item) (p q : Rest) → Next place i p → Next place j q → (i ≡ j) × (p ≡ q)
 
@@ -15,6 +15,6 @@ HasOneNext place = (i j : Item) (p q : Rest) → Next place i p → Next place j
 abbrev pub HasOneList : Rest → Type 0
 HasOneList place = (is js : List Item) → HasItems place is → HasItems place js → is ≡ js
 
--- where the source tells what it has left, the item is the next one of what was held and what was left
+-- where the source reports what it has left, the item is the next one of what was held and what was left
 abbrev pub GivesToldItem : Kept → SourceView → Result Cut CutFault → Kept → SourceView → Type 0
 GivesToldItem old from result new to = HasCut old from result new to → (left now : List ℕ) → from.left ≡ Some left → to.left ≡ Some now → GivesItem (place_of old left) result (place_of new now)

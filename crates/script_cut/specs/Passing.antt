@@ -84,7 +84,7 @@ Supplies (Ok (Some count)) new now = HasHeld count new
 Supplies (Ok None) new now = IsOver new now
 Supplies (Err fault) new now = Stops fault new
 
--- a command begins behind the gaps
+-- a command begins after the gaps
 pub record IsAtText (before : List ℕ) (pieces : List (List ℕ)) (new : Kept) : Type 0 where
   pub gave : AllGave pieces
   pub closed : commented false before ≡ false
@@ -106,20 +106,20 @@ pub record PassesGaps (old : Kept) (told : SourceView) (result : Result Bool Cut
   pub bounded : IsBounded passes.pieces new
   pub stops : StopsGaps result before passes.pieces new now
 
--- a text was passed up to behind its terminator
-pub record IsBehindText (text end : List ℕ) (shown : Bool) (new : Kept) : Type 0 where
+-- a text was passed up to after its terminator
+pub record IsAfterText (text end : List ℕ) (shown : Bool) (new : Kept) : Type 0 where
   pub end_is : end ≡ terminator_of shown ∷ []
   pub closed : quoted false text ≡ false
   pub over : new.over ≡ false
 
 -- a text was passed up to the script's end
-pub record IsBehindAll (end : List ℕ) (new : Kept) (now : SourceView) : Type 0 where
+pub record IsAfterAll (end : List ℕ) (new : Kept) (now : SourceView) : Type 0 where
   pub no_end : end ≡ []
   pub over : IsOver new now
 
 abbrev pub EndsText : Option Bool → List ℕ → List ℕ → Kept → SourceView → Type 0
-EndsText (Some shown) text end new now = IsBehindText text end shown new
-EndsText None text end new now = IsBehindAll end new now
+EndsText (Some shown) text end new now = IsAfterText text end shown new
+EndsText None text end new now = IsAfterAll end new now
 
 -- how a text ended, how long it is, and that it was kept where it is not too long
 pub record HasScanned (scanned : Scanned) (text end : List ℕ) (new : Kept) (now : SourceView) : Type 0 where
@@ -131,7 +131,7 @@ abbrev pub StopsText : Result Scanned CutFault → List ℕ → List ℕ → Kep
 StopsText (Ok scanned) text end new now = HasScanned scanned text end new now
 StopsText (Err fault) text end new now = (end ≡ []) × Stops fault new
 
--- a command's text was passed, and a call was made only where no terminator stood in what was held and given
+-- a command's text was passed, and a call was made only where no terminator was in what was held and given
 pub record PassesText (old : Kept) (told : SourceView) (result : Result Scanned CutFault) (new : Kept) (now : SourceView) : Type 0 where
   pub text : List ℕ
   pub end : List ℕ

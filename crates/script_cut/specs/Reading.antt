@@ -15,19 +15,19 @@ pub record HasPassedGaps (old new : Kept) (inside : Bool) : Type 0 where
 abbrev pub IsStillInGaps : Type 0 → Kept → Kept → Bool → Type 0
 IsStillInGaps same old new inside = (same × HasPassedGaps old new inside) ⊎ IsTrue (all_gaps false old.held)
 
-abbrev pub IsStillBehindGaps : Type 0 → Kept → Result Bool CutFault → Kept → Type 0
-IsStillBehindGaps same old (Ok true) new = IsStillInGaps same old new false
-IsStillBehindGaps same old (Ok false) new = same ⊎ IsTrue (all_gaps false old.held)
-IsStillBehindGaps same old (Err fault) new = same ⊎ IsTrue (all_gaps false old.held)
+abbrev pub IsStillAfterGaps : Type 0 → Kept → Result Bool CutFault → Kept → Type 0
+IsStillAfterGaps same old (Ok true) new = IsStillInGaps same old new false
+IsStillAfterGaps same old (Ok false) new = same ⊎ IsTrue (all_gaps false old.held)
+IsStillAfterGaps same old (Err fault) new = same ⊎ IsTrue (all_gaps false old.held)
 
--- a front of a text was passed of what was held, and the rest is held still
+-- a prefix of a text was passed of what was held, and the rest is held still
 pub record HasPassedText (old new : Kept) (inside : Bool) : Type 0 where
   pub text : List ℕ
   pub split : old.held ≡ text ++ new.held
   pub whole : IsTrue (unbroken false text)
   pub open_is : quoted false text ≡ inside
 
--- the source is as it was, or no terminator stands in what was held
+-- the source is as it was, or no terminator is in what was held
 abbrev pub IsStillInText : Type 0 → Kept → Kept → Bool → Type 0
 IsStillInText same old new inside = (same × HasPassedText old new inside) ⊎ IsTrue (unbroken false old.held)
 

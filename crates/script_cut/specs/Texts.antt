@@ -1,4 +1,4 @@
--- The texts of commands in a script, and what stands between them.
+-- The texts of commands in a script, and what is between them.
 use Rattle.std.specs.Prelude.{◌≡◌, ℕ, ◌==◌, Bool, true, false, not, ◌||◌, ◌&&◌, if◌then◌else◌, IsTrue, List, [], ◌∷◌, count_by}
 use Rattle.text_grammar.specs.Bytes.{is_blank, is_line_end}
 
@@ -15,11 +15,11 @@ terminator_of shown = if shown then 58 else 59
 abbrev pub is_gap : ℕ → Bool
 is_gap b = is_blank b || is_terminator b || b == 35
 
--- whether a comment is open behind a byte: it goes from `#` to the end of its line
+-- whether a comment is open after a byte: it goes from `#` to the end of its line
 abbrev pub comment_after : Bool → ℕ → Bool
 comment_after inside b = if inside then not (is_line_end b) else b == 35
 
--- whether a comment is open behind the bytes
+-- whether a comment is open after the bytes
 abbrev pub commented : Bool → List ℕ → Bool
 commented inside [] = inside
 commented inside (b ∷ bs) = commented (comment_after inside b) bs
@@ -34,16 +34,16 @@ pub record AreGaps (bytes : List ℕ) : Type 0 where
   pub all : IsTrue (all_gaps false bytes)
   pub closed : commented false bytes ≡ false
 
--- whether a quote is open behind a byte
+-- whether a quote is open after a byte
 abbrev pub after_byte : Bool → ℕ → Bool
 after_byte inside b = if b == 34 then not inside else inside
 
--- whether a quote is open behind the bytes
+-- whether a quote is open after the bytes
 abbrev pub quoted : Bool → List ℕ → Bool
 quoted inside [] = inside
 quoted inside (b ∷ bs) = quoted (after_byte inside b) bs
 
--- no terminator stands outside quotes
+-- no terminator is outside quotes
 abbrev pub unbroken : Bool → List ℕ → Bool
 unbroken inside [] = true
 unbroken inside (b ∷ bs) = (inside || not (is_terminator b)) && unbroken (after_byte inside b) bs

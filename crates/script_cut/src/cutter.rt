@@ -7,7 +7,7 @@ ghost use Rattle.script_cut.specs.Kept.{kept_bytes, fresh, IsWithin, advance};
 ghost use Rattle.script_cut.specs.Passing.{IsSupplied, IsRefilled, Supplies, PassesGaps, PassesText};
 ghost use Rattle.script_cut.specs.Texts.{unbroken};
 ghost use Rattle.script_cut.specs.Cuts.{HasNoCommand};
-ghost use Rattle.script_cut.specs.Reading.{IsStill, IsStillBehindGaps};
+ghost use Rattle.script_cut.specs.Reading.{IsStill, IsStillAfterGaps};
 ghost use Rattle.script_cut.specs.Cutting.{HasCut, EndsScript};
 ghost use Rattle.script_cut.specs.declared.cut.Cut.TheVariants.{End};
 ghost use Rattle.script_cut.specs.declared.cut.CutFault.TheVariants.{Failed as SourceFailed, Memory};
@@ -74,7 +74,7 @@ impl Cutter {
 
     /// Counts `count` bytes that are read elsewhere towards the limit of 16,777,216 bytes.
     ///
-    /// False exactly where they would pass it, and then they are not counted.
+    /// False if and only if they would pass it, and then they are not counted.
     pub fn spend(&mut self, count: u64) -> bool
         ensures fits { result ≡ nat_le count self.old.room }
         ensures counted { self.new ≡ record self.old { room = (if nat_le count self.old.room then self.old.room - count else self.old.room) } }
@@ -92,10 +92,9 @@ impl Cutter {
     /// whole or the script has ended.
     ///
     /// # Errors
-    /// `Syntax` where the script ends in a text without terminator; then it gives `End`, as after `End`.
-    /// `Long` where a command is too long; then it goes on behind that command. `ScriptLimit` where the
-    /// limit of the script comes first, `Failed` where the source failed, `Memory`: what was given before
-    /// stands, and the cutter is to be dropped.
+    /// `Syntax` where the script ends in a text without terminator; then it gives `End`, as after `End`. `Long` where a
+    /// command is too long; then it goes on after that command. `ScriptLimit` where the limit of the script comes
+    /// first, `Failed` where the source failed, `Memory`: what was given before is, and the cutter is to be dropped.
     pub fn cut<S: Source>(&mut self, from: &mut S) -> Result<Cut, CutFault>
         ensures cut { HasCut self.old (S.view from.old) result self.new (S.view from.new) }
         ensures last { EndsScript result self.new }
@@ -143,7 +142,7 @@ impl Cutter {
     fn pass_gaps<S: Source>(&mut self, from: &mut S) -> Result<bool, CutFault>
         requires { self.old.over ≡ false }
         ensures gaps { PassesGaps self.old (S.view from.old) result self.new (S.view from.new) }
-        ensures still { IsStillBehindGaps (from.new ≡ from.old) self.old result self.new }
+        ensures still { IsStillAfterGaps (from.new ≡ from.old) self.old result self.new }
         ensures text { self.new.text ≡ self.old.text }
         ensures faults { CountsFault (is_failed_cut result) (S.view from.old).faults (S.view from.new).faults }
     {
@@ -161,7 +160,7 @@ impl Cutter {
         }
     }
 
-    /// Goes behind the command that begins here, or to the script's end.
+    /// Goes after the command that begins here, or to the script's end.
     fn pass_text<S: Source>(&mut self, from: &mut S) -> Result<Scanned, CutFault>
         requires empty { self.old.text ≡ [] }
         requires begun { self.old.over ≡ false }
@@ -282,16 +281,16 @@ impl Cutter {
         ensures memory { OnErr result (self.new ≡ self.old) }
         ensures only { IfErr result (λ fault. fault ≡ Memory) }
     {
-        let front = &self.window.bytes()[..count];
-        keep(&mut self.text, front, len)?;
-        self.line += line_ends(front);
+        let prefix = &self.window.bytes()[..count];
+        keep(&mut self.text, prefix, len)?;
+        self.line += line_ends(prefix);
         self.room -= count;
         self.window.pass(count);
         Ok(())
     }
 }
 
-/// Puts bytes behind a text, which has `len` bytes with them, or forgets it where it is too long.
+/// Puts bytes after a text, which has `len` bytes with them, or forgets it where it is too long.
 fn keep(text: &mut Vec<u8>, bytes: &[u8], len: usize) -> Result<(), CutFault>
     ensures kept { OnOk result (text.new.items ≡ (if nat_le len 65536 then text.old.items ++ bytes.now else [])) }
     ensures memory { OnErr result (text.new.items ≡ text.old.items) }

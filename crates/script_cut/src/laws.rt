@@ -12,8 +12,8 @@ pub fn one_cut()
     ensures list { (place : Rest) → HasOneList place }
 {}
 
-/// A law, with nothing to run: where the source tells what it has left, a call gives the next item of what the
-/// cutter held and the source had left, and what both have then is what stands after it.
+/// A law, with nothing to run: where the source reports what it has left, a call gives the next item of what the cutter
+/// held and the source had left, and what both have then is what follows it.
 pub fn told_cut()
     ensures { (old : Kept) (from : SourceView) (result : Result Cut CutFault) (new : Kept) (to : SourceView) → GivesToldItem old from result new to }
 {}

@@ -12,7 +12,7 @@ pub(crate) struct Stretch {
     pub(crate) open: bool,
 }
 
-/// What stands before the first command, where a comment is open or not.
+/// What comes before the first command, where a comment is open or not.
 pub(crate) fn gaps_of(bytes: &[u8], commented: bool) -> Stretch
     ensures len { result.len ≡ gap_count commented bytes.now }
     ensures open { result.open ≡ gap_open commented bytes.now }
@@ -31,7 +31,7 @@ pub(crate) fn gaps_of(bytes: &[u8], commented: bool) -> Stretch
     }
 }
 
-/// What stands before the first terminator outside quotes, where a quote is open or not.
+/// What comes before the first terminator outside quotes, where a quote is open or not.
 pub(crate) fn text_of(bytes: &[u8], quoted: bool) -> Stretch
     ensures len { result.len ≡ text_count quoted bytes.now }
     ensures open { result.open ≡ text_open quoted bytes.now }

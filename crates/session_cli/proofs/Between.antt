@@ -1,4 +1,4 @@
--- Where a run stands between two items, whatever may still come of the script.
+-- Where a run is between two items, whatever may still come of the script.
 use Rattle.std.proofs.Common.{◌≡◌, ◌≢◌, ℕ, ◌+◌, ◌<◌, ◌≤◌, ◌⊎◌, Bool, true, false, List, [], ◌∷◌, ◌++◌, length, Result, Ok, Err, Vec, Global, refl, sym, ◌∙◌, ap, subst, inl, inr, arith, append_assoc, length-append}
 use Rattle.std.specs.List.{concat}
 use Rattle.std.specs.Io.KnownBytes.{Consumes, IsAtEnd as HasGivenAll}
@@ -72,7 +72,7 @@ given_next limit from to now kept next result old mid held told tally more b c i
 -- an item was answered
 pub between_next : (limit : ℕ) (from to now : SourceView) (kept next : Kept) (result : Result Cut CutFault) (old mid new : StoreView) (held told then : SinkView) (tally counted : Tally)
     → kept.over ≡ false → IsBetween limit from to kept old mid held told tally → HasCut kept to result next now → now.faults ≡ to.faults
-    → ((script : List ℕ) (place behind : Rest) → Stands limit script old mid held told place tally → GivesItem place result behind → Stands limit script old new held then behind counted)
+    → ((script : List ℕ) (place suffix : Rest) → Stands limit script old mid held told place tally → GivesItem place result suffix → Stands limit script old new held then suffix counted)
     → IsBetween limit from now next old new held then counted
 between_next limit from to now kept next result old mid new held told then tally counted begun b c source step = record {
   gave = b.gave ++ concat c.pieces;
@@ -89,7 +89,7 @@ between_next limit from to now kept next result old mid new held told then tally
 -- the run ended with an item
 pub between_ends : (limit : ℕ) (from to now : SourceView) (kept next : Kept) (result : Result Cut CutFault) (old mid new : StoreView) (held told then : SinkView) (tally : Tally) (state : Status)
     → kept.over ≡ false → IsBetween limit from to kept old mid held told tally → HasCut kept to result next now → now.faults ≡ to.faults
-    → ((gave more : List ℕ) (place behind : Rest) → Stands limit (gave ++ more) old mid held told place tally → GivesItem place result behind → now.faults ≡ from.faults → Ran limit gave more from now old new held then state)
+    → ((gave more : List ℕ) (place suffix : Rest) → Stands limit (gave ++ more) old mid held told place tally → GivesItem place result suffix → now.faults ≡ from.faults → Ran limit gave more from now old new held then state)
     → HasRun limit from now old new held then state
 between_ends limit from to now kept next result old mid new held told then tally state begun b c source step =
     let more : (more : List ℕ) × MayCome next.over now.left more = some_more next.over now.left in
@@ -108,7 +108,7 @@ pub between_end : (limit : ℕ) (over : Bool) (from to now : SourceView) (kept n
     → HasRun limit from now old mid held told state
 between_end limit false from to now kept next old mid held told tally state begun b c source still is =
     between_ends limit from to now kept next (Ok cuts.End) old mid mid held told told tally state begun b c source
-    (λ gave more place behind stands end source'. inl (ends_there limit (gave ++ more) from now old mid held told place tally state stands end source' is))
+    (λ gave more place suffix stands end source'. inl (ends_there limit (gave ++ more) from now old mid held told place tally state stands end source' is))
 between_end limit true from to now kept next old mid held told tally state over b c source still is =
     let may : MayCome kept.over to.left [] = rw over refl in
     let none : (place_of kept []).left ≡ [] = rw over refl in
@@ -123,11 +123,11 @@ pub between_finishes : (limit : ℕ) (from to now : SourceView) (kept next : Kep
     → HasRun limit from now old mid held then state
 between_finishes limit from to now kept next line len old mid held told then tally state begun b c source ends =
     between_ends limit from to now kept next (Err (cut_faults.Syntax line len)) old mid mid held told then tally state begun b c source
-    (λ gave more place behind stands (text, cut, len_is, short) source'. finishes limit gave more from now old mid held told then place behind tally (record { text = text; line = line; ended = Unterminated }) (faults.Syntax grammars.Command len) state stands cut (at_end place text behind cut.before cut.cut) source'
+    (λ gave more place suffix stands (text, cut, len_is, short) source'. finishes limit gave more from now old mid held told then place suffix tally (record { text = text; line = line; ended = Unterminated }) (faults.Syntax grammars.Command len) state stands cut (at_end place text suffix cut.before cut.cut) source'
     (λ ledger. open_step limit ledger mid text line len (omega arith) len_is) ends)
   where
-    at_end : (place : Rest) (text : List ℕ) (behind : Rest) (before : List ℕ) → CutsOpen place before text behind → IsAtEnd behind
-    at_end place text behind before cut = none_left behind cut.nothing_left
+    at_end : (place : Rest) (text : List ℕ) (suffix : Rest) (before : List ℕ) → CutsOpen place before text suffix → IsAtEnd suffix
+    at_end place text suffix before cut = none_left suffix cut.nothing_left
 
 pub between_limit : (limit : ℕ) (from to now : SourceView) (kept next : Kept) (line : ℕ) (old mid : StoreView) (held told then : SinkView) (tally : Tally) (state : Status)
     → kept.over ≡ false → IsBetween limit from to kept old mid held told tally → HasCut kept to (Err (cut_faults.ScriptLimit line)) next now → now.faults ≡ to.faults
@@ -135,7 +135,7 @@ pub between_limit : (limit : ℕ) (from to now : SourceView) (kept next : Kept) 
     → HasRun limit from now old mid held then state
 between_limit limit from to now kept next line old mid held told then tally state begun b c source ends =
     between_ends limit from to now kept next (Err (cut_faults.ScriptLimit line)) old mid mid held told then tally state begun b c source
-    (λ gave more place behind stands (last, cut) source'. finishes limit gave more from now old mid held told then place last tally (record { text = []; line = line; ended = PastLimit }) faults.ScriptLimit state stands cut (at_end place last cut.before cut.cut) source'
+    (λ gave more place suffix stands (last, cut) source'. finishes limit gave more from now old mid held told then place last tally (record { text = []; line = line; ended = PastLimit }) faults.ScriptLimit state stands cut (at_end place last cut.before cut.cut) source'
     (λ ledger. limit_step limit ledger mid line) ends)
   where
     at_end : (place last : Rest) (before : List ℕ) → CutsOff place before [] last → IsAtEnd last
@@ -158,7 +158,7 @@ between_fault limit from to then kept next result old mid held told tally state 
         answers = s.answers;
         last = place_of kept (concat c.pieces ++ more.0);
         cut = subst P (sym (append_assoc b.gave (concat c.pieces) more.0)) s.cut;
-        behind = kept.held ++ concat c.pieces;
+        suffix = kept.held ++ concat c.pieces;
         left_is = rw begun (sym (append_assoc kept.held (concat c.pieces) more.0));
         ledger = s.ledger;
         run = s.run;
@@ -188,18 +188,18 @@ pub between_memory : (limit : ℕ) (from to then : SourceView) (kept next : Kept
 between_memory limit from to then kept next old mid held told tally begun b c source =
     between_fault limit from to then kept next (Err cut_faults.Memory) old mid held told tally status.Memory begun b c (inr (record { source_kept = source ∙ b.source_kept; state_is = refl }))
 
-command_room : (place : Rest) (before text : List ℕ) (shown : Bool) (behind : Rest) → CutsCommand shown place before text behind → behind.room < place.room
-command_room place before text shown behind cut = omega (arith, cut.room)
+command_room : (place : Rest) (before text : List ℕ) (shown : Bool) (suffix : Rest) → CutsCommand shown place before text suffix → suffix.room < place.room
+command_room place before text shown suffix cut = omega (arith, cut.room)
 
-long_room : (ended : Ended) (place : Rest) (text : List ℕ) (line : ℕ) (behind : Rest) → Next place (record { text = text; line = line; ended = ended }) behind → 65536 < length text → behind.room < place.room
-long_room (Terminated shown) place text line behind next long = command_room place next.before text shown behind next.cut
-long_room Unterminated place text line behind next long = of_open next.before next.cut
+long_room : (ended : Ended) (place : Rest) (text : List ℕ) (line : ℕ) (suffix : Rest) → Next place (record { text = text; line = line; ended = ended }) suffix → 65536 < length text → suffix.room < place.room
+long_room (Terminated shown) place text line suffix next long = command_room place next.before text shown suffix next.cut
+long_room Unterminated place text line suffix next long = of_open next.before next.cut
   where
-    of_open : (before : List ℕ) → CutsOpen place before text behind → behind.room < place.room
+    of_open : (before : List ℕ) → CutsOpen place before text suffix → suffix.room < place.room
     of_open before cut = omega (arith, cut.room, long)
-long_room PastLimit place text line behind next long = absurd (of_off next.before next.cut)
+long_room PastLimit place text line suffix next long = absurd (of_off next.before next.cut)
   where
-    of_off : (before : List ℕ) → CutsOff place before text behind → ⊥
+    of_off : (before : List ℕ) → CutsOff place before text suffix → ⊥
     of_off before cut = omega (arith, ap length cut.no_text, long)
 
 -- with each item fewer bytes may still be passed
@@ -208,8 +208,8 @@ room_falls to now kept next text shown line c =
     let more : (more : List ℕ) × MayCome next.over now.left more = some_more next.over now.left in
     long_free (c.item more.0 more.1).0
   where
-    long_free : {place behind : Rest} → Next place (record { text = text.items; line = line; ended = Terminated shown }) behind → behind.room < place.room
-    long_free {place} {behind} next = command_room place next.before text.items shown behind next.cut
+    long_free : {place suffix : Rest} → Next place (record { text = text.items; line = line; ended = Terminated shown }) suffix → suffix.room < place.room
+    long_free {place} {suffix} next = command_room place next.before text.items shown suffix next.cut
 
 pub room_falls_long : (to now : SourceView) (kept next : Kept) (line : ℕ) → HasCut kept to (Err (cut_faults.Long line)) next now → next.room < kept.room
 room_falls_long to now kept next line c =

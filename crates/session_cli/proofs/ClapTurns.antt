@@ -57,7 +57,7 @@ looks word = by_mark (bytes_eq word (45 ∷ 45 ∷ [])) refl
     by_mark true is = mark ((bytes_eq-Decides word (45 ∷ 45 ∷ [])).0 is)
     by_mark false is = by_long is (long_of word) refl
 
--- a name alone, or with a value behind the first `=`
+-- a name alone, or with a value after the first `=`
 abbrev IsNamed : Text → Text → Option Text → Type 0
 IsNamed text name None = text ≡ name
 IsNamed text name (Some value) = text ≡ name ++ 61 ∷ value
@@ -112,9 +112,9 @@ option_word word p is named = spelled p.1 (let parts = long_parts word p is in (
     spelled None (rest, split, is) = split ∙ ap (λ (ys : Text). 45 ∷ 45 ∷ ys) is
     spelled (Some value) (rest, split, is) = split ∙ ap (λ (ys : Text). 45 ∷ 45 ∷ ys) is
 
--- behind the mark each word is a stray one
-pub stray_behind_mark : (held : Held) (waiting : Waiting) (word : Text) → turn_fault shape [] (stand held waiting true) word ≡ [] → ⊥
-stray_behind_mark held waiting word e = cc
+-- after the mark each word is a stray one
+pub stray_after_mark : (held : Held) (waiting : Waiting) (word : Text) → turn_fault shape [] (stand held waiting true) word ≡ [] → ⊥
+stray_after_mark held waiting word e = cc
 
 -- the mark is no fault, and what is held stays
 pub turn_at_mark : (held : Held) (waiting : Waiting) → walked rules [] (stand held waiting false) (45 ∷ 45 ∷ []) ≡ stand held waiting true

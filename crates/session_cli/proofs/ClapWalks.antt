@@ -17,9 +17,9 @@ use Rattle.session_cli.specs.declared.words.WordsFault.{WordsFault}
 use Rattle.session_cli.specs.declared.words.WordsFault.TheVariants as faults
 use Rattle.session_cli.specs.WordReading.{ReadsValue}
 use Rattle.session_cli.specs.Words.{AreOptions, IsEnd, NamesValue, IsLimit, GivesLimit}
-use Rattle.session_cli.proofs.ClapTurns.{walnut_app, shape, rules, option_rule, holds, stand, turn, or_else_nil, Looks, mark, long, other, looks, option_word, stray_behind_mark, turn_at_mark, flag_named, fault_at_value, turn_at_value, fault_at_name, turn_at_name, stray_where_idle, value_where_waiting}
+use Rattle.session_cli.proofs.ClapTurns.{walnut_app, shape, rules, option_rule, holds, stand, turn, or_else_nil, Looks, mark, long, other, looks, option_word, stray_after_mark, turn_at_mark, flag_named, fault_at_value, turn_at_value, fault_at_name, turn_at_name, stray_where_idle, value_where_waiting}
 
--- what is held behind the words, what fails until then and there, and the option's value
+-- what is held after the words, what fails until then and there, and the option's value
 abbrev end_of : Walk → List Text → Held
 end_of w words = (fold (walked rules []) w words).held
 
@@ -41,10 +41,10 @@ more w word rest e =
 moved : (w next : Walk) (rest : List Text) → w ≡ next → faults_from w rest ≡ [] → faults_from next rest ≡ []
 moved w next rest same e = let P : Walk → Type 0 = λ v. faults_from v rest ≡ [] in subst P same e
 
-behind_mark : (held : Held) (waiting : Waiting) (words : List Text) → faults_from (stand held waiting true) words ≡ [] → (words ≡ []) × (settle_fault rules false held ≡ [])
+after_mark : (held : Held) (waiting : Waiting) (words : List Text) → faults_from (stand held waiting true) words ≡ [] → (words ≡ []) × (settle_fault rules false held ≡ [])
 unfolding walk_fault
-behind_mark held waiting [] e = (refl, e)
-behind_mark held waiting (word ∷ rest) e = absurd (stray_behind_mark held waiting word (more (stand held waiting true) word rest e).0)
+after_mark held waiting [] e = (refl, e)
+after_mark held waiting (word ∷ rest) e = absurd (stray_after_mark held waiting word (more (stand held waiting true) word rest e).0)
 
 -- a flag uses what is pending
 settles_at_flag : (held : Held) (waiting : Waiting) (word : Text) (p : Text × Option Text) → bytes_eq word (45 ∷ 45 ∷ []) ≡ false → long_of word ≡ Some p → turn held waiting word ≡ [] → settle_fault rules false held ≡ []
@@ -71,7 +71,7 @@ no_second_use value values e = cc ((or_else_nil (range_kinds 1 1 (length values)
 marked : (held : Held) (waiting : Waiting) (word : Text) (rest : List Text) → word ≡ 45 ∷ 45 ∷ [] → faults_from (walked rules [] (stand held waiting false) word) rest ≡ [] → (rest ≡ []) × (settle_fault rules false held ≡ [])
 marked held waiting word rest is e =
     let P : Text → Type 0 = λ w. faults_from (walked rules [] (stand held waiting false) w) rest ≡ [] in
-    behind_mark held waiting rest (moved (walked rules [] (stand held waiting false) (45 ∷ 45 ∷ [])) (stand held waiting true) rest (turn_at_mark held waiting) (subst P is e))
+    after_mark held waiting rest (moved (walked rules [] (stand held waiting false) (45 ∷ 45 ∷ [])) (stand held waiting true) rest (turn_at_mark held waiting) (subst P is e))
 
 -- whether the option waits for its value
 abbrev waits : Bool → Waiting
@@ -97,11 +97,11 @@ named_again flag value values (word ∷ rest) e = by_look (λ f vs. named_again 
     by_look again false (other unlike none) step = stray_where_idle (row value) (Some (codes "states", values)) word unlike none step.0
     by_look again true (other unlike none) step = goes_on again (nat_lt (length (values ++ word ∷ [])) 1) (moved _ _ rest (value_where_waiting (row value) (Some (codes "states", values)) word unlike none step.0) step.1)
 
--- behind the option's value only the mark may stand
-behind_value : (rows : List Row) (pending : Option (Text × List Text)) (value : Text) → (settled rules (holds rows pending)).rows ≡ row value → value_at (holds rows pending) ≡ Some value → (words : List Text)
+-- after the option's value only the mark may be
+after_value : (rows : List Row) (pending : Option (Text × List Text)) (value : Text) → (settled rules (holds rows pending)).rows ≡ row value → value_at (holds rows pending) ≡ Some value → (words : List Text)
     → faults_from (stand (holds rows pending) idle false) words ≡ [] → IsEnd words × (value_at (end_of (stand (holds rows pending) idle false) words) ≡ Some value)
-behind_value rows pending value used_is has [] e = (inl refl, has)
-behind_value rows pending value used_is has (word ∷ rest) e = by_look (looks word) (more (stand (holds rows pending) idle false) word rest e)
+after_value rows pending value used_is has [] e = (inl refl, has)
+after_value rows pending value used_is has (word ∷ rest) e = by_look (looks word) (more (stand (holds rows pending) idle false) word rest e)
   where
     by_flag : (p : Text × Option Text) → bytes_eq word (45 ∷ 45 ∷ []) ≡ false → long_of word ≡ Some p → p.0 ≡ codes "states" → turn (holds rows pending) idle word ≡ [] → faults_from (walked rules [] (stand (holds rows pending) idle false) word) rest ≡ [] → ⊥
     by_flag (name, None) unlike is named now later =
@@ -124,7 +124,7 @@ behind_value rows pending value used_is has (word ∷ rest) e = by_look (looks w
     by_look (long unlike p is) step = absurd (by_flag p unlike is (flag_named (holds rows pending) idle word p unlike is step.0) step.0 step.1)
     by_look (other unlike none) step = absurd (stray_where_idle rows pending word unlike none step.0)
 
--- what may stand behind the option's name: its value, and then the mark
+-- what may come after the option's name: its value, and then the mark
 record Follows (words : List Text) (found : Option Text) : Type 0 where
   value : Text
   rest : List Text
@@ -138,17 +138,17 @@ at_name = holds [] (Some (codes "states", []))
 none_yet : settle_fault rules false at_name ≡ [] → ⊥
 none_yet e = cc
 
-behind_name : (words : List Text) → faults_from (stand at_name (option (codes "states")) false) words ≡ [] → Follows words (value_at (end_of (stand at_name (option (codes "states")) false) words))
+after_name : (words : List Text) → faults_from (stand at_name (option (codes "states")) false) words ≡ [] → Follows words (value_at (end_of (stand at_name (option (codes "states")) false) words))
 unfolding walk_fault
-behind_name [] e = absurd (none_yet e)
-behind_name (word ∷ rest) e = by_look (looks word) (more (stand at_name (option (codes "states")) false) word rest e)
+after_name [] e = absurd (none_yet e)
+after_name (word ∷ rest) e = by_look (looks word) (more (stand at_name (option (codes "states")) false) word rest e)
   where
     by_look : Looks word → (turn at_name (option (codes "states")) word ≡ []) × (faults_from (walked rules [] (stand at_name (option (codes "states")) false) word) rest ≡ []) → Follows (word ∷ rest) (value_at (end_of (stand at_name (option (codes "states")) false) (word ∷ rest)))
     by_look (mark is) step = absurd (none_yet (marked at_name (option (codes "states")) word rest is step.1).1)
     by_look (long unlike p is) step = absurd (none_yet (settles_at_flag at_name (option (codes "states")) word p unlike is step.0))
     by_look (other unlike none) step =
         let there : walked rules [] (stand at_name (option (codes "states")) false) word ≡ stand (holds [] (Some (codes "states", word ∷ []))) idle false = value_where_waiting [] (Some (codes "states", [])) word unlike none step.0 in
-        let ends = behind_value [] (Some (codes "states", word ∷ [])) word refl refl rest (moved _ _ rest there step.1) in
+        let ends = after_value [] (Some (codes "states", word ∷ [])) word refl refl rest (moved _ _ rest there step.1) in
         record {
           value = word;
           rest = rest;
@@ -157,7 +157,7 @@ behind_name (word ∷ rest) e = by_look (looks word) (more (stand at_name (optio
           found_is = ap (λ (w : Walk). value_at (end_of w rest)) there ∙ ends.1;
         }
 
--- the words behind the program's name
+-- the words after the program's name
 record AreWords (words : List Text) (found : Option Text) : Type 0 where
   options : List Text
   end : List Text
@@ -176,7 +176,7 @@ are_words (word ∷ rest) e = by_look (looks word) (more at_start word rest e)
     by_flag (name, None) unlike is named later =
         let is' : long_of word ≡ Some (codes "states", None) = is ∙ ap (λ (n : Text). let o : Option (Text × Option Text) = Some (n, None) in o) named in
         let there = turn_at_name nothing_held idle word unlike is' in
-        let follows = behind_name rest (moved _ _ rest there later) in
+        let follows = after_name rest (moved _ _ rest there later) in
         let found : value_at (end_of at_start (word ∷ rest)) ≡ Some follows.value = ap (λ (w : Walk). value_at (end_of w rest)) there ∙ follows.found_is in
         let spelled : word ≡ codes "--states" = option_word word (name, None) is named in
         let P : Option Text → Type 0 = λ v. AreWords (word ∷ rest) v in
@@ -184,7 +184,7 @@ are_words (word ∷ rest) e = by_look (looks word) (more at_start word rest e)
     by_flag (name, Some v) unlike is named later =
         let is' : long_of word ≡ Some (codes "states", Some v) = is ∙ ap (λ (n : Text). let o : Option (Text × Option Text) = Some (n, Some v) in o) named in
         let there : walked rules [] at_start word ≡ stand (holds (row v) None) idle false = turn_at_value nothing_held idle word v unlike is' in
-        let ends = behind_value (row v) None v refl refl rest (moved _ _ rest there later) in
+        let ends = after_value (row v) None v refl refl rest (moved _ _ rest there later) in
         let found : value_at (end_of at_start (word ∷ rest)) ≡ Some v = ap (λ (w : Walk). value_at (end_of w rest)) there ∙ ends.1 in
         let spelled : word ≡ codes "--states=" ++ v = option_word word (name, Some v) is named in
         let P : Option Text → Type 0 = λ x. AreWords (word ∷ rest) x in
@@ -250,7 +250,7 @@ no_fault words limit (value, names, is) =
     by_value None are is = no_fault_with_none names.options names.end are names.is_end
     by_value (Some text) are (spelled, least, most) = no_fault_with_value text (rw spelled (first_decimal limit (omega arith) (omega arith))) names.options names.end are names.is_end
 
--- what a failed parse tells
+-- what a failed parse says
 pub refused_parse : (words : List Text) (fault : WordsFault) (error : Error) → (fault ≡ faults.Refused → kind_of error ≢ kind.OutOfMemory) → HasKind (fault_of walnut_app words) error → ReadsValue words (Err fault)
 refused_parse words faults.Memory error seen has = tt
 refused_parse words faults.Refused error seen has = λ limit gives.

@@ -43,7 +43,7 @@ list_broken limit ledger text (head_faults.Syntax at) breaks = fails_first (Pure
 list_broken limit ledger text (head_faults.Number at) breaks = fails_first (Pure (HeadAnswers SpellsCombine text)) (λ head. after_combine_head limit ledger head) (faults.Number grammars.Command at) breaks
 list_broken limit ledger text head_faults.Memory breaks = tt
 
--- what is accepted stands among words, under the name of the head
+-- what is accepted is among words, under the name of the head
 record IsWordAt (head : CombineHead) (success : Success) : Type 0 where
   folder_is : Words ≡ success.folder
   name_is : head.word ≡ success.name

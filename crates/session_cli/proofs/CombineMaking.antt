@@ -16,7 +16,7 @@ use Rattle.session_cli.specs.Plans.{Makes}
 use Rattle.session_cli.specs.WordPrinting.{IsWordTextOf, HasNoWordText, named_text}
 
 module _ (ledger : Ledger) (head : CombineHead) (tracks : WordTracks) (names : List (List ℕ)) (word : WordValue) (lines : List StepLine)
-    (has : HasTreeText (custom_of ledger) (Combine tracks.way tracks.named (parts_from ledger 0 head.automata)) (named_text names word)) where
+    (has : HasTreeText (custom_of ledger) (Combine tracks.direction tracks.named (parts_from ledger 0 head.automata)) (named_text names word)) where
   -- the text is stored
   pub word_stored : (shown : Bool) (made : Made) → IsWordTextOf names word made.stored.items → made.printed ≡ shown_steps shown lines → Makes (custom_of ledger) (stored (custom_of ledger) (combine_success ledger head tracks lines)) shown (Ok made)
   word_stored shown made (is, short) printed = record {
@@ -26,8 +26,8 @@ module _ (ledger : Ledger) (head : CombineHead) (tracks : WordTracks) (names : L
     printed_is = printed ∙ sym (append-nil (shown_steps shown lines));
   }
     where
-      own : HasTreeText (custom_of ledger) (Combine tracks.way tracks.named (parts_from ledger 0 head.automata)) made.stored.items
-      own = subst (HasTreeText (custom_of ledger) (Combine tracks.way tracks.named (parts_from ledger 0 head.automata))) (sym is) has
+      own : HasTreeText (custom_of ledger) (Combine tracks.direction tracks.named (parts_from ledger 0 head.automata)) made.stored.items
+      own = subst (HasTreeText (custom_of ledger) (Combine tracks.direction tracks.named (parts_from ledger 0 head.automata))) (sym is) has
 
   -- or it is too long
   pub word_unstored : (fault : Fault) → HasNoWordText names word fault → Fails (stored (custom_of ledger) (combine_success ledger head tracks lines)) fault
@@ -48,7 +48,7 @@ module _ (ledger : Ledger) (head : CombineHead) (tracks : WordTracks) (names : L
   word_unstored (faults.Direction one other) refused = absurd refused
   word_unstored (faults.Letters step) refused = absurd refused
   word_unstored (faults.States step) refused = absurd refused
-  word_unstored (faults.WordGap of spelling) refused = absurd refused
+  word_unstored (faults.WordGap of representation) refused = absurd refused
   word_unstored (faults.Plain of) refused = absurd refused
   word_unstored (faults.Store folder name) refused = absurd refused
   word_unstored faults.ScriptLimit refused = absurd refused

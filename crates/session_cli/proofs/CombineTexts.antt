@@ -20,7 +20,7 @@ use Rattle.dfa_text.specs.RelationText.{word_text}
 use Rattle.formula_build.specs.Libraries.{NamedRelation, NamedSystem, relation_named}
 use Rattle.formula_resolve.specs.Headers.{Headers, automaton_tracks}
 use Rattle.num_system.specs.Sealed.{SystemValue, system_of}
-use Rattle.num_system.specs.Tracks.{way_of}
+use Rattle.num_system.specs.Tracks.{direction_of}
 use Rattle.number_relations.specs.Relations.{RelationValue}
 use Rattle.word_output.specs.Words.{WordValue}
 use Rattle.definitions.specs.Texts.{HasTreeText, Stores}
@@ -58,7 +58,7 @@ under_digits : (custom : Custom) (systems : List NamedSystem) (names : List (Lis
 under_digits custom systems [] [] meant under = tt
 under_digits custom systems [] (s ∷ found) meant under = absurd under
 under_digits custom systems (name ∷ names) [] meant under = tt
-under_digits custom systems (name ∷ names) (s ∷ found) meant under = (named_digits custom name s.way (system_of s) (found_meant custom systems name s meant under.0), under_digits custom systems names found meant under.1)
+under_digits custom systems (name ∷ names) (s ∷ found) meant under = (named_digits custom name s.direction (system_of s) (found_meant custom systems name s meant under.0), under_digits custom systems names found meant under.1)
 
 -- there are as many systems as names
 pub have_names : (custom : Custom) (systems : List NamedSystem) (names : List (List ℕ)) (found : List SystemValue) → AreMeant custom systems → AreUnder systems names found → HaveNames names found
@@ -95,8 +95,8 @@ module _ (ledger : Ledger) (relations : List NamedRelation) (means : (name : Lis
 
 -- the systems of the first automaton, with their names
 abbrev pub first_tracks : Headers → List (List ℕ) → WordValue → WordTracks
-first_tracks h [] word = record { way = way_of word.systems; named = [] }
-first_tracks h (name ∷ names) word = record { way = way_of word.systems; named = with_names (automaton_tracks h name) word.systems }
+first_tracks h [] word = record { direction = direction_of word.systems; named = [] }
+first_tracks h (name ∷ names) word = record { direction = direction_of word.systems; named = with_names (automaton_tracks h name) word.systems }
 
 module _ (automata : List ValuedName) (tables : List Loaded) (files : Files) (listed : AreListedBy files (listed_files automata) tables)
     (plain : first_plain (headers_of tables) (listed_names automata) ≡ None) (shape : HaveSystemsOfFirst (headers_of tables) (listed_names automata)) (custom : Custom) (admitted : StepLog) (word : WordValue) (lines : List StepLine)
@@ -113,7 +113,7 @@ module _ (automata : List ValuedName) (tables : List Loaded) (files : Files) (li
   under_first (v ∷ vs) [] one are tracks_are under = absurd are
   under_first (v ∷ vs) (p ∷ ps) one (is, value, rest) tracks_are under = subst (λ (ss : List SystemValue). AreUnder steps.before.systems (automaton_tracks h v.name) ss) (sym tracks_are) (under v.name p.relation is)
 
-  -- the word's systems stand under the names of the first automaton's tracks
+  -- the word's systems are under the names of the first automaton's tracks
   pub word_under : AreUnder steps.before.systems (first_names h (listed_names automata)) word.systems
   word_under =
       subst (λ (ss : List SystemValue). AreUnder steps.before.systems (first_names h (listed_names automata)) ss) (sym combination.systems_are)
@@ -131,32 +131,32 @@ module _ (automata : List ValuedName) (tables : List Loaded) (files : Files) (li
       by [] one under = absurd one
       by (name ∷ names) one under = (
         names_with custom steps.before.systems steps.before.meant (automaton_tracks h name) word.systems under,
-        named_with custom steps.before.systems steps.before.meant (way_of word.systems) (automaton_tracks h name) word.systems combination.word_is.one_way under,
+        named_with custom steps.before.systems steps.before.meant (direction_of word.systems) (automaton_tracks h name) word.systems combination.word_is.shared_direction under,
       )
 
   -- the text of a word with these letters is that of the definition
   word_text_is : (parts : Parts) → All (λ letter. FitsSigned w32 letter) word.function.letters → ((ns : List ℕ) (letter : ℤ) → IsCombined steps.before.parts ns letter ↔ first_letter custom parts ns letter)
-      → HasTreeText custom (Combine (first_tracks h (listed_names automata) word).way (first_tracks h (listed_names automata) word).named parts) (named_text (first_names h (listed_names automata)) word)
+      → HasTreeText custom (Combine (first_tracks h (listed_names automata) word).direction (first_tracks h (listed_names automata) word).named parts) (named_text (first_names h (listed_names automata)) word)
   word_text_is parts fit same = by (listed_names automata) shape word_under
     where
-      by : (names : List (List ℕ)) → HaveSystemsOfFirst h names → AreUnder steps.before.systems (first_names h names) word.systems → HasTreeText custom (Combine (first_tracks h names word).way (first_tracks h names word).named parts) (named_text (first_names h names) word)
+      by : (names : List (List ℕ)) → HaveSystemsOfFirst h names → AreUnder steps.before.systems (first_names h names) word.systems → HasTreeText custom (Combine (first_tracks h names word).direction (first_tracks h names word).named parts) (named_text (first_names h names) word)
       by [] one under = absurd one
       by (name ∷ names) one under =
           let of_first : List (List ℕ) = automaton_tracks h name in
           let named : List tracks.NamedSystem = with_names of_first word.systems in
           let count : length named ≡ length word.systems = with_count of_first word.systems (as_many_under steps.before.systems of_first word.systems under) in
-          let is : IsWordNamed custom (way_of word.systems) named word = record {
+          let is : IsWordNamed custom (direction_of word.systems) named word = record {
             word = combination.word_is;
             fits = fit;
-            are = named_with custom steps.before.systems steps.before.meant (way_of word.systems) of_first word.systems combination.word_is.one_way under;
+            are = named_with custom steps.before.systems steps.before.meant (direction_of word.systems) of_first word.systems combination.word_is.shared_direction under;
             direction = refl;
             systems_are = systems_with custom steps.before.systems steps.before.meant of_first word.systems under;
           } in
           let letters : HasLettersOf word named (λ ns letter. first_letter custom parts ns letter) = λ ns letter long.
           let own = combination.letters ns letter (long ∙ (count ∙ ap length combination.systems_are)) in
           ((λ has. (same ns letter).0 (own.0 has)), (λ has. own.1 ((same ns letter).1 has))) in
-          subst (λ (ts : List SystemTrack). HasTreeText custom (Combine (way_of word.systems) named parts) (word_text (headers.Systems ts) word.function.automaton (outputs_of word.function)))
-          (sym (tracks_are_named of_first word.systems)) (combined_word_text custom (way_of word.systems) named parts word is letters)
+          subst (λ (ts : List SystemTrack). HasTreeText custom (Combine (direction_of word.systems) named parts) (word_text (headers.Systems ts) word.function.automaton (outputs_of word.function)))
+          (sym (tracks_are_named of_first word.systems)) (combined_word_text custom (direction_of word.systems) named parts word is letters)
 
 -- and it is that of the definition that the command stores
 module _ (ledger : Ledger) (automata : List ValuedName) (tables : List Loaded) (files : Files) (stores : Stores ledger files) (listed : AreListedBy files (listed_files automata) tables)
@@ -171,7 +171,7 @@ module _ (ledger : Ledger) (automata : List ValuedName) (tables : List Loaded) (
 
   -- where its letters fit in 32 bits
   pub stored_text_is : All (λ letter. FitsSigned w32 letter) word.function.letters
-      → HasTreeText (custom_of ledger) (Combine (first_tracks (headers_of tables) (listed_names automata) word).way (first_tracks (headers_of tables) (listed_names automata) word).named (parts_from ledger 0 automata)) (named_text (first_names (headers_of tables) (listed_names automata)) word)
+      → HasTreeText (custom_of ledger) (Combine (first_tracks (headers_of tables) (listed_names automata) word).direction (first_tracks (headers_of tables) (listed_names automata) word).named (parts_from ledger 0 automata)) (named_text (first_names (headers_of tables) (listed_names automata)) word)
   stored_text_is fit =
       word_text_is automata tables files listed plain shape (custom_of ledger) admitted word lines steps has (parts_from ledger 0 automata) fit
       (λ ns letter. letters_same ledger (relations_in steps.before.reads) relations_mean ns letter 0 automata steps.before.parts steps.before.parts_are)

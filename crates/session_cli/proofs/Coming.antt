@@ -10,14 +10,14 @@ some_more true told = ([], refl)
 some_more false None = ([], tt)
 some_more false (Some left) = (left, refl)
 
--- what may come now might have come before, behind what was given since then
+-- what may come now might have come before, after what was given since then
 pub may_come_before : (over : Bool) (told now : Option (List ℕ)) (given more : List ℕ) → Consumes told now given → (over ≡ true → HasGivenAll now) → MayCome over now more → MayCome false told (given ++ more)
 may_come_before over None now given more taken ended may = tt
 may_come_before over (Some left) None given more taken ended may = absurd taken
 may_come_before true (Some left) (Some rest) given more taken ended may = sym (taken ∙ ap (λ (xs : List ℕ). given ++ xs) (ended refl ∙ sym may))
 may_come_before false (Some left) (Some rest) given more taken ended may = sym (taken ∙ ap (λ (xs : List ℕ). given ++ xs) (sym may))
 
--- all that may come is what is told
+-- all that may come is what is reported
 pub told_of : (told : Option (List ℕ)) (more : List ℕ) → MayCome false told more → IsTold told more
 told_of None more may = tt
 told_of (Some left) more may = may

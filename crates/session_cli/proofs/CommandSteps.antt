@@ -20,7 +20,7 @@ use Rattle.session_cli.specs.Commands.{Stored, Commands, WritesPlan}
 use Rattle.session_cli.specs.StoreReads.{IsReadFault, HasRead}
 use Rattle.session_cli.proofs.StoreReads.{rises}
 
--- where the ledger is the one by which a command is answered, it is so whatever the store tells
+-- where the ledger is the one by which a command is answered, it is so whatever the store reports
 pub own_ledger : (told : Option Files) (ledger : Ledger) → IsKnownLedger told ledger ledger
 own_ledger None ledger = tt
 own_ledger (Some files) ledger = refl
@@ -52,14 +52,14 @@ kept_failed old (faults.Unknown of file) other = refl
 kept_failed old (faults.File of file flaw) other = refl
 kept_failed old (faults.Arity of tracks given) other = refl
 kept_failed old (faults.Clash of one two) other = refl
-kept_failed old (faults.WordGap of spelling) other = refl
+kept_failed old (faults.WordGap of representation) other = refl
 kept_failed old (faults.Plain of) other = refl
 
 -- and the store as it was
 pub kept_store : (custom : Custom) (store : StoreView) (fault : Fault) → is_store_fault fault ≡ false → Stored custom store (Err fault) store
 kept_store custom store fault other = record { files = refl; later = omega arith; cause = λ is. cc; failed = kept_failed store.failed fault other }
 
--- a ledger by which a command over these files is answered: that of the files where they are told, and else that of what was found
+-- a ledger by which a command over these files is answered: that of the files where they are reported, and else that of what was found
 pub record IsAnswering (told : Option Files) (ledger : Ledger) (found : Files) : Type 0 where
   known : Ledger
   known_is : IsKnownLedger told ledger known
@@ -115,7 +115,7 @@ refused_command limit ledger old new text shown fault found by refused read = re
     answer_of (faults.File of file flaw) refused = refused
     answer_of (faults.Arity of tracks given) refused = refused
     answer_of (faults.Clash of one two) refused = refused
-    answer_of (faults.WordGap of spelling) refused = refused
+    answer_of (faults.WordGap of representation) refused = refused
     answer_of (faults.Plain of) refused = refused
 
     cause_of : (f : Fault) → IsReadFault f old new → IsTrue (is_store_fault f) → Rose old.faults new.faults
@@ -144,7 +144,7 @@ refused_command limit ledger old new text shown fault found by refused read = re
     cause_of (faults.File of file flaw) read is = cc
     cause_of (faults.Arity of tracks given) read is = cc
     cause_of (faults.Clash of one two) read is = cc
-    cause_of (faults.WordGap of spelling) read is = cc
+    cause_of (faults.WordGap of representation) read is = cc
     cause_of (faults.Plain of) read is = cc
 
     failed_of : (f : Fault) → IsReadFault f old new → new.failed ≡ failed_after old.failed (Err f)
@@ -173,7 +173,7 @@ refused_command limit ledger old new text shown fault found by refused read = re
     failed_of (faults.File of file flaw) read = read
     failed_of (faults.Arity of tracks given) read = read
     failed_of (faults.Clash of one two) read = read
-    failed_of (faults.WordGap of spelling) read = read
+    failed_of (faults.WordGap of representation) read = read
     failed_of (faults.Plain of) read = read
 
 same_put : (old : Option Files) (place other : Place) (stored : List ℕ) → place.0 ≡ other.0 → place.1 ≡ other.1 → option_map (λ files. put files place.0 place.1 stored) old ≡ option_map (λ files. put files other.0 other.1 stored) old
@@ -248,5 +248,5 @@ planned_command limit ledger old mid new text shown plan result found by plans r
     by_result (Err (faults.File of file flaw)) w = absurd w.cause
     by_result (Err (faults.Arity of tracks given)) w = absurd w.cause
     by_result (Err (faults.Clash of one two)) w = absurd w.cause
-    by_result (Err (faults.WordGap of spelling)) w = absurd w.cause
+    by_result (Err (faults.WordGap of representation)) w = absurd w.cause
     by_result (Err (faults.Plain of)) w = absurd w.cause

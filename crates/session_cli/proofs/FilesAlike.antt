@@ -1,4 +1,4 @@
--- Files of automata and words are loaded alike whatever macros stand beside them.
+-- Files of automata and words are loaded alike whatever macros are beside them.
 use Rattle.std.proofs.Common.{◌≡◌, ◌≢◌, ℕ, List, [], ◌∷◌, inl, inr, ◌∙◌}
 use Rattle.wal_outside.specs.Files.{Files}
 use Rattle.wal_outside.specs.declared.folder.Folder.{Folder}
@@ -79,7 +79,7 @@ module _ (files others : Files) (same : SameButMacros files others) where
   unloaded_alike named (faults.Direction one two) is = absurd is
   unloaded_alike named (faults.Letters step) is = absurd is
   unloaded_alike named (faults.States step) is = absurd is
-  unloaded_alike named (faults.WordGap of spelling) is = absurd is
+  unloaded_alike named (faults.WordGap of representation) is = absurd is
   unloaded_alike named (faults.Plain of) is = absurd is
   unloaded_alike named (faults.Morphism kind) is = absurd is
   unloaded_alike named (faults.LetterMissing letter) is = absurd is

@@ -1,4 +1,4 @@
--- The files of a formula are loaded alike whatever texts of users' systems stand beside them.
+-- The files of a formula are loaded alike whatever texts of users' systems are beside them.
 use Rattle.std.proofs.Common.{List, [], ◌∷◌, Ok}
 use Rattle.std.specs.declared.alloc.Global.{Global}
 use Rattle.std.specs.declared.vec.Vec.{Vec}

@@ -32,7 +32,7 @@ named_syntax word folder limit ledger text at breaks = fails_first (Pure (HeadAn
 pub named_number : (word : List ℕ) (folder : Folder) (limit : ℕ) (ledger : Ledger) (text : List ℕ) (at : ℕ) → HasHead (SpellsNamed word) (λ (h : NamedHead). h) text (Err (head_faults.Number at)) → Fails (formula_checks word folder limit ledger text) (faults.Number grammars.Command at)
 named_number word folder limit ledger text at breaks = fails_first (Pure (HeadAnswers (SpellsNamed word) text)) (λ head. after_named_head limit ledger folder head) (faults.Number grammars.Command at) breaks
 
--- what is accepted stands under the head's name
+-- what is accepted is under the head's name
 record IsAt (folder : Folder) (head : NamedHead) (success : Success) : Type 0 where
   folder_is : folder ≡ success.folder
   name_is : head.name ≡ success.name

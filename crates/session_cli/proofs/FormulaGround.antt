@@ -17,8 +17,8 @@ use Rattle.formula_resolve.proofs.FirstLemmas.{first_once}
 use Rattle.formula_build.proofs.ReadFormulas.{read_known}
 use Rattle.formula_build.specs.KnownNames.{AreKnownIn}
 use Rattle.formula_build.specs.Libraries.{NamedSystem, AreSealed, meanings_of}
-use Rattle.formula_build.specs.Resolved.{AreWays, plan_headers}
-use Rattle.formula_build.specs.Solutions.{way_named}
+use Rattle.formula_build.specs.Resolved.{AreDirections, plan_headers}
+use Rattle.formula_build.specs.Solutions.{direction_named}
 use Rattle.formula_build.specs.TrackSystems.{Fits}
 use Rattle.definitions.specs.Trees.{Ledger, custom_of}
 use Rattle.system_files.specs.SystemFiles.{Custom}
@@ -36,14 +36,14 @@ use Rattle.definitions.specs.Texts.{Stores}
 use Rattle.session_cli.proofs.ReadableTables.{tables_readable}
 use Rattle.session_cli.proofs.TableFiles.{files_apart}
 use Rattle.session_cli.proofs.TableFits.{tables_fit, files_known}
-use Rattle.session_cli.proofs.TableHeaders.{table_ways}
+use Rattle.session_cli.proofs.TableHeaders.{table_directions}
 use Rattle.session_cli.proofs.TableMeanings.{tables_mean_the_same}
 use Rattle.session_cli.proofs.WordLaws.{words_have_file_letters}
 
 module _ (formula : trees.Formula) (tables : List Loaded) (files : Files) (listed : AreListedBy files (first_files (mentions formula)) tables) where
   -- no two directions meet in a header
-  pub ground_ways : AreWays (headers_of tables) way_named
-  ground_ways = table_ways files (first_files (mentions formula)) tables listed
+  pub ground_directions : AreDirections (headers_of tables) direction_named
+  ground_directions = table_directions files (first_files (mentions formula)) tables listed
 
   module _ (systems : List NamedSystem) (sealed : AreSealed systems) (custom : Custom) (meant : AreMeant custom systems) (resolves : fault_of (headers_of tables) formula ≡ None) (has : HasSystems (first_systems (headers_of tables) (mentions formula)) systems) where
     -- the tables can be read
@@ -51,8 +51,8 @@ module _ (formula : trees.Formula) (tables : List Loaded) (files : Files) (liste
     ground_readable = tables_readable file_is_table systems files tables formula (first_once (mentions formula)) listed resolves has custom meant
 
     module _ (reads : List TableRead) (old new : StepLog) (made : AreTablesRead systems old tables reads new) where
-      -- what they make stands over the systems of their headers
-      pub ground_fits : Fits (library_with reads systems) (plan_headers (headers_of tables)) way_named
+      -- what they make is over the systems of their headers
+      pub ground_fits : Fits (library_with reads systems) (plan_headers (headers_of tables)) direction_named
       ground_fits = tables_fit table_holds systems sealed custom tables reads old new meant (files_apart files (first_files (mentions formula)) tables (first_once (mentions formula)) listed) ground_readable made
 
       -- each name of the formula stands for something

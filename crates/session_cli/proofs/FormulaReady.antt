@@ -17,7 +17,7 @@ use Rattle.formula_build.specs.Libraries.{NamedSystem, ReadValue, LibraryValue, 
 use Rattle.formula_build.specs.Resolved.{plan_headers}
 use Rattle.formula_build.specs.ResolvedViews.{IsPlanned, formula_of, headers_in}
 use Rattle.formula_build.specs.ResolvedViews.{library_of as resolved_library}
-use Rattle.formula_build.specs.Solutions.{BuildsFormula, IsSolution, formula_plan, way_named}
+use Rattle.formula_build.specs.Solutions.{BuildsFormula, IsSolution, formula_plan, direction_named}
 use Rattle.formula_build.specs.TrackSystems.{Fits}
 use Rattle.formula_build.specs.VariableTracks.{IsOverVariables}
 use Rattle.formula_build.specs.declared.names.Names.{Names}
@@ -50,10 +50,10 @@ set_up r read reads formula tables names systems formula_eq names_are headers sy
 }
 
 module _ (r : Resolved) (read : ReadValue) (reads : List TableRead) (formula : trees.Formula) (tables : List Loaded) (systems : List NamedSystem) (up : IsSetUp r read reads formula tables systems) where
-  pub fits_here : Fits (library_with reads systems) (plan_headers (headers_of tables)) way_named → Fits (resolved_library r read) (plan_headers (headers_in r)) way_named
+  pub fits_here : Fits (library_with reads systems) (plan_headers (headers_of tables)) direction_named → Fits (resolved_library r read) (plan_headers (headers_in r)) direction_named
   fits_here fits =
-      subst (λ (h : Headers). Fits (resolved_library r read) (plan_headers h) way_named) (sym up.headers)
-      (subst (λ (l : LibraryValue). Fits l (plan_headers (headers_of tables)) way_named) (sym up.library) fits)
+      subst (λ (h : Headers). Fits (resolved_library r read) (plan_headers h) direction_named) (sym up.headers)
+      (subst (λ (l : LibraryValue). Fits l (plan_headers (headers_of tables)) direction_named) (sym up.library) fits)
 
   pub known_here : AreKnownIn (library_with reads systems) formula → AreKnownIn (resolved_library r read) (formula_of r)
   known_here known =
@@ -90,10 +90,10 @@ module _ (r : Resolved) (read : ReadValue) (reads : List TableRead) (formula : t
 -- why tables are not read: memory ran out, or a step passes a limit, or a letter is missing
 abbrev pub IsUnread : StepLog → Custom → List Loaded → ReadFault → Type 0
 IsUnread admitted custom tables (Step fault) = (fault ≡ step_faults.Memory) ⊎ IsReadingStopped admitted custom tables fault
-IsUnread admitted custom tables (Gap name spelling) = IsLetterMissing admitted custom tables name spelling
+IsUnread admitted custom tables (Gap name representation) = IsLetterMissing admitted custom tables name representation
 
 -- tables that were not read
 pub stopped_here : (systems : List NamedSystem) (admitted : StepLog) (custom : Custom) (tables : List Loaded) (fault : ReadFault) → AreSealed systems → AreMeant custom systems → IsReadingFault systems admitted tables fault → IsUnread admitted custom tables fault
 stopped_here systems admitted custom tables (Step fault) sealed meant (inl memory) = inl memory
 stopped_here systems admitted custom tables (Step fault) sealed meant (inr refused) = inr (record { systems = systems; sealed = sealed; meant = meant; refused = refused })
-stopped_here systems admitted custom tables (Gap name spelling) sealed meant gap = record { systems = systems; sealed = sealed; meant = meant; gap = gap }
+stopped_here systems admitted custom tables (Gap name representation) sealed meant gap = record { systems = systems; sealed = sealed; meant = meant; gap = gap }

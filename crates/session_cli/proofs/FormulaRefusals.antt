@@ -51,4 +51,4 @@ unbuilt admitted custom tables formula step_faults.Memory refused = tt
 pub unread : (admitted : StepLog) (custom : Custom) (tables : List Loaded) (formula : trees.Formula) (fault : ReadFault) → IsUnread admitted custom tables fault → Fails (Pure (BuiltAnswers admitted custom tables formula)) (fault_of_reading fault)
 unread admitted custom tables formula (Step fault) (inl memory) = subst (λ (f : StepFault). Fails (Pure (BuiltAnswers admitted custom tables formula)) (track_systems.fault_of f)) (sym memory) tt
 unread admitted custom tables formula (Step fault) (inr stopped) = unbuilt admitted custom tables formula fault (inl stopped)
-unread admitted custom tables formula (Gap name spelling) missing = missing
+unread admitted custom tables formula (Gap name representation) missing = missing

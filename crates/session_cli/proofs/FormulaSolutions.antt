@@ -35,7 +35,7 @@ use Rattle.session_cli.specs.VariablesOver.{variable_over, variables_over}
 use Rattle.session_cli.proofs.MeantNames.{found_meant, named_digits}
 use Rattle.definitions.proofs.AssignedLemmas.{names_of_variables, assigned_numbers}
 
--- the variables stand over the systems that their names mean
+-- the variables are over the systems that their names mean
 pub are_variables : (custom : Custom) (l : LibraryValue) (found : List resolved.Variable) (ss : List SystemValue) → AreMeant custom l.systems → AreSystemsOf l found ss → AreVariables custom found (variables_over found ss)
 are_variables custom l [] [] are over = tt
 are_variables custom l [] (s ∷ ss) are over = absurd over
@@ -73,16 +73,16 @@ over_tracks [] ss = refl
 over_tracks (v ∷ found) [] = refl
 over_tracks (v ∷ found) (s ∷ ss) = ap (λ (ts : List SystemTrack). track_of (variable_over v s).system ∷ ts) (over_tracks found ss)
 
-over_ways : (way : Direction) (found : List resolved.Variable) (ss : List SystemValue) → AllByRecursion (λ (s : SystemValue). s.way ≡ way) ss → AllByRecursion (λ (v : Variable). v.way ≡ way) (variables_over found ss)
-over_ways way [] ss ways = tt
-over_ways way (v ∷ found) [] ways = tt
-over_ways way (v ∷ found) (s ∷ ss) ways = (ways.0, over_ways way found ss ways.1)
+over_directions : (direction : Direction) (found : List resolved.Variable) (ss : List SystemValue) → AllByRecursion (λ (s : SystemValue). s.direction ≡ direction) ss → AllByRecursion (λ (v : Variable). v.direction ≡ direction) (variables_over found ss)
+over_directions direction [] ss directions = tt
+over_directions direction (v ∷ found) [] directions = tt
+over_directions direction (v ∷ found) (s ∷ ss) directions = (directions.0, over_directions direction found ss directions.1)
 
 -- each variable's system is the one that its name means
-over_named : (custom : Custom) (way : Direction) (found : List resolved.Variable) (ss : List SystemValue) → AreVariables custom found (variables_over found ss) → AllByRecursion (λ (s : SystemValue). s.way ≡ way) ss → AreNamed custom way (named_systems (variables_over found ss))
-over_named custom way [] ss are ways = tt
-over_named custom way (v ∷ found) [] are ways = tt
-over_named custom way (v ∷ found) (s ∷ ss) are ways = (subst (λ (w : Direction). IsSystemNamed custom v.system w (sealed.system_of s)) ways.0 are.0.means, over_named custom way found ss are.1 ways.1)
+over_named : (custom : Custom) (direction : Direction) (found : List resolved.Variable) (ss : List SystemValue) → AreVariables custom found (variables_over found ss) → AllByRecursion (λ (s : SystemValue). s.direction ≡ direction) ss → AreNamed custom direction (named_systems (variables_over found ss))
+over_named custom direction [] ss are directions = tt
+over_named custom direction (v ∷ found) [] are directions = tt
+over_named custom direction (v ∷ found) (s ∷ ss) are directions = (subst (λ (w : Direction). IsSystemNamed custom v.system w (sealed.system_of s)) directions.0 are.0.means, over_named custom direction found ss are.1 directions.1)
 
 module _ (custom : Custom) (l : LibraryValue) (bindings : Bindings) (means : MeanTheSame (meanings_of l) (meanings_in custom bindings)) (meant : AreMeant custom l.systems) (formula : trees.Formula) (found : List resolved.Variable) (r : RelationValue) (solution : IsSolution l formula r) (over : IsOverVariables l found r) where
   abbrev variables : List Variable
@@ -100,21 +100,21 @@ module _ (custom : Custom) (l : LibraryValue) (bindings : Bindings) (means : Mea
       let same : Holds (meanings_of l) formula a ↔ Holds (meanings_in custom bindings) formula a = meanings_matter (meanings_of l) (meanings_in custom bindings) means formula a in
       ((λ holds. same.0 (says.0 (subst (RelationHolds r) (sym own) holds))), (λ holds. subst (RelationHolds r) own (says.1 (same.1 holds))))
 
-  -- its automaton accepts the spellings of these numbers
-  solution_holds : HoldsOf (relations.way_of r.systems) (systems_of (named_systems variables)) (IsSolvedBy custom bindings variables formula) r.automaton
+  -- its automaton accepts the representations of these numbers
+  solution_holds : HoldsOf (relations.direction_of r.systems) (systems_of (named_systems variables)) (IsSolvedBy custom bindings variables formula) r.automaton
   solution_holds =
-      let way : Direction = relations.way_of r.systems in
+      let direction : Direction = relations.direction_of r.systems in
       let sizes : systems_of (named_systems variables) ≡ relations.systems_of r.systems = over_systems l found r.systems over.systems_are in
-      let closed : HoldsOf way (systems_of (named_systems variables)) (RelationHolds r) r.automaton = subst (λ (ss : List System). HoldsOf way ss (RelationHolds r) r.automaton) (sym sizes) solution.relation.closed in
-      holds_same way (systems_of (named_systems variables)) (RelationHolds r) (IsSolvedBy custom bindings variables formula) r.automaton
+      let closed : HoldsOf direction (systems_of (named_systems variables)) (RelationHolds r) r.automaton = subst (λ (ss : List System). HoldsOf direction ss (RelationHolds r) r.automaton) (sym sizes) solution.relation.closed in
+      holds_same direction (systems_of (named_systems variables)) (RelationHolds r) (IsSolvedBy custom bindings variables formula) r.automaton
       (λ ns count. solves ns (count ∙ ap length sizes ∙ length-map r.systems sealed.system_of ∙ sym (over_count l found r.systems over.systems_are))) closed
 
   -- the text of the automaton is that of the formula
   pub solution_text : IsSolutionText custom bindings variables formula (automaton_text found r)
   solution_text = record {
-    way = relations.way_of r.systems;
-    read = over_ways (relations.way_of r.systems) found r.systems solution.relation.one_way;
-    named = over_named custom (relations.way_of r.systems) found r.systems (are_variables custom l found r.systems meant over.systems_are) solution.relation.one_way;
+    direction = relations.direction_of r.systems;
+    read = over_directions (relations.direction_of r.systems) found r.systems solution.relation.shared_direction;
+    named = over_named custom (relations.direction_of r.systems) found r.systems (are_variables custom l found r.systems meant over.systems_are) solution.relation.shared_direction;
     automaton = r.automaton;
     canonical = solution.relation.tracked.canonical;
     holds = solution_holds;
@@ -144,4 +144,4 @@ pub over_digits : (custom : Custom) (l : LibraryValue) (found : List resolved.Va
 over_digits custom l [] [] are over = tt
 over_digits custom l [] (s ∷ ss) are over = absurd over
 over_digits custom l (v ∷ found) [] are over = absurd over
-over_digits custom l (v ∷ found) (s ∷ ss) are over = (named_digits custom v.system s.way (sealed.system_of s) (found_meant custom l.systems v.system s are over.0), over_digits custom l found ss are over.1)
+over_digits custom l (v ∷ found) (s ∷ ss) are over = (named_digits custom v.system s.direction (sealed.system_of s) (found_meant custom l.systems v.system s are over.0), over_digits custom l found ss are over.1)

@@ -22,8 +22,8 @@ use Rattle.formula_resolve.specs.Directions.{is_lsd}
 use Rattle.formula_resolve.specs.declared.file.File.{File}
 use Rattle.formula_resolve.specs.declared.file.File.TheVariants.{Automaton, Word}
 use Rattle.dfa_loading.specs.Places.{lists_of}
-use Rattle.formula_build.specs.Resolved.{HaveOneWay}
-use Rattle.formula_build.specs.Solutions.{way_named}
+use Rattle.formula_build.specs.Resolved.{ShareDirection}
+use Rattle.formula_build.specs.Solutions.{direction_named}
 
 -- a line is read as this header
 abbrev pub IsHeaderOfLine : Header → Type 0
@@ -51,7 +51,7 @@ header_of_line text listed h =
     let read = then_ok (add_lines 1 no_draft (lines_of text)) (finish (line_after (lines_of text))) listed h in
     lines_kept IsHeaded add_line line_headed 1 no_draft read.0 (lines_of text) read.1 (λ header none. let e : None ≡ Some header = none in absurd (cc)) listed.header (finished_header (line_after (lines_of text)) read.0.header read.0 listed read.2)
 
--- the first byte of a name tells whether it begins with `lsd_`, of those that begin with a direction
+-- the first byte of a name says whether it begins with `lsd_`, of those that begin with a direction
 abbrev tells_lsd : List ℕ → Bool
 tells_lsd name = eqb (get_or name 0 0) 108
 
@@ -76,8 +76,8 @@ by_first name is = by (bytes_eq (take 4 name) (codes "msd_")) refl is
     by false apart either = so (codes "lsd_") (begun_so name (codes "lsd_") either) refl
 
 -- a system's name
-abbrev TellsWay : List ℕ → Type 0
-TellsWay name = is_lsd name ≡ tells_lsd name
+abbrev TellsDirection : List ℕ → Type 0
+TellsDirection name = is_lsd name ≡ tells_lsd name
 
 and_right : (a b : Bool) → (a && b) ≡ true → b ≡ true
 and_right true b h = h
@@ -87,7 +87,7 @@ and_left : (a b : Bool) → (a && b) ≡ true → a ≡ true
 and_left true b h = refl
 and_left false b h = absurd (cc)
 
-is_system_tells : (part : List ℕ) → is_system part ≡ true → TellsWay part
+is_system_tells : (part : List ℕ) → is_system part ≡ true → TellsDirection part
 unfolding is_system
 is_system_tells part is =
     let short = and_right (nat_le 5 (length part)) (nat_le (length part) 62 && (is_direction (take 4 part) && list_all is_alphanumeric (drop 4 part))) is in
@@ -95,7 +95,7 @@ is_system_tells part is =
     by_first part (and_left (is_direction (take 4 part)) (list_all is_alphanumeric (drop 4 part)) both)
 
 -- names that begin with the same byte
-all_lsd : (name : List ℕ) (names : List (List ℕ)) → list_all (directs_as name) names ≡ true → AllByRecursion TellsWay names → AllByRecursion (λ other. is_lsd other ≡ tells_lsd name) names
+all_lsd : (name : List ℕ) (names : List (List ℕ)) → list_all (directs_as name) names ≡ true → AllByRecursion TellsDirection names → AllByRecursion (λ other. is_lsd other ≡ tells_lsd name) names
 all_lsd name [] same tell = tt
 all_lsd name (other ∷ names) same tell =
     let first : get_or other 0 0 ≡ get_or name 0 0 = eqb-true (get_or other 0 0) (get_or name 0 0) (and_left (directs_as name other) (list_all (directs_as name) names) same) in
@@ -107,30 +107,30 @@ all_at P [] i d within all = absurd (omega (arith, within))
 all_at P (x ∷ xs) zero d within all = all.0
 all_at P (x ∷ xs) (suc i) d within all = all_at P xs i d (omega (arith, within)) all.1
 
-one_way_by : (lsd : Bool) (names : List Name) → AllByRecursion (λ name. is_lsd name ≡ lsd) names → HaveOneWay way_named names
-one_way_by lsd names all i j within also =
+shared_direction_by : (lsd : Bool) (names : List Name) → AllByRecursion (λ name. is_lsd name ≡ lsd) names → ShareDirection direction_named names
+shared_direction_by lsd names all i j within also =
     ap (λ b. cond b Lsd Msd) (all_at (λ name. is_lsd name ≡ lsd) names i [] within all ∙ sym (all_at (λ name. is_lsd name ≡ lsd) names j [] also all))
 
-one_way_of : (read names : List (List ℕ)) → of_one_direction read ≡ Some names → AllByRecursion TellsWay read → HaveOneWay way_named names
-one_way_of [] names h tell = absurd (cc)
-one_way_of (name ∷ rest) names h tell =
+shared_direction_of : (read names : List (List ℕ)) → of_one_direction read ≡ Some names → AllByRecursion TellsDirection read → ShareDirection direction_named names
+shared_direction_of [] names h tell = absurd (cc)
+shared_direction_of (name ∷ rest) names h tell =
     let is = cond_some-then (list_all (directs_as name) rest) (Some (name ∷ rest)) names h in
     let same : name ∷ rest ≡ names = let e : Some (name ∷ rest) ≡ Some names = is.1 in cc in
-    subst (HaveOneWay way_named) same (one_way_by (tells_lsd name) (name ∷ rest) (tell.0, all_lsd name rest is.0 tell.1))
+    subst (ShareDirection direction_named) same (shared_direction_by (tells_lsd name) (name ∷ rest) (tell.0, all_lsd name rest is.0 tell.1))
 
 -- the names of a line of systems are of one direction
-systems_one_way : (line : List ℕ) (names : List (List ℕ)) → systems_of line ≡ Some names → HaveOneWay way_named names
+systems_shared_direction : (line : List ℕ) (names : List (List ℕ)) → systems_of line ≡ Some names → ShareDirection direction_named names
 unfolding systems_of
-systems_one_way line names h =
+systems_shared_direction line names h =
     let read = bind_some (each_of system_of (parts_of line)) of_one_direction names h in
-    let tell : AllByRecursion TellsWay read.0 = each_holds system_of TellsWay (λ part name e. part_tells part name e) (parts_of line) read.0 read.1 in
-    one_way_of read.0 names read.2 tell
+    let tell : AllByRecursion TellsDirection read.0 = each_holds system_of TellsDirection (λ part name e. part_tells part name e) (parts_of line) read.0 read.1 in
+    shared_direction_of read.0 names read.2 tell
   where
-    part_tells : (part name : List ℕ) → system_of part ≡ Some name → TellsWay name
+    part_tells : (part name : List ℕ) → system_of part ≡ Some name → TellsDirection name
     part_tells part name e =
         let is = cond_some-then (is_system part) (Some part) name e in
         let same : part ≡ name = let s : Some part ≡ Some name = is.1 in cc in
-        subst TellsWay same (is_system_tells part is.0)
+        subst TellsDirection same (is_system_tells part is.0)
 
 some_of : (read names : List (List ℕ)) → of_one_direction read ≡ Some names → 0 < length names
 some_of [] names h = absurd (cc)
@@ -145,10 +145,10 @@ unfolding systems_of
 systems_some line names h = let read = bind_some (each_of system_of (parts_of line)) of_one_direction names h in some_of read.0 names read.2
 
 -- the systems of what a file lists have one direction
-pub listed_one_way : (text : List ℕ) (listed : Listed) (names : List (List ℕ)) → relation_of text ≡ Ok listed → listed.header ≡ Systems names → HaveOneWay way_named names
-listed_one_way text listed names lists is =
+pub listed_shared_direction : (text : List ℕ) (listed : Listed) (names : List (List ℕ)) → relation_of text ≡ Ok listed → listed.header ≡ Systems names → ShareDirection direction_named names
+listed_shared_direction text listed names lists is =
     let line = header_of_line text listed lists in
-    systems_one_way line.0 names (line_of_systems line.0 names (line.1 ∙ ap Some is))
+    systems_shared_direction line.0 names (line_of_systems line.0 names (line.1 ∙ ap Some is))
 
 -- and where it has systems there is one
 pub listed_some : (text : List ℕ) (listed : Listed) (names : List (List ℕ)) → relation_of text ≡ Ok listed → listed.header ≡ Systems names → 0 < length names

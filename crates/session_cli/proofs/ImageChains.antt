@@ -48,7 +48,7 @@ image_broken limit ledger text (head_faults.Syntax at) breaks = fails_first (Pur
 image_broken limit ledger text (head_faults.Number at) breaks = fails_first (Pure (HeadAnswers SpellsImage text)) (λ head. after_image_head limit ledger head) (faults.Number grammars.Command at) breaks
 image_broken limit ledger text head_faults.Memory breaks = tt
 
--- what is accepted stands among words, under the name of the head
+-- what is accepted is among words, under the name of the head
 record IsImageAt (head : ImageHead) (success : Success) : Type 0 where
   folder_is : Words ≡ success.folder
   name_is : head.word ≡ success.name

@@ -9,7 +9,7 @@ use Rattle.digit_tuple.specs.Steps.{StepLog}
 use Rattle.digit_tuple.specs.declared.step_fault.StepFault.{StepFault}
 use Rattle.digit_tuple.specs.declared.step_fault.StepFault.TheVariants as faults
 use Rattle.minimise.proofs.OrderLemmas.{same_in_order}
-use Rattle.numeration.specs.Spelling.{letters_in, sizes_of}
+use Rattle.numeration.specs.Representation.{letters_in, sizes_of}
 use Rattle.num_system.specs.Sealed.{IsSealed, SystemValue}
 use Rattle.num_system.specs.Tracks.{absent_system, systems_of}
 use Rattle.morph_words.specs.Rules.{IsMorphism, Rules}
@@ -18,7 +18,7 @@ use Rattle.morph_words.specs.UniformLaws.{HasOneLength}
 use Rattle.morph_words.proofs.RuleLemmas.{first_least, one_least}
 use Rattle.morph_words.proofs.UniformLemmas.{one_length, one_lengths}
 use Rattle.word_output.specs.LetterFunctions.{letter_after}
-use Rattle.word_output.specs.Words.{IsWordValue, SpellsPlace, WordValue}
+use Rattle.word_output.specs.Words.{IsWordValue, RepresentsPlace, WordValue}
 use Rattle.word_output.proofs.LetterEquality.{letter_functions}
 use Rattle.word_output.proofs.OptionLemmas.{same_option}
 use Rattle.word_output.proofs.PlaceLaws.{letter_of_place, place_of_letter}
@@ -50,7 +50,7 @@ module _ (rules : Rules) (word : WordValue) where
   carried r u v one two w over b has =
       let place = place_of_letter u w b one.word_is over has in
       let same : u.systems ≡ v.systems = one.systems ∙ sym two.systems in
-      letter_of_place v place.0 w b two.word_is (subst (λ (ss : List SystemValue). SpellsPlace ss place.0 w) same place.1) ((two.letters place.0 b).1 ((one.letters place.0 b).0 place.2))
+      letter_of_place v place.0 w b two.word_is (subst (λ (ss : List SystemValue). RepresentsPlace ss place.0 w) same place.1) ((two.letters place.0 b).1 ((one.letters place.0 b).0 place.2))
 
   one_recoded : (r : ℕ) (u v : WordValue) → IsRecoded rules word r u → IsRecoded rules word r v → u ≡ v
   one_recoded r u v one two = λ i. record { systems = same i; function = functions i }
@@ -68,7 +68,7 @@ module _ (rules : Rules) (word : WordValue) where
 
   one_words : (n : ℕ) (ws us : List NamedWord) → AreRecoded rules word n ws → AreRecoded rules word n us → ws ≡ us
   one_words zero ws us one two = one ∙ sym two
-  one_words (suc n) ws us (front, u, before, is, all) (other, v, earlier, also, whole) = all ∙ (λ i. with_named (one_words n front other before earlier i) (word_name n) (one_recoded n u v is also i)) ∙ sym whole
+  one_words (suc n) ws us (prefix, u, before, is, all) (other, v, earlier, also, whole) = all ∙ (λ i. with_named (one_words n prefix other before earlier i) (word_name n) (one_recoded n u v is also i)) ∙ sym whole
 
   one_library : (s : Name) (k : ℕ) (l m : LibraryValue) → IsImageLibrary rules word s k l → IsImageLibrary rules word s k m → l ≡ m
   one_library s k l m one two = λ i. record {
@@ -79,7 +79,7 @@ module _ (rules : Rules) (word : WordValue) where
 
   words_are : (n : ℕ) (ws : List NamedWord) → AreRecoded rules word n ws → AreWords ws
   words_are zero ws none = subst AreWords (sym none) tt
-  words_are (suc n) ws (front, u, before, is, all) = subst AreWords (sym all) (pushed front (word_name n) u (words_are n front before) is.word_is)
+  words_are (suc n) ws (prefix, u, before, is, all) = subst AreWords (sym all) (pushed prefix (word_name n) u (words_are n prefix before) is.word_is)
     where
       pushed : (xs : List NamedWord) (nm : Name) (v : WordValue) → AreWords xs → IsWordValue v → AreWords (with_named xs nm v)
       pushed [] nm v are last = (last, tt)
@@ -148,14 +148,14 @@ module _ (l : LibraryValue) (is : IsLibrary l) (s : Name) (k : ℕ) where
   StopsAt old [] fault new = ⊥
   StopsAt old (b ∷ bs) fault new = IsStopped old l (letter_plan s k b).steps new fault ⊎ ((r : RelationValue) × (middle : StepLog) × IsFormulaBuilt old l (letter_plan s k b) r middle × StopsAt middle bs fault new)
 
-  stops_at : (front rest : List ℤ) (here : ℤ) (old middle new : StepLog) (parts : List PartValue) (fault : StepFault) → AreBuilt l s k old front parts middle → IsStopped middle l (letter_plan s k here).steps new fault → StopsAt old (front ++ here ∷ rest) fault new
+  stops_at : (prefix rest : List ℤ) (here : ℤ) (old middle new : StepLog) (parts : List PartValue) (fault : StepFault) → AreBuilt l s k old prefix parts middle → IsStopped middle l (letter_plan s k here).steps new fault → StopsAt old (prefix ++ here ∷ rest) fault new
   stops_at [] rest here old middle new [] fault built stopped = inl (subst (λ m. IsStopped m l (letter_plan s k here).steps new fault) built stopped)
   stops_at [] rest here old middle new (p ∷ ps) fault built stopped = absurd built
-  stops_at (b ∷ front) rest here old middle new [] fault built stopped = absurd built
-  stops_at (b ∷ front) rest here old middle new (p ∷ ps) fault (value, (between, first, more)) stopped = inr (p.relation, between, first, stops_at front rest here between middle new ps fault more stopped)
+  stops_at (b ∷ prefix) rest here old middle new [] fault built stopped = absurd built
+  stops_at (b ∷ prefix) rest here old middle new (p ∷ ps) fault (value, (between, first, more)) stopped = inr (p.relation, between, first, stops_at prefix rest here between middle new ps fault more stopped)
 
   stop_of : (letters : List ℤ) (old new : StepLog) (fault : StepFault) → IsLetterStopped l s k old letters fault new → StopsAt old letters fault new
-  stop_of letters old new fault h = subst (λ bs. StopsAt old bs fault new) (sym h.letters_are) (stops_at h.front h.rest h.here old h.middle new h.parts fault h.built h.stopped)
+  stop_of letters old new fault h = subst (λ bs. StopsAt old bs fault new) (sym h.letters_are) (stops_at h.prefix h.rest h.here old h.middle new h.parts fault h.built h.stopped)
 
   one_stop : (bs : List ℤ) (old new next : StepLog) (fault other : StepFault) → StopsAt old bs fault new → StopsAt old bs other next → fault ≢ faults.Memory → other ≢ faults.Memory → (fault ≡ other) × (new ≡ next)
   one_stop [] old new next fault other one two apart away = absurd one

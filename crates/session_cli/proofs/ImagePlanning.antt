@@ -48,7 +48,7 @@ image_read_made options ledger head read found result stores is makes =
     image_loaded options.limit ledger head read.morphism read.tables.items options.shown result (found, stores, is.rules)
     (found, stores, subst (λ (old : List ℕ). AreListedBy found (first_files (old_mentions old)) read.tables.items) is.old is.listed) (subst P is.old there)
 
--- a system stands under the name of the one track
+-- a system is under the name of the one track
 tracked : (custom : Custom) (systems : List NamedSystem) (names : List (List ℕ)) → AreMeant custom systems → AllByRecursion (HasSystemIn systems) names → length names ≡ 1 → (h : Headers) (old : List ℕ) → word_tracks h old ≡ names
     → (s : SystemValue) × TrackAnswers custom h old (Ok (track_over (get_or names 0 []) s))
 tracked custom systems [] meant has one h old is = absurd (omega (arith, one))
@@ -81,7 +81,7 @@ module _ (ledger : Ledger) (files : Files) (stores : Stores ledger files) (read 
     abbrev entry : HasLettersAs ledger read.old (old_word read files listed one_track (custom_of ledger) admitted word lines is)
     entry = old_entry read files listed one_track (custom_of ledger) admitted word lines is ledger stores refl
 
-    has : HasTreeText (custom_of ledger) (Image track.way track.system read.morphism (tree_of entry.entry)) (named_text (old_tracks_of read) word)
+    has : HasTreeText (custom_of ledger) (Image track.direction track.system read.morphism (tree_of entry.entry)) (named_text (old_tracks_of read) word)
     has = image_text read files listed one_track (custom_of ledger) admitted word lines is ledger stores refl fits
 
     -- the text is stored

@@ -1,4 +1,4 @@
--- A morphism and then tables, each read by files that are found: they are found together, since they stand in other folders.
+-- A morphism and then tables, each read by files that are found: they are found together, since they are in other folders.
 use Rattle.std.proofs.Common.{◌≡◌, ℕ, List, [], ◌∷◌, Option, None, Some, IfSome, Result, Ok, Err, inl, inr, sym, ◌∙◌, subst}
 use Rattle.std.specs.declared.alloc.Global.{Global}
 use Rattle.std.specs.declared.vec.Vec.{Vec}
@@ -92,7 +92,7 @@ module _ (files others : Files) where
   unloaded_with named (faults.Direction one other) first = absurd first
   unloaded_with named (faults.Letters step) first = absurd first
   unloaded_with named (faults.States step) first = absurd first
-  unloaded_with named (faults.WordGap of spelling) first = absurd first
+  unloaded_with named (faults.WordGap of representation) first = absurd first
   unloaded_with named (faults.Plain of) first = absurd first
   unloaded_with named faults.ScriptLimit first = absurd first
   unloaded_with named (faults.MacroArgs of at given) first = absurd first
@@ -106,7 +106,7 @@ module _ (files others : Files) where
   loads_with named (Ok tables) listed = listed_with named tables.items listed
   loads_with named (Err fault) refused = unloaded_with named fault refused
 
--- files that are the store's where it tells them, of which both properties are known
+-- files that are the store's where it reports them, of which both properties are known
 record AreBoth (P Q : Files → Type 0) (told : Option Files) : Type 0 where
   found : Files
   told_so : IfSome told (λ (files : Files). found ≡ files)

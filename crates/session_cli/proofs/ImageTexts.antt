@@ -11,7 +11,7 @@ use Rattle.dfa_loading.specs.Headers.{headers_of}
 use Rattle.formula_build.specs.TrackSystems.{IsWordOverSystems}
 use Rattle.morph_words.specs.Rules.{Rules}
 use Rattle.num_system.specs.Sealed.{SystemValue, system_of}
-use Rattle.num_system.specs.Tracks.{absent_system, way_of}
+use Rattle.num_system.specs.Tracks.{absent_system, direction_of}
 use Rattle.word_output.specs.Words.{HasLetter, WordValue}
 use Rattle.definitions.specs.Named.{IsSystemNamed}
 use Rattle.definitions.specs.Texts.{HasTreeText, Stores}
@@ -47,11 +47,11 @@ only_name (name ∷ other ∷ names) one = absurd (omega (arith, one))
 
 -- a system under a name
 abbrev pub track_over : List ℕ → SystemValue → WordTrack
-track_over name s = record { way = s.way; system = record { name = name; system = system_of s } }
+track_over name s = record { direction = s.direction; system = record { name = name; system = system_of s } }
 
 -- a word over one system under its name
 module _ (name : List ℕ) (s : SystemValue) (names : List (List ℕ)) (v : WordValue) (names_are : names ≡ name ∷ []) (systems_are : v.systems ≡ s ∷ []) where
-  text_named : named_text names v ≡ text_of_word s.way ((track_over name s).system ∷ []) v
+  text_named : named_text names v ≡ text_of_word s.direction ((track_over name s).system ∷ []) v
   text_named = λ i. named_text (names_are i) (record { systems = systems_are i; function = v.function })
 
 module _ (read : ReadImage) (files : Files) (listed : AreTablesOf read files) (one_track : length (old_tracks_of read) ≡ 1) (custom : Custom) (admitted : StepLog) (word : WordValue) (lines : List StepLine) (is : IsImaged admitted custom read word lines) where
@@ -74,45 +74,45 @@ module _ (read : ReadImage) (files : Files) (listed : AreTablesOf read files) (o
   systems_are : word.systems ≡ system ∷ []
   systems_are = is.image.systems ∙ only_system old_word.systems (over.count ∙ one_track)
 
-  meant : IsSystemNamed custom name system.way (system_of system)
+  meant : IsSystemNamed custom name system.direction (system_of system)
   meant = found_meant custom is.steps.before.systems name system is.steps.before.meant (over.each 0 (omega (arith, one_track)))
 
   -- the names are those of the word's systems
   pub image_names : HaveNames (old_tracks_of read) word.systems
   image_names =
       subst (λ (ns : List (List ℕ)). HaveNames ns word.systems) (sym names_are)
-      (subst (HaveNames (name ∷ [])) (sym systems_are) (record { count = refl; digits = (named_digits custom name system.way (system_of system) meant, tt) }))
+      (subst (HaveNames (name ∷ [])) (sym systems_are) (record { count = refl; digits = (named_digits custom name system.direction (system_of system) meant, tt) }))
 
   -- and mean the system of its track
   pub image_track : TrackAnswers custom (headers_of read.tables.items) read.old (Ok (track_over name system))
   image_track = (names_are, meant)
 
   module _ (ledger : Ledger) (stores : Stores ledger files) (same : custom_of ledger ≡ custom) where
-    -- what stands under the old name
+    -- what is under the old name
     pub old_entry : HasLettersAs ledger read.old old_word
     old_entry =
         old_means read.old read.tables.items files listed is.steps.before.systems is.steps.before.sealed custom is.steps.before.meant is.has is.steps.before.reads admitted is.steps.before.reading is.steps.before.read ledger stores same old_word is.steps.before.word_is
 
     -- the text is that of the image of its definition
-    pub image_text : All (λ letter. FitsSigned w32 letter) word.function.letters → HasTreeText (custom_of ledger) (Image system.way (track_over name system).system read.morphism (tree_of old_entry.entry)) (named_text (old_tracks_of read) word)
+    pub image_text : All (λ letter. FitsSigned w32 letter) word.function.letters → HasTreeText (custom_of ledger) (Image system.direction (track_over name system).system read.morphism (tree_of old_entry.entry)) (named_text (old_tracks_of read) word)
     image_text fits =
         let tree = tree_of old_entry.entry in
-        let named : IsWordNamed (custom_of ledger) system.way ((track_over name system).system ∷ []) word = record {
+        let named : IsWordNamed (custom_of ledger) system.direction ((track_over name system).system ∷ []) word = record {
           word = is.image.word_is;
           fits = fits;
-          are = (subst (λ (c : Custom). IsSystemNamed c name system.way (system_of system)) (sym same) meant, tt);
-          direction = ap way_of systems_are;
+          are = (subst (λ (c : Custom). IsSystemNamed c name system.direction (system_of system)) (sym same) meant, tt);
+          direction = ap direction_of systems_are;
           systems_are = sym (ap (λ (ss : List SystemValue). map system_of ss) systems_are);
         } in
-        subst (HasTreeText (custom_of ledger) (Image system.way (track_over name system).system read.morphism tree)) (sym (text_named name system (old_tracks_of read) word names_are systems_are))
-        (image_word_text (custom_of ledger) system.way (track_over name system).system read.morphism tree word named
+        subst (HasTreeText (custom_of ledger) (Image system.direction (track_over name system).system read.morphism tree)) (sym (text_named name system (old_tracks_of read) word names_are systems_are))
+        (image_word_text (custom_of ledger) system.direction (track_over name system).system read.morphism tree word named
         (λ n letter. (
           λ has. same_image read.morphism (λ m c. HasLetter old_word (m ∷ []) c) (λ m c. tree_letter (custom_of ledger) tree (m ∷ []) c) (λ m c. (old_entry.same (m ∷ []) c).0) n letter ((is.image.letters n letter).0 has),
           λ lettered. (is.image.letters n letter).1 (same_image read.morphism (λ m c. tree_letter (custom_of ledger) tree (m ∷ []) c) (λ m c. HasLetter old_word (m ∷ []) c) (λ m c. (old_entry.same (m ∷ []) c).1) n letter lettered),
         )))
 
 module _ (ledger : Ledger) (head : ImageHead) (track : WordTrack) (rules : Rules) (entry : Entry) (names : List (List ℕ)) (word : WordValue) (lines : List StepLine)
-    (has : HasTreeText (custom_of ledger) (Image track.way track.system rules (tree_of entry)) (named_text names word)) where
+    (has : HasTreeText (custom_of ledger) (Image track.direction track.system rules (tree_of entry)) (named_text names word)) where
   -- the text is stored
   pub image_stored : (shown : Bool) (made : Made) → IsWordTextOf names word made.stored.items → made.printed ≡ shown_steps shown lines → Makes (custom_of ledger) (stored (custom_of ledger) (image_success head track rules entry lines)) shown (Ok made)
   image_stored shown made (is, short) printed = record {
@@ -122,8 +122,8 @@ module _ (ledger : Ledger) (head : ImageHead) (track : WordTrack) (rules : Rules
     printed_is = printed ∙ sym (append-nil (shown_steps shown lines));
   }
     where
-      own : HasTreeText (custom_of ledger) (Image track.way track.system rules (tree_of entry)) made.stored.items
-      own = subst (HasTreeText (custom_of ledger) (Image track.way track.system rules (tree_of entry))) (sym is) has
+      own : HasTreeText (custom_of ledger) (Image track.direction track.system rules (tree_of entry)) made.stored.items
+      own = subst (HasTreeText (custom_of ledger) (Image track.direction track.system rules (tree_of entry))) (sym is) has
 
   -- or it is too long
   pub image_unstored : (fault : Fault) → HasNoWordText names word fault → Fails (stored (custom_of ledger) (image_success head track rules entry lines)) fault
@@ -144,7 +144,7 @@ module _ (ledger : Ledger) (head : ImageHead) (track : WordTrack) (rules : Rules
   image_unstored (faults.Direction one other) refused = absurd refused
   image_unstored (faults.Letters step) refused = absurd refused
   image_unstored (faults.States step) refused = absurd refused
-  image_unstored (faults.WordGap of spelling) refused = absurd refused
+  image_unstored (faults.WordGap of representation) refused = absurd refused
   image_unstored (faults.Plain of) refused = absurd refused
   image_unstored (faults.Store folder under) refused = absurd refused
   image_unstored faults.ScriptLimit refused = absurd refused

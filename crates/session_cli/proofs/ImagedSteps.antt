@@ -48,7 +48,7 @@ module _ (admitted : StepLog) (custom : Custom) (tables : List Loaded) (old name
   pub unread_old : (fault : ReadFault) → IsUnread admitted custom tables fault → Fails (Pure (ImagedAnswers admitted custom tables old name rules)) (fault_of_reading fault)
   unread_old (Step fault) (inl memory) = subst (λ (f : StepFault). Fails (Pure (ImagedAnswers admitted custom tables old name rules)) (fault_of f)) (sym memory) tt
   unread_old (Step fault) (inr stopped) = unimaged fault (inl stopped)
-  unread_old (Gap of spelling) missing = missing
+  unread_old (Gap of representation) missing = missing
 
   module _ (systems : List NamedSystem) (sealed : AreSealed systems) (reads : List TableRead) (reading : StepLog) (made : AreTablesRead systems admitted tables reads reading) (word : WordValue) (word_is : word_named (words_in reads) old ≡ Some word)
       (meant : AreMeant custom systems) where

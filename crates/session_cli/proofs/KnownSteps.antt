@@ -28,18 +28,18 @@ use Rattle.session_cli.specs.declared.track_systems.TrackSystems.{TrackSystems}
 use Rattle.session_cli.specs.FormulaSteps.{AreMeant}
 use Rattle.session_cli.specs.KnownSystems as known
 use Rattle.session_cli.specs.KnownSystems.{known_is_system, name_of}
-use Rattle.session_cli.specs.TrackSystems.{system_of, way_of, named_of, named_in, names_in, AreNamesOf, AreTrackSystemsOf, IsIn, IsNameOf, IsFirstApart}
+use Rattle.session_cli.specs.TrackSystems.{system_of, direction_of, named_of, named_in, names_in, AreNamesOf, AreTrackSystemsOf, IsIn, IsNameOf, IsFirstApart}
 use Rattle.definitions.proofs.NameLemmas.{one_direction}
 use Rattle.session_cli.proofs.MeantNames.{named_digits}
 
 -- what the name of a system that is known means
-pub its_name_means : (s : KnownSystem) → IsBuiltInSystem (name_of s) (known.way_of s) (known.system_of s)
+pub its_name_means : (s : KnownSystem) → IsBuiltInSystem (name_of s) (known.direction_of s) (known.system_of s)
 its_name_means (Base s) = (kinds.Base s.base, (record { least = s.at_least; most = s.at_most }, refl), refl)
 its_name_means (Fibonacci s) = (kinds.Fibonacci, (tt, refl), refl)
 
 -- the canonical language of a system that is known
-pub known_language : (s : KnownSystem) (d e : Automaton) → IsLanguageOf (known.way_of s) (known.system_of s) d → e.sizes ≡ d.sizes → SameLanguage d e → IsCanonical e → IsSystemLanguage (known.way_of s) (known.system_of s) e
-known_language s d e language sizes same canonical = record { of_system = language_kept (known.way_of s) (known.system_of s) d e (known_is_system s) language sizes same canonical; canonical = canonical }
+pub known_language : (s : KnownSystem) (d e : Automaton) → IsLanguageOf (known.direction_of s) (known.system_of s) d → e.sizes ≡ d.sizes → SameLanguage d e → IsCanonical e → IsSystemLanguage (known.direction_of s) (known.system_of s) e
+known_language s d e language sizes same canonical = record { of_system = language_kept (known.direction_of s) (known.system_of s) d e (known_is_system s) language sizes same canonical; canonical = canonical }
 
 -- the systems of tracks have these names
 pub names_so : (systems : List TrackSystem) → names_in systems ≡ names_of (named_in systems)
@@ -48,7 +48,7 @@ names_so (s ∷ systems) = ap (λ (ns : List (List ℕ)). s.name ∷ ns) (names_
 
 -- each system of a track is what its name means
 abbrev pub AreTheirs : Custom → List TrackSystem → Type 0
-AreTheirs custom systems = AllByRecursion (λ (s : TrackSystem). IsSystemNamed custom s.name (way_of s) (system_of s)) systems
+AreTheirs custom systems = AllByRecursion (λ (s : TrackSystem). IsSystemNamed custom s.name (direction_of s) (system_of s)) systems
 
 pub are_theirs : (custom : Custom) (users : List libraries.NamedSystem) (systems : List TrackSystem) → AreMeant custom users → AllByRecursion (λ (s : TrackSystem). IsNameOf users s.name s.meaning) systems → AreTheirs custom systems
 are_theirs custom users [] meant are = tt
@@ -56,15 +56,15 @@ are_theirs custom users (s ∷ systems) meant are = (are.0 custom meant, are_the
 
 theirs_known : (custom : Custom) (systems : List TrackSystem) → AreTheirs custom systems → AllByRecursion (IsKnown custom) (names_in systems)
 theirs_known custom [] are = tt
-theirs_known custom (s ∷ systems) are = ((way_of s, (system_of s, are.0)), theirs_known custom systems are.1)
+theirs_known custom (s ∷ systems) are = ((direction_of s, (system_of s, are.0)), theirs_known custom systems are.1)
 
-named_so : (custom : Custom) (way : Direction) (s : TrackSystem) → IsIn way s → IsSystemNamed custom s.name (way_of s) (system_of s) → IsSystemNamed custom s.name way (system_of s)
-named_so custom way s is means = let P : Direction → Type 0 = λ d. IsSystemNamed custom s.name d (system_of s) in subst P is means
+named_so : (custom : Custom) (direction : Direction) (s : TrackSystem) → IsIn direction s → IsSystemNamed custom s.name (direction_of s) (system_of s) → IsSystemNamed custom s.name direction (system_of s)
+named_so custom direction s is means = let P : Direction → Type 0 = λ d. IsSystemNamed custom s.name d (system_of s) in subst P is means
 
 -- systems in one direction are what their names mean
-pub all_named : (custom : Custom) (way : Direction) (systems : List TrackSystem) → All (IsIn way) systems → AreTheirs custom systems → AreNamed custom way (named_in systems)
-all_named custom way [] all are = tt
-all_named custom way (s ∷ systems) all are = (named_so custom way s (all 0 s (omega arith)) are.0, all_named custom way systems (λ i d within. all (suc i) d (omega (arith, within))) are.1)
+pub all_named : (custom : Custom) (direction : Direction) (systems : List TrackSystem) → All (IsIn direction) systems → AreTheirs custom systems → AreNamed custom direction (named_in systems)
+all_named custom direction [] all are = tt
+all_named custom direction (s ∷ systems) all are = (named_so custom direction s (all 0 s (omega arith)) are.0, all_named custom direction systems (λ i d within. all (suc i) d (omega (arith, within))) are.1)
 
 -- one language more
 pub languages_push : (direction : Direction) (ss : List System) (languages : List Automaton) (s : System) (d : Automaton) → AreSystemLanguages direction ss languages → IsSystemLanguage direction s d → AreSystemLanguages direction (ss ++ s ∷ []) (languages ++ d ∷ [])
@@ -89,7 +89,7 @@ systems_push [] s = refl
 systems_push (x ∷ systems) s = ap (λ (ss : List System). system_of x ∷ ss) (systems_push systems s)
 
 -- the language of a system that is read in this direction
-pub language_in : (direction : Direction) (s : TrackSystem) (d : Automaton) → IsIn direction s → IsSystemLanguage (way_of s) (system_of s) d → IsSystemLanguage direction (system_of s) d
+pub language_in : (direction : Direction) (s : TrackSystem) (d : Automaton) → IsIn direction s → IsSystemLanguage (direction_of s) (system_of s) d → IsSystemLanguage direction (system_of s) d
 language_in direction s d is language = subst (λ (x : Direction). IsSystemLanguage x (system_of s) d) is language
 
 -- the first system of another direction has the first name of the other direction
@@ -97,7 +97,7 @@ first_apart : (custom : Custom) (d : Direction) (systems : List TrackSystem) (j 
     → IsFirstWithout (IsOf custom d) (names_in systems) other
 first_apart custom d [] j other are within all apart is = absurd (omega (arith, within))
 first_apart custom d (s ∷ systems) zero other are within all apart is =
-    inl ((λ of. apart s (one_direction custom (way_of s) d s.name (system_of s, are.0) of)), is)
+    inl ((λ of. apart s (one_direction custom (direction_of s) d s.name (system_of s, are.0) of)), is)
 first_apart custom d (s ∷ systems) (suc j) other are within all apart is =
     inr ((system_of s, named_so custom d s (all 0 s (omega arith)) are.0), first_apart custom d systems j other are.1 (omega (arith, within)) (λ i x inside. all (suc i) x (omega (arith, inside))) apart is)
 
@@ -107,7 +107,7 @@ parted custom names [] d place first other are named head apart is is' = absurd 
 parted custom names (s ∷ systems) d zero first other are named head apart is is' = absurd (apart.apart s (head s))
 parted custom names (s ∷ systems) d (suc j) first other are named head apart is is' = record {
   known = subst (AllByRecursion (IsKnown custom)) (sym named) (theirs_known custom (s ∷ systems) are);
-  way = d;
+  direction = d;
   rest = names_in systems;
   names_are = named ∙ ap (λ (n : List ℕ). n ∷ names_in systems) (sym firsts);
   first_of = (system_of s, let P : List ℕ → Type 0 = λ n. IsSystemNamed custom n d (system_of s) in subst P (sym firsts) (named_so custom d s (head s) are.0));
@@ -118,10 +118,10 @@ parted custom names (s ∷ systems) d (suc j) first other are named head apart i
     firsts = is ∙ ap (λ (ns : List (List ℕ)). get_or ns 0 first) named
 
 -- each has as many digits as a track may have
-pub digits_at : (custom : Custom) (way : Direction) (systems : List TrackSystem) (i : ℕ) (s : TrackSystem) → i < length systems → s ≡ get_or systems i s → AreNamed custom way (named_in systems) → IsDigitCount (system_of s).digits
-digits_at custom way [] i s within is are = absurd (omega (arith, within))
-digits_at custom way (x ∷ systems) zero s within is are = named_digits custom s.name way (system_of s) (subst (λ (t : TrackSystem). IsSystemNamed custom t.name way (system_of t)) (sym is) are.0)
-digits_at custom way (x ∷ systems) (suc i) s within is are = digits_at custom way systems i s (omega (arith, within)) is are.1
+pub digits_at : (custom : Custom) (direction : Direction) (systems : List TrackSystem) (i : ℕ) (s : TrackSystem) → i < length systems → s ≡ get_or systems i s → AreNamed custom direction (named_in systems) → IsDigitCount (system_of s).digits
+digits_at custom direction [] i s within is are = absurd (omega (arith, within))
+digits_at custom direction (x ∷ systems) zero s within is are = named_digits custom s.name direction (system_of s) (subst (λ (t : TrackSystem). IsSystemNamed custom t.name direction (system_of t)) (sym is) are.0)
+digits_at custom direction (x ∷ systems) (suc i) s within is are = digits_at custom direction systems i s (omega (arith, within)) is are.1
 
 -- one track more
 pub tracks_push : (systems : List TrackSystem) (s : TrackSystem) → header_tracks (named_in (systems ++ s ∷ [])) ≡ header_tracks (named_in systems) ++ (record { name = s.name; digits = (system_of s).digits }) ∷ []
@@ -142,9 +142,9 @@ pub names_more : (users : List libraries.NamedSystem) (names : List (List ℕ)) 
     → more ≡ systems ++ (record { name = copy; meaning = meaning }) ∷ [] → AreNamesOf users (take (i + 1) names) more
 names_more users names i name copy meaning systems more within is same are means more_is =
     let s : TrackSystem = record { name = copy; meaning = meaning } in
-    let front : take (i + 1) names ≡ take i names ++ name ∷ [] = take_more names i name within ∙ ap (λ (n : List ℕ). take i names ++ n ∷ []) (sym is) in
+    let prefix : take (i + 1) names ≡ take i names ++ name ∷ [] = take_more names i name within ∙ ap (λ (n : List ℕ). take i names ++ n ∷ []) (sym is) in
     let named : AreNamesOf users (take (i + 1) names) (systems ++ s ∷ []) = record {
-      names_are = front ∙ ((λ j. are.names_are j ++ sym same j ∷ []) ∙ sym (names_push systems s));
+      names_are = prefix ∙ ((λ j. are.names_are j ++ sym same j ∷ []) ∙ sym (names_push systems s));
       are = are_push users systems s are.are (subst (λ (n : List ℕ). IsNameOf users n meaning) (sym same) means);
     } in
     subst (AreNamesOf users (take (i + 1) names)) (sym more_is) named

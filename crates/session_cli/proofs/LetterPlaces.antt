@@ -45,7 +45,7 @@ module _ (rules : Rules) (word : WordValue) (s : Name) (k : ℕ) (t : Setting) (
   positive : 0 < k
   positive = omega (arith, mapped.length_is.allowed.0)
 
-  -- the relation of a letter holds where the letter stands
+  -- the relation of a letter holds where the letter is
   holds_standing : (b : ℤ) (n : ℕ) (r : RelationValue) → IsLetterRelation t s k b r → RelationHolds r (n ∷ []) → StandsAt rules word k n b
   holds_standing b n r rel holds =
       by (image_reached (meanings_of (library_in t)) s k b (λ name. n) positive ((rel.holds n).0 holds))
@@ -73,7 +73,7 @@ module _ (rules : Rules) (word : WordValue) (s : Name) (k : ℕ) (t : Setting) (
       there : (u : WordValue) × (word_named (library_in t).words (word_name h.r) ≡ Some u) × IsRecoded rules word h.r u
       there = found rules word k (library_in t).words h.r few library.words h.small
 
-  -- the combined letter stands at the place, or no letter of the parts does
+  -- the combined letter is at the place, or no letter of the parts does
   combined_standing : (parts : List PartValue) (n : ℕ) (c : ℤ) → AreLetterParts t s k parts → IsCombined parts (n ∷ []) c → StandsAt rules word k n c ⊎ ((b : ℤ) → Contains (values_of parts) b → ¬ StandsAt rules word k n b)
   combined_standing [] n c are combined = inr (λ b at. absurd (omega (arith, at.1)))
   combined_standing (part ∷ parts) n c are (inl (holds, same)) = inl (subst (StandsAt rules word k n) (sym same) (holds_standing part.value n part.relation are.0 holds))
@@ -121,7 +121,7 @@ parts_over t s k system is (part ∷ parts) are zero inside = are.0.systems ∙ 
 parts_over t s k system is (part ∷ parts) are (suc i) inside = parts_over t s k system is parts are.1 i (omega (arith, inside))
 
 same_tracks : (ss ts : List SystemValue) → ss ≡ ts → HaveSameTracks ss ts
-same_tracks ss ts same = subst (HaveSameTracks ss) same (record { count = refl; each = λ track inside. record { digits = refl; way = refl; language = λ w over. refl } })
+same_tracks ss ts same = subst (HaveSameTracks ss) same (record { count = refl; each = λ track inside. record { digits = refl; direction = refl; language = λ w over. refl } })
 
 -- so their shape is one
 pub no_shape_fault : (t : Setting) (s : Name) (k : ℕ) (system : SystemValue) (parts : List PartValue) (i j : ℕ) → (library_in t).systems ≡ record { name = s; system = system } ∷ [] → AreLetterParts t s k parts → ¬ IsShapeFault parts i j

@@ -18,7 +18,7 @@ use Rattle.formula_build.specs.KnownNames.{AreKnownIn}
 use Rattle.formula_build.specs.Libraries.{IsSystemIn, LibraryValue, meanings_of}
 use Rattle.formula_build.specs.Resolved.{plan_headers}
 use Rattle.formula_build.specs.ResolvedViews.{IsPlanned, formula_of, headers_in, library_of}
-use Rattle.formula_build.specs.Solutions.{IsSolution, way_named}
+use Rattle.formula_build.specs.Solutions.{IsSolution, direction_named}
 use Rattle.formula_build.specs.TrackSystems.{Fits}
 use Rattle.formula_build.specs.VariableTracks.{AreSystemsOf, IsOverVariables}
 use Rattle.formula_build.specs.declared.names.Names.{Names}
@@ -55,7 +55,7 @@ IsFound (resolve_faults.Direction s t) = ⊤
 IsFound resolve_faults.Memory = ⊥
 
 module _ (t : Setting) (s : Name) (k : ℕ) (b : ℤ) (usable : IsUsable t s k) where
-  -- a formula of a letter is refused for want of memory alone
+  -- a formula of a letter is refused only because memory ran out
   pub refused_for_memory : (X : Type 0) (h : Headers) (f : Formula) (fault : ResolveFault) → h ≡ t.names.headers → f ≡ image_formula s k b → Tells {X = X} (fault_of h f) (Err fault) → fault ≡ resolve_faults.Memory
   refused_for_memory X h f fault headers is told =
       only_memory X fault (subst (λ o. Tells {X = X} o (Err fault)) ((λ i. fault_of ((headers ∙ usable.setting.headers) i) (is i)) ∙ no_fault s k b usable.few usable.some) told)
@@ -71,10 +71,10 @@ module _ (t : Setting) (s : Name) (k : ℕ) (b : ℤ) (usable : IsUsable t s k) 
     headers_same : headers_in r ≡ image_headers s k
     headers_same = ap (λ (n : Names). n.headers) names ∙ usable.setting.headers
 
-    pub fits_here : Fits (library_of r t.words) (plan_headers (headers_in r)) way_named
+    pub fits_here : Fits (library_of r t.words) (plan_headers (headers_in r)) direction_named
     fits_here =
-        subst (λ (h : Headers). Fits (library_of r t.words) (plan_headers h) way_named) (sym headers_same)
-        (subst (λ (l : LibraryValue). Fits l (plan_headers (image_headers s k)) way_named) (sym library_same) (fits usable.rules usable.word s k (library_in t) usable.setting.library usable.few usable.system usable.systems usable.way))
+        subst (λ (h : Headers). Fits (library_of r t.words) (plan_headers h) direction_named) (sym headers_same)
+        (subst (λ (l : LibraryValue). Fits l (plan_headers (image_headers s k)) direction_named) (sym library_same) (fits usable.rules usable.word s k (library_in t) usable.setting.library usable.few usable.system usable.systems usable.direction))
 
     pub known_here : AreKnownIn (library_of r t.words) (formula_of r)
     known_here =

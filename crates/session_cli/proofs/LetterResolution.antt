@@ -16,7 +16,7 @@ use Rattle.formula_parse.specs.Trees.{no_names, names, no_terms, terms, variable
 use Rattle.formula_plan.specs.Linear.{AreLinearOperands, IsLinearFormula}
 use Rattle.formula_resolve.specs.Arity.{first_misuse, miscount, misuse}
 use Rattle.formula_resolve.specs.Clashes.{clash_after, clash_with, first_clash, first_system, is_same_binding}
-use Rattle.formula_resolve.specs.Directions.{first_met, is_lsd, is_other_way, least, lesser, other_met, part_of, parts_among, turn_among_parts, turn_between, turn_in, turn_in_operands, turned}
+use Rattle.formula_resolve.specs.Directions.{first_met, is_lsd, is_other_direction, least, lesser, other_met, part_of, parts_among, conflict_among_parts, conflict_between, conflict_in, conflict_in_operands, opposed}
 use Rattle.formula_resolve.specs.FreeVariables.{free_variables, variable_of}
 use Rattle.formula_resolve.specs.Headers.{Headers, word_tracks}
 use Rattle.formula_resolve.specs.Mentions.{mentions, mentions_among}
@@ -58,23 +58,23 @@ module _ (s : Name) where
   no_clash_with None p first here = refl
   no_clash_with (Some t) p first here = ap (λ b. if b then None else Some (Clash p.name t p.system)) ((bytes_eq-Decides t p.system).1 (first ∙ sym here))
 
-  no_clash : (front os : List Occurrence) → AllByRecursion IsHere front → AllByRecursion IsHere os → clash_after front os ≡ None
-  no_clash front [] before all = refl
-  no_clash front (o ∷ os) before all =
-      ap (λ x. option_or x (clash_after (front ++ o ∷ []) os)) (no_clash_with (first_system front o) o (first_here front o before) all.0) ∙ no_clash (front ++ o ∷ []) os (all_append IsHere front (o ∷ []) before (all.0, tt)) all.1
+  no_clash : (prefix os : List Occurrence) → AllByRecursion IsHere prefix → AllByRecursion IsHere os → clash_after prefix os ≡ None
+  no_clash prefix [] before all = refl
+  no_clash prefix (o ∷ os) before all =
+      ap (λ x. option_or x (clash_after (prefix ++ o ∷ []) os)) (no_clash_with (first_system prefix o) o (first_here prefix o before) all.0) ∙ no_clash (prefix ++ o ∷ []) os (all_append IsHere prefix (o ∷ []) before (all.0, tt)) all.1
 
   -- and none turns
-  same_way : (x : Bool) → not (beq x x) ≡ false
-  same_way true = refl
-  same_way false = refl
+  same_direction : (x : Bool) → not (beq x x) ≡ false
+  same_direction true = refl
+  same_direction false = refl
 
-  none_turned : (os : List Occurrence) → AllByRecursion IsHere os → turned s os ≡ []
-  none_turned [] all = refl
-  none_turned (o ∷ os) all = ap (λ b. if b then o ∷ turned s os else turned s os) (ap (is_other_way s) all.0 ∙ same_way (is_lsd s)) ∙ none_turned os all.1
+  none_opposed : (os : List Occurrence) → AllByRecursion IsHere os → opposed s os ≡ []
+  none_opposed [] all = refl
+  none_opposed (o ∷ os) all = ap (λ b. if b then o ∷ opposed s os else opposed s os) (ap (is_other_direction s) all.0 ∙ same_direction (is_lsd s)) ∙ none_opposed os all.1
 
-  none_met : (parts : List (List Occurrence)) → AllByRecursion (AllByRecursion IsHere) parts → first_met (map (turned s) parts) ≡ None
+  none_met : (parts : List (List Occurrence)) → AllByRecursion (AllByRecursion IsHere) parts → first_met (map (opposed s) parts) ≡ None
   none_met [] all = refl
-  none_met (os ∷ parts) all = ap (λ (xs : List Occurrence). option_or (option_map (λ o. o.system) (least xs)) (first_met (map (turned s) parts))) (none_turned os all.0) ∙ none_met parts all.1
+  none_met (os ∷ parts) all = ap (λ (xs : List Occurrence). option_or (option_map (λ o. o.system) (least xs)) (first_met (map (opposed s) parts))) (none_opposed os all.0) ∙ none_met parts all.1
 
   lesser_here : (o : Option Occurrence) (p : Occurrence) → MatchOption o ⊤ IsHere → IsHere p → MatchOption (lesser o p) ⊤ IsHere
   lesser_here None p first here = here
@@ -96,12 +96,12 @@ module _ (s : Name) where
       by None first rest = rest
       by (Some o) first rest = first
 
-  no_turn : (parts : List (List Occurrence)) → AllByRecursion (AllByRecursion IsHere) parts → turn_among_parts parts ≡ None
-  no_turn parts all = by (first_met parts) (met_here parts all)
+  no_conflict : (parts : List (List Occurrence)) → AllByRecursion (AllByRecursion IsHere) parts → conflict_among_parts parts ≡ None
+  no_conflict parts all = by (first_met parts) (met_here parts all)
     where
-      by : (o : Option Name) → MatchOption o ⊤ (λ t. t ≡ s) → turn_between o (other_met o parts) ≡ None
+      by : (o : Option Name) → MatchOption o ⊤ (λ t. t ≡ s) → conflict_between o (other_met o parts) ≡ None
       by None met = refl
-      by (Some t) met = ap (λ x. turn_between (Some t) (first_met (map (turned x) parts))) met ∙ ap (turn_between (Some t)) (none_met parts all)
+      by (Some t) met = ap (λ x. conflict_between (Some t) (first_met (map (opposed x) parts))) met ∙ ap (conflict_between (Some t)) (none_met parts all)
 
 module _ (s : Name) (k : ℕ) (letter : ℤ) (few : k ≤ 40) where
   abbrev h : Headers
@@ -158,14 +158,14 @@ module _ (s : Name) (k : ℕ) (letter : ℤ) (few : k ≤ 40) where
   right_all some = right_both (mentions_among (places_before s k letter (k - 1))) (mentions (at_place s k letter (k - 1))) (right_places (k - 1) (omega arith)) (right_place (k - 1) (omega (arith, some)))
 
   -- no two directions meet
-  straight_place : (m r : ℕ) → r < k → turn_in h unbound m (at_place s k letter r) ≡ None
-  straight_place m r less = no_turn s (part_of h (inside m) (m + 1) (is_place s k r) ∷ part_of h (inside m) (m + 1) (has_letter s r letter) ∷ [])
+  straight_place : (m r : ℕ) → r < k → conflict_in h unbound m (at_place s k letter r) ≡ None
+  straight_place m r less = no_conflict s (part_of h (inside m) (m + 1) (is_place s k r) ∷ part_of h (inside m) (m + 1) (has_letter s r letter) ∷ [])
       (all_filtered s (λ o. nat_lt o.binder (m + 1)) (occurrences h (inside m) (m + 1) (is_place s k r)).list (fact_here m r), (all_filtered s (λ o. nat_lt o.binder (m + 1)) (occurrences h (inside m) (m + 1) (has_letter s r letter)).list (letter_here m r less), tt))
 
-  straight_places : (n : ℕ) → n ≤ k → turn_in_operands h unbound 1 (places_before s k letter n) ≡ None
+  straight_places : (n : ℕ) → n ≤ k → conflict_in_operands h unbound 1 (places_before s k letter n) ≡ None
   straight_places zero within = refl
   straight_places (suc n) within =
-      ap (λ o. option_or o (turn_in h unbound (occurrences_among h unbound 1 (places_before s k letter n)).next (at_place s k letter n))) (straight_places n (omega (arith, within)))
+      ap (λ o. option_or o (conflict_in h unbound (occurrences_among h unbound 1 (places_before s k letter n)).next (at_place s k letter n))) (straight_places n (omega (arith, within)))
       ∙ straight_place (occurrences_among h unbound 1 (places_before s k letter n)).next n (omega (arith, within))
 
   parts_here : (n : ℕ) → n ≤ k → AllByRecursion (AllByRecursion Here) (parts_among h unbound 1 (places_before s k letter n))
@@ -175,21 +175,21 @@ module _ (s : Name) (k : ℕ) (letter : ℤ) (few : k ≤ 40) where
       all_append (AllByRecursion Here) (parts_among h unbound 1 (places_before s k letter n)) (part_of h unbound m (at_place s k letter n) ∷ []) (parts_here n (omega (arith, within)))
       (all_filtered s (λ o. nat_lt o.binder m) (occurrences h unbound m (at_place s k letter n)).list (place_here m n (omega (arith, within))), tt)
 
-  straight_all : 0 < k → turn_in h unbound 1 (image_formula s k letter) ≡ None
+  straight_all : 0 < k → conflict_in h unbound 1 (image_formula s k letter) ≡ None
   straight_all some =
       let n : ℕ = k - 1 in
       let m = (occurrences_among h unbound 1 (places_before s k letter n)).next in
       let parts = parts_among h unbound 1 (places_before s k letter n) ++ part_of h unbound m (at_place s k letter n) ∷ [] in
-      ap (λ o. option_or (option_or o (turn_in h unbound m (at_place s k letter n))) (turn_among_parts parts)) (straight_places n (omega arith))
-      ∙ ap (λ o. option_or o (turn_among_parts parts)) (straight_place m n (omega (arith, some)))
-      ∙ no_turn s parts (all_append (AllByRecursion Here) (parts_among h unbound 1 (places_before s k letter n)) (part_of h unbound m (at_place s k letter n) ∷ []) (parts_here n (omega arith))
+      ap (λ o. option_or (option_or o (conflict_in h unbound m (at_place s k letter n))) (conflict_among_parts parts)) (straight_places n (omega arith))
+      ∙ ap (λ o. option_or o (conflict_among_parts parts)) (straight_place m n (omega (arith, some)))
+      ∙ no_conflict s parts (all_append (AllByRecursion Here) (parts_among h unbound 1 (places_before s k letter n)) (part_of h unbound m (at_place s k letter n) ∷ []) (parts_here n (omega arith))
       (all_filtered s (λ o. nat_lt o.binder m) (occurrences h unbound m (at_place s k letter n)).list (place_here m n (omega (arith, some))), tt))
 
   -- so it has no fault
   pub no_fault : 0 < k → fault_of h (image_formula s k letter) ≡ None
   no_fault some =
-      ap (λ o. option_or o (option_or (first_clash (all_occurrences h (image_formula s k letter))) (option_map direction_fault (turn_in h unbound 1 (image_formula s k letter))))) (right_all some)
-      ∙ ap (λ o. option_or o (option_map direction_fault (turn_in h unbound 1 (image_formula s k letter)))) (no_clash s [] (all_occurrences h (image_formula s k letter)) tt (all_here some))
+      ap (λ o. option_or o (option_or (first_clash (all_occurrences h (image_formula s k letter))) (option_map direction_fault (conflict_in h unbound 1 (image_formula s k letter))))) (right_all some)
+      ∙ ap (λ o. option_or o (option_map direction_fault (conflict_in h unbound 1 (image_formula s k letter)))) (no_clash s [] (all_occurrences h (image_formula s k letter)) tt (all_here some))
       ∙ ap (option_map direction_fault) (straight_all some)
 
   -- products have one unknown, and variables begin with letters
@@ -273,18 +273,18 @@ module _ (s : Name) (k : ℕ) (letter : ℤ) (few : k ≤ 40) where
   -- the one free variable
   pub one_variable : 0 < k → free_variables (all_occurrences h (image_formula s k letter)) ≡ record { name = place_variable; system = s } ∷ []
   one_variable some =
-      ap (λ (es : List (Name × Name)). map variable_of es) (one_kept (pairs_of (all_occurrences h (image_formula s k letter))) long (subst (AllByRecursion IsFree) (sym whole) (all_append IsFree front ((place_variable, s) ∷ []) (free_places n (omega arith)) (refl, tt))))
+      ap (λ (es : List (Name × Name)). map variable_of es) (one_kept (pairs_of (all_occurrences h (image_formula s k letter))) long (subst (AllByRecursion IsFree) (sym whole) (all_append IsFree prefix ((place_variable, s) ∷ []) (free_places n (omega arith)) (refl, tt))))
     where
       n : ℕ
       n = k - 1
 
-      front : List (Name × Name)
-      front = pairs_of (occurrences_among h unbound 1 (places_before s k letter n)).list
+      prefix : List (Name × Name)
+      prefix = pairs_of (occurrences_among h unbound 1 (places_before s k letter n)).list
 
-      whole : pairs_of (all_occurrences h (image_formula s k letter)) ≡ front ++ (place_variable, s) ∷ []
+      whole : pairs_of (all_occurrences h (image_formula s k letter)) ≡ prefix ++ (place_variable, s) ∷ []
       whole =
           let m = (occurrences_among h unbound 1 (places_before s k letter n)).next in
-          pairs_append (occurrences_among h unbound 1 (places_before s k letter n)).list (occurrences h unbound m (at_place s k letter n)).list ∙ ap (λ (xs : List (Name × Name)). front ++ xs) (free_place m n (some_next n) (omega (arith, some)))
+          pairs_append (occurrences_among h unbound 1 (places_before s k letter n)).list (occurrences h unbound m (at_place s k letter n)).list ∙ ap (λ (xs : List (Name × Name)). prefix ++ xs) (free_place m n (some_next n) (omega (arith, some)))
 
       long : 0 < length (pairs_of (all_occurrences h (image_formula s k letter)))
-      long = omega (arith, ap (λ (es : List (Name × Name)). length es) whole, length-append front ((place_variable, s) ∷ []))
+      long = omega (arith, ap (λ (es : List (Name × Name)). length es) whole, length-append prefix ((place_variable, s) ∷ []))

@@ -1,6 +1,6 @@
 -- Lemmas, in reading order.
 pub mod StepLines
-pub mod SpellingSends
+pub mod RepresentationSends
 pub mod CheckSteps
 pub mod WordSteps
 pub mod StoreReads

@@ -25,7 +25,7 @@ at_place ss (p ∷ parts) zero all within = all.0
 at_place ss (p ∷ parts) (suc place) all within = at_place ss parts place all.1 (omega (arith, within))
 
 same_tracks : (ss : List SystemValue) → HaveSameTracks ss ss
-same_tracks ss = record { count = refl; each = λ track within. record { digits = refl; way = refl; language = λ w over. refl } }
+same_tracks ss = record { count = refl; each = λ track within. record { digits = refl; direction = refl; language = λ w over. refl } }
 
 -- relations over the same systems have one shape
 shaped : (ss : List SystemValue) (parts : List PartValue) → 0 < length ss → AreAllOver ss parts → shapes.HaveOneShape parts

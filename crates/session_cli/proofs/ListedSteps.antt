@@ -32,11 +32,11 @@ uncombined admitted custom tables automata (step_faults.States step) refused = r
 uncombined admitted custom tables automata step_faults.Memory refused = tt
 
 -- one that reads a table does, or memory runs out there
-pub unread_list : (admitted : StepLog) (custom : Custom) (tables : List Loaded) (automata : List ValuedName) → ((name : List ℕ) (spelling : List (List ℕ)) → IsUnread admitted custom tables (Gap name spelling) → ⊥) → (fault : ReadFault) → IsUnread admitted custom tables fault
+pub unread_list : (admitted : StepLog) (custom : Custom) (tables : List Loaded) (automata : List ValuedName) → ((name : List ℕ) (representation : List (List ℕ)) → IsUnread admitted custom tables (Gap name representation) → ⊥) → (fault : ReadFault) → IsUnread admitted custom tables fault
     → Fails (Pure (CombinedAnswers admitted custom tables automata)) (fault_of_reading fault)
 unread_list admitted custom tables automata none (Step fault) (inl memory) = subst (λ (f : StepFault). Fails (Pure (CombinedAnswers admitted custom tables automata)) (fault_of f)) (sym memory) tt
 unread_list admitted custom tables automata none (Step fault) (inr stopped) = uncombined admitted custom tables automata fault (inl stopped)
-unread_list admitted custom tables automata none (Gap name spelling) missing = absurd (none name spelling missing)
+unread_list admitted custom tables automata none (Gap name representation) missing = absurd (none name representation missing)
 
 module _ (admitted : StepLog) (read : ListedAutomata) (systems : List NamedSystem) (sealed : AreSealed systems) (reads : List TableRead) (reading : StepLog) (made : AreTablesRead systems admitted read.tables.items reads reading)
     (parts : List PartValue) (are : ArePartsFrom (relations_in reads) 0 (automata_of read) parts) (some : automata_of read ≢ []) where

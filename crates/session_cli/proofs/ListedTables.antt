@@ -1,4 +1,4 @@
--- What is known of listed automata whose files are loaded: their tables can be read, a relation stands under each name, and it is over the
+-- What is known of listed automata whose files are loaded: their tables can be read, a relation is under each name, and it is over the
 -- systems of its header.
 use Rattle.std.proofs.Common.{◌≡◌, ℕ, suc, ◌<◌, Bool, true, false, if◌then◌else◌, List, [], ◌∷◌, length, get_or, None, Some, inl, inr, refl, ◌∙◌, subst, arith, bytes_eq}
 use Rattle.std.specs.List.{AllByRecursion, flat_map}
@@ -18,7 +18,7 @@ use Rattle.formula_resolve.proofs.FirstLemmas.{first_once}
 use Rattle.formula_build.specs.KnownNames.{IsFileIn}
 use Rattle.formula_build.specs.Libraries.{NamedRelation, NamedSystem, AreSealed, AreRelations, relation_named, system_named}
 use Rattle.formula_build.specs.Resolved.{plan_headers}
-use Rattle.formula_build.specs.Solutions.{way_named}
+use Rattle.formula_build.specs.Solutions.{direction_named}
 use Rattle.formula_build.specs.TrackSystems.{IsOverSystems, Fits}
 use Rattle.formula_build.proofs.ReadFormulas.{same_file}
 use Rattle.num_system.specs.Sealed.{SystemValue}
@@ -59,12 +59,12 @@ are_automata [] = tt
 are_automata (v ∷ automata) = (tt, are_automata automata)
 
 -- no letter is missing in automata
-no_gap : (systems : List NamedSystem) (old : StepLog) (tables : List Loaded) (name : List ℕ) (spelling : List (List ℕ)) → AllByRecursion (λ (t : Loaded). IsAutomaton t.file) tables → IsReadingGap systems old tables name spelling → ⊥
-no_gap systems old [] name spelling all gap = gap
-no_gap systems old (table ∷ tables) name spelling all (inl gap) = subst IsAutomaton gap.file_is all.0
-no_gap systems old (table ∷ tables) name spelling all (inr (r, mid, first, rest)) = no_gap systems mid tables name spelling all.1 rest
+no_gap : (systems : List NamedSystem) (old : StepLog) (tables : List Loaded) (name : List ℕ) (representation : List (List ℕ)) → AllByRecursion (λ (t : Loaded). IsAutomaton t.file) tables → IsReadingGap systems old tables name representation → ⊥
+no_gap systems old [] name representation all gap = gap
+no_gap systems old (table ∷ tables) name representation all (inl gap) = subst IsAutomaton gap.file_is all.0
+no_gap systems old (table ∷ tables) name representation all (inr (r, mid, first, rest)) = no_gap systems mid tables name representation all.1 rest
 
--- a relation stands under each listed name, where something stands for each file
+-- a relation is under each listed name, where something stands for each file
 named_relations : (systems : List NamedSystem) (reads : List TableRead) (automata : List ValuedName) → AllByRecursion (IsFileIn (library_with reads systems)) (flat_map mentioned_files (listed_mentions automata)) → HasRelations (relations_in reads) automata
 named_relations systems reads [] all = tt
 named_relations systems reads (v ∷ automata) all = (all.0, named_relations systems reads automata all.1)
@@ -77,7 +77,7 @@ found_relation (x ∷ relations) name r are found = by (bytes_eq x.name name) (�
     by true rest is = let same : x.relation ≡ r = cc in subst IsRelation same are.0
     by false rest is = rest is
 
--- from what stands under each of some names, by its place
+-- from what is under each of some names, by its place
 pub under_names : (systems : List NamedSystem) (names : List Name) (found : List SystemValue) → length found ≡ length names → ((i : ℕ) → i < length names → system_named systems (get_or names i []) ≡ Some (get_or found i absent_system)) → AreUnder systems names found
 under_names systems [] [] count each = tt
 under_names systems [] (s ∷ found) count each = absurd (omega (arith, count))
@@ -85,8 +85,8 @@ under_names systems (name ∷ names) [] count each = absurd (omega (arith, count
 under_names systems (name ∷ names) (s ∷ found) count each = (each 0 (omega arith), under_names systems names found (omega (arith, count)) (λ i within. each (suc i) (omega (arith, within))))
 
 module _ (automata : List ValuedName) (tables : List Loaded) (files : Files) (listed : AreListedBy files (listed_files automata) tables) where
-  pub listed_no_gap : (systems : List NamedSystem) (old : StepLog) (name : List ℕ) (spelling : List (List ℕ)) → IsReadingGap systems old tables name spelling → ⊥
-  listed_no_gap systems old name spelling gap = no_gap systems old tables name spelling (tables_all IsAutomaton files (listed_files automata) tables listed (files_all IsAutomaton (listed_mentions automata) (are_automata automata))) gap
+  pub listed_no_gap : (systems : List NamedSystem) (old : StepLog) (name : List ℕ) (representation : List (List ℕ)) → IsReadingGap systems old tables name representation → ⊥
+  listed_no_gap systems old name representation gap = no_gap systems old tables name representation (tables_all IsAutomaton files (listed_files automata) tables listed (files_all IsAutomaton (listed_mentions automata) (are_automata automata))) gap
 
   module _ (systems : List NamedSystem) (sealed : AreSealed systems) (custom : Custom) (meant : AreMeant custom systems) (plain : first_plain (headers_of tables) (listed_names automata) ≡ None) (has : HasSystems (listed_systems tables automata) systems) where
     -- the tables can be read
@@ -99,7 +99,7 @@ module _ (automata : List ValuedName) (tables : List Loaded) (files : Files) (li
           named_relations systems reads automata
           (once_each is_same_file same_file (IsFileIn (library_with reads systems)) [] (flat_map mentioned_files (listed_mentions automata)) (files_known systems files (listed_files automata) tables reads old new listed made)).1
 
-      fits : Fits (library_with reads systems) (plan_headers (headers_of tables)) way_named
+      fits : Fits (library_with reads systems) (plan_headers (headers_of tables)) direction_named
       fits = tables_fit table_holds systems sealed custom tables reads old new meant (files_apart files (listed_files automata) tables (first_once (listed_mentions automata)) listed) listed_readable made
 
       -- the relation of a name is over the systems of its header

@@ -42,7 +42,7 @@ unexpanded ledger files body (faults.Clash of one two) stores is = absurd is
 unexpanded ledger files body (faults.Direction one two) stores is = absurd is
 unexpanded ledger files body (faults.Letters step) stores is = absurd is
 unexpanded ledger files body (faults.States step) stores is = absurd is
-unexpanded ledger files body (faults.WordGap of spelling) stores is = absurd is
+unexpanded ledger files body (faults.WordGap of representation) stores is = absurd is
 unexpanded ledger files body (faults.Plain of) stores is = absurd is
 unexpanded ledger files body (faults.Morphism kind) stores is = absurd is
 unexpanded ledger files body (faults.LetterMissing letter) stores is = absurd is
@@ -79,7 +79,7 @@ same_others files others Transducers name other = refl
 same_others files others Results name other = refl
 same_others files others Commands name other = refl
 
--- files that are the store's where it tells them, with the macros of one and all else of the other
+-- files that are the store's where it reports them, with the macros of one and all else of the other
 record AreJoined (told : Option Files) (one two : Files) : Type 0 where
   found : Files
   told_so : IfSome told (λ (files : Files). found ≡ files)

@@ -4,11 +4,11 @@ use Rattle.std.specs.Prelude.{slice_index_or}
 use Rattle.digit_tuple.specs.Steps.{StepLog}
 use Rattle.digit_tuple.specs.declared.step_fault.StepFault.{StepFault}
 use Rattle.num_system.specs.Sealed.{SystemValue}
-use Rattle.num_system.specs.Tracks.{absent_system, way_of}
+use Rattle.num_system.specs.Tracks.{absent_system, direction_of}
 use Rattle.morph_words.specs.Rules.{Rules}
 use Rattle.word_output.specs.Words.{IsWordValue, WordValue}
 use Rattle.formula_parse.specs.Tokens.{Name}
-use Rattle.formula_build.specs.Solutions.{way_named}
+use Rattle.formula_build.specs.Solutions.{direction_named}
 use Rattle.combinations.specs.CombineSteps.{IsCombineDone, IsCombineRefused, IsCombineStepRefused}
 use Rattle.combinations.specs.Parts.{PartValue}
 use Rattle.combinations.specs.declared.combine_fault.CombineFault.{CombineFault}
@@ -31,14 +31,14 @@ module _ (rules : Rules) (word : WordValue) (s : Name) (k : ℕ) (t : Setting) (
   system = slice_index_or word.systems 0 absent_system
 
   -- the setting serves the formulas of letters
-  pub usable : way_of word.systems ≡ way_named s → IsUsable t s k
-  usable way = record {
+  pub usable : direction_of word.systems ≡ direction_named s → IsUsable t s k
+  usable direction = record {
     rules = rules;
     word = word;
     setting = setting;
     system = system;
     systems = one_track word.systems track;
-    way = sym (ap way_of (one_track word.systems track)) ∙ way;
+    direction = sym (ap direction_of (one_track word.systems track)) ∙ direction;
     some = mapped.length_is.allowed.0;
     few = mapped.length_is.allowed.1;
   }

@@ -12,7 +12,7 @@ use Rattle.formula_parse.specs.Tokens.{Name}
 use Rattle.formula_parse.specs.Trees as trees
 use Rattle.formula_resolve.specs.Arity.{misuse, miscount, first_misuse}
 use Rattle.formula_resolve.specs.Clashes.{first_clash}
-use Rattle.formula_resolve.specs.Directions.{first_turn}
+use Rattle.formula_resolve.specs.Directions.{first_conflict}
 use Rattle.formula_resolve.specs.FirstMentions.{has, with_new, is_same_file, mentioned_files, first_files, mentioned_systems, first_systems, IsOnce}
 use Rattle.formula_resolve.specs.Headers.{Headers, automaton_tracks, word_tracks, is_plain, is_over_sets}
 use Rattle.formula_resolve.specs.Mentions.{mentions}
@@ -135,7 +135,7 @@ all_not_over_sets h (table ∷ tables) listed own plain = (not_over_sets h table
 -- a formula without fault calls none that is over sets
 pub formula_not_plain : (h : Headers) (formula : trees.Formula) → fault_of h formula ≡ None → AllByRecursion (OfMention (IsNotPlain h)) (mentions formula)
 formula_not_plain h formula none =
-    calls_not_plain h (mentions formula) (no_first (first_misuse h (mentions formula)) (option_or (first_clash (all_occurrences h formula)) (option_map direction_fault (first_turn h formula))) none).0
+    calls_not_plain h (mentions formula) (no_first (first_misuse h (mentions formula)) (option_or (first_clash (all_occurrences h formula)) (option_map direction_fault (first_conflict h formula))) none).0
 
 -- where none that is called is over sets, no table is
 pub none_over_sets : FilesAreTables → (files : Files) (tables : List Loaded) (ms : List Mention) → IsOnce (first_files ms) → AreListedBy files (first_files ms) tables → AllByRecursion (OfMention (IsNotPlain (headers_of tables))) ms → AllByRecursion IsNotOverSets tables

@@ -5,7 +5,7 @@ use Rattle.digit_tuple.specs.Systems.{digit_sets}
 use Rattle.digit_tuple.specs.declared.systems.SystemTrack.{SystemTrack}
 use Rattle.num_system.specs.Sealed.{SystemValue}
 use Rattle.num_system.specs.Tracks.{systems_of}
-use Rattle.numeration.specs.Spelling as spelling
+use Rattle.numeration.specs.Representation as representation
 use Rattle.digit_tuple.proofs.SystemLemmas.{length-digit_set}
 use Rattle.session_cli.specs.WordPrinting.{tracks_named}
 
@@ -21,7 +21,7 @@ named_more (x ∷ names) (y ∷ systems) zero name s within also name_is s_is = 
 named_more (x ∷ names) (y ∷ systems) (suc i) name s within also name_is s_is = ap (λ (ts : List SystemTrack). named_track x y ∷ ts) (named_more names systems i name s (omega (arith, within)) (omega (arith, also)) name_is s_is)
 
 -- the tracks have as many letters as the systems have digits
-pub sizes_named : (names : List (List ℕ)) (systems : List SystemValue) → length names ≡ length systems → sizes_of (digit_sets (tracks_named names systems)) ≡ spelling.sizes_of (systems_of systems)
+pub sizes_named : (names : List (List ℕ)) (systems : List SystemValue) → length names ≡ length systems → sizes_of (digit_sets (tracks_named names systems)) ≡ representation.sizes_of (systems_of systems)
 sizes_named [] [] count = refl
 sizes_named [] (s ∷ systems) count = absurd (omega (arith, count))
 sizes_named (name ∷ names) [] count = absurd (omega (arith, count))

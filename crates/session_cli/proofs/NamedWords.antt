@@ -1,4 +1,4 @@
--- What stands under the names of the formulas of letters.
+-- What is under the names of the formulas of letters.
 use Rattle.std.proofs.Common.{◌≡◌, ℕ, zero, suc, ◌+◌, ◌-◌, ◌<◌, ◌≤◌, Bool, true, false, cond, if◌then◌else◌, List, [], ◌∷◌, length, get_or, ℤ, Option, None, Some, ◌⊎◌, inl, inr, refl, sym, ap, ◌∙◌, subst, arith}
 use Rattle.std.specs.Option.{option_or}
 use Rattle.std.specs.Ordering.{nat_cmp, is_eq, eq_by_cmp}
@@ -21,8 +21,8 @@ use Rattle.formula_parse.specs.Tokens.{Name}
 use Rattle.formula_resolve.specs.Headers.{Headers, automaton_tracks, known, known_systems, with_word, word_tracks}
 use Rattle.formula_build.specs.KnownNames.{AreKnownIn, AreKnownAmong}
 use Rattle.formula_build.specs.Libraries.{IsSystemIn, LibraryValue, NamedRelation, NamedSystem, NamedWord, relation_named, system_named, with_word as with_named, word_named}
-use Rattle.formula_build.specs.Resolved.{AreWays, HaveOneWay, plan_headers}
-use Rattle.formula_build.specs.Solutions.{way_named}
+use Rattle.formula_build.specs.Resolved.{AreDirections, ShareDirection, plan_headers}
+use Rattle.formula_build.specs.Solutions.{direction_named}
 use Rattle.formula_build.specs.TrackSystems.{Fits, IsWordOverSystems}
 use Rattle.word_images.specs.ImageFormula.{at_place, image_formula, places_before, word_name}
 use Rattle.word_images.specs.Recoded.{IsRecoded}
@@ -60,23 +60,23 @@ module _ (rules : Rules) (word : WordValue) where
   -- a name that is that of no place stands for no word
   absent : (n : ℕ) (ws : List NamedWord) (name : Name) → AreRecoded rules word n ws → ((r : ℕ) → r < n → ¬ (word_name r ≡ name)) → word_named ws name ≡ None
   absent zero ws name none apart = ap (λ (xs : List NamedWord). word_named xs name) none
-  absent (suc n) ws name (front, u, before, is, all) apart =
-      ap (λ (xs : List NamedWord). word_named xs name) all ∙ word_pushed front (word_name n) u name
-      ∙ ap (λ o. option_or o (if bytes_eq (word_name n) name then Some u else None)) (absent n front name before (λ r less. apart r (omega (arith, less)))) ∙ by (bytes_eq (word_name n) name) refl
+  absent (suc n) ws name (prefix, u, before, is, all) apart =
+      ap (λ (xs : List NamedWord). word_named xs name) all ∙ word_pushed prefix (word_name n) u name
+      ∙ ap (λ o. option_or o (if bytes_eq (word_name n) name then Some u else None)) (absent n prefix name before (λ r less. apart r (omega (arith, less)))) ∙ by (bytes_eq (word_name n) name) refl
     where
       by : (b : Bool) → bytes_eq (word_name n) name ≡ b → (if b then Some u else None) ≡ None
       by true same = absurd (apart n (omega arith) ((bytes_eq-Decides (word_name n) name).0 same))
       by false other = refl
 
-  -- the word of each place stands under its name
+  -- the word of each place is under its name
   pub found : (n : ℕ) (ws : List NamedWord) (r : ℕ) → n ≤ 40 → AreRecoded rules word n ws → r < n → (u : WordValue) × (word_named ws (word_name r) ≡ Some u) × IsRecoded rules word r u
   found zero ws r few none less = absurd (omega (arith, less))
-  found (suc n) ws r few (front, u, before, is, all) less = by (λ early. found n front r (omega (arith, few)) before early) (cases_lt r n)
+  found (suc n) ws r few (prefix, u, before, is, all) less = by (λ early. found n prefix r (omega (arith, few)) before early) (cases_lt r n)
     where
-      pushed : word_named ws (word_name r) ≡ option_or (word_named front (word_name r)) (if bytes_eq (word_name n) (word_name r) then Some u else None)
-      pushed = ap (λ (xs : List NamedWord). word_named xs (word_name r)) all ∙ word_pushed front (word_name n) u (word_name r)
+      pushed : word_named ws (word_name r) ≡ option_or (word_named prefix (word_name r)) (if bytes_eq (word_name n) (word_name r) then Some u else None)
+      pushed = ap (λ (xs : List NamedWord). word_named xs (word_name r)) all ∙ word_pushed prefix (word_name n) u (word_name r)
 
-      by : (r < n → (v : WordValue) × (word_named front (word_name r) ≡ Some v) × IsRecoded rules word r v) → (r < n) ⊎ (n ≤ r) → (v : WordValue) × (word_named ws (word_name r) ≡ Some v) × IsRecoded rules word r v
+      by : (r < n → (v : WordValue) × (word_named prefix (word_name r) ≡ Some v) × IsRecoded rules word r v) → (r < n) ⊎ (n ≤ r) → (v : WordValue) × (word_named ws (word_name r) ≡ Some v) × IsRecoded rules word r v
       by rest (inl early) =
           let there = rest early in
           (there.0, pushed ∙ ap (λ o. option_or o (if bytes_eq (word_name n) (word_name r) then Some u else None)) there.1, there.2)
@@ -84,7 +84,7 @@ module _ (rules : Rules) (word : WordValue) where
           let same : n ≡ r = omega (arith, less, late) in (
             u,
             pushed
-                ∙ ap (λ o. option_or o (if bytes_eq (word_name n) (word_name r) then Some u else None)) (absent n front (word_name r) before (λ q early named. omega (arith, early, same, one_place q r (omega (arith, early, few)) (omega (arith, less, few)) named)))
+                ∙ ap (λ o. option_or o (if bytes_eq (word_name n) (word_name r) then Some u else None)) (absent n prefix (word_name r) before (λ q early named. omega (arith, early, same, one_place q r (omega (arith, early, few)) (omega (arith, less, few)) named)))
                 ∙ ap (λ b. if b then Some u else None) (ap (λ m. bytes_eq (word_name n) (word_name m)) (sym same) ∙ same_name (word_name n)),
             subst (λ m. IsRecoded rules word m u) same is,
           )
@@ -92,16 +92,16 @@ module _ (rules : Rules) (word : WordValue) where
   -- and nothing else does
   pub which : (n : ℕ) (ws : List NamedWord) (name : Name) (w : WordValue) → AreRecoded rules word n ws → word_named ws name ≡ Some w → (r : ℕ) × (r < n) × (word_name r ≡ name) × IsRecoded rules word r w
   which zero ws name w none there = absurd (none-some w (sym (ap (λ (xs : List NamedWord). word_named xs name) none) ∙ there))
-  which (suc n) ws name w (front, u, before, is, all) there = by (word_named front name) refl (λ v early. which n front name v before early)
+  which (suc n) ws name w (prefix, u, before, is, all) there = by (word_named prefix name) refl (λ v early. which n prefix name v before early)
     where
-      pushed : option_or (word_named front name) (if bytes_eq (word_name n) name then Some u else None) ≡ Some w
-      pushed = sym (word_pushed front (word_name n) u name) ∙ sym (ap (λ (xs : List NamedWord). word_named xs name) all) ∙ there
+      pushed : option_or (word_named prefix name) (if bytes_eq (word_name n) name then Some u else None) ≡ Some w
+      pushed = sym (word_pushed prefix (word_name n) u name) ∙ sym (ap (λ (xs : List NamedWord). word_named xs name) all) ∙ there
 
       last : (b : Bool) → bytes_eq (word_name n) name ≡ b → (if b then Some u else None) ≡ Some w → (r : ℕ) × (r < suc n) × (word_name r ≡ name) × IsRecoded rules word r w
       last true same at = (n, omega arith, (bytes_eq-Decides (word_name n) name).0 same, subst (IsRecoded rules word n) (same_Some u w at) is)
       last false other at = absurd (none-some w at)
 
-      by : (o : Option WordValue) → word_named front name ≡ o → ((v : WordValue) → word_named front name ≡ Some v → (r : ℕ) × (r < n) × (word_name r ≡ name) × IsRecoded rules word r v)
+      by : (o : Option WordValue) → word_named prefix name ≡ o → ((v : WordValue) → word_named prefix name ≡ Some v → (r : ℕ) × (r < n) × (word_name r ≡ name) × IsRecoded rules word r v)
           → (r : ℕ) × (r < suc n) × (word_name r ≡ name) × IsRecoded rules word r w
       by (Some v) e rest = let early = rest v e in
           (early.0, omega (arith, early.1), early.2, subst (IsRecoded rules word early.0) (same_Some v w (sym (ap (λ o. option_or o (if bytes_eq (word_name n) name then Some u else None)) e) ∙ pushed)) early.3)
@@ -146,18 +146,18 @@ module _ (s : Name) where
   no_tracks zero name = ap known_systems (get-empty (slice_cmp nat_cmp) name)
   no_tracks (suc n) name = no_tracks n name
 
-  one_way : (ss : List Name) → length ss ≤ 1 → HaveOneWay way_named ss
-  one_way ss few i j less before = ap (λ m. way_named (get_or ss m [])) (let same : i ≡ j = omega (arith, few, less, before) in same)
+  shared_direction : (ss : List Name) → length ss ≤ 1 → ShareDirection direction_named ss
+  shared_direction ss few i j less before = ap (λ m. direction_named (get_or ss m [])) (let same : i ≡ j = omega (arith, few, less, before) in same)
 
-  pub ways : (n : ℕ) → AreWays (image_headers s n) way_named
-  ways n = record {
+  pub directions : (n : ℕ) → AreDirections (image_headers s n) direction_named
+  directions n = record {
     by_name = λ x y same. ap (λ b. if b then Lsd else Msd) same;
-    of_automaton = λ name. one_way (automaton_tracks (image_headers s n) name) (omega (arith, ap (λ (ss : List Name). length ss) (no_tracks n name)));
-    of_word = λ name. one_way (word_tracks (image_headers s n) name) (few_tracks n name);
+    of_automaton = λ name. shared_direction (automaton_tracks (image_headers s n) name) (omega (arith, ap (λ (ss : List Name). length ss) (no_tracks n name)));
+    of_word = λ name. shared_direction (word_tracks (image_headers s n) name) (few_tracks n name);
   }
 
 module _ (rules : Rules) (word : WordValue) (s : Name) (k : ℕ) (l : LibraryValue) (is : IsImageLibrary rules word s k l) (few : k ≤ 40) (system : SystemValue) (systems : word.systems ≡ system ∷ []) where
-  -- the system stands under its name
+  -- the system is under its name
   pub system_there : l.systems ≡ record { name = s; system = system } ∷ []
   system_there = is.systems ∙ ap (λ (ss : List SystemValue). record { name = s; system = get_or ss 0 absent_system } ∷ []) systems
 
@@ -171,11 +171,11 @@ module _ (rules : Rules) (word : WordValue) (s : Name) (k : ℕ) (l : LibraryVal
       by true same at = ((bytes_eq-Decides s y).0 same, same_Some system t at)
       by false other at = absurd (none-some t at)
 
-  pub fits : system.way ≡ way_named s → Fits l (plan_headers (image_headers s k)) way_named
-  fits way = record {
+  pub fits : system.direction ≡ direction_named s → Fits l (plan_headers (image_headers s k)) direction_named
+  fits direction = record {
     relations = λ n r there. absurd (none-some r (sym (ap (λ (rs : List NamedRelation). relation_named rs n) is.relations) ∙ there));
     words = λ n w there. over n w (which rules word k l.words n w is.words there);
-    directions = λ y t there. let same = only_system y t there in ap (λ (v : SystemValue). v.way) (sym same.1) ∙ way ∙ ap way_named same.0;
+    directions = λ y t there. let same = only_system y t there in ap (λ (v : SystemValue). v.direction) (sym same.1) ∙ direction ∙ ap direction_named same.0;
   }
     where
       over : (n : Name) (w : WordValue) → (r : ℕ) × (r < k) × (word_name r ≡ n) × IsRecoded rules word r w → IsWordOverSystems l (word_tracks (image_headers s k) n) w

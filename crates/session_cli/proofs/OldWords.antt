@@ -1,5 +1,5 @@
--- What is known of a word whose image is taken and whose table is loaded: the table can be read, a word stands under the name, over the systems
--- of its header, and it has the letters of what the ledger has under that name.
+-- What is known of a word whose image is taken and whose table is loaded: the table can be read, a word is under the name, over the systems of
+-- its header, and it has the letters of what the ledger has under that name.
 use Rattle.std.proofs.Common.{◌≡◌, ℕ, Bool, List, [], ◌∷◌, length, get_or, if◌then◌else◌, Some, refl, sym, ap, ◌∙◌, subst, arith}
 use Rattle.std.proofs.lemmas.Slice.Eq.{bytes_eq-Decides}
 use Rattle.wal_outside.specs.Files.{Files}
@@ -14,10 +14,10 @@ use Rattle.formula_resolve.proofs.FirstLemmas.{first_once}
 use Rattle.formula_build.specs.KnownNames.{IsFileIn}
 use Rattle.formula_build.specs.Libraries.{NamedSystem, AreSealed, word_named}
 use Rattle.formula_build.specs.Resolved.{plan_headers}
-use Rattle.formula_build.specs.Solutions.{way_named}
+use Rattle.formula_build.specs.Solutions.{direction_named}
 use Rattle.formula_build.specs.TrackSystems.{Fits, IsWordOverSystems}
 use Rattle.num_system.specs.Sealed.{SystemValue}
-use Rattle.num_system.specs.Tracks.{absent_system, way_of}
+use Rattle.num_system.specs.Tracks.{absent_system, direction_of}
 use Rattle.word_output.specs.Words.{WordValue}
 use Rattle.definitions.proofs.FileTables.{file_is_table}
 use Rattle.definitions.proofs.TableRelations.{table_holds}
@@ -40,11 +40,11 @@ use Rattle.session_cli.proofs.TableMeanings.{HasLettersAs, MeansAs, tables_mean_
 use Rattle.session_cli.proofs.WordLaws.{words_have_file_letters}
 
 -- the systems of one track have the direction of the first
-way_of_first : (systems : List SystemValue) → length systems ≡ 1 → way_of systems ≡ (get_or systems 0 absent_system).way
-way_of_first [] one = absurd (omega (arith, one))
-way_of_first (s ∷ systems) one = refl
+direction_of_first : (systems : List SystemValue) → length systems ≡ 1 → direction_of systems ≡ (get_or systems 0 absent_system).direction
+direction_of_first [] one = absurd (omega (arith, one))
+direction_of_first (s ∷ systems) one = refl
 
--- what is read of the file alone means what stands under its name
+-- what is read of the file alone means what is under its name
 only_word : (ledger : Ledger) (old : List ℕ) (reads : List TableRead) (v : WordValue) → AreMeantAs (MeansAs ledger) (Word old ∷ []) reads → word_named (words_in reads) old ≡ Some v → HasLettersAs ledger old v
 only_word ledger old [] v are is = absurd are
 only_word ledger old (ARelation r ∷ reads) v (same, means, rest) is = absurd (let e : Automaton r.name ≡ Word old = same in cc)
@@ -62,7 +62,7 @@ module _ (old : List ℕ) (tables : List Loaded) (files : Files) (listed : AreLi
   old_readable = mentions_readable file_is_table systems files tables (old_mentions old) (first_once (old_mentions old)) listed (tt, tt) has custom meant
 
   module _ (reads : List TableRead) (before new : StepLog) (made : AreTablesRead systems before tables reads new) where
-    fits : Fits (library_with reads systems) (plan_headers (headers_of tables)) way_named
+    fits : Fits (library_with reads systems) (plan_headers (headers_of tables)) direction_named
     fits = tables_fit table_holds systems sealed custom tables reads before new meant (files_apart files (first_files (old_mentions old)) tables (first_once (old_mentions old)) listed) old_readable made
 
     known : IsFileIn (library_with reads systems) (Word old)
@@ -72,7 +72,7 @@ module _ (old : List ℕ) (tables : List Loaded) (files : Files) (listed : AreLi
     pub old_over : (v : WordValue) → word_named (words_in reads) old ≡ Some v → IsWordOverSystems (library_with reads systems) (word_tracks (headers_of tables) old) v
     old_over v is = fits.words old v is
 
-    -- one stands there
+    -- one is there
     pub old_there : length (word_tracks (headers_of tables) old) ≡ 1 → HasOldWord (words_in reads) old (get_or (word_tracks (headers_of tables) old) 0 [])
     old_there one =
         let v : WordValue = known.0 in
@@ -82,7 +82,7 @@ module _ (old : List ℕ) (tables : List Loaded) (files : Files) (listed : AreLi
           word = v;
           word_is = known.1;
           track = count;
-          way = way_of_first v.systems count ∙ fits.directions (get_or (word_tracks (headers_of tables) old) 0 []) (get_or v.systems 0 absent_system) (over.each 0 (omega (arith, one)));
+          direction = direction_of_first v.systems count ∙ fits.directions (get_or (word_tracks (headers_of tables) old) 0 []) (get_or v.systems 0 absent_system) (over.each 0 (omega (arith, one)));
         }
 
     -- it has the letters of what the ledger has under its name

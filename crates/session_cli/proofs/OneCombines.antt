@@ -72,7 +72,7 @@ plain_is h names (Err (faults.Clash name first other)) a = absurd a
 plain_is h names (Err (faults.Direction first other)) a = absurd a
 plain_is h names (Err (faults.Letters step)) a = absurd a
 plain_is h names (Err (faults.States step)) a = absurd a
-plain_is h names (Err (faults.WordGap name spelling)) a = absurd a
+plain_is h names (Err (faults.WordGap name representation)) a = absurd a
 plain_is h names (Err (faults.Store folder name)) a = absurd a
 plain_is h names (Err faults.Memory) a = absurd a
 plain_is h names (Err faults.ScriptLimit) a = absurd a
@@ -118,7 +118,7 @@ shape_is h names (Err (faults.Clash name first other)) a = absurd a
 shape_is h names (Err (faults.Direction first other)) a = absurd a
 shape_is h names (Err (faults.Letters step)) a = absurd a
 shape_is h names (Err (faults.States step)) a = absurd a
-shape_is h names (Err (faults.WordGap name spelling)) a = absurd a
+shape_is h names (Err (faults.WordGap name representation)) a = absurd a
 shape_is h names (Err (faults.Plain name)) a = absurd a
 shape_is h names (Err (faults.Store folder name)) a = absurd a
 shape_is h names (Err faults.Memory) a = absurd a
@@ -166,31 +166,31 @@ shape_single h names r s a b = by (shape_is h names r a) (shape_is h names s b)
         let told : (let x : Result (Unit {0}) Fault = Err (faults.CombineShape first other) in x) ≡ Err (faults.CombineShape first' other') = λ i. Err (faults.CombineShape (same.0 i) (same.1 i)) in
         is ∙ (told ∙ sym is')
 
--- systems that names mean are told by the names, and some tell their direction
-one_named : (custom : Custom) (way way' : Direction) (xs ys : List tracks.NamedSystem) → names_of xs ≡ names_of ys → AreNamed custom way xs → AreNamed custom way' ys → xs ≡ ys
-one_named custom way way' [] [] same a b = refl
-one_named custom way way' [] (y ∷ ys) same a b = let e : 0 ≡ suc (length (names_of ys)) = ap length same in absurd (omega (arith, e))
-one_named custom way way' (x ∷ xs) [] same a b = let e : suc (length (names_of xs)) ≡ 0 = ap length same in absurd (omega (arith, e))
-one_named custom way way' (x ∷ xs) (y ∷ ys) same a b =
+-- systems that names mean are determined by the names, and some determine their direction
+one_named : (custom : Custom) (direction direction' : Direction) (xs ys : List tracks.NamedSystem) → names_of xs ≡ names_of ys → AreNamed custom direction xs → AreNamed custom direction' ys → xs ≡ ys
+one_named custom direction direction' [] [] same a b = refl
+one_named custom direction direction' [] (y ∷ ys) same a b = let e : 0 ≡ suc (length (names_of ys)) = ap length same in absurd (omega (arith, e))
+one_named custom direction direction' (x ∷ xs) [] same a b = let e : suc (length (names_of xs)) ≡ 0 = ap length same in absurd (omega (arith, e))
+one_named custom direction direction' (x ∷ xs) (y ∷ ys) same a b =
     let both : (x.name ∷ names_of xs) ≡ (y.name ∷ names_of ys) = same in
     let name : x.name ≡ y.name = cc in
     let names : names_of xs ≡ names_of ys = cc in
-    let moved : IsSystemNamed custom y.name way x.system = subst (λ (n : List ℕ). IsSystemNamed custom n way x.system) name a.0 in
-    let system : x.system ≡ y.system = (one_meaning custom y.name way way' x.system y.system moved b.0).1 in
-    let rest : xs ≡ ys = one_named custom way way' xs ys names a.1 b.1 in
+    let moved : IsSystemNamed custom y.name direction x.system = subst (λ (n : List ℕ). IsSystemNamed custom n direction x.system) name a.0 in
+    let system : x.system ≡ y.system = (one_meaning custom y.name direction direction' x.system y.system moved b.0).1 in
+    let rest : xs ≡ ys = one_named custom direction direction' xs ys names a.1 b.1 in
     λ i. record { name = name i; system = system i } ∷ rest i
 
-one_way : (custom : Custom) (way way' : Direction) (xs : List tracks.NamedSystem) → names_of xs ≢ [] → AreNamed custom way xs → AreNamed custom way' xs → way ≡ way'
-one_way custom way way' [] some a b = absurd (some refl)
-one_way custom way way' (x ∷ xs) some a b = (one_meaning custom x.name way way' x.system x.system a.0 b.0).0
+shared_direction : (custom : Custom) (direction direction' : Direction) (xs : List tracks.NamedSystem) → names_of xs ≢ [] → AreNamed custom direction xs → AreNamed custom direction' xs → direction ≡ direction'
+shared_direction custom direction direction' [] some a b = absurd (some refl)
+shared_direction custom direction direction' (x ∷ xs) some a b = (one_meaning custom x.name direction direction' x.system x.system a.0 b.0).0
 
 one_tracks : (custom : Custom) (h : Headers) (names : List (List ℕ)) (ts us : WordTracks) → HaveSystemsOfFirst h names → AreTracksOfFirst custom h names ts → AreTracksOfFirst custom h names us → ts ≡ us
 one_tracks custom h [] ts us one a b = absurd one
 one_tracks custom h (name ∷ names) ts us one (is, are) (is', are') =
-    let named : ts.named ≡ us.named = one_named custom ts.way us.way ts.named us.named (sym is ∙ is') are are' in
+    let named : ts.named ≡ us.named = one_named custom ts.direction us.direction ts.named us.named (sym is ∙ is') are are' in
     let some : names_of us.named ≢ [] = λ none. one.0 (is' ∙ none) in
-    let way : ts.way ≡ us.way = one_way custom ts.way us.way us.named some (subst (AreNamed custom ts.way) named are) are' in
-    λ i. record { way = way i; named = named i }
+    let direction : ts.direction ≡ us.direction = shared_direction custom ts.direction us.direction us.named some (subst (AreNamed custom ts.direction) named are) are' in
+    λ i. record { direction = direction i; named = named i }
 
 tracks_is : (custom : Custom) (h : Headers) (names : List (List ℕ)) (r : Result WordTracks Fault) → WordTracksAnswers custom h names r → (ts : WordTracks) × AreTracksOfFirst custom h names ts × (r ≡ Ok ts)
 tracks_is custom h names (Ok ts) a = (ts, a, refl)
@@ -202,7 +202,7 @@ tracks_single custom h names shape r s a b =
     let other = tracks_is custom h names s b in
     one.2 ∙ (ap (λ (ts : WordTracks). let x : Result WordTracks Fault = Ok ts in x) (one_tracks custom h names one.0 other.0 shape one.1 other.1) ∙ sym other.2)
 
--- names tell the relations of listed automata
+-- names determine the relations of listed automata
 one_parts : (relations : List NamedRelation) (place : ℕ) (automata : List ValuedName) (ps qs : List PartValue) → ArePartsFrom relations place automata ps → ArePartsFrom relations place automata qs → ps ≡ qs
 one_parts relations place [] [] [] a b = refl
 one_parts relations place [] [] (q ∷ qs) a b = absurd b
@@ -257,7 +257,7 @@ combined_is admitted custom tables automata (Err (faults.SystemUnknown name)) a 
 combined_is admitted custom tables automata (Err (faults.NotAdmitted name law)) a = absurd a
 combined_is admitted custom tables automata (Err (faults.Clash name first other)) a = absurd a
 combined_is admitted custom tables automata (Err (faults.Direction first other)) a = absurd a
-combined_is admitted custom tables automata (Err (faults.WordGap name spelling)) a = absurd a
+combined_is admitted custom tables automata (Err (faults.WordGap name representation)) a = absurd a
 combined_is admitted custom tables automata (Err (faults.Plain name)) a = absurd a
 combined_is admitted custom tables automata (Err (faults.Store folder name)) a = absurd a
 combined_is admitted custom tables automata (Err faults.Memory) a = absurd a

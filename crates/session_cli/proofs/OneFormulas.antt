@@ -43,9 +43,9 @@ one_variable : (custom : Custom) (x : resolved.Variable) (v w : Variable) → Is
 one_variable custom x v w a b =
     let names : v.name ≡ w.name = a.name_is ∙ sym b.name_is in
     let systems : v.system.name ≡ w.system.name = a.system_is ∙ sym b.system_is in
-    let moved : IsSystemNamed custom w.system.name v.way v.system.system = subst (λ (n : List ℕ). IsSystemNamed custom n v.way v.system.system) systems a.means in
-    let same : (v.way ≡ w.way) × (v.system.system ≡ w.system.system) = one_meaning custom w.system.name v.way w.way v.system.system w.system.system moved b.means in
-    λ i. record { name = names i; way = same.0 i; system = record { name = systems i; system = same.1 i } }
+    let moved : IsSystemNamed custom w.system.name v.direction v.system.system = subst (λ (n : List ℕ). IsSystemNamed custom n v.direction v.system.system) systems a.means in
+    let same : (v.direction ≡ w.direction) × (v.system.system ≡ w.system.system) = one_meaning custom w.system.name v.direction w.direction v.system.system w.system.system moved b.means in
+    λ i. record { name = names i; direction = same.0 i; system = record { name = systems i; system = same.1 i } }
 
 one_list_of_variables : (custom : Custom) (found : List resolved.Variable) (vs ws : List Variable) → AreVariables custom found vs → AreVariables custom found ws → vs ≡ ws
 one_list_of_variables custom [] [] [] a b = refl
@@ -66,7 +66,7 @@ IsResolution tables formula r =
 
 resolved_is : (tables : List Loaded) (formula : trees.Formula) (r : Result (Unit {0}) Fault) → ResolvedAnswers tables formula r → IsResolution tables formula r
 resolved_is tables formula (Ok done) none = inl (none, refl)
-resolved_is tables formula (Err (faults.WordGap name spelling)) a = absurd a
+resolved_is tables formula (Err (faults.WordGap name representation)) a = absurd a
 resolved_is tables formula (Err (faults.Plain name)) a = inr (resolves.Plain name, a, refl)
 resolved_is tables formula (Err (faults.Arity name tracks given)) a = inr (resolves.Arity name tracks given, a, refl)
 resolved_is tables formula (Err (faults.Clash name first other)) a = inr (resolves.Clash name first other, a, refl)

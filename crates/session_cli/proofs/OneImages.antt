@@ -75,7 +75,7 @@ track_is h old (Err (faults.Clash name first other)) a = absurd a
 track_is h old (Err (faults.Direction first other)) a = absurd a
 track_is h old (Err (faults.Letters step)) a = absurd a
 track_is h old (Err (faults.States step)) a = absurd a
-track_is h old (Err (faults.WordGap name spelling)) a = absurd a
+track_is h old (Err (faults.WordGap name representation)) a = absurd a
 track_is h old (Err (faults.Plain name)) a = absurd a
 track_is h old (Err (faults.Store folder name)) a = absurd a
 track_is h old (Err faults.Memory) a = absurd a
@@ -96,7 +96,7 @@ one_track_single h old r s a b = by (track_is h old r a) (track_is h old s b)
     by (inr (other, is)) (inl (one, is')) = absurd (other one)
     by (inr (other, is)) (inr (other', is')) = is ∙ sym is'
 
--- all images have one length, or the first kind tells
+-- all images have one length, or the first kind decides
 abbrev IsLengthAnswer : Rules → Result (Unit {0}) Fault → Type 0
 IsLengthAnswer rules r = ((k : ℕ) × HasLength IsImageLength rules k × (r ≡ Ok tt)) ⊎ ((kind : MorphismKind) × IsLengthRefused IsImageLength rules kind × (r ≡ Err (faults.Morphism kind)))
 
@@ -119,7 +119,7 @@ length_is rules (Err (faults.Clash name first other)) a = absurd a
 length_is rules (Err (faults.Direction first other)) a = absurd a
 length_is rules (Err (faults.Letters step)) a = absurd a
 length_is rules (Err (faults.States step)) a = absurd a
-length_is rules (Err (faults.WordGap name spelling)) a = absurd a
+length_is rules (Err (faults.WordGap name representation)) a = absurd a
 length_is rules (Err (faults.Plain name)) a = absurd a
 length_is rules (Err (faults.Store folder name)) a = absurd a
 length_is rules (Err faults.Memory) a = absurd a
@@ -154,9 +154,9 @@ first_same a b same = cc
 one_track_over : (custom : Custom) (h : Headers) (old : List ℕ) (t u : WordTrack) → TrackAnswers custom h old (Ok t) → TrackAnswers custom h old (Ok u) → t ≡ u
 one_track_over custom h old t u (is, meant) (is', meant') =
     let names : t.system.name ≡ u.system.name = first_same t.system.name u.system.name (sym is ∙ is') in
-    let there : IsSystemNamed custom u.system.name t.way t.system.system = subst (λ (n : List ℕ). IsSystemNamed custom n t.way t.system.system) names meant in
-    let one = one_meaning custom u.system.name t.way u.way t.system.system u.system.system there meant' in
-    λ i. record { way = one.0 i; system = record { name = names i; system = one.1 i } }
+    let there : IsSystemNamed custom u.system.name t.direction t.system.system = subst (λ (n : List ℕ). IsSystemNamed custom n t.direction t.system.system) names meant in
+    let one = one_meaning custom u.system.name t.direction u.direction t.system.system u.system.system there meant' in
+    λ i. record { direction = one.0 i; system = record { name = names i; system = one.1 i } }
 
 tracks_single : (custom : Custom) (h : Headers) (old : List ℕ) → IsSingle (Pure (TrackAnswers custom h old))
 tracks_single custom h old r s a b =
@@ -164,7 +164,7 @@ tracks_single custom h old r s a b =
     let q : IsOverTrack custom h old s = over_is custom h old s b in
     p.2 ∙ (ap (λ (t : WordTrack). let x : Result WordTrack Fault = Ok t in x) (one_track_over custom h old p.0 q.0 p.1 q.1) ∙ sym q.2)
 
--- one entry stands under the name
+-- one entry is under the name
 abbrev IsEntry : Ledger → List ℕ → Result Entry Fault → Type 0
 IsEntry ledger old r = (entry : Entry) × (ledger Words old ≡ Some entry) × (r ≡ Ok entry)
 
@@ -203,7 +203,7 @@ imaged_is admitted custom tables old name rules (Err (faults.Letters step)) (inl
 imaged_is admitted custom tables old name rules (Err (faults.Letters step)) (inr a) = inr (inl (record { fault = images.Step (steps.Letters step); told = λ is. cc; stops = a; is = refl }))
 imaged_is admitted custom tables old name rules (Err (faults.States step)) (inl a) = inr (inr (stopped_by admitted custom tables (steps.States step) (λ is. cc) a))
 imaged_is admitted custom tables old name rules (Err (faults.States step)) (inr a) = inr (inl (record { fault = images.Step (steps.States step); told = λ is. cc; stops = a; is = refl }))
-imaged_is admitted custom tables old name rules (Err (faults.WordGap of spelling)) a = inr (inr (missing_by admitted custom tables of spelling a))
+imaged_is admitted custom tables old name rules (Err (faults.WordGap of representation)) a = inr (inr (missing_by admitted custom tables of representation a))
 imaged_is admitted custom tables old name rules (Err (faults.LetterMissing letter)) a = inr (inl (record { fault = images.Missing letter; told = λ is. cc; stops = a; is = refl }))
 imaged_is admitted custom tables old name rules (Err faults.Command) a = absurd a
 imaged_is admitted custom tables old name rules (Err (faults.Syntax grammar at)) a = absurd a

@@ -6,7 +6,7 @@ use Rattle.std.specs.Str.Parse.{ParsesUnsigned}
 use Rattle.std.proofs.lemmas.Slice.Eq.{bytes_eq-Decides}
 use Rattle.session_cli.specs.Words.{AreOptions, IsEnd, NamesValue, IsLimit, GivesLimit}
 
--- the value that the words behind the program's name have, if they name one
+-- the value that the words after the program's name have, if they name one
 abbrev value_in : List (List ℕ) → Option (List ℕ)
 value_in [] = None
 value_in (word ∷ []) = if bytes_eq word (codes "--") then None else Some (drop 9 word)

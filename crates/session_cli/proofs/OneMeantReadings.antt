@@ -13,9 +13,9 @@ use Rattle.formula_resolve.specs.Headers.{known}
 use Rattle.formula_resolve.specs.declared.file.File.{File}
 use Rattle.formula_build.specs.Libraries.{NamedSystem, AreSealed}
 use Rattle.formula_build.specs.Resolved as resolved
-use Rattle.formula_build.specs.Solutions.{way_named}
+use Rattle.formula_build.specs.Solutions.{direction_named}
 use Rattle.num_system.specs.Sealed.{SystemValue}
-use Rattle.num_system.specs.Tracks.{HaveOneWay}
+use Rattle.num_system.specs.Tracks.{ShareDirection}
 use Rattle.system_files.specs.SystemFiles.{Custom}
 use Rattle.definitions.proofs.FileTables.{file_is_table}
 use Rattle.definitions.proofs.OneTable.{one_table}
@@ -31,31 +31,31 @@ use Rattle.session_cli.specs.TrackSystems.{fault_of}
 use Rattle.session_cli.proofs.OneSealed.{meant_agree}
 use Rattle.session_cli.proofs.OneTableReadings as readings
 use Rattle.session_cli.proofs.OneTableReadings.{StopsReading, refusal_stops, gap_stops, one_reading, reading_apart, one_stopping}
-use Rattle.session_cli.proofs.ReadableTables.{under_one_way}
+use Rattle.session_cli.proofs.ReadableTables.{under_shared_direction}
 use Rattle.session_cli.proofs.TableFiles.{IsListedTable, tables_listed}
 use Rattle.session_cli.proofs.TableHeaders as table_headers
-use Rattle.session_cli.proofs.TableHeaders.{systems_in, tables_one_way}
+use Rattle.session_cli.proofs.TableHeaders.{systems_in, tables_shared_direction}
 use Rattle.session_cli.proofs.TableReads.{AreAlike}
 use Rattle.session_cli.proofs.WordLaws.{one_word_outcome}
 
 -- over systems that names mean, each table has tracks of one direction
-table_ways : (custom : Custom) (systems : List NamedSystem) (tables : List Loaded) → AreMeant custom systems → AllByRecursion table_headers.IsOneWay tables → AllByRecursion (readings.IsOneWay systems) tables
-table_ways custom systems [] are ways = tt
-table_ways custom systems (table ∷ tables) are ways = (of_header table.listed.header ways.0, table_ways custom systems tables are ways.1)
+table_directions : (custom : Custom) (systems : List NamedSystem) (tables : List Loaded) → AreMeant custom systems → AllByRecursion table_headers.IsOfOneDirection tables → AllByRecursion (readings.IsOfOneDirection systems) tables
+table_directions custom systems [] are directions = tt
+table_directions custom systems (table ∷ tables) are directions = (of_header table.listed.header directions.0, table_directions custom systems tables are directions.1)
   where
-    of_header : (header : Header) → resolved.HaveOneWay way_named (known (systems_in header)) → (tracks : List SystemValue) → AreSystemsUnder systems header tracks → HaveOneWay tracks
-    of_header (Truth value) one tracks under = subst HaveOneWay (sym under) tt
-    of_header (Systems names) one tracks under = under_one_way custom systems names tracks are one under
+    of_header : (header : Header) → resolved.ShareDirection direction_named (known (systems_in header)) → (tracks : List SystemValue) → AreSystemsUnder systems header tracks → ShareDirection tracks
+    of_header (Truth value) one tracks under = subst ShareDirection (sym under) tt
+    of_header (Systems names) one tracks under = under_shared_direction custom systems names tracks are one under
     of_header (Sets sets) one tracks under = absurd under
 
 -- tables that were read were readable
-read_readable : (systems : List NamedSystem) (old new : StepLog) (tables : List Loaded) (reads : List TableRead) → AllByRecursion IsListedTable tables → AllByRecursion (readings.IsOneWay systems) tables → AreTablesRead systems old tables reads new → AreReadable systems tables
-read_readable systems old new [] reads are ways made = tt
-read_readable systems old new (table ∷ tables) [] are ways made = absurd made
-read_readable systems old new (table ∷ tables) (r ∷ reads) are ways (mid, first, rest) = (one r first, read_readable systems mid new tables reads are.1 ways.1 rest)
+read_readable : (systems : List NamedSystem) (old new : StepLog) (tables : List Loaded) (reads : List TableRead) → AllByRecursion IsListedTable tables → AllByRecursion (readings.IsOfOneDirection systems) tables → AreTablesRead systems old tables reads new → AreReadable systems tables
+read_readable systems old new [] reads are directions made = tt
+read_readable systems old new (table ∷ tables) [] are directions made = absurd made
+read_readable systems old new (table ∷ tables) (r ∷ reads) are directions (mid, first, rest) = (one r first, read_readable systems mid new tables reads are.1 directions.1 rest)
   where
     over : (tracks : List SystemValue) → AreSystemsUnder systems table.listed.header tracks → IsReadable systems table
-    over tracks under = record { is_table = are.0.is_table; is_word = are.0.is_word; tracks = tracks; over = under; one_way = ways.0 tracks under }
+    over tracks under = record { is_table = are.0.is_table; is_word = are.0.is_word; tracks = tracks; over = under; shared_direction = directions.0 tracks under }
 
     one : (r : TableRead) → IsTableRead systems old table r mid → IsReadable systems table
     one (ARelation x) read = over read.tracks read.over
@@ -74,12 +74,12 @@ pub record IsStopped (admitted : StepLog) (custom : Custom) (tables : List Loade
 pub stopped_by : (admitted : StepLog) (custom : Custom) (tables : List Loaded) (fault : StepFault) → fault ≢ steps.Memory → IsReadingStopped admitted custom tables fault → IsStopped admitted custom tables (Err (fault_of fault))
 stopped_by admitted custom tables fault told a = record { systems = a.systems; sealed = a.sealed; meant = a.meant; fault = Step fault; stops = refusal_stops a.systems admitted tables fault told a.refused; is = refl }
 
-pub missing_by : (admitted : StepLog) (custom : Custom) (tables : List Loaded) (name : List ℕ) (spelling : List (List ℕ)) → IsLetterMissing admitted custom tables name spelling → IsStopped admitted custom tables (Err (faults.WordGap name spelling))
-missing_by admitted custom tables name spelling a = record { systems = a.systems; sealed = a.sealed; meant = a.meant; fault = Gap name spelling; stops = gap_stops a.systems admitted tables name spelling a.gap; is = refl }
+pub missing_by : (admitted : StepLog) (custom : Custom) (tables : List Loaded) (name : List ℕ) (representation : List (List ℕ)) → IsLetterMissing admitted custom tables name representation → IsStopped admitted custom tables (Err (faults.WordGap name representation))
+missing_by admitted custom tables name representation a = record { systems = a.systems; sealed = a.sealed; meant = a.meant; fault = Gap name representation; stops = gap_stops a.systems admitted tables name representation a.gap; is = refl }
 
 module _ (admitted : StepLog) (custom : Custom) (tables : List Loaded) (files : Files) (named : List File) (listed : AreListedBy files named tables) where
-  ways : (systems : List NamedSystem) → AreMeant custom systems → AllByRecursion (readings.IsOneWay systems) tables
-  ways systems meant = table_ways custom systems tables meant (tables_one_way files named tables listed)
+  directions : (systems : List NamedSystem) → AreMeant custom systems → AllByRecursion (readings.IsOfOneDirection systems) tables
+  directions systems meant = table_directions custom systems tables meant (tables_shared_direction files named tables listed)
 
   alike : (systems others : List NamedSystem) → AreSealed systems → AreMeant custom systems → AreSealed others → AreMeant custom others → AreAlike systems others
   alike systems others sealed meant sealed' meant' = (meant_agree custom systems others sealed meant sealed' meant').systems
@@ -88,19 +88,19 @@ module _ (admitted : StepLog) (custom : Custom) (tables : List Loaded) (files : 
   pub same_reading : (systems others : List NamedSystem) (new now : StepLog) (rs ss : List TableRead) → AreSealed systems → AreMeant custom systems → AreSealed others → AreMeant custom others → AreTablesRead systems admitted tables rs new → AreTablesRead others admitted tables ss now
       → (rs ≡ ss) × (new ≡ now)
   same_reading systems others new now rs ss sealed meant sealed' meant' read read' =
-      one_reading one_table one_word_outcome systems others sealed (alike systems others sealed meant sealed' meant') admitted new now tables rs ss (ways systems meant) read read'
+      one_reading one_table one_word_outcome systems others sealed (alike systems others sealed meant sealed' meant') admitted new now tables rs ss (directions systems meant) read read'
 
   -- tables that were read were readable
   pub were_readable : (systems : List NamedSystem) (new : StepLog) (rs : List TableRead) → AreMeant custom systems → AreTablesRead systems admitted tables rs new → AreReadable systems tables
-  were_readable systems new rs meant read = read_readable systems admitted new tables rs (tables_listed file_is_table files named tables listed) (ways systems meant) read
+  were_readable systems new rs meant read = read_readable systems admitted new tables rs (tables_listed file_is_table files named tables listed) (directions systems meant) read
 
   -- what is read is not stopped
   pub read_stopped : (systems : List NamedSystem) (new : StepLog) (rs : List TableRead) (r : Result (List StepLine) Fault) → AreSealed systems → AreMeant custom systems → AreTablesRead systems admitted tables rs new → IsStopped admitted custom tables r → ⊥
   read_stopped systems new rs r sealed meant read q =
-      reading_apart one_table one_word_outcome systems q.systems sealed (alike systems q.systems sealed meant q.sealed q.meant) admitted new tables rs q.fault (ways systems meant) read q.stops
+      reading_apart one_table one_word_outcome systems q.systems sealed (alike systems q.systems sealed meant q.sealed q.meant) admitted new tables rs q.fault (directions systems meant) read q.stops
 
   -- and two that stop have one fault
   pub both_stopped : (r s : Result (List StepLine) Fault) → IsStopped admitted custom tables r → IsStopped admitted custom tables s → r ≡ s
   both_stopped r s p q =
-      let same : p.fault ≡ q.fault = one_stopping one_table one_word_outcome p.systems q.systems p.sealed (alike p.systems q.systems p.sealed p.meant q.sealed q.meant) admitted tables p.fault q.fault (ways p.systems p.meant) p.stops q.stops in
+      let same : p.fault ≡ q.fault = one_stopping one_table one_word_outcome p.systems q.systems p.sealed (alike p.systems q.systems p.sealed p.meant q.sealed q.meant) admitted tables p.fault q.fault (directions p.systems p.meant) p.stops q.stops in
       p.is ∙ (ap (λ (f : ReadFault). let x : Result (List StepLine) Fault = Err (fault_of_reading f) in x) same ∙ sym q.is)

@@ -75,7 +75,7 @@ steps_is admitted tracks e (Err (faults.Unknown of file)) a = absurd a
 steps_is admitted tracks e (Err (faults.File of file flaw)) a = absurd a
 steps_is admitted tracks e (Err (faults.Arity of count given)) a = absurd a
 steps_is admitted tracks e (Err (faults.Clash of one two)) a = absurd a
-steps_is admitted tracks e (Err (faults.WordGap of spelling)) a = absurd a
+steps_is admitted tracks e (Err (faults.WordGap of representation)) a = absurd a
 steps_is admitted tracks e (Err (faults.Plain of)) a = absurd a
 
 steps_single : (admitted : StepLog) (tracks : Tracks) (e : Expression (List ℤ)) → IsSingle (Pure (StepsAnswers admitted tracks e))
@@ -146,7 +146,7 @@ parsed_is sets body (Err (faults.Unknown of file)) a = absurd a
 parsed_is sets body (Err (faults.File of file flaw)) a = absurd a
 parsed_is sets body (Err (faults.Arity of tracks given)) a = absurd a
 parsed_is sets body (Err (faults.Clash of one two)) a = absurd a
-parsed_is sets body (Err (faults.WordGap of spelling)) a = absurd a
+parsed_is sets body (Err (faults.WordGap of representation)) a = absurd a
 parsed_is sets body (Err (faults.Plain of)) a = absurd a
 
 parsed_single : (sets : List (List ℤ)) (body : List ℕ) → IsSingle (Pure (ParsedAnswers sets body))
@@ -157,12 +157,12 @@ parsed_single sets body r s a b =
 
 -- what names of systems give
 abbrev IsNames : Custom → List (List ℕ) → Result Tracks Fault → Type 0
-IsNames custom names x = ((way : Direction) × (named : List NamedSystem) × AreTracksOf custom (heads.Systems names) (OverSystems way named) × (x ≡ Ok (OverSystems way named)))
+IsNames custom names x = ((direction : Direction) × (named : List NamedSystem) × AreTracksOf custom (heads.Systems names) (OverSystems direction named) × (x ≡ Ok (OverSystems direction named)))
     ⊎ ((first : List ℕ) × (other : List ℕ) × TracksAnswers custom (heads.Systems names) (Err (faults.Direction first other)) × (x ≡ Err (faults.Direction first other)))
 
 names_is : (custom : Custom) (names : List (List ℕ)) (x : Result Tracks Fault) → TracksAnswers custom (heads.Systems names) x → IsNames custom names x
 names_is custom names (Ok (OverSets others)) a = absurd a
-names_is custom names (Ok (OverSystems way named)) a = inl (way, named, a, refl)
+names_is custom names (Ok (OverSystems direction named)) a = inl (direction, named, a, refl)
 names_is custom names (Err (faults.Direction first other)) a = inr (first, other, a, refl)
 names_is custom names (Err faults.Command) a = absurd a
 names_is custom names (Err (faults.Syntax grammar at)) a = absurd a
@@ -188,15 +188,15 @@ names_is custom names (Err (faults.Unknown of file)) a = absurd a
 names_is custom names (Err (faults.File of file flaw)) a = absurd a
 names_is custom names (Err (faults.Arity of tracks given)) a = absurd a
 names_is custom names (Err (faults.Clash of one two)) a = absurd a
-names_is custom names (Err (faults.WordGap of spelling)) a = absurd a
+names_is custom names (Err (faults.WordGap of representation)) a = absurd a
 names_is custom names (Err (faults.Plain of)) a = absurd a
 
 by_names : (custom : Custom) (names : List (List ℕ)) (r s : Result Tracks Fault) → IsNames custom names r → IsNames custom names s → r ≡ s
-by_names custom names r s (inl (way, named, are, is)) (inl (way', named', are', is')) =
-    let same = one_list_of_systems custom names way way' named named' are are' in
+by_names custom names r s (inl (direction, named, are, is)) (inl (direction', named', are', is')) =
+    let same = one_list_of_systems custom names direction direction' named named' are are' in
     is ∙ ((λ i. let x : Result Tracks Fault = Ok (OverSystems (same.0 i) (same.1 i)) in x) ∙ sym is')
-by_names custom names r s (inl (way, named, are, is)) (inr (first, other, part, is')) = absurd (not_parted custom names way named first other are part)
-by_names custom names r s (inr (x, y, part, is)) (inl (way, named, are, is')) = absurd (not_parted custom names way named x y are part)
+by_names custom names r s (inl (direction, named, are, is)) (inr (first, other, part, is')) = absurd (not_parted custom names direction named first other are part)
+by_names custom names r s (inr (x, y, part, is)) (inl (direction, named, are, is')) = absurd (not_parted custom names direction named x y are part)
 by_names custom names r s (inr (x, y, part, is)) (inr (x', y', part', is')) =
     let same = same_part custom names x y x' y' part part' in
     is ∙ ((λ i. let z : Result Tracks Fault = Err (faults.Direction (same.0 i) (same.1 i)) in z) ∙ sym is')
@@ -207,7 +207,7 @@ tracks_single custom (heads.Sets sets) r s a b = single_by (Pure (TracksAnswers 
   where
     is : (r : Result Tracks Fault) → TracksAnswers custom (heads.Sets sets) r → r ≡ Ok (OverSets sets)
     is (Ok (OverSets others)) a = ap (λ (ss : List (List ℤ)). let x : Result Tracks Fault = Ok (OverSets ss) in x) a
-    is (Ok (OverSystems way named)) a = absurd a
+    is (Ok (OverSystems direction named)) a = absurd a
     is (Err faults.Command) a = absurd a
     is (Err (faults.Syntax grammar at)) a = absurd a
     is (Err (faults.Number grammar at)) a = absurd a
@@ -233,7 +233,7 @@ tracks_single custom (heads.Sets sets) r s a b = single_by (Pure (TracksAnswers 
     is (Err (faults.File of file flaw)) a = absurd a
     is (Err (faults.Arity of tracks given)) a = absurd a
     is (Err (faults.Clash of one two)) a = absurd a
-    is (Err (faults.WordGap of spelling)) a = absurd a
+    is (Err (faults.WordGap of representation)) a = absurd a
     is (Err (faults.Plain of)) a = absurd a
 tracks_single custom (heads.Systems names) r s a b = by_names custom names r s (names_is custom names r a) (names_is custom names s b)
 
@@ -279,7 +279,7 @@ length_single text r s a b = by_length (length_is r a) (length_is s b)
     length_is (Err (faults.File of file flaw)) a = absurd a
     length_is (Err (faults.Arity of tracks given)) a = absurd a
     length_is (Err (faults.Clash of one two)) a = absurd a
-    length_is (Err (faults.WordGap of spelling)) a = absurd a
+    length_is (Err (faults.WordGap of representation)) a = absurd a
     length_is (Err (faults.Plain of)) a = absurd a
 
     by_length : ((length text ≤ 65536) × (r ≡ Ok tt)) ⊎ ((65536 < length text) × (r ≡ Err (faults.Long 65536))) → ((length text ≤ 65536) × (s ≡ Ok tt)) ⊎ ((65536 < length text) × (s ≡ Err (faults.Long 65536))) → r ≡ s
@@ -346,7 +346,7 @@ word_single text r s a b = by_word (word_is r a) (word_is s b)
     word_is (Err (faults.File of file flaw)) a = absurd a
     word_is (Err (faults.Arity of tracks given)) a = absurd a
     word_is (Err (faults.Clash of one two)) a = absurd a
-    word_is (Err (faults.WordGap of spelling)) a = absurd a
+    word_is (Err (faults.WordGap of representation)) a = absurd a
     word_is (Err (faults.Plain of)) a = absurd a
 
     by_word : ((word : CommandWord) × (first_word_of text ≡ word_text word) × (r ≡ Ok word)) ⊎ (((word : CommandWord) → first_word_of text ≢ word_text word) × (r ≡ Err faults.Command))

@@ -49,22 +49,22 @@ module _ (text : List ℕ) (formula : trees.Formula) (reads : Reads (tokens (spo
       let none : None ≡ Some flaw = sym whole.flaw_is ∙ (ap (λ (f : derivations.Formula). formula_flaw None f) same ∙ other.flaw_is) in cc
 
   -- and does not stop at a token
-  not_stopped : (cut : Cut text) → Stops (tokens cut.front) cut.spot.token → ⊥
+  not_stopped : (cut : Cut text) → Stops (tokens cut.prefix) cut.spot.token → ⊥
   not_stopped cut stops =
       let whole : WholeDerived (tokens (spots text)) formula None = derived text formula reads in
       whole_stops text whole.text cut whole.derives stops
 
   not_refused : (fault : ParseFault) → Tells text (Err fault) → ⊥
-  not_refused (parses.Syntax at) (told, is) = not_stopped is.cut (breaks_stop (tokens is.cut.front) is.cut.spot.token (breaks_derived (tokens is.cut.front) is.cut.spot.token is.breaks))
+  not_refused (parses.Syntax at) (told, is) = not_stopped is.cut (breaks_stop (tokens is.cut.prefix) is.cut.spot.token (breaks_derived (tokens is.cut.prefix) is.cut.spot.token is.breaks))
   not_refused (parses.Number at) (told, is) =
-      not_stopped is.cut (reaches_stop (tokens is.cut.front) is.cut.spot.token is.passes.place (reaches_derived (tokens is.cut.front) is.cut.spot.token is.passes.place is.passes.reaches) (λ allowed. is.passes.out allowed.1))
+      not_stopped is.cut (reaches_stop (tokens is.cut.prefix) is.cut.spot.token is.passes.place (reaches_derived (tokens is.cut.prefix) is.cut.spot.token is.passes.place is.passes.reaches) (λ allowed. is.passes.out allowed.1))
   not_refused (parses.Depth at) (told, is) =
-      not_stopped is.cut (reaches_stop (tokens is.cut.front) is.cut.spot.token is.passes.place (reaches_derived (tokens is.cut.front) is.cut.spot.token is.passes.place is.passes.reaches) (λ allowed. let low = allowed.0 in let deep = is.passes.deep in omega arith))
+      not_stopped is.cut (reaches_stop (tokens is.cut.prefix) is.cut.spot.token is.passes.place (reaches_derived (tokens is.cut.prefix) is.cut.spot.token is.passes.place is.passes.reaches) (λ allowed. let low = allowed.0 in let deep = is.passes.deep in omega arith))
   not_refused (parses.MixedChain at) (told, is) = not_flawed (mixed_chain at) is
   not_refused (parses.NotLinear at) (told, is) = not_flawed (not_linear at) is
   not_refused parses.Memory (told, is) = told refl
 
--- a fault that is not want of memory is of the text
+-- a fault that is not out of memory is of the text
 of_text : (fault : ParseFault) → fault ≢ parses.Memory → (let r : Result Tree ParseFault = Err fault in IsOfTheText r)
 of_text (parses.Syntax at) told = tt
 of_text (parses.Number at) told = tt
@@ -118,7 +118,7 @@ reading_is text (Err (faults.Clash name first other)) a = absurd a
 reading_is text (Err (faults.Direction first other)) a = absurd a
 reading_is text (Err (faults.Letters step)) a = absurd a
 reading_is text (Err (faults.States step)) a = absurd a
-reading_is text (Err (faults.WordGap name spelling)) a = absurd a
+reading_is text (Err (faults.WordGap name representation)) a = absurd a
 reading_is text (Err (faults.Plain name)) a = absurd a
 reading_is text (Err (faults.Store folder name)) a = absurd a
 reading_is text (Err faults.Memory) a = absurd a

@@ -58,7 +58,7 @@ proper limit ledger text (Err (faults.Unknown of file)) is store memory = is
 proper limit ledger text (Err (faults.File of file flaw)) is store memory = is
 proper limit ledger text (Err (faults.Arity of tracks given)) is store memory = is
 proper limit ledger text (Err (faults.Clash of one two)) is store memory = is
-proper limit ledger text (Err (faults.WordGap of spelling)) is store memory = is
+proper limit ledger text (Err (faults.WordGap of representation)) is store memory = is
 proper limit ledger text (Err (faults.Plain of)) is store memory = is
 proper limit ledger text (Err faults.Command) is store memory = is
 proper limit ledger text (Err (faults.Syntax grammar at)) is store memory = is
@@ -102,7 +102,7 @@ open_is text (Err (faults.Unknown of file)) is = absurd is
 open_is text (Err (faults.File of file flaw)) is = absurd is
 open_is text (Err (faults.Arity of tracks given)) is = absurd is
 open_is text (Err (faults.Clash of one two)) is = absurd is
-open_is text (Err (faults.WordGap of spelling)) is = absurd is
+open_is text (Err (faults.WordGap of representation)) is = absurd is
 open_is text (Err (faults.Plain of)) is = absurd is
 open_is text (Ok success) is = absurd is
 
@@ -116,12 +116,12 @@ same_open text answer other a b = by_cases (open_is text answer a) (open_is text
     by_cases (inr (short, is)) (inl (long, is')) = absurd (omega arith)
     by_cases (inr (short, is)) (inr (short', is')) = is ∙ sym is'
 
--- where the files are told, an item is answered by its ledger
+-- where the files are reported, an item is answered by its ledger
 known_same : (told : Option Files) (files : Files) (ledger known : Ledger) → told ≡ Some files → IsKnownLedger told ledger known → known ≡ ledger
 known_same None files ledger known is same = cc
 known_same (Some others) files ledger known is same = same
 
--- and they stay told
+-- and they stay reported
 still_told : (custom : Custom) (answer : Answer) (old new : Option Files) (files : Files) → old ≡ Some files → Changes custom old answer new → (after : Files) × (new ≡ Some after)
 still_told custom (Ok success) old new files is (stored, has, new_is) = (put files success.folder success.name stored, new_is ∙ ap (λ (o : Option Files). option_map (λ fs. put fs success.folder success.name stored) o) is)
 still_told custom (Err fault) old new files is new_is = (files, new_is ∙ is)
@@ -240,10 +240,10 @@ module _ (promotions : PromotionsHaveOneOutcome) where
   not_usage state is (inl done) = cc
   not_usage state is (inr refused) = cc
 
-  -- and neither the source nor want of memory
-  no_fault : (from to : SourceView) (gave behind : List ℕ) (state : Status) → SourceFailed from to gave behind state ⊎ WantedMemory from to state → IsClean state → ⊥
-  no_fault from to gave behind state (inl failed) clean = not_outside state failed.state_is clean
-  no_fault from to gave behind state (inr memory) clean = not_memory state memory.state_is clean
+  -- and neither the source nor out of memory
+  no_fault : (from to : SourceView) (gave suffix : List ℕ) (state : Status) → SourceFailed from to gave suffix state ⊎ WantedMemory from to state → IsClean state → ⊥
+  no_fault from to gave suffix state (inl failed) clean = not_outside state failed.state_is clean
+  no_fault from to gave suffix state (inr memory) clean = not_memory state memory.state_is clean
 
   -- all of the script is what was given and what is left
   whole_script : (from to : Option (List ℕ)) (gave more script : List ℕ) → Consumes from to gave → IsTold to more → from ≡ Some script → gave ++ more ≡ script
@@ -256,7 +256,7 @@ module _ (promotions : PromotionsHaveOneOutcome) where
       let same : gave ++ more ≡ script = whole_script from.left to.left gave more script given.taken given.told is in
       let Q : List ℕ → Type 0 = λ s. RanThrough limit s from to old new held now state in subst Q same ran
   clean_through limit script from to old new held now state (gave, more, given, inr (inl ran)) is clean = absurd (not_stopped ran.fault state ran.state_is clean)
-  clean_through limit script from to old new held now state (gave, more, given, inr (inr ran)) is clean = absurd (no_fault from to gave ran.behind state ran.cause clean)
+  clean_through limit script from to old new held now state (gave, more, given, inr (inr ran)) is clean = absurd (no_fault from to gave ran.suffix state ran.cause clean)
 
   -- a clean call ran with the limit that the words give
   clean_run : (words : List (List ℕ)) (from to : SourceView) (old new : StoreView) (held now : SinkView) (state : Status) → HasCalled words from to old new held now state → IsClean state → (limit : ℕ) × GivesLimit words limit × HasRun limit from to old new held now state

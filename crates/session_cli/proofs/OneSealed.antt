@@ -11,10 +11,10 @@ use Rattle.definitions.specs.Named.{IsSystemNamed}
 use Rattle.session_cli.specs.FormulaSteps.{AreMeant, library_of}
 use Rattle.definitions.proofs.NameLemmas.{one_meaning}
 
--- a system that stands under a name is sealed, and means what the name means
+-- a system that is under a name is sealed, and means what the name means
 record IsFound (custom : Custom) (name : List ℕ) (s : SystemValue) : Type 0 where
   sealed : IsSealed s
-  meant : IsSystemNamed custom name s.way (system_of s)
+  meant : IsSystemNamed custom name s.direction (system_of s)
 
 found : (custom : Custom) (systems : List NamedSystem) (name : List ℕ) (s : SystemValue) → AreSealed systems → AreMeant custom systems → system_named systems name ≡ Some s → IsFound custom name s
 found custom [] name s sealed meant is = absurd cc
@@ -24,7 +24,7 @@ found custom (r ∷ rs) name s sealed meant is = by (bytes_eq r.name name) refl 
     by true same rest is =
         let one : r.system ≡ s = cc in
         let names : r.name ≡ name = (bytes_eq-Decides r.name name).0 same in
-        let here : IsSystemNamed custom name r.system.way (system_of r.system) = subst (λ (n : List ℕ). IsSystemNamed custom n r.system.way (system_of r.system)) names meant.0 in
+        let here : IsSystemNamed custom name r.system.direction (system_of r.system) = subst (λ (n : List ℕ). IsSystemNamed custom n r.system.direction (system_of r.system)) names meant.0 in
         subst (IsFound custom name) one (record { sealed = sealed.0; meant = here })
     by false other rest is = rest is
 
@@ -36,6 +36,6 @@ meant_agree custom systems others sealed meant sealed' meant' = record {
   systems = λ name s t is is'.
       let one : IsFound custom name s = found custom systems name s sealed meant is in
       let other : IsFound custom name t = found custom others name t sealed' meant' is' in
-      let same : (s.way ≡ t.way) × (system_of s ≡ system_of t) = one_meaning custom name s.way t.way (system_of s) (system_of t) one.meant other.meant in
+      let same : (s.direction ≡ t.direction) × (system_of s ≡ system_of t) = one_meaning custom name s.direction t.direction (system_of s) (system_of t) one.meant other.meant in
       one_sealed s t one.sealed other.sealed same.0 same.1;
 }

@@ -46,7 +46,7 @@ use Rattle.session_cli.proofs.OneHeads.{head_single}
 use Rattle.session_cli.proofs.OneLoadings.{same_there}
 use Rattle.session_cli.proofs.OneTexts.{stored_single}
 
--- a `macro` stores what stands in its quotes
+-- a `macro` stores what is in its quotes
 pub macro_single : (ledger : Ledger) (text : List ℕ) → IsSingle (macro_checks ledger text)
 macro_single ledger text =
     then_single (Pure (HeadAnswers (SpellsNamed (codes "macro")) text)) (λ (head : NamedHead). stored (custom_of ledger) (text_success Macros head.name head.body)) (head_single (SpellsNamed (codes "macro")) (one_head (SpellsNamed (codes "macro")) (one_named (codes "macro"))) text)
@@ -92,7 +92,7 @@ rules_is body (Err (faults.Clash of one two)) a = absurd a
 rules_is body (Err (faults.Direction one two)) a = absurd a
 rules_is body (Err (faults.Letters step)) a = absurd a
 rules_is body (Err (faults.States step)) a = absurd a
-rules_is body (Err (faults.WordGap of spelling)) a = absurd a
+rules_is body (Err (faults.WordGap of representation)) a = absurd a
 rules_is body (Err (faults.Plain of)) a = absurd a
 rules_is body (Err (faults.Morphism kind)) a = absurd a
 rules_is body (Err (faults.LetterMissing letter)) a = absurd a
@@ -148,7 +148,7 @@ loading_is ledger name (Err (faults.Clash of one two)) a = absurd a
 loading_is ledger name (Err (faults.Direction one two)) a = absurd a
 loading_is ledger name (Err (faults.Letters step)) a = absurd a
 loading_is ledger name (Err (faults.States step)) a = absurd a
-loading_is ledger name (Err (faults.WordGap of spelling)) a = absurd a
+loading_is ledger name (Err (faults.WordGap of representation)) a = absurd a
 loading_is ledger name (Err (faults.Plain of)) a = absurd a
 loading_is ledger name (Err (faults.Morphism kind)) a = absurd a
 loading_is ledger name (Err (faults.LetterMissing letter)) a = absurd a
@@ -193,7 +193,7 @@ promotion_is limit rules (Err (faults.NotAdmitted of law)) a = absurd a
 promotion_is limit rules (Err (faults.Clash of one two)) a = absurd a
 promotion_is limit rules (Err (faults.Direction one two)) a = absurd a
 promotion_is limit rules (Err (faults.Letters step)) a = absurd a
-promotion_is limit rules (Err (faults.WordGap of spelling)) a = absurd a
+promotion_is limit rules (Err (faults.WordGap of representation)) a = absurd a
 promotion_is limit rules (Err (faults.Plain of)) a = absurd a
 promotion_is limit rules (Err (faults.LetterMissing letter)) a = absurd a
 promotion_is limit rules (Err (faults.CombineShape one two)) a = absurd a

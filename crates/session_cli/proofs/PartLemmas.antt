@@ -35,7 +35,7 @@ module _ (l : LibraryValue) (s : Name) (k : ℕ) where
   stopped_here : (letters : List ℤ) (n : ℕ) (parts : List PartValue) (old middle new : StepLog) (fault : StepFault) → n < length letters → AreBuilt l s k old (take n letters) parts middle → IsStopped middle l (letter_plan s k (get_or letters n (pos 0))).steps new fault
       → IsLetterStopped l s k old letters fault new
   stopped_here letters n parts old middle new fault within built stopped = record {
-    front = take n letters;
+    prefix = take n letters;
     here = get_or letters n (pos 0);
     rest = drop (suc n) letters;
     letters_are = cut letters n within;

@@ -70,7 +70,7 @@ pub no_more_read : (limit : ℕ) (custom : Custom) (name : List ℕ) (rules : Ru
 no_more_read limit custom name rules place (inl read) = read
 no_more_read limit custom name rules place (inr (lines, promoted, read)) = read
 
--- an accepted `promote` stands under the word's name among words
+-- an accepted `promote` is under the word's name among words
 stands_at : (limit : ℕ) (custom : Custom) (name : List ℕ) (rules : Rules) (success : Success) → (after_morphism limit custom name rules).answers (Ok success) → (Words ≡ success.folder) × (name ≡ success.name)
 stands_at limit custom name rules success (lines, promoted, (is, text)) = (sym (ap (λ (s : Success). s.folder) is), sym (ap (λ (s : Success). s.name) is))
 

@@ -8,7 +8,7 @@ use Rattle.dfa_loading.specs.Headers.{headers_of}
 use Rattle.dfa_loading.specs.Loading.{AreListedBy}
 use Rattle.dfa_loading.specs.declared.loaded.Loaded.{Loaded}
 use Rattle.num_system.specs.Sealed.{SystemValue}
-use Rattle.num_system.specs.Tracks.{HaveOneWay}
+use Rattle.num_system.specs.Tracks.{ShareDirection}
 use Rattle.formula_parse.specs.Tokens.{Name}
 use Rattle.formula_parse.specs.Trees as trees
 use Rattle.formula_resolve.specs.FirstMentions.{first_files, first_systems, IsOnce}
@@ -19,7 +19,7 @@ use Rattle.formula_resolve.specs.declared.file.File.{File}
 use Rattle.formula_resolve.specs.declared.mention.Mention.{Mention}
 use Rattle.formula_build.specs.Libraries.{NamedSystem, system_named}
 use Rattle.formula_build.specs.Resolved as resolved
-use Rattle.formula_build.specs.Solutions.{way_named}
+use Rattle.formula_build.specs.Solutions.{direction_named}
 use Rattle.system_files.specs.SystemFiles.{Custom}
 use Rattle.definitions.specs.TableLaws.{FilesAreTables}
 use Rattle.session_cli.specs.FormulaPlans.{HasSystems}
@@ -27,12 +27,12 @@ use Rattle.session_cli.specs.FormulaSteps.{AreMeant}
 use Rattle.session_cli.specs.TableReads.{AreSystemsUnder}
 use Rattle.session_cli.specs.SealedSystems.{HasSystemIn}
 use Rattle.session_cli.specs.TableReading.{IsReadable, AreReadable}
-use Rattle.session_cli.proofs.MeantNames.{found_way}
+use Rattle.session_cli.proofs.MeantNames.{found_direction}
 use Rattle.session_cli.proofs.TableFiles.{IsListedTable, files_apart, tables_listed}
-use Rattle.session_cli.proofs.TableHeaders.{systems_in, IsKeptIn, headers_kept, file_tracks, tracks_kept, IsOneWay, tables_one_way}
+use Rattle.session_cli.proofs.TableHeaders.{systems_in, IsKeptIn, headers_kept, file_tracks, tracks_kept, IsOfOneDirection, tables_shared_direction}
 use Rattle.session_cli.proofs.MentionedTables.{OfMention, IsNotPlain, IsNotOverSets, formula_not_plain, none_over_sets, tables_systems}
 
--- what stands under each of some names
+-- what is under each of some names
 abbrev AreUnder : List NamedSystem → List Name → List SystemValue → Type 0
 AreUnder systems names tracks = AllZip (λ name s. system_named systems name ≡ Some s) names tracks
 
@@ -41,47 +41,47 @@ tracks_under : (systems : List NamedSystem) (names : List Name) → AllByRecursi
 tracks_under systems [] has = ([], tt)
 tracks_under systems (name ∷ names) has = let rest = tracks_under systems names has.1 in (has.0.0 ∷ rest.0, (has.0.1, rest.1))
 
--- each system has the direction that its name tells
-under_ways : (custom : Custom) (systems : List NamedSystem) (names : List Name) (tracks : List SystemValue) (way : Direction) → AreMeant custom systems → AllByRecursion (λ name. way_named name ≡ way) names → AreUnder systems names tracks → AllByRecursion (λ (s : SystemValue). s.way ≡ way) tracks
-under_ways custom systems [] [] way are ways under = tt
-under_ways custom systems [] (s ∷ tracks) way are ways under = absurd under
-under_ways custom systems (name ∷ names) [] way are ways under = absurd under
-under_ways custom systems (name ∷ names) (s ∷ tracks) way are ways under = (found_way custom systems name s are under.0 ∙ ways.0, under_ways custom systems names tracks way are ways.1 under.1)
+-- each system has the direction that its name says
+under_directions : (custom : Custom) (systems : List NamedSystem) (names : List Name) (tracks : List SystemValue) (direction : Direction) → AreMeant custom systems → AllByRecursion (λ name. direction_named name ≡ direction) names → AreUnder systems names tracks → AllByRecursion (λ (s : SystemValue). s.direction ≡ direction) tracks
+under_directions custom systems [] [] direction are directions under = tt
+under_directions custom systems [] (s ∷ tracks) direction are directions under = absurd under
+under_directions custom systems (name ∷ names) [] direction are directions under = absurd under
+under_directions custom systems (name ∷ names) (s ∷ tracks) direction are directions under = (found_direction custom systems name s are under.0 ∙ directions.0, under_directions custom systems names tracks direction are directions.1 under.1)
 
 -- names of one direction have that of the first
-as_first : (names : List Name) (way : Direction) → ((i : ℕ) → i < length names → way_named (get_or names i []) ≡ way) → AllByRecursion (λ name. way_named name ≡ way) names
-as_first [] way each = tt
-as_first (name ∷ names) way each = (each 0 (omega arith), as_first names way (λ i within. each (suc i) (omega (arith, within))))
+as_first : (names : List Name) (direction : Direction) → ((i : ℕ) → i < length names → direction_named (get_or names i []) ≡ direction) → AllByRecursion (λ name. direction_named name ≡ direction) names
+as_first [] direction each = tt
+as_first (name ∷ names) direction each = (each 0 (omega arith), as_first names direction (λ i within. each (suc i) (omega (arith, within))))
 
 -- so systems under names of one direction have one direction
-pub under_one_way : (custom : Custom) (systems : List NamedSystem) (names : List Name) (tracks : List SystemValue) → AreMeant custom systems → resolved.HaveOneWay way_named names → AreUnder systems names tracks → HaveOneWay tracks
-under_one_way custom systems [] [] are one under = tt
-under_one_way custom systems [] (s ∷ tracks) are one under = absurd under
-under_one_way custom systems (name ∷ names) [] are one under = absurd under
-under_one_way custom systems (name ∷ names) (s ∷ tracks) are one under =
-    let ways : AllByRecursion (λ n. way_named n ≡ s.way) (name ∷ names) = as_first (name ∷ names) s.way (λ i within. one i 0 within (omega arith) ∙ sym (found_way custom systems name s are under.0)) in
-    under_ways custom systems (name ∷ names) (s ∷ tracks) s.way are ways under
+pub under_shared_direction : (custom : Custom) (systems : List NamedSystem) (names : List Name) (tracks : List SystemValue) → AreMeant custom systems → resolved.ShareDirection direction_named names → AreUnder systems names tracks → ShareDirection tracks
+under_shared_direction custom systems [] [] are one under = tt
+under_shared_direction custom systems [] (s ∷ tracks) are one under = absurd under
+under_shared_direction custom systems (name ∷ names) [] are one under = absurd under
+under_shared_direction custom systems (name ∷ names) (s ∷ tracks) are one under =
+    let directions : AllByRecursion (λ n. direction_named n ≡ s.direction) (name ∷ names) = as_first (name ∷ names) s.direction (λ i within. one i 0 within (omega arith) ∙ sym (found_direction custom systems name s are under.0)) in
+    under_directions custom systems (name ∷ names) (s ∷ tracks) s.direction are directions under
 
 -- a table is readable whose systems are there
-readable : (custom : Custom) (systems : List NamedSystem) (table : Loaded) → AreMeant custom systems → IsListedTable table → IsNotOverSets table → IsOneWay table → AllByRecursion (HasSystemIn systems) (known (systems_in table.listed.header)) → IsReadable systems table
+readable : (custom : Custom) (systems : List NamedSystem) (table : Loaded) → AreMeant custom systems → IsListedTable table → IsNotOverSets table → IsOfOneDirection table → AllByRecursion (HasSystemIn systems) (known (systems_in table.listed.header)) → IsReadable systems table
 readable custom systems table are listed plain one has = by table.listed.header refl one has
   where
-    made : (header : Header) (tracks : List SystemValue) → table.listed.header ≡ header → AreSystemsUnder systems header tracks → HaveOneWay tracks → IsReadable systems table
-    made header tracks is over one_way = record {
+    made : (header : Header) (tracks : List SystemValue) → table.listed.header ≡ header → AreSystemsUnder systems header tracks → ShareDirection tracks → IsReadable systems table
+    made header tracks is over shared_direction = record {
       is_table = listed.is_table;
       is_word = listed.is_word;
       tracks = tracks;
       over = subst (λ (h : Header). AreSystemsUnder systems h tracks) (sym is) over;
-      one_way = one_way;
+      shared_direction = shared_direction;
     }
 
-    by : (header : Header) → table.listed.header ≡ header → resolved.HaveOneWay way_named (known (systems_in header)) → AllByRecursion (HasSystemIn systems) (known (systems_in header)) → IsReadable systems table
-    by (Truth value) is ways under = made (Truth value) [] is refl tt
-    by (Systems names) is ways under = let tracks = tracks_under systems names under in made (Systems names) tracks.0 is tracks.1 (under_one_way custom systems names tracks.0 are ways tracks.1)
-    by (Sets sets) is ways under = absurd (plain sets is)
+    by : (header : Header) → table.listed.header ≡ header → resolved.ShareDirection direction_named (known (systems_in header)) → AllByRecursion (HasSystemIn systems) (known (systems_in header)) → IsReadable systems table
+    by (Truth value) is directions under = made (Truth value) [] is refl tt
+    by (Systems names) is directions under = let tracks = tracks_under systems names under in made (Systems names) tracks.0 is tracks.1 (under_shared_direction custom systems names tracks.0 are directions tracks.1)
+    by (Sets sets) is directions under = absurd (plain sets is)
 
 all_readable : (custom : Custom) (systems : List NamedSystem) (tables : List Loaded) (h : Headers) → AreMeant custom systems → AllByRecursion IsListedTable tables
-    → AllByRecursion (IsKeptIn h) tables → AllByRecursion IsNotOverSets tables → AllByRecursion IsOneWay tables → AllByRecursion (λ (t : Loaded). AllByRecursion (HasSystemIn systems) (file_tracks h t.file)) tables → AreReadable systems tables
+    → AllByRecursion (IsKeptIn h) tables → AllByRecursion IsNotOverSets tables → AllByRecursion IsOfOneDirection tables → AllByRecursion (λ (t : Loaded). AllByRecursion (HasSystemIn systems) (file_tracks h t.file)) tables → AreReadable systems tables
 all_readable custom systems [] h are listed own plain one has = tt
 all_readable custom systems (table ∷ tables) h are listed own plain one has =
     let under : AllByRecursion (HasSystemIn systems) (known (systems_in table.listed.header)) = subst (AllByRecursion (HasSystemIn systems)) (tracks_kept h table own.0) has.0 in
@@ -96,7 +96,7 @@ mentions_readable law systems files tables ms once listed called has custom mean
     all_readable custom systems tables h meant (tables_listed law files named tables listed)
     (headers_kept tables (files_apart files named tables once listed))
     (none_over_sets law files tables ms once listed called)
-    (tables_one_way files named tables listed)
+    (tables_shared_direction files named tables listed)
     (tables_systems (HasSystemIn systems) h files ms tables listed has.mentioned)
 
 -- the tables of a formula without fault are readable by the systems that it mentions

@@ -53,7 +53,7 @@ tracks_fail limit custom head admitted fault known refused =
     fails_after (systems_known limit custom (systems_named head.alphabets)) (λ log. after_admission custom head log) admitted fault known
     (fails_first (Pure (TracksAnswers custom head.alphabets)) (λ ts. after_tracks admitted custom head.name head.body ts) fault refused)
 
--- an accepted `reg` stands under its name among the automata
+-- an accepted `reg` is under its name among the automata
 record IsAt (head : RegHead) (success : Success) : Type 0 where
   folder : Automata ≡ success.folder
   name : head.name ≡ success.name

@@ -11,7 +11,7 @@ use Rattle.regex_build.specs.Parsing.{Parses}
 use Rattle.dfa_text.specs.Meaning.{AreTrackSets}
 use Rattle.dfa_text.specs.RelationText.{relation_text}
 use Rattle.product_op.specs.Validity.{AreLanguages}
-use Rattle.numeration.specs.Spelling as spelling
+use Rattle.numeration.specs.Representation as representation
 use Rattle.digit_tuple.specs.declared.step_fault.StepFault.{StepFault}
 use Rattle.digit_tuple.specs.declared.step_fault.StepFault.TheVariants as step_faults
 use Rattle.reg_steps.specs.RegexSteps as regex_steps
@@ -40,10 +40,10 @@ use Rattle.session_cli.proofs.CheckSteps.{fails_first, fails_after, makes_after}
 use Rattle.definitions.proofs.NameLemmas.{named_are_systems}
 use Rattle.definitions.proofs.RegexTexts.{regex_text}
 
--- over the digits of systems stand as many digits as the systems have
-pub system_sizes : (way : Direction) (named : List NamedSystem) → sizes_of (letter_sets (OverSystems way named)) ≡ spelling.sizes_of (systems_of named)
-system_sizes way [] = refl
-system_sizes way (s ∷ named) = ap (λ (n : ℕ). n ∷ sizes_of (letter_sets (OverSystems way named))) (length-digit_set s.system.digits) ∙ ap (λ (ns : List ℕ). s.system.digits ∷ ns) (system_sizes way named)
+-- over the digits of systems are as many digits as the systems have
+pub system_sizes : (direction : Direction) (named : List NamedSystem) → sizes_of (letter_sets (OverSystems direction named)) ≡ representation.sizes_of (systems_of named)
+system_sizes direction [] = refl
+system_sizes direction (s ∷ named) = ap (λ (n : ℕ). n ∷ sizes_of (letter_sets (OverSystems direction named))) (length-digit_set s.system.digits) ∙ ap (λ (ns : List ℕ). s.system.digits ∷ ns) (system_sizes direction named)
 
 -- three lines after others
 three_lines : (lines : List StepLine) (one two three : StepLine) → ((lines ++ one ∷ []) ++ two ∷ []) ++ three ∷ [] ≡ lines ++ one ∷ two ∷ three ∷ []
@@ -92,7 +92,7 @@ made_by_steps custom admitted name tracks body shown pattern lines printed_lines
     by_text (Err (faults.File of file flaw)) refused = absurd refused
     by_text (Err (faults.Arity of tracks given)) refused = absurd refused
     by_text (Err (faults.Clash of one two)) refused = absurd refused
-    by_text (Err (faults.WordGap of spelling)) refused = absurd refused
+    by_text (Err (faults.WordGap of representation)) refused = absurd refused
     by_text (Err (faults.Plain of)) refused = absurd refused
 
 -- the step over sets was made
@@ -105,16 +105,16 @@ made_over_sets custom admitted name sets body shown pattern automaton steps trac
     (regex_text sets pattern.tree automaton (relation_text (header_of (OverSets sets)) automaton) tracks step.of_regex refl) (ap (λ (log : StepLog). log.lines) done.new_is) prints
 
 -- the steps over systems were made
-pub made_over_systems : (custom : Custom) (admitted : StepLog) (name : List ℕ) (way : Direction) (named : List NamedSystem) (languages : List Automaton) (body : List ℕ) (shown : Bool) (pattern : Pattern) (automaton : Automaton) (steps : StepLog) → 0 < length named → AreNamed custom way named
-    → AreSystemLanguages way (systems_of named) languages → Parses (letter_sets (OverSystems way named)) body (Ok pattern)
-    → AreDone admitted way languages pattern.sets pattern.tree automaton steps → (result : Result Made Fault) → Prints (header_of (OverSystems way named)) automaton shown steps.lines result
-    → Makes custom (after_tracks admitted custom name body (OverSystems way named)) shown result
-made_over_systems custom admitted name way named languages body shown pattern automaton steps some are_named are parses made result prints =
-    let P : List (List ℤ) → Type 0 = λ over. AreDone admitted way languages over pattern.tree automaton steps in
-    let done : AreDone admitted way languages (letter_sets (OverSystems way named)) pattern.tree automaton steps = subst P parses.sets_are made in
-    let relation : IsRelation way (systems_of named) (letter_sets (OverSystems way named)) pattern.tree automaton =
-    relation_made admitted.limit way (systems_of named) languages (letter_sets (OverSystems way named)) pattern.tree automaton done.valid (named_are_systems custom way named are_named) are (system_sizes way named) done.steps in
-    made_by_steps custom admitted name (OverSystems way named) body shown pattern (admitted.lines ++ done.steps.before.regex ∷ done.steps.before.pad ∷ done.valid ∷ []) steps.lines automaton result parses
+pub made_over_systems : (custom : Custom) (admitted : StepLog) (name : List ℕ) (direction : Direction) (named : List NamedSystem) (languages : List Automaton) (body : List ℕ) (shown : Bool) (pattern : Pattern) (automaton : Automaton) (steps : StepLog) → 0 < length named → AreNamed custom direction named
+    → AreSystemLanguages direction (systems_of named) languages → Parses (letter_sets (OverSystems direction named)) body (Ok pattern)
+    → AreDone admitted direction languages pattern.sets pattern.tree automaton steps → (result : Result Made Fault) → Prints (header_of (OverSystems direction named)) automaton shown steps.lines result
+    → Makes custom (after_tracks admitted custom name body (OverSystems direction named)) shown result
+made_over_systems custom admitted name direction named languages body shown pattern automaton steps some are_named are parses made result prints =
+    let P : List (List ℤ) → Type 0 = λ over. AreDone admitted direction languages over pattern.tree automaton steps in
+    let done : AreDone admitted direction languages (letter_sets (OverSystems direction named)) pattern.tree automaton steps = subst P parses.sets_are made in
+    let relation : IsRelation direction (systems_of named) (letter_sets (OverSystems direction named)) pattern.tree automaton =
+    relation_made admitted.limit direction (systems_of named) languages (letter_sets (OverSystems direction named)) pattern.tree automaton done.valid (named_are_systems custom direction named are_named) are (system_sizes direction named) done.steps in
+    made_by_steps custom admitted name (OverSystems direction named) body shown pattern (admitted.lines ++ done.steps.before.regex ∷ done.steps.before.pad ∷ done.valid ∷ []) steps.lines automaton result parses
     (record { languages = languages; languages_are = are; automaton = automaton; valid = done.valid; steps = done.steps; lines_are = refl }) (record { some = some; are = are_named; automaton = automaton; of_relation = relation; text_is = refl })
     (ap (λ (log : StepLog). log.lines) done.new_is ∙ three_lines admitted.lines done.steps.before.regex done.steps.before.pad done.valid) prints
 
@@ -133,21 +133,21 @@ refused_over_sets custom admitted name sets body pattern fault parses refused = 
     by_fault (step_faults.States step) (is, passes) = let P : List (List ℤ) → Type 0 = λ over. regex_steps.ExceedsStates admitted.limit over pattern.tree in (is, subst P parses.sets_are passes)
     by_fault step_faults.Memory refused = tt
 
-pub refused_over_systems : (custom : Custom) (admitted : StepLog) (name : List ℕ) (way : Direction) (named : List NamedSystem) (languages : List Automaton) (body : List ℕ) (pattern : Pattern) (fault : StepFault) → AreSystemLanguages way (systems_of named) languages
-    → Parses (letter_sets (OverSystems way named)) body (Ok pattern) → AreRefused admitted way languages pattern.sets pattern.tree fault → Fails (after_tracks admitted custom name body (OverSystems way named)) (fault_of fault)
-refused_over_systems custom admitted name way named languages body pattern fault are parses refused = unstepped custom admitted name (OverSystems way named) body pattern (fault_of fault) parses (by_fault fault refused)
+pub refused_over_systems : (custom : Custom) (admitted : StepLog) (name : List ℕ) (direction : Direction) (named : List NamedSystem) (languages : List Automaton) (body : List ℕ) (pattern : Pattern) (fault : StepFault) → AreSystemLanguages direction (systems_of named) languages
+    → Parses (letter_sets (OverSystems direction named)) body (Ok pattern) → AreRefused admitted direction languages pattern.sets pattern.tree fault → Fails (after_tracks admitted custom name body (OverSystems direction named)) (fault_of fault)
+refused_over_systems custom admitted name direction named languages body pattern fault are parses refused = unstepped custom admitted name (OverSystems direction named) body pattern (fault_of fault) parses (by_fault fault refused)
   where
-    by_fault : (f : StepFault) → AreRefused admitted way languages pattern.sets pattern.tree f → Fails (Pure (StepsAnswers admitted (OverSystems way named) pattern.tree)) (fault_of f)
+    by_fault : (f : StepFault) → AreRefused admitted direction languages pattern.sets pattern.tree f → Fails (Pure (StepsAnswers admitted (OverSystems direction named) pattern.tree)) (fault_of f)
     by_fault (step_faults.Letters step) (is, passes) = let P : List (List ℤ) → Type 0 = λ over. regex_steps.ExceedsLetters over in (is, subst P parses.sets_are passes)
     by_fault (step_faults.States step) (inl (is, passes)) = let P : List (List ℤ) → Type 0 = λ over. regex_steps.ExceedsStates admitted.limit over pattern.tree in inl (is, subst P parses.sets_are passes)
-    by_fault (step_faults.States step) (inr (inl (is, passes))) = let P : List (List ℤ) → Type 0 = λ over. SecondExceeds admitted.limit way over pattern.tree in inr (inl (is, subst P parses.sets_are passes))
+    by_fault (step_faults.States step) (inr (inl (is, passes))) = let P : List (List ℤ) → Type 0 = λ over. SecondExceeds admitted.limit direction over pattern.tree in inr (inl (is, subst P parses.sets_are passes))
     by_fault (step_faults.States step) (inr (inr (is, passes))) =
-        let P : List (List ℤ) → Type 0 = λ over. ThirdExceeds admitted.limit way languages over pattern.tree in
+        let P : List (List ℤ) → Type 0 = λ over. ThirdExceeds admitted.limit direction languages over pattern.tree in
         inr (inr (is, record { languages = languages; languages_are = are; third = subst P parses.sets_are passes }))
     by_fault step_faults.Memory refused = tt
 
 -- the languages of the tracks of an expression over systems
-pub languages_fit : (way : Direction) (named : List NamedSystem) (languages : List Automaton) (body : List ℕ) (pattern : Pattern) → AreSystemLanguages way (systems_of named) languages → Parses (letter_sets (OverSystems way named)) body (Ok pattern)
+pub languages_fit : (direction : Direction) (named : List NamedSystem) (languages : List Automaton) (body : List ℕ) (pattern : Pattern) → AreSystemLanguages direction (systems_of named) languages → Parses (letter_sets (OverSystems direction named)) body (Ok pattern)
     → AreLanguages (sizes_of pattern.sets) languages
-languages_fit way named languages body pattern are parses =
-    subst (λ (sizes : List ℕ). AreLanguages sizes languages) (sym (ap sizes_of parses.sets_are ∙ system_sizes way named)) (languages_of_tracks way (systems_of named) languages are)
+languages_fit direction named languages body pattern are parses =
+    subst (λ (sizes : List ℕ). AreLanguages sizes languages) (sym (ap sizes_of parses.sets_are ∙ system_sizes direction named)) (languages_of_tracks direction (systems_of named) languages are)

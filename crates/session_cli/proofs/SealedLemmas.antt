@@ -21,7 +21,7 @@ use Rattle.system_files.specs.SystemFiles.{Custom}
 use Rattle.definitions.specs.Named.{IsBuiltInSystem, IsSystemNamed}
 use Rattle.session_cli.specs.declared.known_system.KnownSystem.{KnownSystem}
 use Rattle.session_cli.specs.declared.known_system.KnownSystem.TheVariants.{Base, Fibonacci}
-use Rattle.session_cli.specs.KnownSystems.{system_of, way_of, name_of}
+use Rattle.session_cli.specs.KnownSystems.{system_of, direction_of, name_of}
 use Rattle.session_cli.specs.FormulaSteps.{AreMeant}
 use Rattle.session_cli.specs.SealedSystems.{HasSystemIn, AreBuiltIn, HasBuiltIn, Extends, AddsSystem, AddsBuiltIn}
 use Rattle.session_cli.specs.UserSystems.{IsThere}
@@ -32,11 +32,11 @@ pub system_fits : (s : KnownSystem) → IsAlphabet ((system_of s).digits ∷ (sy
 system_fits (Base s) = three_fit s.base s.at_most
 system_fits (Fibonacci s) = record { tracks = omega arith; letters = omega arith }
 
--- what stands under a name stays there where more come after
+-- what is under a name stays there where more come after
 pub stays : (systems : List NamedSystem) (name : List ℕ) (s : SystemValue) (other : List ℕ) → HasSystemIn systems other → HasSystemIn (with_system systems name s) other
 stays systems name s other has = (has.0, named_first systems (record { name = name; system = s } ∷ []) other has.0 has.1)
 
--- something stands under the last name
+-- something is under the last name
 pub last_stands : (systems : List NamedSystem) (name : List ℕ) (s : SystemValue) → HasSystemIn (with_system systems name s) name
 last_stands [] name s = let same : bytes_eq name name ≡ true = (bytes_eq-Decides name name).1 refl in rw same (s, refl)
 last_stands (x ∷ systems) name s = by (bytes_eq x.name name) (last_stands systems name s)
@@ -46,29 +46,29 @@ last_stands (x ∷ systems) name s = by (bytes_eq x.name name) (last_stands syst
     by false rest = rest
 
 -- and the last is what its name means
-pub meant_push : (custom : Custom) (systems : List NamedSystem) (name : List ℕ) (s : SystemValue) → AreMeant custom systems → IsSystemNamed custom name s.way (sealed.system_of s) → AreMeant custom (with_system systems name s)
+pub meant_push : (custom : Custom) (systems : List NamedSystem) (name : List ℕ) (s : SystemValue) → AreMeant custom systems → IsSystemNamed custom name s.direction (sealed.system_of s) → AreMeant custom (with_system systems name s)
 meant_push custom [] name s are is = (is, tt)
 meant_push custom (x ∷ systems) name s are is = (are.0, meant_push custom systems name s are.1 is)
 
 -- a built-in system that is sealed is what its name means
-pub sealed_built_in : (known : KnownSystem) (name : List ℕ) (s : SystemValue) → name ≡ name_of known → sealed.system_of s ≡ system_of known → s.way ≡ way_of known → IsBuiltInSystem name s.way (sealed.system_of s)
-sealed_built_in known name s named is way = rw (named, is, way) (its_name_means known)
+pub sealed_built_in : (known : KnownSystem) (name : List ℕ) (s : SystemValue) → name ≡ name_of known → sealed.system_of s ≡ system_of known → s.direction ≡ direction_of known → IsBuiltInSystem name s.direction (sealed.system_of s)
+sealed_built_in known name s named is direction = rw (named, is, direction) (its_name_means known)
 
 -- one more that is built in
-pub built_in_push : (systems : List NamedSystem) (name : List ℕ) (s : SystemValue) → AreBuiltIn systems → IsBuiltInSystem name s.way (sealed.system_of s) → AreBuiltIn (with_system systems name s)
+pub built_in_push : (systems : List NamedSystem) (name : List ℕ) (s : SystemValue) → AreBuiltIn systems → IsBuiltInSystem name s.direction (sealed.system_of s) → AreBuiltIn (with_system systems name s)
 built_in_push [] name s are is = (is, tt)
 built_in_push (x ∷ systems) name s are is = (are.0, built_in_push systems name s are.1 is)
 
--- what stands among built-in systems under a name is the one of the name
-pub built_in_found : (systems : List NamedSystem) (name : List ℕ) (s : SystemValue) → AreBuiltIn systems → system_named systems name ≡ Some s → IsBuiltInSystem name s.way (sealed.system_of s)
+-- what is among built-in systems under a name is the one of the name
+pub built_in_found : (systems : List NamedSystem) (name : List ℕ) (s : SystemValue) → AreBuiltIn systems → system_named systems name ≡ Some s → IsBuiltInSystem name s.direction (sealed.system_of s)
 built_in_found [] name s are found = absurd (none-some s found)
 built_in_found (x ∷ systems) name s are found = by (bytes_eq x.name name) refl (λ (there : system_named systems name ≡ Some s). built_in_found systems name s are.1 there) found
   where
-    by : (b : Bool) → bytes_eq x.name name ≡ b → (system_named systems name ≡ Some s → IsBuiltInSystem name s.way (sealed.system_of s)) → (if b then Some x.system else system_named systems name) ≡ Some s → IsBuiltInSystem name s.way (sealed.system_of s)
+    by : (b : Bool) → bytes_eq x.name name ≡ b → (system_named systems name ≡ Some s → IsBuiltInSystem name s.direction (sealed.system_of s)) → (if b then Some x.system else system_named systems name) ≡ Some s → IsBuiltInSystem name s.direction (sealed.system_of s)
     by true same rest is =
         let names : x.name ≡ name = (bytes_eq-Decides x.name name).0 same in
         let systems_same : x.system ≡ s = cc in
-        subst (λ (t : SystemValue). IsBuiltInSystem name t.way (sealed.system_of t)) systems_same (subst (λ (n : List ℕ). IsBuiltInSystem n x.system.way (sealed.system_of x.system)) names are.0)
+        subst (λ (t : SystemValue). IsBuiltInSystem name t.direction (sealed.system_of t)) systems_same (subst (λ (n : List ℕ). IsBuiltInSystem n x.system.direction (sealed.system_of x.system)) names are.0)
     by false apart rest is = rest is
 
 -- what is added by one after another
@@ -76,10 +76,10 @@ pub extends_both : (systems more most : List NamedSystem) → Extends systems mo
 extends_both systems more most one two = record { meant = λ custom are. two.meant custom (one.meant custom are); kept = λ name has. two.kept name (one.kept name has) }
 
 -- and by one that is built in
-pub extends_one : (systems : List NamedSystem) (name : List ℕ) (s : SystemValue) → IsBuiltInSystem name s.way (sealed.system_of s) → Extends systems (with_system systems name s)
+pub extends_one : (systems : List NamedSystem) (name : List ℕ) (s : SystemValue) → IsBuiltInSystem name s.direction (sealed.system_of s) → Extends systems (with_system systems name s)
 extends_one systems name s is = record { meant = λ custom are. meant_push custom systems name s are (inl is); kept = λ other has. stays systems name s other has }
 
--- those that stand there for these names stand there still
+-- those that are there for these names are there still
 pub all_stay : (systems more : List NamedSystem) (names : List (List ℕ)) → Extends systems more → AllByRecursion (HasBuiltIn systems) names → AllByRecursion (HasBuiltIn more) names
 all_stay systems more [] extends all = tt
 all_stay systems more (name ∷ names) extends all = ((λ built. extends.kept name (all.0 built)), all_stay systems more names extends all.1)

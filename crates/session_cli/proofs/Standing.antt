@@ -1,4 +1,4 @@
--- Where a run stands between two items, and how it goes on and ends.
+-- Where a run is between two items, and how it goes on and ends.
 use Rattle.std.proofs.Common.{◌≡◌, ℕ, ◌<◌, ◌≤◌, Bool, true, false, ◌||◌, List, [], ◌∷◌, ◌++◌, length, Result, Ok, Err, refl, sym, ap, subst, inl, inr, arith}
 use Rattle.wal_outside.specs.Sending.{Sends, HasSent}
 use Rattle.wal_outside.specs.declared.sink.WriteFault.{WriteFault}
@@ -47,7 +47,7 @@ begins limit script old held = record {
   counts = record { refused = refl; store = refl; memory = refl };
 }
 
--- a command was answered, its answer counted, and its text handed over, or a front of that where the sink stopped
+-- a command was answered, its answer counted, and its text handed over, or a prefix of that where the sink stopped
 pub record HasAnswered (limit : ℕ) (ledger : Ledger) (old : StoreView) (text : List ℕ) (shown : Bool) (line : ℕ) (told : SinkView) (tally : Tally) (sent : Result (Unit {0}) WriteFault)
     (new : StoreView) (now : SinkView) (counted : Tally) : Type 0 where
   pub result : Result (Unit {0}) Fault

@@ -1,5 +1,5 @@
--- What an accepted command makes may stand in its folder, which is not that of users' systems: no expression and no formula stands among words,
--- and what stands for a word stands there.
+-- What an accepted command makes may be in its folder, which is not that of users' systems: no expression and no formula is among words, and
+-- what stands for a word is there.
 use Rattle.std.proofs.Common.{◌≡◌, ◌≢◌, ℕ, true, eqb, List, Ok, Err, bytes_eq, refl, sym, subst}
 use Rattle.std.proofs.lemmas.Bool.{and_parts}
 use Rattle.wal_outside.specs.Files.{same_file}
@@ -19,7 +19,7 @@ use Rattle.session_cli.specs.RegOutcomes.{reg_checks}
 use Rattle.session_cli.specs.Runs.{IsAnswer}
 use Rattle.session_cli.specs.TextOutcomes.{macro_checks, morphism_checks}
 
--- the entry of an accepted command may stand in its folder, and defines no system
+-- the entry of an accepted command may be in its folder, and defines no system
 abbrev pub Stands : Success → Type 0
 Stands success = (success.folder ≢ Bases) × MayStandIn success.folder (tree_of success.entry)
 
@@ -135,5 +135,5 @@ stands_there at folder under name tree same may = by tree may
     by (Regex tracks expression) stands = apart stands
     by (Formula variables formula bindings) stands = apart stands
     by (Fixed rules) stands = among stands
-    by (Image way system rules image) stands = among stands
-    by (Combine way named parts) stands = among stands
+    by (Image direction system rules image) stands = among stands
+    by (Combine direction named parts) stands = among stands

@@ -1,4 +1,4 @@
--- What is read of tables fits the headers of the tables, and stands under the names of the files.
+-- What is read of tables fits the headers of the tables, and is under the names of the files.
 use Rattle.std.proofs.Common.{◌≡◌, ℕ, zero, suc, ◌<◌, Bool, true, false, List, [], ◌∷◌, length, get_or, Some, if◌then◌else◌, bytes_eq, refl, sym, ap, ◌∙◌, subst, arith}
 use Rattle.std.specs.List.{AllByRecursion, AllZip}
 use Rattle.std.proofs.lemmas.Option.{none-some}
@@ -20,14 +20,14 @@ use Rattle.formula_resolve.specs.declared.file.File.TheVariants.{Automaton, Word
 use Rattle.formula_build.specs.KnownNames.{IsFileIn}
 use Rattle.formula_build.specs.Libraries.{NamedRelation, NamedWord, NamedSystem, AreSealed, AreRelations, AreWords, system_named, relation_named, word_named}
 use Rattle.formula_build.specs.Resolved.{plan_headers}
-use Rattle.formula_build.specs.Solutions.{way_named}
+use Rattle.formula_build.specs.Solutions.{direction_named}
 use Rattle.formula_build.specs.TrackSystems.{IsOverSystems, IsWordOverSystems, Fits}
 use Rattle.system_files.specs.SystemFiles.{Custom}
 use Rattle.definitions.specs.TableLaws.{IsRelationOfTable, TablesHold}
 use Rattle.session_cli.specs.FormulaSteps.{AreMeant}
 use Rattle.session_cli.specs.TableReads.{TableRead, ARelation, AWord, relations_in, words_in, library_with, AreSystemsUnder, IsRelationRead, IsWordRead, IsTableRead, AreTablesRead}
 use Rattle.session_cli.specs.TableReading.{IsReadable, AreReadable}
-use Rattle.session_cli.proofs.MeantNames.{found_way}
+use Rattle.session_cli.proofs.MeantNames.{found_direction}
 use Rattle.session_cli.proofs.TableFiles.{AreApart}
 use Rattle.session_cli.proofs.TableHeaders.{systems_in, IsKeptIn, headers_kept, file_tracks, tracks_kept}
 use Rattle.session_cli.proofs.TableRelations.{relation_of_table}
@@ -126,15 +126,15 @@ module _ (hold : TablesHold) (systems : List NamedSystem) (sealed : AreSealed sy
           subst (IsWordOverSystems (library_with all systems) (word_tracks h name)) one (subst P ((bytes_eq-Decides w.name name).0 same) (word_over_table all h old mid table w kept.0 first))
       by false other found later = later found
 
-  -- what is read stands over the systems of the headers, and systems have the directions of their names
-  pub tables_fit : (custom : Custom) (tables : List Loaded) (reads : List TableRead) (old new : StepLog) → AreMeant custom systems → AreApart tables → AreReadable systems tables → AreTablesRead systems old tables reads new → Fits (library_with reads systems) (plan_headers (headers_of tables)) way_named
+  -- what is read is over the systems of the headers, and systems have the directions of their names
+  pub tables_fit : (custom : Custom) (tables : List Loaded) (reads : List TableRead) (old new : StepLog) → AreMeant custom systems → AreApart tables → AreReadable systems tables → AreTablesRead systems old tables reads new → Fits (library_with reads systems) (plan_headers (headers_of tables)) direction_named
   tables_fit custom tables reads old new are apart readable made = record {
     relations = over_named reads (headers_of tables) tables reads old new (headers_kept tables apart) readable made;
     words = word_over_named reads (headers_of tables) tables reads old new (headers_kept tables apart) made;
-    directions = λ name s is. found_way custom systems name s are is;
+    directions = λ name s is. found_direction custom systems name s are is;
   }
 
--- something stands under the name of each file
+-- something is under the name of each file
 more_known : (systems : List NamedSystem) (r : TableRead) (reads : List TableRead) (file : File) → IsFileIn (library_with reads systems) file → IsFileIn (library_with (r ∷ reads) systems) file
 more_known systems (ARelation r) reads (Automaton m) (v, is) = by (bytes_eq r.name m) refl
   where

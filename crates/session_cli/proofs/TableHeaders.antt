@@ -1,4 +1,4 @@
--- What the headers of loaded tables tell of files.
+-- What the headers of loaded tables say of files.
 use Rattle.std.proofs.Common.{◌≡◌, ◌≢◌, ℕ, Bool, true, false, cond, List, [], ◌∷◌, Option, None, Some, Ok, refl, sym, ap, ◌∙◌, subst, arith}
 use Rattle.std.specs.List.{AllByRecursion, fold}
 use Rattle.std.specs.Option.{option_map}
@@ -21,10 +21,10 @@ use Rattle.formula_resolve.specs.FirstMentions.{is_same_file}
 use Rattle.formula_resolve.specs.Headers.{Headers, no_headers, with_automaton, with_word, known, known_systems, automaton_tracks, word_tracks}
 use Rattle.formula_resolve.specs.declared.file.File.{File}
 use Rattle.formula_resolve.specs.declared.file.File.TheVariants.{Automaton, Word}
-use Rattle.formula_build.specs.Resolved.{HaveOneWay, AreWays}
-use Rattle.formula_build.specs.Solutions.{way_named}
+use Rattle.formula_build.specs.Resolved.{ShareDirection, AreDirections}
+use Rattle.formula_build.specs.Solutions.{direction_named}
 use Rattle.formula_build.proofs.ReadFormulas.{same_file}
-use Rattle.session_cli.proofs.HeaderLines.{file_is_relation, listed_one_way}
+use Rattle.session_cli.proofs.HeaderLines.{file_is_relation, listed_shared_direction}
 use Rattle.session_cli.proofs.TableFiles.{HasNo, AreApart, same_itself}
 
 -- the systems of a header; sets are none
@@ -128,60 +128,60 @@ pub tracks_kept : (h : Headers) (table : Loaded) → IsKeptIn h table → file_t
 tracks_kept h table is = tracks_known h table.file ∙ ap known_systems is ∙ known_kept table.file table.listed.header
 
 -- the systems of a table have one direction
-abbrev pub IsOneWay : Loaded → Type 0
-IsOneWay table = HaveOneWay way_named (known (systems_in table.listed.header))
+abbrev pub IsOfOneDirection : Loaded → Type 0
+IsOfOneDirection table = ShareDirection direction_named (known (systems_in table.listed.header))
 
-none_parted : HaveOneWay way_named []
+none_parted : ShareDirection direction_named []
 none_parted = λ i j within also. absurd (omega (arith, within))
 
-table_one_way : (text : List ℕ) (table : Loaded) → relation_of text ≡ Ok table.listed → IsOneWay table
-table_one_way text table lists = by table.listed.header refl
+table_shared_direction : (text : List ℕ) (table : Loaded) → relation_of text ≡ Ok table.listed → IsOfOneDirection table
+table_shared_direction text table lists = by table.listed.header refl
   where
-    by : (header : Header) → table.listed.header ≡ header → HaveOneWay way_named (known (systems_in header))
+    by : (header : Header) → table.listed.header ≡ header → ShareDirection direction_named (known (systems_in header))
     by (Truth value) is = none_parted
-    by (Systems names) is = listed_one_way text table.listed names lists is
+    by (Systems names) is = listed_shared_direction text table.listed names lists is
     by (Sets sets) is = none_parted
 
-pub tables_one_way : (files : Files) (named : List File) (tables : List Loaded) → AreListedBy files named tables → AllByRecursion IsOneWay tables
-tables_one_way files [] [] are = tt
-tables_one_way files [] (table ∷ tables) are = absurd are
-tables_one_way files (file ∷ named) [] are = absurd are
-tables_one_way files (file ∷ named) (table ∷ tables) are = (table_one_way are.0.text table (file_is_relation file are.0.text table.listed are.0.lists.lists), tables_one_way files named tables are.1)
+pub tables_shared_direction : (files : Files) (named : List File) (tables : List Loaded) → AreListedBy files named tables → AllByRecursion IsOfOneDirection tables
+tables_shared_direction files [] [] are = tt
+tables_shared_direction files [] (table ∷ tables) are = absurd are
+tables_shared_direction files (file ∷ named) [] are = absurd are
+tables_shared_direction files (file ∷ named) (table ∷ tables) are = (table_shared_direction are.0.text table (file_is_relation file are.0.text table.listed are.0.lists.lists), tables_shared_direction files named tables are.1)
 
 -- so no two directions meet under a file
-abbrev AreOneWay : Headers → Type 0
-AreOneWay h = (file : File) → HaveOneWay way_named (file_tracks h file)
+abbrev AreOfOneDirection : Headers → Type 0
+AreOfOneDirection h = (file : File) → ShareDirection direction_named (file_tracks h file)
 
-one_way_none : AreOneWay no_headers
-one_way_none (Automaton name) = subst (HaveOneWay way_named) (sym (ap known_systems (get-empty (slice_cmp nat_cmp) name))) none_parted
-one_way_none (Word name) = subst (HaveOneWay way_named) (sym (ap known (get-empty (slice_cmp nat_cmp) name))) none_parted
+shared_direction_none : AreOfOneDirection no_headers
+shared_direction_none (Automaton name) = subst (ShareDirection direction_named) (sym (ap known_systems (get-empty (slice_cmp nat_cmp) name))) none_parted
+shared_direction_none (Word name) = subst (ShareDirection direction_named) (sym (ap known (get-empty (slice_cmp nat_cmp) name))) none_parted
 
-one_way_with : (h : Headers) (file : File) (header : Header) → HaveOneWay way_named (known (systems_in header)) → AreOneWay h → AreOneWay (with_file h file header)
-one_way_with h file header own before other = subst (HaveOneWay way_named) (sym (tracks_known (with_file h file header) other)) (by (is_same_file file other) refl)
+shared_direction_with : (h : Headers) (file : File) (header : Header) → ShareDirection direction_named (known (systems_in header)) → AreOfOneDirection h → AreOfOneDirection (with_file h file header)
+shared_direction_with h file header own before other = subst (ShareDirection direction_named) (sym (tracks_known (with_file h file header) other)) (by (is_same_file file other) refl)
   where
-    IsOfOneWay : Option (Option (List Name)) → Type 0
-    IsOfOneWay there = HaveOneWay way_named (known_systems there)
+    IsOfSharedDirection : Option (Option (List Name)) → Type 0
+    IsOfSharedDirection there = ShareDirection direction_named (known_systems there)
 
-    here : IsOfOneWay (kept (with_file h file header) file)
-    here = subst IsOfOneWay (sym (kept_same h file header)) (subst (HaveOneWay way_named) (sym (known_kept file header)) own)
+    here : IsOfSharedDirection (kept (with_file h file header) file)
+    here = subst IsOfSharedDirection (sym (kept_same h file header)) (subst (ShareDirection direction_named) (sym (known_kept file header)) own)
 
-    by : (b : Bool) → is_same_file file other ≡ b → IsOfOneWay (kept (with_file h file header) other)
-    by true same = subst (λ (f : File). IsOfOneWay (kept (with_file h file header) f)) (same_file file other same) here
+    by : (b : Bool) → is_same_file file other ≡ b → IsOfSharedDirection (kept (with_file h file header) other)
+    by true same = subst (λ (f : File). IsOfSharedDirection (kept (with_file h file header) f)) (same_file file other same) here
     by false apart =
         let unlike : file ≢ other = λ is. let yes : is_same_file file other ≡ true = subst (λ (f : File). is_same_file file f ≡ true) is (same_itself file) in cc in
-        subst IsOfOneWay (sym (kept_other h file header other unlike)) (subst (HaveOneWay way_named) (tracks_known h other) (before other))
+        subst IsOfSharedDirection (sym (kept_other h file header other unlike)) (subst (ShareDirection direction_named) (tracks_known h other) (before other))
 
-one_way_after : (h : Headers) (tables : List Loaded) → AllByRecursion IsOneWay tables → AreOneWay h → AreOneWay (fold with_table h tables)
-one_way_after h [] own before = before
-one_way_after h (table ∷ tables) own before = one_way_after (with_table h table) tables own.1 (one_way_with h table.file table.listed.header own.0 before)
+shared_direction_after : (h : Headers) (tables : List Loaded) → AllByRecursion IsOfOneDirection tables → AreOfOneDirection h → AreOfOneDirection (fold with_table h tables)
+shared_direction_after h [] own before = before
+shared_direction_after h (table ∷ tables) own before = shared_direction_after (with_table h table) tables own.1 (shared_direction_with h table.file table.listed.header own.0 before)
 
 -- the headers of tables that were listed are of one direction each
-pub table_ways : (files : Files) (named : List File) (tables : List Loaded) → AreListedBy files named tables → AreWays (headers_of tables) way_named
-table_ways files named tables are = record {
+pub table_directions : (files : Files) (named : List File) (tables : List Loaded) → AreListedBy files named tables → AreDirections (headers_of tables) direction_named
+table_directions files named tables are = record {
   by_name = λ s t same. ap (λ b. cond b Lsd Msd) same;
   of_automaton = λ name. all (Automaton name);
   of_word = λ name. all (Word name);
 }
   where
-    all : AreOneWay (headers_of tables)
-    all = one_way_after no_headers tables (tables_one_way files named tables are) one_way_none
+    all : AreOfOneDirection (headers_of tables)
+    all = shared_direction_after no_headers tables (tables_shared_direction files named tables are) shared_direction_none

@@ -45,13 +45,13 @@ entry_there custom folder (Some e) (Some text) bytes has is = (e, refl, subst (H
     same : text ≡ bytes
     same = cc
 
--- what stands under the name holds of the numbers of which the relation does
+-- what is under the name holds of the numbers of which the relation does
 pub record HoldsAs (ledger : Ledger) (name : List ℕ) (r : RelationValue) : Type 0 where
   pub entry : Entry
   pub there : ledger Automata name ≡ Some entry
   pub same : (ns : List ℕ) → RelationHolds r ns ↔ tree_holds (custom_of ledger) (tree_of entry) ns
 
--- what stands under the name has the letters that the word has
+-- what is under the name has the letters that the word has
 pub record HasLettersAs (ledger : Ledger) (name : List ℕ) (w : WordValue) : Type 0 where
   pub entry : Entry
   pub there : ledger Words name ≡ Some entry

@@ -14,7 +14,7 @@ use Rattle.formula_resolve.specs.declared.file.File.TheVariants.{Word}
 use Rattle.dfa_loading.specs.declared.loaded.Loaded.{Loaded}
 use Rattle.formula_build.specs.Libraries.{NamedRelation, NamedWord, NamedSystem, ReadValue, system_named, with_relation, with_word}
 use Rattle.num_system.specs.Sealed.{SystemValue}
-use Rattle.num_system.specs.Tracks.{HaveOneWay}
+use Rattle.num_system.specs.Tracks.{ShareDirection}
 use Rattle.number_relations.specs.Relations.{RelationValue}
 use Rattle.word_output.specs.Words.{WordValue}
 use Rattle.word_output.specs.declared.word_fault.WordFault.TheVariants as words
@@ -24,7 +24,7 @@ use Rattle.session_cli.specs.declared.read_fault.ReadFault.TheVariants.{Step, Ga
 use Rattle.session_cli.specs.TableReads.{TableRead, ARelation, AWord, relations_in, words_in, read_of, AreSystemsUnder, IsRelationRead, IsWordRead, IsTableRead, IsTableRefused, IsTableGap, AreTablesRead, IsReadingRefused, IsReadingGap}
 use Rattle.session_cli.specs.TableReading.{IsReadable, IsTableFault, IsReadingFault, ReadsTables, with_read}
 
--- the system stands under the name
+-- the system is under the name
 abbrev pub StandsUnder : List NamedSystem → List ℕ → SystemValue → Type 0
 StandsUnder systems name s = system_named systems name ≡ Some s
 
@@ -35,7 +35,7 @@ zip_push R [] (b ∷ ys) x y all r = absurd all
 zip_push R (a ∷ xs) [] x y all r = absurd all
 zip_push R (a ∷ xs) (b ∷ ys) x y all r = (all.0, zip_push R xs ys x y all.1 r)
 
--- what stands beside one of a list
+-- what is beside one of a list
 pub zip_at : {X Y : Type 0} (R : X → Y → Type 0) (xs : List X) (ys : List Y) (i : ℕ) (x : X) → AllZip R xs ys → i < length xs → x ≡ get_or xs i x → (y : Y) × R x y
 zip_at R [] ys i x all within is = absurd (omega (arith, within))
 zip_at R (a ∷ xs) [] i x all within is = absurd all
@@ -48,7 +48,7 @@ zip_lengths R [] (b ∷ ys) all = absurd all
 zip_lengths R (a ∷ xs) [] all = absurd all
 zip_lengths R (a ∷ xs) (b ∷ ys) all = ap suc (zip_lengths R xs ys all.1)
 
--- what stands under a name in both is the same
+-- what is under a name in both is the same
 abbrev pub AreAlike : List NamedSystem → List NamedSystem → Type 0
 AreAlike systems others = (name : List ℕ) (s t : SystemValue) → StandsUnder systems name s → StandsUnder others name t → s ≡ t
 
@@ -77,45 +77,45 @@ same_under systems others (Systems names) ss ts alike is also = same_under_names
 same_under systems others (Sets sets) ss ts alike is also = absurd is
 
 -- the systems under a header, of one direction, are for its tracks
-pub for_tracks : (systems : List NamedSystem) (header : Header) (tracks : List SystemValue) → AreSystemsUnder systems header tracks → HaveOneWay tracks → AreForTracks header tracks
-for_tracks systems (Truth value) tracks under one_way = under
-for_tracks systems (Systems names) tracks under one_way = (zip_lengths (StandsUnder systems) names tracks under, one_way)
-for_tracks systems (Sets sets) tracks under one_way = under
+pub for_tracks : (systems : List NamedSystem) (header : Header) (tracks : List SystemValue) → AreSystemsUnder systems header tracks → ShareDirection tracks → AreForTracks header tracks
+for_tracks systems (Truth value) tracks under shared_direction = under
+for_tracks systems (Systems names) tracks under shared_direction = (zip_lengths (StandsUnder systems) names tracks under, shared_direction)
+for_tracks systems (Sets sets) tracks under shared_direction = under
 
 -- those of a table that is readable are
 pub readable_tracks : (systems : List NamedSystem) (table : Loaded) (tracks : List SystemValue) → IsReadable systems table → AreSystemsUnder systems table.listed.header tracks → AreForTracks table.listed.header tracks
 readable_tracks systems table tracks readable under =
-    for_tracks systems table.listed.header tracks under (subst HaveOneWay (same_under systems systems table.listed.header readable.tracks tracks (alike_self systems) readable.over under) readable.one_way)
+    for_tracks systems table.listed.header tracks under (subst ShareDirection (same_under systems systems table.listed.header readable.tracks tracks (alike_self systems) readable.over under) readable.shared_direction)
 
 -- tables were read, and then one more
 pub one_more_read : (systems : List NamedSystem) (old mid new : StepLog) (tables : List Loaded) (reads : List TableRead) (table : Loaded) (r : TableRead)
     → AreTablesRead systems old tables reads mid → IsTableRead systems mid table r new → AreTablesRead systems old (tables ++ table ∷ []) (reads ++ r ∷ []) new
-one_more_read systems old mid new [] [] table r front read = (new, subst (λ (o : StepLog). IsTableRead systems o table r new) front read, refl)
-one_more_read systems old mid new [] (q ∷ reads) table r front read = absurd front
-one_more_read systems old mid new (t ∷ tables) [] table r front read = absurd front
+one_more_read systems old mid new [] [] table r prefix read = (new, subst (λ (o : StepLog). IsTableRead systems o table r new) prefix read, refl)
+one_more_read systems old mid new [] (q ∷ reads) table r prefix read = absurd prefix
+one_more_read systems old mid new (t ∷ tables) [] table r prefix read = absurd prefix
 one_more_read systems old mid new (t ∷ tables) (q ∷ reads) table r (next, first, rest) read = (next, first, one_more_read systems next mid new tables reads table r rest read)
 
 -- tables were read, and then one was refused: so are all, whichever follow
 pub one_refused : (systems : List NamedSystem) (old mid : StepLog) (tables : List Loaded) (reads : List TableRead) (i : ℕ) (table : Loaded) (fault : StepFault) → i < length tables → table ≡ get_or tables i table
     → AreTablesRead systems old (take i tables) reads mid → IsTableRefused systems mid table fault → IsReadingRefused systems old tables fault
-one_refused systems old mid [] reads i table fault within is front refused = absurd (omega (arith, within))
-one_refused systems old mid (t ∷ tables) [] zero table fault within is front refused =
-    inl (subst (λ (x : Loaded). IsTableRefused systems old x fault) is (subst (λ (o : StepLog). IsTableRefused systems o table fault) front refused))
-one_refused systems old mid (t ∷ tables) (q ∷ reads) zero table fault within is front refused = absurd front
-one_refused systems old mid (t ∷ tables) [] (suc i) table fault within is front refused = absurd front
+one_refused systems old mid [] reads i table fault within is prefix refused = absurd (omega (arith, within))
+one_refused systems old mid (t ∷ tables) [] zero table fault within is prefix refused =
+    inl (subst (λ (x : Loaded). IsTableRefused systems old x fault) is (subst (λ (o : StepLog). IsTableRefused systems o table fault) prefix refused))
+one_refused systems old mid (t ∷ tables) (q ∷ reads) zero table fault within is prefix refused = absurd prefix
+one_refused systems old mid (t ∷ tables) [] (suc i) table fault within is prefix refused = absurd prefix
 one_refused systems old mid (t ∷ tables) (q ∷ reads) (suc i) table fault within is (next, first, rest) refused =
     inr (q, next, first, one_refused systems next mid tables reads i table fault (omega (arith, within)) is rest refused)
 
 -- or a letter is missing in one
-one_gap : (systems : List NamedSystem) (old mid : StepLog) (tables : List Loaded) (reads : List TableRead) (i : ℕ) (table : Loaded) (name : List ℕ) (spelling : List (List ℕ)) → i < length tables → table ≡ get_or tables i table
-    → AreTablesRead systems old (take i tables) reads mid → IsTableGap systems mid table name spelling → IsReadingGap systems old tables name spelling
-one_gap systems old mid [] reads i table name spelling within is front gap = absurd (omega (arith, within))
-one_gap systems old mid (t ∷ tables) [] zero table name spelling within is front gap =
-    inl (subst (λ (x : Loaded). IsTableGap systems old x name spelling) is (subst (λ (o : StepLog). IsTableGap systems o table name spelling) front gap))
-one_gap systems old mid (t ∷ tables) (q ∷ reads) zero table name spelling within is front gap = absurd front
-one_gap systems old mid (t ∷ tables) [] (suc i) table name spelling within is front gap = absurd front
-one_gap systems old mid (t ∷ tables) (q ∷ reads) (suc i) table name spelling within is (next, first, rest) gap =
-    inr (q, next, first, one_gap systems next mid tables reads i table name spelling (omega (arith, within)) is rest gap)
+one_gap : (systems : List NamedSystem) (old mid : StepLog) (tables : List Loaded) (reads : List TableRead) (i : ℕ) (table : Loaded) (name : List ℕ) (representation : List (List ℕ)) → i < length tables → table ≡ get_or tables i table
+    → AreTablesRead systems old (take i tables) reads mid → IsTableGap systems mid table name representation → IsReadingGap systems old tables name representation
+one_gap systems old mid [] reads i table name representation within is prefix gap = absurd (omega (arith, within))
+one_gap systems old mid (t ∷ tables) [] zero table name representation within is prefix gap =
+    inl (subst (λ (x : Loaded). IsTableGap systems old x name representation) is (subst (λ (o : StepLog). IsTableGap systems o table name representation) prefix gap))
+one_gap systems old mid (t ∷ tables) (q ∷ reads) zero table name representation within is prefix gap = absurd prefix
+one_gap systems old mid (t ∷ tables) [] (suc i) table name representation within is prefix gap = absurd prefix
+one_gap systems old mid (t ∷ tables) (q ∷ reads) (suc i) table name representation within is (next, first, rest) gap =
+    inr (q, next, first, one_gap systems next mid tables reads i table name representation (omega (arith, within)) is rest gap)
 
 -- one more in a vector
 pub pushed : {X Y : Type 0} (f : X → Y) (new mid : Vec X Global) (items : List X) (x : X) → new ≡ mid → mid.items ≡ items ++ x ∷ [] → map f new.items ≡ map f items ++ f x ∷ []
@@ -124,13 +124,13 @@ pushed {X} f new mid items x is push = ap (λ (v : Vec X Global). map f v.items)
 -- the systems under one name more
 pub under_more : (systems : List NamedSystem) (names : List (List ℕ)) (i : ℕ) (name asked : List ℕ) (tracks more : List SystemValue) (s t : SystemValue) → i < length names → name ≡ get_or names i name
     → AllZip (StandsUnder systems) (take i names) tracks → asked ≡ name → system_named systems asked ≡ Some s → t ≡ s → more ≡ tracks ++ t ∷ [] → AllZip (StandsUnder systems) (take (i + 1) names) more
-under_more systems names i name asked tracks more s t within is front same there one more_is =
+under_more systems names i name asked tracks more s t within is prefix same there one more_is =
     let names_are : take (i + 1) names ≡ take i names ++ name ∷ [] = take_more names i name within ∙ ap (λ (n : List ℕ). take i names ++ n ∷ []) (sym is) in
     let here : StandsUnder systems name t = subst (λ (n : List ℕ). system_named systems n ≡ Some t) same (there ∙ ap Some (sym one)) in
     subst (λ (ns : List (List ℕ)). AllZip (StandsUnder systems) ns more) (sym names_are)
-    (subst (AllZip (StandsUnder systems) (take i names ++ name ∷ [])) (sym more_is) (zip_push (StandsUnder systems) (take i names) tracks name t front here))
+    (subst (AllZip (StandsUnder systems) (take i names ++ name ∷ [])) (sym more_is) (zip_push (StandsUnder systems) (take i names) tracks name t prefix here))
 
--- under a name of a header, where systems stand under all, one stands
+-- under a name of a header, where systems are under all, one is
 pub none_missing : (systems : List NamedSystem) (header : Header) (names : List (List ℕ)) (tracks : List SystemValue) (i : ℕ) (name asked : List ℕ) → header ≡ Systems names → AreSystemsUnder systems header tracks → i < length names
     → name ≡ get_or names i name → asked ≡ name → system_named systems asked ≡ None → ⊥
 none_missing systems header names tracks i name asked header_is under within is same none =
@@ -165,32 +165,32 @@ AreReadSoFar systems old tables read new = (reads : List TableRead) × AreTables
 -- tables were read, and then the next
 pub read_on : (systems : List NamedSystem) (old mid new : StepLog) (tables : List Loaded) (i : ℕ) (table : Loaded) (before after : ReadValue) → i < length tables → table ≡ get_or tables i table
     → AreReadSoFar systems old (take i tables) before mid → (r : TableRead) × IsTableRead systems mid table r new × (after ≡ with_read before r) → AreReadSoFar systems old (take (i + 1) tables) after new
-read_on systems old mid new tables i table before after within is (reads, front, before_is) (r, read, after_is) =
+read_on systems old mid new tables i table before after within is (reads, prefix, before_is) (r, read, after_is) =
     let tables_are : take (i + 1) tables ≡ take i tables ++ table ∷ [] = take_more tables i table within ∙ ap (λ (t : Loaded). take i tables ++ t ∷ []) (sym is) in (
       reads ++ r ∷ [],
-      subst (λ (ts : List Loaded). AreTablesRead systems old ts (reads ++ r ∷ []) new) (sym tables_are) (one_more_read systems old mid new (take i tables) reads table r front read),
+      subst (λ (ts : List Loaded). AreTablesRead systems old ts (reads ++ r ∷ []) new) (sym tables_are) (one_more_read systems old mid new (take i tables) reads table r prefix read),
       after_is ∙ ap (λ (v : ReadValue). with_read v r) before_is ∙ read_more reads r,
     )
 
 -- tables were read, and then reading stopped
 reading_fault : (systems : List NamedSystem) (old mid : StepLog) (tables : List Loaded) (i : ℕ) (table : Loaded) (before : ReadValue) (fault : ReadFault) → i < length tables → table ≡ get_or tables i table
     → AreReadSoFar systems old (take i tables) before mid → IsTableFault systems mid table fault → IsReadingFault systems old tables fault
-reading_fault systems old mid tables i table before (Step fault) within is (reads, front, before_is) (inl memory) = inl memory
-reading_fault systems old mid tables i table before (Step fault) within is (reads, front, before_is) (inr refused) = inr (one_refused systems old mid tables reads i table fault within is front refused)
-reading_fault systems old mid tables i table before (Gap name spelling) within is (reads, front, before_is) gap = one_gap systems old mid tables reads i table name spelling within is front gap
+reading_fault systems old mid tables i table before (Step fault) within is (reads, prefix, before_is) (inl memory) = inl memory
+reading_fault systems old mid tables i table before (Step fault) within is (reads, prefix, before_is) (inr refused) = inr (one_refused systems old mid tables reads i table fault within is prefix refused)
+reading_fault systems old mid tables i table before (Gap name representation) within is (reads, prefix, before_is) gap = one_gap systems old mid tables reads i table name representation within is prefix gap
 
 pub reading_stops : (systems : List NamedSystem) (old mid new : StepLog) (tables : List Loaded) (i : ℕ) (table : Loaded) (before : ReadValue) (fault : ReadFault) (result : Result ReadValue ReadFault) → i < length tables → table ≡ get_or tables i table
     → AreReadSoFar systems old (take i tables) before mid → IsTableFault systems mid table fault → IsErrAnd result (λ e. e ≡ fault) → ReadsTables systems old tables result new
-reading_stops systems old mid new tables i table before fault (Ok read) within is front stops same = absurd same
-reading_stops systems old mid new tables i table before fault (Err e) within is front stops same =
-    subst (IsReadingFault systems old tables) (sym same) (reading_fault systems old mid tables i table before fault within is front stops)
+reading_stops systems old mid new tables i table before fault (Ok read) within is prefix stops same = absurd same
+reading_stops systems old mid new tables i table before fault (Err e) within is prefix stops same =
+    subst (IsReadingFault systems old tables) (sym same) (reading_fault systems old mid tables i table before fault within is prefix stops)
 
 -- what reading a word asks for of a table and its systems
 pub record MayReadWord (listed : Listed) (tracks : List SystemValue) : Type 0 where
   pub states : 0 < length listed.outputs
   pub word : IsWordListed listed
   pub count : length tracks ≡ length (digits_in listed.header)
-  pub one_way : HaveOneWay tracks
+  pub shared_direction : ShareDirection tracks
 
 pub may_read_word : (systems : List NamedSystem) (table : Loaded) (name : List ℕ) (tracks : List SystemValue) → table.file ≡ Word name → IsReadable systems table → AreSystemsUnder systems table.listed.header tracks → MayReadWord table.listed tracks
 may_read_word systems table name tracks file_is readable under =
@@ -200,7 +200,7 @@ may_read_word systems table name tracks file_is readable under =
       states = readable.is_table (ap has_states word.header);
       word = word;
       count = for_word.0 ∙ sym (ap (λ (h : Header). length (digits_in h)) word.header ∙ length-map word.names (λ (n : List ℕ). Below (digit_limit n)));
-      one_way = for_word.1;
+      shared_direction = for_word.1;
     }
 
 -- one table is added

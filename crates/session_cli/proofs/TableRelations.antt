@@ -12,7 +12,7 @@ use Rattle.dfa_loading.specs.declared.loaded.Loaded.{Loaded}
 use Rattle.numeration.specs.Systems.{System}
 use Rattle.num_system.specs.Sealed.{SystemValue, IsSealed, system_of}
 use Rattle.num_system.specs.Tracks as relations
-use Rattle.num_system.specs.Tracks.{HaveOneWay, way_of}
+use Rattle.num_system.specs.Tracks.{ShareDirection, direction_of}
 use Rattle.number_relations.specs.Relations.{RelationHolds}
 use Rattle.formula_build.specs.Libraries.{NamedRelation, NamedSystem, AreSealed, system_named}
 use Rattle.definitions.specs.Tracks as tracks
@@ -29,14 +29,14 @@ use Rattle.session_cli.proofs.HeaderLines.{listed_some}
 use Rattle.session_cli.proofs.MeantNames.{found_meant}
 use Rattle.definitions.proofs.NameLemmas.{one_meaning}
 
--- what stands under each of some names
+-- what is under each of some names
 abbrev pub AreUnder : List NamedSystem → List (List ℕ) → List SystemValue → Type 0
 AreUnder systems names found = AllZip (λ name s. system_named systems name ≡ Some s) names found
 
 one_some : {X : Type 0} {o : Option X} (x y : X) → o ≡ Some x → o ≡ Some y → x ≡ y
 one_some x y first other = let both : Some x ≡ Some y = sym first ∙ other in cc
 
--- names tell the systems under them
+-- names determine the systems under them
 pub one_under : (systems : List NamedSystem) (names : List (List ℕ)) (found others : List SystemValue) → AreUnder systems names found → AreUnder systems names others → found ≡ others
 one_under systems [] [] [] under also = refl
 one_under systems [] [] (r ∷ others) under also = absurd also
@@ -79,7 +79,7 @@ below_sealed systems (Truth value) found sealed under = subst (AllByRecursion Is
 below_sealed systems (Systems names) found sealed under = under_sealed systems names found sealed under
 below_sealed systems (Sets sets) found sealed under = absurd under
 
-below_tracks : (systems : List NamedSystem) (header : Header) (found : List SystemValue) → AreSystemsUnder systems header found → HaveOneWay found → AreForTracks header found
+below_tracks : (systems : List NamedSystem) (header : Header) (found : List SystemValue) → AreSystemsUnder systems header found → ShareDirection found → AreForTracks header found
 below_tracks systems (Truth value) found under one = under
 below_tracks systems (Systems names) found under one = (as_many_under systems names found under, one)
 below_tracks systems (Sets sets) found under one = absurd under
@@ -102,47 +102,47 @@ module _ (custom : Custom) (systems : List NamedSystem) (are : AreMeant custom s
   systems_with (name ∷ names) [] under = absurd under
   systems_with (name ∷ names) (s ∷ found) under = ap (λ (ss : List System). system_of s ∷ ss) (systems_with names found under.1)
 
-  pub named_with : (way : Direction) (names : List (List ℕ)) (found : List SystemValue) → AllByRecursion (λ (s : SystemValue). s.way ≡ way) found → AreUnder systems names found → AreNamed custom way (with_names names found)
-  named_with way [] found ways under = tt
-  named_with way (name ∷ names) [] ways under = absurd under
-  named_with way (name ∷ names) (s ∷ found) ways under =
-      (subst (λ (w : Direction). IsSystemNamed custom name w (system_of s)) ways.0 (found_meant custom systems name s are under.0), named_with way names found ways.1 under.1)
+  pub named_with : (direction : Direction) (names : List (List ℕ)) (found : List SystemValue) → AllByRecursion (λ (s : SystemValue). s.direction ≡ direction) found → AreUnder systems names found → AreNamed custom direction (with_names names found)
+  named_with direction [] found directions under = tt
+  named_with direction (name ∷ names) [] directions under = absurd under
+  named_with direction (name ∷ names) (s ∷ found) directions under =
+      (subst (λ (w : Direction). IsSystemNamed custom name w (system_of s)) directions.0 (found_meant custom systems name s are under.0), named_with direction names found directions.1 under.1)
 
   -- what holds over the systems holds under their names
-  named_holds : (names : List (List ℕ)) (found : List SystemValue) (listed : Listed) (ns : List ℕ) → AreUnder systems names found → HaveOneWay found → HasListedWord (way_of found) (relations.systems_of found) listed ns → HoldsUnder custom names listed ns
+  named_holds : (names : List (List ℕ)) (found : List SystemValue) (listed : Listed) (ns : List ℕ) → AreUnder systems names found → ShareDirection found → HasListedWord (direction_of found) (relations.systems_of found) listed ns → HoldsUnder custom names listed ns
   named_holds names found listed ns under one word = record {
-    way = way_of found;
+    direction = direction_of found;
     named = with_names names found;
     names_are = names_with names found under;
-    are = named_with (way_of found) names found one under;
-    word = subst (λ (ss : List System). HasListedWord (way_of found) ss listed ns) (sym (systems_with names found under)) word;
+    are = named_with (direction_of found) names found one under;
+    word = subst (λ (ss : List System). HasListedWord (direction_of found) ss listed ns) (sym (systems_with names found under)) word;
   }
 
   -- systems that names mean are those that are found under them
-  same_systems : (way : Direction) (named : List tracks.NamedSystem) (found : List SystemValue) → AreNamed custom way named → AreUnder systems (names_of named) found → systems_of named ≡ relations.systems_of found
-  same_systems way [] [] means under = refl
-  same_systems way [] (s ∷ found) means under = absurd under
-  same_systems way (x ∷ named) [] means under = absurd under
-  same_systems way (x ∷ named) (s ∷ found) means under =
-      let first : x.system ≡ system_of s = (one_meaning custom x.name way s.way x.system (system_of s) means.0 (found_meant custom systems x.name s are under.0)).1 in
-      let rest : systems_of named ≡ relations.systems_of found = same_systems way named found means.1 under.1 in
+  same_systems : (direction : Direction) (named : List tracks.NamedSystem) (found : List SystemValue) → AreNamed custom direction named → AreUnder systems (names_of named) found → systems_of named ≡ relations.systems_of found
+  same_systems direction [] [] means under = refl
+  same_systems direction [] (s ∷ found) means under = absurd under
+  same_systems direction (x ∷ named) [] means under = absurd under
+  same_systems direction (x ∷ named) (s ∷ found) means under =
+      let first : x.system ≡ system_of s = (one_meaning custom x.name direction s.direction x.system (system_of s) means.0 (found_meant custom systems x.name s are under.0)).1 in
+      let rest : systems_of named ≡ relations.systems_of found = same_systems direction named found means.1 under.1 in
       λ i. first i ∷ rest i
 
-  same_way : (way : Direction) (named : List tracks.NamedSystem) (found : List SystemValue) → 0 < length (names_of named) → AreNamed custom way named → AreUnder systems (names_of named) found → way ≡ way_of found
-  same_way way [] found some means under = absurd (omega (arith, some))
-  same_way way (x ∷ named) [] some means under = absurd under
-  same_way way (x ∷ named) (s ∷ found) some means under = (one_meaning custom x.name way s.way x.system (system_of s) means.0 (found_meant custom systems x.name s are under.0)).0
+  same_direction : (direction : Direction) (named : List tracks.NamedSystem) (found : List SystemValue) → 0 < length (names_of named) → AreNamed custom direction named → AreUnder systems (names_of named) found → direction ≡ direction_of found
+  same_direction direction [] found some means under = absurd (omega (arith, some))
+  same_direction direction (x ∷ named) [] some means under = absurd under
+  same_direction direction (x ∷ named) (s ∷ found) some means under = (one_meaning custom x.name direction s.direction x.system (system_of s) means.0 (found_meant custom systems x.name s are under.0)).0
 
   -- and what holds under the names holds over the systems
-  found_holds : (names : List (List ℕ)) (found : List SystemValue) (listed : Listed) (ns : List ℕ) → 0 < length names → AreUnder systems names found → HoldsUnder custom names listed ns → HasListedWord (way_of found) (relations.systems_of found) listed ns
+  found_holds : (names : List (List ℕ)) (found : List SystemValue) (listed : Listed) (ns : List ℕ) → 0 < length names → AreUnder systems names found → HoldsUnder custom names listed ns → HasListedWord (direction_of found) (relations.systems_of found) listed ns
   found_holds names found listed ns some under holds =
       let own : AreUnder systems (names_of holds.named) found = subst (λ (xs : List (List ℕ)). AreUnder systems xs found) holds.names_are under in
-      let one : way_of found ≡ holds.way = sym (same_way holds.way holds.named found (subst (λ (xs : List (List ℕ)). 0 < length xs) holds.names_are some) holds.are own) in
+      let one : direction_of found ≡ holds.direction = sym (same_direction holds.direction holds.named found (subst (λ (xs : List (List ℕ)). 0 < length xs) holds.names_are some) holds.are own) in
       subst (λ (w : Direction). HasListedWord w (relations.systems_of found) listed ns) (sym one)
-      (subst (λ (ss : List System). HasListedWord holds.way ss listed ns) (same_systems holds.way holds.named found holds.are own) holds.word)
+      (subst (λ (ss : List System). HasListedWord holds.direction ss listed ns) (same_systems holds.direction holds.named found holds.are own) holds.word)
 
   -- what is listed holds of the same numbers by the names of its header and over the systems under these
-  listed_same : (listed : Listed) (found : List SystemValue) (ns : List ℕ) → ((names : List (List ℕ)) → listed.header ≡ Systems names → 0 < length names) → AreSystemsUnder systems listed.header found → HaveOneWay found → ListedHolds custom listed ns ↔ ListedHoldsOver found listed ns
+  listed_same : (listed : Listed) (found : List SystemValue) (ns : List ℕ) → ((names : List (List ℕ)) → listed.header ≡ Systems names → 0 < length names) → AreSystemsUnder systems listed.header found → ShareDirection found → ListedHolds custom listed ns ↔ ListedHoldsOver found listed ns
   listed_same listed found ns some under one = by listed.header refl under
     where
       by : (header : Header) → listed.header ≡ header → AreSystemsUnder systems header found → HoldsBelow custom header listed ns ↔ HoldsBelowOver header found listed ns
@@ -160,13 +160,13 @@ file_same custom text listed ns lists = (there, λ holds. (listed, lists, holds)
         subst (λ (l : Listed). ListedHolds custom l ns) same holds
 
 -- the systems of a readable table have one direction
-pub read_one_way : (systems : List NamedSystem) (table : Loaded) (found : List SystemValue) → IsReadable systems table → AreSystemsUnder systems table.listed.header found → HaveOneWay found
-read_one_way systems table found readable over = subst HaveOneWay (one_below systems table.listed.header readable.tracks found readable.over over) readable.one_way
+pub read_shared_direction : (systems : List NamedSystem) (table : Loaded) (found : List SystemValue) → IsReadable systems table → AreSystemsUnder systems table.listed.header found → ShareDirection found
+read_shared_direction systems table found readable over = subst ShareDirection (one_below systems table.listed.header readable.tracks found readable.over over) readable.shared_direction
 
 -- the relation that is read of a table is one over its systems
 pub relation_of_table : TablesHold → (systems : List NamedSystem) → AreSealed systems → (old new : StepLog) (table : Loaded) (r : NamedRelation) → IsReadable systems table → (read : IsRelationRead systems old table r new) → IsRelationOfTable read.tracks table.listed r.relation
 relation_of_table hold systems sealed old new table r readable read =
-    let one : HaveOneWay read.tracks = read_one_way systems table read.tracks readable read.over in
+    let one : ShareDirection read.tracks = read_shared_direction systems table read.tracks readable read.over in
     let over : AreTableSystems table.listed read.tracks = record { sealed = below_sealed systems table.listed.header read.tracks sealed read.over; tracks = below_tracks systems table.listed.header read.tracks read.over one } in
     hold old.limit read.tracks table.listed r.relation read.done.lines over read.done.steps
 
@@ -174,7 +174,7 @@ relation_of_table hold systems sealed old new table r readable read =
 pub relation_holds : TablesHold → (custom : Custom) (systems : List NamedSystem) → AreSealed systems → AreMeant custom systems → (old new : StepLog) (table : Loaded) (r : NamedRelation) (text : List ℕ) → relation_of text ≡ Ok table.listed
     → IsReadable systems table → IsRelationRead systems old table r new → (ns : List ℕ) → RelationHolds r.relation ns ↔ FileHolds custom text ns
 relation_holds hold custom systems sealed are old new table r text lists readable read ns =
-    let one : HaveOneWay read.tracks = read_one_way systems table read.tracks readable read.over in
+    let one : ShareDirection read.tracks = read_shared_direction systems table read.tracks readable read.over in
     let made : IsRelationOfTable read.tracks table.listed r.relation = relation_of_table hold systems sealed old new table r readable read in
     let names : ListedHolds custom table.listed ns ↔ ListedHoldsOver read.tracks table.listed ns = listed_same custom systems are table.listed read.tracks ns (λ names is. listed_some text table.listed names lists is) read.over one in
     let file : FileHolds custom text ns ↔ ListedHolds custom table.listed ns = file_same custom text table.listed ns lists in

@@ -5,7 +5,7 @@ use Rattle.dfa_reading.specs.Headers.{Header}
 use Rattle.dfa_reading.specs.WordFiles.{word_of, IsWordListed}
 use Rattle.dfa_loading.specs.declared.loaded.Loaded.{Loaded}
 use Rattle.num_system.specs.Sealed.{SystemValue}
-use Rattle.num_system.specs.Tracks.{HaveOneWay, way_of}
+use Rattle.num_system.specs.Tracks.{ShareDirection, direction_of}
 use Rattle.word_output.specs.WordReadings.{AreWordSteps}
 use Rattle.word_output.specs.Words.{WordValue, IsWordValue, HasLetter}
 use Rattle.word_output.proofs.WordSteps.{word_is}
@@ -16,7 +16,7 @@ use Rattle.system_files.specs.SystemFiles.{Custom}
 use Rattle.session_cli.specs.FormulaSteps.{AreMeant}
 use Rattle.session_cli.specs.TableReads.{AreSystemsUnder, IsWordRead}
 use Rattle.session_cli.specs.TableReading.{IsReadable}
-use Rattle.session_cli.proofs.TableRelations.{AreUnder, as_many_under, below_sealed, read_one_way, with_names, names_with, systems_with, named_with}
+use Rattle.session_cli.proofs.TableRelations.{AreUnder, as_many_under, below_sealed, read_shared_direction, with_names, names_with, systems_with, named_with}
 
 module _ (systems : List NamedSystem) (sealed : AreSealed systems) (old new : StepLog) (table : Loaded) (w : NamedWord) (readable : IsReadable systems table) (read : IsWordRead systems old table w new) where
   listed : IsWordListed table.listed
@@ -25,8 +25,8 @@ module _ (systems : List NamedSystem) (sealed : AreSealed systems) (old new : St
   under : AreUnder systems listed.names read.tracks
   under = subst (λ (h : Header). AreSystemsUnder systems h read.tracks) listed.header read.over
 
-  one : HaveOneWay read.tracks
-  one = read_one_way systems table read.tracks readable read.over
+  one : ShareDirection read.tracks
+  one = read_shared_direction systems table read.tracks readable read.over
 
   some : 0 < length read.tracks
   some = omega (arith, listed.some, as_many_under systems listed.names read.tracks under)
@@ -44,7 +44,7 @@ module _ (systems : List NamedSystem) (sealed : AreSealed systems) (old new : St
     mean = record {
       named = with_names listed.names read.tracks;
       names_are = names_with custom systems are listed.names read.tracks under;
-      are = named_with custom systems are (way_of read.tracks) listed.names read.tracks one under;
+      are = named_with custom systems are (direction_of read.tracks) listed.names read.tracks one under;
       systems_are = systems_with custom systems are listed.names read.tracks under;
     }
 

@@ -48,7 +48,7 @@ with_bases files custom Transducers = files Transducers
 with_bases files custom Results = files Results
 with_bases files custom Commands = files Commands
 
--- files that are the store's where it tells them, in which these texts stand, and of which the property is known
+-- files that are the store's where it reports them, in which these texts are, and of which the property is known
 record AreChosen (P : Files → Type 0) (told : Option Files) (texts : List FoundText) : Type 0 where
   found : Files
   told_so : IfSome told (λ (files : Files). found ≡ files)
@@ -87,7 +87,7 @@ fault_later (faults.Unknown of file) old mid new later same is = is ∙ same
 fault_later (faults.File of file flaw) old mid new later same is = is ∙ same
 fault_later (faults.Arity of tracks given) old mid new later same is = is ∙ same
 fault_later (faults.Clash of one two) old mid new later same is = is ∙ same
-fault_later (faults.WordGap of spelling) old mid new later same is = is ∙ same
+fault_later (faults.WordGap of representation) old mid new later same is = is ∙ same
 fault_later (faults.Plain of) old mid new later same is = is ∙ same
 
 pub reads_both : {X Y : Type 0} (old mid new : StoreView) (x : X) (r : Result Y Fault) → HasRead old (Ok x) mid → HasRead mid r new → HasRead old r new

@@ -25,7 +25,7 @@ use Rattle.session_cli.specs.TextPlans.{IsTextRefused, StoresText}
 use Rattle.session_cli.proofs.CheckSteps.{fails_first, fails_after, makes_after, plans_after}
 use Rattle.session_cli.proofs.StoringTexts.{text_stored, unstored}
 
--- what stands in the quotes of a `macro` is stored
+-- what is in the quotes of a `macro` is stored
 pub macro_planned : (ledger : Ledger) (text : List ℕ) (shown : Bool) (head : NamedHead) (plan : Plan) → HasHead (SpellsNamed (codes "macro")) (λ (h : NamedHead). h) text (Ok head) → plan.folder ≡ Macros → plan.name ≡ head.name → StoresText head.body (Ok plan.made)
     → Plans (custom_of ledger) (macro_checks ledger text) shown (Ok plan)
 macro_planned ledger text shown head plan spells folder name stores =
@@ -60,7 +60,7 @@ rules_stored custom head rules shown result parses stores =
 pub rules_refused : (custom : Custom) (head : NamedHead) (fault : Fault) → Fails (Pure (RulesAnswers head.body)) fault → Fails (after_rules_head custom head) fault
 rules_refused custom head fault refused = fails_first (Pure (RulesAnswers head.body)) (λ (rs : Rules). stored custom (text_success Morphisms head.name (printed rs))) fault refused
 
--- an accepted `morphism` stands under its name among the morphisms
+-- an accepted `morphism` is under its name among the morphisms
 stands_at : (custom : Custom) (head : NamedHead) (success : Success) → (after_rules_head custom head).answers (Ok success) → (Morphisms ≡ success.folder) × (head.name ≡ success.name)
 stands_at custom head success (rules, parses, (is, text)) = (sym (ap (λ (s : Success). s.folder) is), sym (ap (λ (s : Success). s.name) is))
 

@@ -7,7 +7,7 @@ use Rattle.digit_tuple.specs.declared.systems.SystemTrack.{SystemTrack}
 use Rattle.formula_resolve.specs.declared.variable.Variable.{Variable}
 use Rattle.num_system.specs.Sealed.{SystemValue}
 use Rattle.num_system.specs.Tracks.{systems_of}
-use Rattle.numeration.specs.Spelling as spelling
+use Rattle.numeration.specs.Representation as representation
 use Rattle.digit_tuple.proofs.SystemLemmas.{length-digit_set}
 use Rattle.session_cli.specs.FormulaPlans.{tracks_over}
 
@@ -28,7 +28,7 @@ digits_at (y ∷ systems) zero s all within is = subst (λ (x : SystemValue). Is
 digits_at (y ∷ systems) (suc i) s all within is = digits_at systems i s all.1 (omega (arith, within)) is
 
 -- the tracks have as many letters as the systems have digits
-pub sizes_over : (variables : List Variable) (systems : List SystemValue) → length variables ≡ length systems → sizes_of (digit_sets (tracks_over variables systems)) ≡ spelling.sizes_of (systems_of systems)
+pub sizes_over : (variables : List Variable) (systems : List SystemValue) → length variables ≡ length systems → sizes_of (digit_sets (tracks_over variables systems)) ≡ representation.sizes_of (systems_of systems)
 sizes_over [] [] count = refl
 sizes_over [] (s ∷ systems) count = absurd (omega (arith, count))
 sizes_over (v ∷ variables) [] count = absurd (omega (arith, count))

@@ -51,7 +51,7 @@ names_more custom (n ∷ names) name old mid new (inr (fault, one, is)) last = a
 -- the first name that is refused
 stops_at : (custom : Custom) (names : List (List ℕ)) (i : ℕ) (name : List ℕ) (old mid new : StepLog) (fault : SystemFault) → i < length names → name ≡ get_or names i name → AdmitsNames custom (take i names) old (Ok tt) mid → AdmitsName custom name mid (Err fault) new
     → AdmitsNames custom names old (Err fault) new
-stops_at custom [] i name old mid new fault within at front stops = absurd (omega (arith, within))
+stops_at custom [] i name old mid new fault within at prefix stops = absurd (omega (arith, within))
 stops_at custom (n ∷ names) zero name old mid new fault within at (is, same) stops =
     inr (fault, subst (λ (x : List ℕ). AdmitsName custom x old (Err fault) new) at (subst (λ (log : StepLog). AdmitsName custom name log (Err fault) new) same stops), refl)
 stops_at custom (n ∷ names) (suc i) name old mid new fault within at (inl (a, first, one, rest)) stops = inl (a, first, one, stops_at custom names i name first mid new fault (omega (arith, within)) at rest stops)
@@ -60,21 +60,21 @@ stops_at custom (n ∷ names) (suc i) name old mid new fault within at (inr (oth
 -- and the first whose files are not read
 reads_at : (custom : Custom) (names : List (List ℕ)) (i : ℕ) (name : List ℕ) (old mid : StepLog) (folder : Folder) (at : List ℕ) → i < length names → name ≡ get_or names i name → AdmitsNames custom (take i names) old (Ok tt) mid → IsReadFor custom name folder at
     → ReadsFor custom names old folder at
-reads_at custom [] i name old mid folder at within is front read = absurd (omega (arith, within))
-reads_at custom (n ∷ names) zero name old mid folder at within is front read = inl (subst (λ (x : List ℕ). IsReadFor custom x folder at) is read)
+reads_at custom [] i name old mid folder at within is prefix read = absurd (omega (arith, within))
+reads_at custom (n ∷ names) zero name old mid folder at within is prefix read = inl (subst (λ (x : List ℕ). IsReadFor custom x folder at) is read)
 reads_at custom (n ∷ names) (suc i) name old mid folder at within is (inl (a, first, one, rest)) read = inr (first, one, reads_at custom names i name first mid folder at (omega (arith, within)) is rest read)
 reads_at custom (n ∷ names) (suc i) name old mid folder at within is (inr (other, one, same)) read = absurd cc
 
--- what is unknown would stand among users' systems
+-- what is unknown would be among users' systems
 unknown_there : (custom : Custom) (name : List ℕ) (old new : StepLog) (folder : Folder) (at : List ℕ) → AdmitsName custom name old (Err (systems.Load (loads.Unknown folder at))) new → AdmitsName custom name old (Err (systems.Load (loads.Unknown Bases at))) new
 unknown_there custom name old new folder at (inl (built, is, same)) = absurd cc
 unknown_there custom name old new folder at (inr (other, inl (none, is, same))) =
     let names : at ≡ name = cc in
     inr (other, inl (none, ap (λ (n : List ℕ). let f : SystemFault = systems.Load (loads.Unknown Bases n) in f) names, same))
-unknown_there custom name old new folder at (inr (other, inr (inl (way, part, named, (load, refused, is), same)))) =
+unknown_there custom name old new folder at (inr (other, inr (inl (direction, part, named, (load, refused, is), same)))) =
     let loaded : load ≡ loads.Unknown folder at = cc in
-    let r : RefusesFiles custom way part (loads.Unknown folder at) = subst (RefusesFiles custom way part) loaded refused in
-    inr (other, inr (inl (way, part, named, (loads.Unknown Bases at, (refl, r.1), refl), same)))
+    let r : RefusesFiles custom direction part (loads.Unknown folder at) = subst (RefusesFiles custom direction part) loaded refused in
+    inr (other, inr (inl (direction, part, named, (loads.Unknown Bases at, (refl, r.1), refl), same)))
 unknown_there custom name old new folder at (inr (other, inr (inr not))) = absurd (by not.refusal not.fault_is)
   where
     by : (refusal : AdmitFault) → systems.Load (loads.Unknown folder at) ≡ fault_of name refusal → ⊥
@@ -86,15 +86,15 @@ unknown_there custom name old new folder at (inr (other, inr (inr not))) = absur
 -- why the systems are refused, as a command's fault
 refused_at : (limit : ℕ) (custom : Custom) (names : List (List ℕ)) (i : ℕ) (name : List ℕ) (mid new : StepLog) (fault : SystemFault) → i < length names → name ≡ get_or names i name → AdmitsNames custom (take i names) (no_steps limit) (Ok tt) mid → FailsName custom name mid new fault
     → Fails (systems_known limit custom names) (fault_of_system fault)
-refused_at limit custom names i name mid new (systems.Load (loads.Store folder at)) within is front fails = reads_at custom names i name (no_steps limit) mid folder at within is front fails.0
-refused_at limit custom names i name mid new (systems.Load loads.Memory) within is front fails = tt
-refused_at limit custom names i name mid new (systems.Step steps.Memory) within is front fails = tt
-refused_at limit custom names i name mid new (systems.Load (loads.Unknown folder at)) within is front fails =
-    (new, stops_at custom names i name (no_steps limit) mid new (systems.Load (loads.Unknown Bases at)) within is front (unknown_there custom name mid new folder at fails))
-refused_at limit custom names i name mid new (systems.Load (loads.File folder at flaw)) within is front fails = (new, stops_at custom names i name (no_steps limit) mid new (systems.Load (loads.File folder at flaw)) within is front fails)
-refused_at limit custom names i name mid new (systems.NotAdmitted system law) within is front fails = (new, stops_at custom names i name (no_steps limit) mid new (systems.NotAdmitted system law) within is front fails)
-refused_at limit custom names i name mid new (systems.Step (steps.Letters step)) within is front fails = (new, stops_at custom names i name (no_steps limit) mid new (systems.Step (steps.Letters step)) within is front fails)
-refused_at limit custom names i name mid new (systems.Step (steps.States step)) within is front fails = (new, stops_at custom names i name (no_steps limit) mid new (systems.Step (steps.States step)) within is front fails)
+refused_at limit custom names i name mid new (systems.Load (loads.Store folder at)) within is prefix fails = reads_at custom names i name (no_steps limit) mid folder at within is prefix fails.0
+refused_at limit custom names i name mid new (systems.Load loads.Memory) within is prefix fails = tt
+refused_at limit custom names i name mid new (systems.Step steps.Memory) within is prefix fails = tt
+refused_at limit custom names i name mid new (systems.Load (loads.Unknown folder at)) within is prefix fails =
+    (new, stops_at custom names i name (no_steps limit) mid new (systems.Load (loads.Unknown Bases at)) within is prefix (unknown_there custom name mid new folder at fails))
+refused_at limit custom names i name mid new (systems.Load (loads.File folder at flaw)) within is prefix fails = (new, stops_at custom names i name (no_steps limit) mid new (systems.Load (loads.File folder at flaw)) within is prefix fails)
+refused_at limit custom names i name mid new (systems.NotAdmitted system law) within is prefix fails = (new, stops_at custom names i name (no_steps limit) mid new (systems.NotAdmitted system law) within is prefix fails)
+refused_at limit custom names i name mid new (systems.Step (steps.Letters step)) within is prefix fails = (new, stops_at custom names i name (no_steps limit) mid new (systems.Step (steps.Letters step)) within is prefix fails)
+refused_at limit custom names i name mid new (systems.Step (steps.States step)) within is prefix fails = (new, stops_at custom names i name (no_steps limit) mid new (systems.Step (steps.States step)) within is prefix fails)
 
 -- what is read for a system is read for a command
 caused_so : (f : LoadFault) (old new : StoreView) → places.IsCausedBy f old new → IsReadFault (fault_of_system (systems.Load f)) old new
@@ -145,8 +145,8 @@ pub first_marks : (h : Headers) (marks : List Mention) (names : List (List ℕ))
 first_marks h marks names is = ap (first_systems h) is ∙ ap (each_once bytes_eq) (marked h names)
 
 -- the systems of the names in front are admitted
-pub record AreSoFar (limit : ℕ) (front : List (List ℕ)) (users : UserSystems) (old now : StoreView) : Type 0 where
-  pub gives : (custom : Custom) → Agrees custom users.texts → AreAdmitted limit front custom users
+pub record AreSoFar (limit : ℕ) (prefix : List (List ℕ)) (users : UserSystems) (old now : StoreView) : Type 0 where
+  pub gives : (custom : Custom) → Agrees custom users.texts → AreAdmitted limit prefix custom users
   pub stands : CanStand users.texts
   pub told : IfSome old.files (λ (files : Files). Agrees (files Bases) users.texts)
   pub has_read : HasRead {X = ⊤} old (Ok tt) now
@@ -174,15 +174,15 @@ there_more systems [] name all one = (one, tt)
 there_more systems (n ∷ names) name all one = (all.0, there_more systems names name all.1 one)
 
 module _ (limit : ℕ) (names : List (List ℕ)) (i : ℕ) (name : List ℕ) (within : i < length names) (is : name ≡ get_or names i name) where
-  front_is : take (i + 1) names ≡ take i names ++ name ∷ []
-  front_is = take_more names i name within ∙ ap (λ (n : List ℕ). take i names ++ n ∷ []) (sym is)
+  prefix_is : take (i + 1) names ≡ take i names ++ name ∷ []
+  prefix_is = take_more names i name within ∙ ap (λ (n : List ℕ). take i names ++ n ∷ []) (sym is)
 
   -- a name that is built in takes no step
   pub built_in_so_far : (users : UserSystems) (old now : StoreView) → AreSoFar limit (take i names) users old now → IsBuiltInName name → AreSoFar limit (take (i + 1) names) users old now
   built_in_so_far users old now so built = record {
     gives = λ custom all.
         let before = so.gives custom all in
-        subst (λ (front : List (List ℕ)). AreAdmitted limit front custom users) (sym front_is)
+        subst (λ (prefix : List (List ℕ)). AreAdmitted limit prefix custom users) (sym prefix_is)
         (record {
           admits = names_more custom (take i names) name (no_steps limit) users.steps users.steps before.admits (inl (built, refl, refl));
           meant = before.meant;
@@ -205,7 +205,7 @@ module _ (limit : ℕ) (names : List (List ℕ)) (i : ℕ) (name : List ℕ) (wi
         let before = so.gives custom (one.found.kept custom all) in
         let adds = one.gives custom all in
         let stay : (other : List ℕ) → HasSystemIn users.named other → HasSystemIn more.named other = λ other has. subst (λ (ss : List NamedSystem). HasSystemIn ss other) (sym adds.named) (stays users.named name adds.system other has) in
-        subst (λ (front : List (List ℕ)). AreAdmitted limit front custom more) (sym front_is)
+        subst (λ (prefix : List (List ℕ)). AreAdmitted limit prefix custom more) (sym prefix_is)
         (record {
           admits = names_more custom (take i names) name (no_steps limit) users.steps more.steps before.admits adds.admits;
           meant = subst (AreMeant custom) (sym adds.named) (meant_push custom users.named name adds.system before.meant (inr adds.defined));

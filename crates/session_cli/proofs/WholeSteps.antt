@@ -1,4 +1,4 @@
--- What a status tells.
+-- What a status says.
 use Rattle.std.proofs.Common.{◌≡◌, ℕ, ◌≤◌, Bool, true, false, ◌||◌, ◌⊎◌, IsTrue, List, [], ◌∷◌, Result, Ok, Err, refl, sym, ◌∙◌, inl, inr, arith}
 use Rattle.wal_outside.specs.Causes.{Rose}
 use Rattle.wal_outside.specs.Sending.{Sends, HasSent}
@@ -47,7 +47,7 @@ rose_of_outside limit from to old new held now state (gave, more, given, inl ran
 rose_of_outside limit from to old new held now state (gave, more, given, inr (inl ran)) outside = inr (inl (outside_of_stop ran.fault held ran.mid now _ _ state ran.sent ran.stopped ran.state_is outside))
 rose_of_outside limit from to old new held now state (gave, more, given, inr (inr ran)) outside = inl (by_cause ran.cause)
   where
-    by_cause : SourceFailed from to gave ran.behind state ⊎ WantedMemory from to state → Rose from.faults to.faults
+    by_cause : SourceFailed from to gave ran.suffix state ⊎ WantedMemory from to state → Rose from.faults to.faults
     by_cause (inl failed) = failed.rose
     by_cause (inr memory) = let is : state ≡ status.Memory = memory.state_is in cc
 

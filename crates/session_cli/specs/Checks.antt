@@ -23,7 +23,7 @@ Then {Y} first rest = record {
   reads = λ place. first.reads place ⊎ ((y : Y) × first.answers (Ok y) × (rest y).reads place);
 }
 
--- Why a command may be refused: by the answer of its checks; or by the store, at a file that they read; or for want of memory.
+-- Why a command may be refused: by the answer of its checks; or by the store, at a file that they read; or because memory ran out.
 abbrev pub Fails : {Y : Type 0} → Check Y → Fault → Type 0
 Fails check (faults.Store folder name) = check.reads (folder, name)
 Fails check faults.Memory = ⊤

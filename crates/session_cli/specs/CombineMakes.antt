@@ -68,7 +68,7 @@ pub record IsPossible (read : ListedAutomata) (names : Names) : Type 0 where
   pub plain : first_plain (headers_of read.tables.items) (listed_names (automata_of read)) ≡ None
   pub shape : HaveSystemsOfFirst (headers_of read.tables.items) (listed_names (automata_of read))
 
--- a relation stands under each of their names
+-- a relation is under each of their names
 abbrev pub HasRelations : List NamedRelation → List ValuedName → Type 0
 HasRelations relations automata = AllByRecursion (λ (v : ValuedName). (r : RelationValue) × (relation_named relations v.name ≡ Some r)) automata
 

@@ -80,13 +80,13 @@ ShapeAnswers h names (Err fault) = ⊥
 
 -- the direction of the systems of the tracks, and what their names mean
 pub record WordTracks : Type 0 where
-  pub way : Direction
+  pub direction : Direction
   pub named : List NamedSystem
 
 -- these are the systems of the first automaton's tracks
 abbrev pub AreTracksOfFirst : Custom → Headers → List (List ℕ) → WordTracks → Type 0
 AreTracksOfFirst custom h [] tracks = ⊥
-AreTracksOfFirst custom h (name ∷ names) tracks = (automaton_tracks h name ≡ names_of tracks.named) × AreNamed custom tracks.way tracks.named
+AreTracksOfFirst custom h (name ∷ names) tracks = (automaton_tracks h name ≡ names_of tracks.named) × AreNamed custom tracks.direction tracks.named
 
 abbrev pub WordTracksAnswers : Custom → Headers → List (List ℕ) → Result WordTracks Fault → Type 0
 WordTracksAnswers custom h names (Ok tracks) = AreTracksOfFirst custom h names tracks
@@ -106,7 +106,7 @@ parts_from ledger place (v ∷ automata) = with_part (ledger Automata v.name) (v
 
 -- what is stored and printed of listed automata
 abbrev pub combine_success : Ledger → CombineHead → WordTracks → List StepLine → Success
-combine_success ledger head tracks lines = record { folder = Words; name = head.word; entry = Defined (Combine tracks.way tracks.named (parts_from ledger 0 head.automata)); lines = lines; verdict = None }
+combine_success ledger head tracks lines = record { folder = Words; name = head.word; entry = Defined (Combine tracks.direction tracks.named (parts_from ledger 0 head.automata)); lines = lines; verdict = None }
 
 -- the checks after the steps, after the shape, after those of sets, after the systems, after the tables, and after the head
 abbrev pub after_combined : Ledger → CombineHead → List Loaded → List StepLine → Check Success

@@ -18,7 +18,7 @@ use Rattle.system_files.specs.SystemFiles.{Custom}
 use Rattle.session_cli.specs.FormulaSteps.{AreMeant, IsReadingStopped}
 use Rattle.session_cli.specs.TableReads.{TableRead, AreTablesRead, relations_in}
 
--- the relations of listed automata, the first of which stands at this place of the list, with their values
+-- the relations of listed automata, the first of which is at this place of the list, with their values
 abbrev pub ArePartsFrom : List NamedRelation → ℕ → List ValuedName → List PartValue → Type 0
 ArePartsFrom relations place [] [] = ⊤
 ArePartsFrom relations place [] (p ∷ parts) = ⊥

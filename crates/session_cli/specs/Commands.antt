@@ -37,12 +37,12 @@ pub record Commands (limit : ℕ) (ledger : Ledger) (old : StoreView) (text : Li
   pub answered : IsAnswer (checks_of limit known text) answer
   pub stored : Stored (custom_of known) old answer new
 
--- files after a write, where they are told
+-- files after a write, where they are reported
 abbrev pub WritesFile : Option Files → Place → List ℕ → Result (Unit {0}) Fault → Option Files → Type 0
 WritesFile old place stored (Ok _) new = new ≡ option_map (λ files. put files place.0 place.1 stored) old
 WritesFile old place stored (Err fault) new = new ≡ old
 
--- a write fails because the store did, or for want of memory
+-- a write fails because the store did, or because memory ran out
 abbrev pub IsWriteFault : Place → StoreView → StoreView → Fault → Type 0
 IsWriteFault place old new (faults.Store folder name) = (folder ≡ place.0) × (name ≡ place.1) × Rose old.faults new.faults × (new.failed ≡ option_map (λ _. Some (folder, name)) old.failed)
 IsWriteFault place old new faults.Memory = new.failed ≡ old.failed

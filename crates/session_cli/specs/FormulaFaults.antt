@@ -37,7 +37,7 @@ fault_of_loading loads.Memory = faults.Memory
 
 abbrev pub fault_of_reading : ReadFault → Fault
 fault_of_reading (reads.Step fault) = fault_of fault
-fault_of_reading (reads.Gap name spelling) = faults.WordGap name spelling
+fault_of_reading (reads.Gap name representation) = faults.WordGap name representation
 
 abbrev pub fault_of_expansion : ExpansionFault → Fault
 fault_of_expansion (expansions.Syntax at) = faults.Syntax grammars.Macro at

@@ -72,14 +72,14 @@ abbrev pub BuiltAnswers : StepLog → Custom → List Loaded → trees.Formula �
 BuiltAnswers admitted custom tables formula (Ok lines) = (relation : RelationValue) × AreFormulaSteps admitted custom tables formula (Ok relation) lines
 BuiltAnswers admitted custom tables formula (Err (faults.Letters step)) = AreStepsRefused admitted custom tables formula (steps.Letters step)
 BuiltAnswers admitted custom tables formula (Err (faults.States step)) = AreStepsRefused admitted custom tables formula (steps.States step)
-BuiltAnswers admitted custom tables formula (Err (faults.WordGap name spelling)) = IsLetterMissing admitted custom tables name spelling
+BuiltAnswers admitted custom tables formula (Err (faults.WordGap name representation)) = IsLetterMissing admitted custom tables name representation
 BuiltAnswers admitted custom tables formula (Err fault) = ⊥
 
 -- a variable over the system that the name of its system means
 pub record IsVariable (custom : Custom) (found : resolved.Variable) (v : Variable) : Type 0 where
   pub name_is : v.name ≡ found.name
   pub system_is : v.system.name ≡ found.system
-  pub means : IsSystemNamed custom v.system.name v.way v.system.system
+  pub means : IsSystemNamed custom v.system.name v.direction v.system.system
 
 abbrev pub AreVariables : Custom → List resolved.Variable → List Variable → Type 0
 AreVariables custom [] [] = ⊤
@@ -137,6 +137,6 @@ after_text limit ledger place text = Then (Pure (FormulaAnswers text)) (λ formu
 abbrev pub after_named_head : ℕ → Ledger → Folder → NamedHead → Check Success
 after_named_head limit ledger folder head = Then (expanded ledger head.body) (λ text. after_text limit ledger (folder, head.name) text)
 
--- all checks of a command of this word, whose texts stand in this folder
+-- all checks of a command of this word, whose texts are in this folder
 abbrev pub formula_checks : List ℕ → Folder → ℕ → Ledger → List ℕ → Check Success
 formula_checks word folder limit ledger text = Then (Pure (HeadAnswers (SpellsNamed word) text)) (λ head. after_named_head limit ledger folder head)

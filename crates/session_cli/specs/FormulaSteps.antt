@@ -18,7 +18,7 @@ use Rattle.session_cli.specs.TableReads.{TableRead, AreTablesRead, IsReadingRefu
 
 -- each system is the one that its name means, read in that direction
 abbrev pub AreMeant : Custom → List NamedSystem → Type 0
-AreMeant custom systems = AllByRecursion (λ (s : NamedSystem). IsSystemNamed custom s.name s.system.way (system_of s.system)) systems
+AreMeant custom systems = AllByRecursion (λ (s : NamedSystem). IsSystemNamed custom s.name s.system.direction (system_of s.system)) systems
 
 -- these systems, no relation and no word
 abbrev pub library_of : List NamedSystem → LibraryValue
@@ -45,12 +45,12 @@ pub record IsReadingStopped (admitted : StepLog) (custom : Custom) (tables : Lis
   pub refused : IsReadingRefused systems admitted tables fault
 
 -- In the word of this name a letter is missing: its steps, and those before them, are within the limit, and in no word before it a letter
--- is missing. This is the first of all spellings of places without a letter.
-pub record IsLetterMissing (admitted : StepLog) (custom : Custom) (tables : List Loaded) (name : List ℕ) (spelling : List (List ℕ)) : Type 0 where
+-- is missing. This is the first of all representations of places without a letter.
+pub record IsLetterMissing (admitted : StepLog) (custom : Custom) (tables : List Loaded) (name : List ℕ) (representation : List (List ℕ)) : Type 0 where
   pub systems : List NamedSystem
   pub sealed : AreSealed systems
   pub meant : AreMeant custom systems
-  pub gap : IsReadingGap systems admitted tables name spelling
+  pub gap : IsReadingGap systems admitted tables name representation
 
 -- a step that reads a table, or one of the plan, is the first to pass a limit
 abbrev pub AreStepsRefused : StepLog → Custom → List Loaded → trees.Formula → StepFault → Type 0

@@ -6,13 +6,13 @@ use Rattle.digit_tuple.specs.declared.steps.StepLine.{StepLine}
 use Rattle.dfa_loading.specs.Headers.{headers_of}
 use Rattle.dfa_loading.specs.Loading.{AreListedBy}
 use Rattle.formula_build.specs.Libraries.{NamedWord, word_named}
-use Rattle.formula_build.specs.Solutions.{way_named}
+use Rattle.formula_build.specs.Solutions.{direction_named}
 use Rattle.formula_build.specs.declared.names.Names.{Names}
 use Rattle.formula_resolve.specs.FirstMentions.{first_files, first_systems}
 use Rattle.formula_resolve.specs.Headers.{word_tracks}
 use Rattle.morph_words.specs.Uniform.{HasLength, IsImageLength}
 use Rattle.morphism_loading.specs.MorphismFiles.{IsMorphismIn}
-use Rattle.num_system.specs.Tracks.{way_of}
+use Rattle.num_system.specs.Tracks.{direction_of}
 use Rattle.wal_outside.specs.Files.{Files}
 use Rattle.word_images.specs.ImageWords.{IsImageWord}
 use Rattle.word_output.specs.Words.{WordValue}
@@ -76,12 +76,12 @@ pub record IsMappable (read : ReadImage) (names : Names) : Type 0 where
   pub one_track : length (old_tracks_of read) ≡ 1
   pub uniform : (k : ℕ) × HasLength IsImageLength read.morphism k
 
--- a word of one track stands under the name, in the direction that the name of the system tells
+-- a word of one track is under the name, in the direction that the name of the system decides
 pub record HasOldWord (words : List NamedWord) (old system : List ℕ) : Type 0 where
   pub word : WordValue
   pub word_is : word_named words old ≡ Some word
   pub track : length word.systems ≡ 1
-  pub way : way_of word.systems ≡ way_named system
+  pub direction : direction_of word.systems ≡ direction_named system
 
 -- the steps make this word, which is the image of the old one, over systems for which the names stand that this mentions
 pub record IsImaged (admitted : StepLog) (custom : Custom) (read : ReadImage) (word : WordValue) (lines : List StepLine) : Type 0 where

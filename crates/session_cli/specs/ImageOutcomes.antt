@@ -48,7 +48,7 @@ OneTrackAnswers h old (Ok one) = length (word_tracks h old) ≡ 1
 OneTrackAnswers h old (Err (faults.Arity name tracks given)) = (name ≡ old) × (length (word_tracks h old) ≢ 1) × (tracks ≡ kept_count (length (word_tracks h old))) × (given ≡ 1)
 OneTrackAnswers h old (Err fault) = ⊥
 
--- all images have one length that is allowed, or the first kind that tells that they have not
+-- all images have one length that is allowed, or the first kind that says that they have not
 abbrev pub LengthsAnswers : Rules → Result (Unit {0}) Fault → Type 0
 LengthsAnswers rules (Ok uniform) = (k : ℕ) × HasLength IsImageLength rules k
 LengthsAnswers rules (Err (faults.Morphism kind)) = IsLengthRefused IsImageLength rules kind
@@ -56,12 +56,12 @@ LengthsAnswers rules (Err fault) = ⊥
 
 -- the system of the word's track, read in a direction
 pub record WordTrack : Type 0 where
-  pub way : Direction
+  pub direction : Direction
   pub system : named_tracks.NamedSystem
 
 -- it is what the name of the track's system means
 abbrev pub TrackAnswers : Custom → Headers → List ℕ → Result WordTrack Fault → Type 0
-TrackAnswers custom h old (Ok track) = (word_tracks h old ≡ track.system.name ∷ []) × IsSystemNamed custom track.system.name track.way track.system.system
+TrackAnswers custom h old (Ok track) = (word_tracks h old ≡ track.system.name ∷ []) × IsSystemNamed custom track.system.name track.direction track.system.system
 TrackAnswers custom h old (Err fault) = ⊥
 
 -- the table is read over sealed systems that names mean, and its steps make this word
@@ -98,18 +98,18 @@ abbrev pub ImagedAnswers : StepLog → Custom → List Loaded → List ℕ → L
 ImagedAnswers admitted custom tables old name rules (Ok lines) = (word : WordValue) × AreImageSteps admitted custom tables old name rules word lines
 ImagedAnswers admitted custom tables old name rules (Err (faults.Letters step)) = AreImageStepsRefused admitted custom tables old name rules (steps.Letters step)
 ImagedAnswers admitted custom tables old name rules (Err (faults.States step)) = AreImageStepsRefused admitted custom tables old name rules (steps.States step)
-ImagedAnswers admitted custom tables old name rules (Err (faults.WordGap word spelling)) = IsLetterMissing admitted custom tables word spelling
+ImagedAnswers admitted custom tables old name rules (Err (faults.WordGap word representation)) = IsLetterMissing admitted custom tables word representation
 ImagedAnswers admitted custom tables old name rules (Err (faults.LetterMissing letter)) = IsImagingStopped admitted custom tables old name rules (images.Missing letter)
 ImagedAnswers admitted custom tables old name rules (Err fault) = ⊥
 
--- the definition for which the name of the old word stands now
+-- the definition for which the name of the old word is now
 abbrev pub OldAnswers : Ledger → List ℕ → Result Entry Fault → Type 0
 OldAnswers ledger old (Ok entry) = ledger Words old ≡ Some entry
 OldAnswers ledger old (Err fault) = ⊥
 
 -- what is stored and printed of an image
 abbrev pub image_success : ImageHead → WordTrack → Rules → Entry → List StepLine → Success
-image_success head track rules entry lines = record { folder = Words; name = head.word; entry = Defined (Image track.way track.system rules (tree_of entry)); lines = lines; verdict = None }
+image_success head track rules entry lines = record { folder = Words; name = head.word; entry = Defined (Image track.direction track.system rules (tree_of entry)); lines = lines; verdict = None }
 
 -- the checks after the steps, after the track, after the lengths, after the arity, after the systems, after the table, after the morphism, and
 -- after the head

@@ -32,13 +32,13 @@ AreBuilt l s k old (b ∷ bs) (part ∷ parts) new = (part.value ≡ b) × ((mid
 
 -- those before one letter were built, and the steps of its formula stop at one that passes a limit
 pub record IsLetterStopped (l : LibraryValue) (s : Name) (k : ℕ) (old : StepLog) (letters : List ℤ) (fault : StepFault) (new : StepLog) : Type 0 where
-  pub front : List ℤ
+  pub prefix : List ℤ
   pub here : ℤ
   pub rest : List ℤ
-  pub letters_are : letters ≡ front ++ here ∷ rest
+  pub letters_are : letters ≡ prefix ++ here ∷ rest
   pub parts : List PartValue
   pub middle : StepLog
-  pub built : AreBuilt l s k old front parts middle
+  pub built : AreBuilt l s k old prefix parts middle
   pub stopped : IsStopped middle l (letter_plan s k here).steps new fault
 
 -- all were built, and the step that combines them passes a limit

@@ -17,9 +17,9 @@ system_of (Base s) = base s.base
 system_of (Fibonacci s) = fibonacci
 
 -- the direction in which its words are read
-abbrev pub way_of : KnownSystem → Direction
-way_of (Base s) = s.direction
-way_of (Fibonacci s) = s.direction
+abbrev pub direction_of : KnownSystem → Direction
+direction_of (Base s) = s.direction
+direction_of (Fibonacci s) = s.direction
 
 pub known_is_system : (s : KnownSystem) → IsSystem (system_of s)
 known_is_system (Base s) = base_is_system s.base s.at_least

@@ -28,8 +28,8 @@ pub record EndAlike (new new' : StoreView) (held now held' now' : SinkView) (sta
   pub printed : HasSent held text now
   pub printed' : HasSent held' text now'
 
--- Where the store tells its files and the status is Done or Refused, what was printed, the files and the status are a function of the words,
--- of the script and of the files at the beginning: how the bytes of the script came does not change them.
+-- Where the store reports its files and the status is Done or Refused, what was printed, the files and the status are a function of the
+-- words, of the script and of the files at the beginning: how the bytes of the script came does not change them.
 abbrev pub OneRun : Type 0
 OneRun = (words : List (List ℕ)) (script : List ℕ) (files : Files) (from to from' to' : SourceView) (old new old' new' : StoreView) (held now held' now' : SinkView) (state state' : Status)
     → HasCalled words from to old new held now state → HasCalled words from' to' old' new' held' now' state'
@@ -41,7 +41,7 @@ abbrev pub store_faults : List Answer → ℕ
 store_faults [] = 0
 store_faults (answer ∷ answers) = (if of_fault is_store_fault answer then 1 else 0) + store_faults answers
 
--- at most as many answers are store faults as the store's count rose, unless that stands at its last value
+-- at most as many answers are store faults as the store's count rose, unless that is at its last value
 abbrev pub StoreFaultsCounted : Type 0
 StoreFaultsCounted = (limit : ℕ) (ledger last : Ledger) (old new : StoreView) (items : List Item) (answers : List Answer) → Run limit ledger old items answers last new
     → min (old.faults + store_faults answers) (2 ^ 64 - 1) ≤ new.faults

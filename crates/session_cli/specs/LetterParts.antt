@@ -4,7 +4,7 @@ use Rattle.std.specs.List.{AllByRecursion}
 use Rattle.formula_parse.specs.Tokens.{Name}
 use Rattle.formula_truth.specs.Truth.{Holds}
 use Rattle.formula_build.specs.Libraries.{meanings_of}
-use Rattle.formula_build.specs.Solutions.{way_named}
+use Rattle.formula_build.specs.Solutions.{direction_named}
 use Rattle.number_relations.specs.Relations.{RelationValue, IsRelation, RelationHolds}
 use Rattle.num_system.specs.Sealed.{SystemValue}
 use Rattle.morph_words.specs.Rules.{Rules}
@@ -21,7 +21,7 @@ pub record IsUsable (t : Setting) (s : Name) (k : ℕ) : Type 0 where
   pub setting : IsSetting rules word s k t
   pub system : SystemValue
   pub systems : word.systems ≡ system ∷ []
-  pub way : system.way ≡ way_named s
+  pub direction : system.direction ≡ direction_named s
   pub some : 1 ≤ k
   pub few : k ≤ 40
 

@@ -22,7 +22,7 @@ pub mod RecodedWords
 pub mod ImageSteps
 pub mod ImageOutcomes
 pub mod Outcomes
-pub mod SpellingTexts
+pub mod RepresentationTexts
 pub mod Lines
 pub mod Views
 pub mod Runs

@@ -14,7 +14,7 @@ use Rattle.session_cli.specs.declared.fault.Grammar.{Grammar}
 use Rattle.session_cli.specs.declared.fault.Grammar.TheVariants as grammars
 use Rattle.session_cli.specs.declared.fault.Fault.{Fault}
 use Rattle.session_cli.specs.declared.fault.Fault.TheVariants as faults
-use Rattle.session_cli.specs.SpellingTexts.{spelling_text}
+use Rattle.session_cli.specs.RepresentationTexts.{representation_text}
 use Rattle.session_cli.specs.Accepting.{Success}
 
 -- the line of a step with its number: its kind, its width, and the number of states of its result
@@ -60,7 +60,7 @@ law_name laws.Finite = codes "Finite"
 law_name laws.ZeroLaw = codes "ZeroLaw"
 law_name laws.SuccessorLaw = codes "SuccessorLaw"
 
--- why no word is made of a morphism, and the letter that tells
+-- why no word is made of a morphism, and the letter that decides
 abbrev pub refusal_name : MorphismKind → List ℕ
 refusal_name (kinds.NotUniform letter) = codes "NotUniform"
 refusal_name (kinds.Length letter) = codes "Length"
@@ -94,7 +94,7 @@ detail (faults.Clash name first other) = ((codes ": F16 Clash " ++ name) ++ (cod
 detail (faults.Direction first other) = (codes ": F17 Direction " ++ first) ++ (codes " " ++ other)
 detail (faults.Letters step) = codes ": F18 Letters step " ++ decimal step
 detail (faults.States step) = codes ": F19 States step " ++ decimal step
-detail (faults.WordGap name spelling) = (codes ": F20 WordGap " ++ name) ++ (codes " " ++ spelling_text spelling)
+detail (faults.WordGap name representation) = (codes ": F20 WordGap " ++ name) ++ (codes " " ++ representation_text representation)
 detail (faults.Plain name) = codes ": F21 Plain " ++ name
 detail (faults.Morphism kind) = (codes ": F22 Morphism " ++ refusal_name kind) ++ (codes " " ++ signed_decimal (refusal_letter kind))
 detail (faults.LetterMissing letter) = codes ": F23 LetterMissing " ++ signed_decimal letter

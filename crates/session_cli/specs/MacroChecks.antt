@@ -1,4 +1,4 @@
--- The text of a formula, with its calls of macros expanded by the texts that stand among macros. What is read is a macro of which a call is met.
+-- The text of a formula, with its calls of macros expanded by the texts that are among macros. What is read is a macro of which a call is met.
 use Rattle.std.specs.Prelude.{◌≡◌, ℕ, List, Result, Ok, Err}
 use Rattle.wal_outside.specs.Files.{Files}
 use Rattle.wal_outside.specs.Places.{Place}

@@ -41,6 +41,6 @@ ExpandsTo body files result = MatchResult result (λ text. expansion (macros_of 
 abbrev pub SameButMacros : Files → Files → Type 0
 SameButMacros files others = (folder : Folder) (name : List ℕ) → folder ≢ Macros → files folder name ≡ others folder name
 
--- by files that are these, whatever macros stand among them, this is what the checks after the expansion make
+-- by files that are these, whatever macros are among them, this is what the checks after the expansion make
 abbrev pub MakesOfText : StepOptions → List ℕ → Files → Result Made Fault → Type 0
 MakesOfText options text found result = (ledger : Ledger) (files : Files) (place : Place) → Stores ledger files → SameButMacros files found → Makes (custom_of ledger) (after_text options.limit ledger place text) options.shown result

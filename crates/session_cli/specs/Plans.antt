@@ -30,7 +30,7 @@ pub record IsMade (custom : Custom) (checks : Check Success) (shown : Bool) (mad
 abbrev pub Makes : Custom → Check Success → Bool → Result Made Fault → Type 0
 Makes custom checks shown result = MatchResult result (IsMade custom checks shown) (Fails checks)
 
--- and stands under the name of the accepted command
+-- and is under the name of the accepted command
 pub record IsPlan (custom : Custom) (checks : Check Success) (shown : Bool) (plan : Plan) : Type 0 where
   pub made : IsMade custom checks shown plan.made
   pub folder_is : plan.folder ≡ made.success.folder

@@ -12,9 +12,9 @@ use Rattle.word_images.specs.Recoded.{IsRecoded}
 -- the words of the first so many places, each under its name
 abbrev pub AreRecoded : Rules → WordValue → ℕ → List NamedWord → Type 0
 AreRecoded rules word zero words = words ≡ []
-AreRecoded rules word (suc r) words = (front : List NamedWord) × (u : WordValue) × AreRecoded rules word r front × IsRecoded rules word r u × (words ≡ with_named front (word_name r) u)
+AreRecoded rules word (suc r) words = (prefix : List NamedWord) × (u : WordValue) × AreRecoded rules word r prefix × IsRecoded rules word r u × (words ≡ with_named prefix (word_name r) u)
 
--- their headers: each stands over one track of this system
+-- their headers: each is over one track of this system
 abbrev pub image_headers : Name → ℕ → Headers
 image_headers s zero = no_headers
 image_headers s (suc r) = with_word (image_headers s r) (word_name r) (s ∷ [])

@@ -56,7 +56,7 @@ abbrev pub failed_after : Option (Option Place) → Answer → Option (Option Pl
 failed_after old (Err (faults.Store folder name)) = option_map (λ _. Some (folder, name)) old
 failed_after old _ = old
 
--- where the store tells its files, a command is answered by the ledger, and else by some ledger
+-- where the store reports its files, a command is answered by the ledger, and else by some ledger
 abbrev pub IsKnownLedger : Option Files → Ledger → Ledger → Type 0
 IsKnownLedger None ledger known = ⊤
 IsKnownLedger (Some files) ledger known = known ≡ ledger
@@ -78,12 +78,12 @@ Run limit ledger old (item ∷ items) (answer ∷ answers) last new = (mid : Sto
 Run limit ledger old [] (answer ∷ answers) last new = ⊥
 Run limit ledger old (item ∷ items) [] last new = ⊥
 
--- the ledger at the beginning: the store's files, where these are told
+-- the ledger at the beginning: the store's files, where these are reported
 abbrev pub first_ledger : Option Files → Ledger
 first_ledger None = λ folder name. None
 first_ledger (Some files) = ledger_of files
 
--- the files, where they are told, are the ledger's texts
+-- the files, where they are reported, are the ledger's texts
 abbrev pub StoresTold : Ledger → Option Files → Type 0
 StoresTold ledger None = ⊤
 StoresTold ledger (Some files) = Stores ledger files
@@ -109,7 +109,7 @@ abbrev pub some_of : (Answer → Bool) → List Answer → Bool
 some_of p [] = false
 some_of p (answer ∷ answers) = p answer || some_of p answers
 
--- want of memory counts before a store that failed, and that before another refusal
+-- out of memory counts before a store that failed, and that before another refusal
 abbrev pub status_by : Bool → Bool → Bool → Status
 status_by refused store memory = if memory then status.Memory else if store then status.Outside else if refused then status.Refused else status.Done
 

@@ -1,4 +1,4 @@
--- Commands that read a store: what they give is said of some files, which are the store's where it tells them.
+-- Commands that read a store: what they give is said of some files, which are the store's where it reports them.
 use Rattle.std.specs.Prelude.{◌≡◌, ◌≤◌, List, Some, IfSome, Result, MatchResult}
 use Rattle.std.specs.Option.{option_map}
 use Rattle.wal_outside.specs.Causes.{Rose}
@@ -29,8 +29,8 @@ pub record FromFiles {X : Type 0} (Gives : Files → Result X Fault → Type 0) 
   pub gives : Gives found result
   pub has_read : HasRead old result new
 
--- What is given by the texts of users' systems that were found, whatever else stands in their folder. They may stand there, and do where the
--- store tells its files.
+-- What is given by the texts of users' systems that were found, whatever else is in their folder. They may be there, and do where the store
+-- reports its files.
 pub record FromTexts {X : Type 0} (Gives : Custom → Result X Fault → Type 0) (old : StoreView) (result : Result X Fault) (new : StoreView) : Type 0 where
   pub found : List FoundText
   pub stands : CanStand found

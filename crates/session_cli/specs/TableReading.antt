@@ -8,7 +8,7 @@ use Rattle.dfa_reading.specs.WordFiles.{IsWordListed}
 use Rattle.formula_resolve.specs.declared.file.File.TheVariants.{Automaton, Word}
 use Rattle.formula_build.specs.Libraries.{NamedSystem, ReadValue, with_relation, with_word}
 use Rattle.num_system.specs.Sealed.{SystemValue}
-use Rattle.num_system.specs.Tracks.{HaveOneWay}
+use Rattle.num_system.specs.Tracks.{ShareDirection}
 use Rattle.number_relations.specs.Relations.{RelationValue}
 use Rattle.word_output.specs.Words.{WordValue}
 use Rattle.definitions.specs.TableSteps.{IsTable}
@@ -16,13 +16,13 @@ use Rattle.session_cli.specs.declared.read_fault.ReadFault.{ReadFault}
 use Rattle.session_cli.specs.declared.read_fault.ReadFault.TheVariants.{Step, Gap}
 use Rattle.session_cli.specs.TableReads.{TableRead, ARelation, AWord, read_of, AreSystemsUnder, IsRelationRead, IsWordRead, IsTableRead, IsTableRefused, IsTableGap, AreTablesRead, IsReadingRefused, IsReadingGap}
 
--- a table over systems, each of which stands under its name, in one direction; a word's lists a word
+-- a table over systems, each of which is under its name, in one direction; a word's lists a word
 pub record IsReadable (systems : List NamedSystem) (table : Loaded) : Type 0 where
   pub is_table : IsTable table.listed
   pub is_word : (name : List ℕ) → table.file ≡ Word name → IsWordListed table.listed
   pub tracks : List SystemValue
   pub over : AreSystemsUnder systems table.listed.header tracks
-  pub one_way : HaveOneWay tracks
+  pub shared_direction : ShareDirection tracks
 
 abbrev pub AreReadable : List NamedSystem → List Loaded → Type 0
 AreReadable systems tables = AllByRecursion (IsReadable systems) tables
@@ -30,7 +30,7 @@ AreReadable systems tables = AllByRecursion (IsReadable systems) tables
 -- why a table is not read: memory ran out, or a step is the first to pass a limit, or a letter is missing
 abbrev pub IsTableFault : List NamedSystem → StepLog → Loaded → ReadFault → Type 0
 IsTableFault systems old table (Step fault) = (fault ≡ faults.Memory) ⊎ IsTableRefused systems old table fault
-IsTableFault systems old table (Gap name spelling) = IsTableGap systems old table name spelling
+IsTableFault systems old table (Gap name representation) = IsTableGap systems old table name representation
 
 -- the relation of an automaton's table is made by its steps, or not
 abbrev pub ReadsRelation : List NamedSystem → StepLog → Loaded → Result RelationValue ReadFault → StepLog → Type 0
@@ -55,7 +55,7 @@ AddsTable systems old table before result after new =
 -- why tables are not read
 abbrev pub IsReadingFault : List NamedSystem → StepLog → List Loaded → ReadFault → Type 0
 IsReadingFault systems old tables (Step fault) = (fault ≡ faults.Memory) ⊎ IsReadingRefused systems old tables fault
-IsReadingFault systems old tables (Gap name spelling) = IsReadingGap systems old tables name spelling
+IsReadingFault systems old tables (Gap name representation) = IsReadingGap systems old tables name representation
 
 -- what the tables make, each under its name, or why they are not read
 abbrev pub ReadsTables : List NamedSystem → StepLog → List Loaded → Result ReadValue ReadFault → StepLog → Type 0

@@ -37,7 +37,7 @@ read_of reads = record { relations = relations_in reads; words = words_in reads 
 abbrev pub library_with : List TableRead → List NamedSystem → LibraryValue
 library_with reads systems = record { relations = relations_in reads; words = words_in reads; systems = systems }
 
--- the systems that stand under the names of a header; sets have none
+-- the systems that are under the names of a header; sets have none
 abbrev pub AreSystemsUnder : List NamedSystem → Header → List SystemValue → Type 0
 AreSystemsUnder systems (Truth value) tracks = tracks ≡ []
 AreSystemsUnder systems (Systems names) tracks = AllZip (λ name s. system_named systems name ≡ Some s) names tracks
@@ -73,12 +73,12 @@ pub record IsTableRefused (systems : List NamedSystem) (old : StepLog) (table : 
   pub passes : PassesFile table.file old tracks table.listed fault
 
 -- The table is that of the word of this name. Its steps are within the limit, and some place has no letter: this is the first of all
--- spellings of such places.
-pub record IsTableGap (systems : List NamedSystem) (old : StepLog) (table : Loaded) (name : List ℕ) (spelling : List (List ℕ)) : Type 0 where
+-- representations of such places.
+pub record IsTableGap (systems : List NamedSystem) (old : StepLog) (table : Loaded) (name : List ℕ) (representation : List (List ℕ)) : Type 0 where
   pub file_is : table.file ≡ Word name
   pub tracks : List SystemValue
   pub over : AreSystemsUnder systems table.listed.header tracks
-  pub gap : HasWordGap old.limit tracks table.listed spelling
+  pub gap : HasWordGap old.limit tracks table.listed representation
 
 -- the steps of some tables, one after another, make what their names stand for
 abbrev pub AreTablesRead : List NamedSystem → StepLog → List Loaded → List TableRead → StepLog → Type 0
@@ -96,7 +96,7 @@ IsReadingRefused systems old (table ∷ tables) fault =
 
 -- the word of this name is one of them, and the first in which a letter is missing
 abbrev pub IsReadingGap : List NamedSystem → StepLog → List Loaded → List ℕ → List (List ℕ) → Type 0
-IsReadingGap systems old [] name spelling = ⊥
-IsReadingGap systems old (table ∷ tables) name spelling =
-    IsTableGap systems old table name spelling
-    ⊎ ((r : TableRead) × (mid : StepLog) × IsTableRead systems old table r mid × IsReadingGap systems mid tables name spelling)
+IsReadingGap systems old [] name representation = ⊥
+IsReadingGap systems old (table ∷ tables) name representation =
+    IsTableGap systems old table name representation
+    ⊎ ((r : TableRead) × (mid : StepLog) × IsTableRead systems old table r mid × IsReadingGap systems mid tables name representation)

@@ -20,33 +20,33 @@ pub record AreSetSteps (admitted : StepLog) (sets : List (List ℤ)) (expression
   pub lines_are : lines ≡ admitted.lines ++ line ∷ []
 
 -- the steps over systems make this automaton, with these lines
-pub record AreSystemSteps (admitted : StepLog) (way : Direction) (named : List NamedSystem) (expression : Expression (List ℤ)) (lines : List StepLine) : Type 0 where
+pub record AreSystemSteps (admitted : StepLog) (direction : Direction) (named : List NamedSystem) (expression : Expression (List ℤ)) (lines : List StepLine) : Type 0 where
   pub languages : List Automaton
-  pub languages_are : AreSystemLanguages way (systems_of named) languages
+  pub languages_are : AreSystemLanguages direction (systems_of named) languages
   pub automaton : Automaton
   pub valid : StepLine
-  pub steps : AreRelationSteps admitted.limit way languages (letter_sets (OverSystems way named)) expression automaton valid
+  pub steps : AreRelationSteps admitted.limit direction languages (letter_sets (OverSystems direction named)) expression automaton valid
   pub lines_are : lines ≡ admitted.lines ++ steps.before.regex ∷ steps.before.pad ∷ valid ∷ []
 
 -- the steps are within the limits, and these are their lines
 abbrev pub AreSteps : StepLog → Tracks → Expression (List ℤ) → List StepLine → Type 0
 AreSteps admitted (OverSets sets) expression lines = AreSetSteps admitted sets expression lines
-AreSteps admitted (OverSystems way named) expression lines = AreSystemSteps admitted way named expression lines
+AreSteps admitted (OverSystems direction named) expression lines = AreSystemSteps admitted direction named expression lines
 
 -- the first step passes the limit of letters or of tracks
 abbrev pub ExceedsLetters : Tracks → Type 0
 ExceedsLetters tracks = regex_steps.ExceedsLetters (letter_sets tracks)
 
 -- the third step passes the limit
-pub record ValidExceedsOver (limit : ℕ) (way : Direction) (named : List NamedSystem) (expression : Expression (List ℤ)) : Type 0 where
+pub record ValidExceedsOver (limit : ℕ) (direction : Direction) (named : List NamedSystem) (expression : Expression (List ℤ)) : Type 0 where
   pub languages : List Automaton
-  pub languages_are : AreSystemLanguages way (systems_of named) languages
-  pub third : ThirdExceeds limit way languages (letter_sets (OverSystems way named)) expression
+  pub languages_are : AreSystemLanguages direction (systems_of named) languages
+  pub third : ThirdExceeds limit direction languages (letter_sets (OverSystems direction named)) expression
 
 -- the step with this number is the first to pass the limit of its width
 abbrev pub ExceedsStates : StepLog → Tracks → Expression (List ℤ) → ℕ → Type 0
 ExceedsStates admitted (OverSets sets) expression step = (step ≡ length admitted.lines + 1) × regex_steps.ExceedsStates admitted.limit sets expression
-ExceedsStates admitted (OverSystems way named) expression step =
-    ((step ≡ length admitted.lines + 1) × regex_steps.ExceedsStates admitted.limit (letter_sets (OverSystems way named)) expression)
-    ⊎ (((step ≡ length admitted.lines + 2) × SecondExceeds admitted.limit way (letter_sets (OverSystems way named)) expression)
-    ⊎ ((step ≡ length admitted.lines + 3) × ValidExceedsOver admitted.limit way named expression))
+ExceedsStates admitted (OverSystems direction named) expression step =
+    ((step ≡ length admitted.lines + 1) × regex_steps.ExceedsStates admitted.limit (letter_sets (OverSystems direction named)) expression)
+    ⊎ (((step ≡ length admitted.lines + 2) × SecondExceeds admitted.limit direction (letter_sets (OverSystems direction named)) expression)
+    ⊎ ((step ≡ length admitted.lines + 3) × ValidExceedsOver admitted.limit direction named expression))

@@ -33,16 +33,16 @@ abbrev pub meant_system : Meaning → System
 meant_system (BuiltIn s) = known.system_of s
 meant_system (Admitted s) = sealed.system_of s.value
 
-abbrev pub meant_way : Meaning → Direction
-meant_way (BuiltIn s) = known.way_of s
-meant_way (Admitted s) = s.value.way
+abbrev pub meant_direction : Meaning → Direction
+meant_direction (BuiltIn s) = known.direction_of s
+meant_direction (Admitted s) = s.value.direction
 
 -- the system of a track, and its direction
 abbrev pub system_of : TrackSystem → System
 system_of s = meant_system s.meaning
 
-abbrev pub way_of : TrackSystem → Direction
-way_of s = meant_way s.meaning
+abbrev pub direction_of : TrackSystem → Direction
+direction_of s = meant_direction s.meaning
 
 -- a system under its name
 abbrev pub named_of : TrackSystem → NamedSystem
@@ -56,11 +56,11 @@ names_in systems = map (λ (s : TrackSystem). s.name) systems
 
 -- the system is read in this direction
 abbrev pub IsIn : Direction → TrackSystem → Type 0
-IsIn direction s = way_of s ≡ direction
+IsIn direction s = direction_of s ≡ direction
 
 -- the name stands for this, where these users' systems are what their names mean
 abbrev pub IsNameOf : List libraries.NamedSystem → List ℕ → Meaning → Type 0
-IsNameOf users name meaning = (custom : Custom) → AreMeant custom users → IsSystemNamed custom name (meant_way meaning) (meant_system meaning)
+IsNameOf users name meaning = (custom : Custom) → AreMeant custom users → IsSystemNamed custom name (meant_direction meaning) (meant_system meaning)
 
 -- each system is what its name stands for, and the names are these
 pub record AreNamesOf (users : List libraries.NamedSystem) (names : List (List ℕ)) (systems : List TrackSystem) : Type 0 where

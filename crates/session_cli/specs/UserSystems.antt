@@ -38,7 +38,7 @@ AdmitsUsers limit names custom result = MatchResult result (AreAdmitted limit na
 pub record AddsUser (custom : Custom) (name : List ℕ) (before after : UserSystems) : Type 0 where
   pub admits : AdmitsName custom name before.steps (Ok tt) after.steps
   pub system : SystemValue
-  pub defined : IsUserSystem custom name system.way (system_of system)
+  pub defined : IsUserSystem custom name system.direction (system_of system)
   pub named : after.named ≡ with_system before.named name system
 
 -- one more that is not

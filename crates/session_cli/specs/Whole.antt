@@ -20,7 +20,7 @@ abbrev pub stop_status : WriteFault → Status
 stop_status writes.Failed = status.Outside
 stop_status writes.Memory = status.Memory
 
--- The source gave these bytes, at most one more than a script may have; and what it has left is this, where it is told.
+-- The source gave these bytes, at most one more than a script may have; and what it has left is this, where it is reported.
 pub record HasGiven (from to : SourceView) (gave more : List ℕ) : Type 0 where
   pub taken : Consumes from.left to.left gave
   pub within : length gave ≤ 16777217
@@ -59,9 +59,9 @@ pub record RanToStop (limit : ℕ) (script : List ℕ) (from to : SourceView) (o
   pub state_is : state ≡ stop_status fault
 
 -- the source failed, and no further command has its terminator in what it gave, which is no longer than a script may be
-pub record SourceFailed (from to : SourceView) (gave behind : List ℕ) (state : Status) : Type 0 where
+pub record SourceFailed (from to : SourceView) (gave suffix : List ℕ) (state : Status) : Type 0 where
   pub rose : Rose from.faults to.faults
-  pub none : HasNoCommand behind
+  pub none : HasNoCommand suffix
   pub within : length gave ≤ 16777216
   pub state_is : state ≡ status.Outside
 
@@ -77,13 +77,13 @@ pub record RanToFault (limit : ℕ) (gave more : List ℕ) (from to : SourceView
   pub answers : List Answer
   pub last : Rest
   pub cut : CutsTo (start (gave ++ more)) items last
-  pub behind : List ℕ
-  pub left_is : last.left ≡ behind ++ more
+  pub suffix : List ℕ
+  pub left_is : last.left ≡ suffix ++ more
   pub ledger : Ledger
   pub run : Run limit (first_ledger old.files) old items answers ledger new
   pub stores : StoresTold ledger new.files
   pub sent : HasSent held (printed items answers) now
-  pub cause : SourceFailed from to gave behind state ⊎ WantedMemory from to state
+  pub cause : SourceFailed from to gave suffix state ⊎ WantedMemory from to state
 
 -- a run over the bytes that the source gave and those that it has left
 abbrev pub Ran : ℕ → List ℕ → List ℕ → SourceView → SourceView → StoreView → StoreView → SinkView → SinkView → Status → Type 0

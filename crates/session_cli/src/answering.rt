@@ -56,7 +56,7 @@ pub(crate) fn answer_command<T: Store>(
 /// Hands over what a command answered that begins on `line`: the bytes that it prints, or the line of its fault.
 ///
 /// # Errors
-/// As `send`: what was appended is a front of that.
+/// As `send`: what was appended is a prefix of that.
 pub(crate) fn hand_over<K: Sink>(
     out: &mut K,
     line: u64,
@@ -73,7 +73,7 @@ pub(crate) fn hand_over<K: Sink>(
 /// Hands over the line of a fault, and counts it.
 ///
 /// # Errors
-/// As `send`: what was appended is a front of the line.
+/// As `send`: what was appended is a prefix of the line.
 pub(crate) fn hand_over_fault<K: Sink>(
     out: &mut K,
     line: u64,

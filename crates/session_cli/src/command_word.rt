@@ -26,7 +26,7 @@ pub(crate) enum CommandWord {
     Image,
 }
 
-/// The command whose word stands first in a text. None where it is none that a command has.
+/// The command whose word comes first in a text. None where it is none that a command has.
 pub(crate) fn command_word(text: &[u8]) -> Option<CommandWord>
     ensures { MatchOption result ((word : CommandWord) → first_word_of text.now ≢ word_text word) (λ word. first_word_of text.now ≡ word_text word) }
 {

@@ -23,7 +23,7 @@ use morph_words::{MorphismKind, RulesFault};
 use std::alloc::{AllocError, AllocFailed};
 use system_admission::SystemFault;
 use wal_outside::Folder;
-use word_output::spelling::Spelling;
+use word_output::representation::Representation;
 
 /// The part of a command that a fault is about. Bytes count from the part's begin.
 #[derive(Clone, Copy, Debug, PartialEq, Eq)]
@@ -45,7 +45,7 @@ pub enum Grammar {
 pub enum Fault {
     /// F01: its first word is none that a command has.
     Command,
-    /// F02: no form goes on with what stands at this byte; or the part ends too early, at its length.
+    /// F02: no form goes on with what is at this byte; or the part ends too early, at its length.
     Syntax(Grammar, usize),
     /// F03: the connective at this byte is none that its chain goes on with.
     MixedChain(usize),
@@ -60,14 +60,14 @@ pub enum Fault {
     /// F08: the text of the macro of this name has a place of this number, for which a call with so many arguments has none.
     /// 2^64 - 1 stands for each greater number.
     MacroArgs(Name, u64, usize),
-    /// F09: a call of the macro of this name stands within 16 others.
+    /// F09: a call of the macro of this name is within 16 others.
     MacroDepth(Name),
     /// F10: a text that macros make has more than 65,536 bytes, or so many calls were expanded.
     MacroLong,
-    /// F11: nothing stands under this name in this folder.
+    /// F11: nothing is under this name in this folder.
     Unknown(Folder, Name),
-    /// F12: the text that stands under this name in this folder is not one that it is read as: a line breaks the format, or it is
-    /// too long.
+    /// F12: the text that is under this name in this folder is not one that it is read as: a line breaks the format, or it is too
+    /// long.
     File(Folder, Name, FileFlaw),
     /// F13: the automaton or word of this name has so many tracks, and so many terms are given.
     Arity(Name, u32, u32),
@@ -83,8 +83,8 @@ pub enum Fault {
     Letters(u64),
     /// F19: this step, counted from 1, would have more values than a step may have.
     States(u64),
-    /// F20: the word of this name has no letter at some place: this is the first of all spellings of such places.
-    WordGap(Name, Spelling),
+    /// F20: the word of this name has no letter at some place: this is the first of all representations of such places.
+    WordGap(Name, Representation),
     /// F21: the automaton of this name is over sets.
     Plain(Name),
     /// F22: no word is made of the morphism.
@@ -139,7 +139,7 @@ impl From<ReadFault> for Fault {
     fn from(fault: ReadFault) -> Fault {
         match fault {
             ReadFault::Step(fault) => Fault::from(fault),
-            ReadFault::Gap(name, spelling) => Fault::WordGap(name, spelling),
+            ReadFault::Gap(name, representation) => Fault::WordGap(name, representation),
         }
     }
 }

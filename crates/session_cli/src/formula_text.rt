@@ -21,7 +21,7 @@ use wal_outside::TEXT_LIMIT;
 /// the names of the variables' systems.
 ///
 /// # Errors
-/// `Long` exactly where the text has more bytes than a text may have, or `Memory`.
+/// `Long` if and only if the text has more bytes than a text may have, or `Memory`.
 pub(crate) fn formula_text(
     alloc: Global,
     variables: &[Variable],

@@ -216,7 +216,7 @@ fn old_system<'a>(headers: &'a Headers, old: &Name) -> &'a Name
     &headers.word_tracks(old)[0]
 }
 
-/// The image of the word that stands under the old name in a library, over the system of this name.
+/// The image of the word that is under the old name in a library, over the system of this name.
 fn image_in(
     alloc: Global,
     read: &ReadImage,

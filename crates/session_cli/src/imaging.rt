@@ -2,8 +2,8 @@
 
 ghost use Rattle.std.specs.Prelude.{◌≡◌, ◌⊎◌, length, IfErr, IfOk};
 ghost use Rattle.digit_tuple.specs.declared.step_fault.StepFault.TheVariants.{Memory};
-ghost use Rattle.num_system.specs.Tracks.{way_of};
-ghost use Rattle.formula_build.specs.Solutions.{way_named};
+ghost use Rattle.num_system.specs.Tracks.{direction_of};
+ghost use Rattle.formula_build.specs.Solutions.{direction_named};
 ghost use Rattle.session_cli.specs.ImageSteps.{DoesImage, IsImageDone, IsImageStopped};
 ghost use Rattle.word_images.specs.ImageWords.{IsImageWord, IsMapped};
 
@@ -25,14 +25,14 @@ use word_output::word::Word;
 /// of the word has one. Time and memory to prepare the steps follow the states of the word times the length; beside
 /// that they are those of the steps.
 ///
-/// The steps are, for each letter that stands in an image of a letter of the word, in ascending order, those of the
-/// formula that says of a number `n` that this letter stands at `n`; and then one step `combine`.
+/// The steps are, for each letter that is in an image of a letter of the word, in ascending order, those of the formula
+/// that says of a number `n` that this letter is at `n`; and then one step `combine`.
 ///
 /// # Errors
-/// `Morphism` exactly where the images have not one length of 1 to 40, with the kind and its letter. Else `Missing`
-/// exactly where a letter of the word has no image, with the least such letter. Then the steps are as before. Else
-/// `Step` with `Letters` or `States` exactly at the first step that passes a limit, with its number; the steps
-/// before it are done. Where memory is wanting, some of the steps may be done.
+/// `Morphism` if and only if the images have not one length of 1 to 40, with the kind and its letter. Else `Missing` if
+/// and only if a letter of the word has no image, with the least such letter. Then the steps are as before. Else `Step`
+/// with `Letters` or `States` exactly at the first step that passes a limit, with its number; the steps before it are
+/// done. Where memory is wanting, some of the steps may be done.
 pub(crate) fn image(
     alloc: Global,
     morphism: &Morphism,
@@ -41,7 +41,7 @@ pub(crate) fn image(
     steps: &mut Steps,
 ) -> Result<Word, ImageFault>
     requires track { length word.now.systems ≡ 1 }
-    requires way { way_of word.now.systems ≡ way_named system.now }
+    requires direction { direction_of word.now.systems ≡ direction_named system.now }
     ensures steps { DoesImage steps.old morphism.now word.now system.now result steps.new }
     ensures image { IfOk result (IsImageWord morphism.now word.now) }
 {
@@ -69,7 +69,7 @@ fn mapped(
 ) -> Result<Word, StepFault>
     requires mapped { IsMapped morphism.now word.now target.length }
     requires track { length word.now.systems ≡ 1 }
-    requires way { way_of word.now.systems ≡ way_named target.system.now }
+    requires direction { direction_of word.now.systems ≡ direction_named target.system.now }
     ensures done { IfOk result (λ image. IsImageDone steps.old morphism.now word.now target.entry.system.now image steps.new) }
     ensures stopped { IfErr result (λ fault. (fault ≡ Memory) ⊎ IsImageStopped steps.old morphism.now word.now target.entry.system.now fault steps.new) }
     ensures image { IfOk result (IsImageWord morphism.now word.now) }

@@ -18,11 +18,11 @@ pub(crate) enum KnownSystem {
 }
 
 impl NumSystem for KnownSystem {
-    ghost use Rattle.session_cli.specs.KnownSystems.{system_of, way_of, known_is_system};
+    ghost use Rattle.session_cli.specs.KnownSystems.{system_of, direction_of, known_is_system};
 
     ghost system = { system_of };
 
-    ghost way = { way_of };
+    ghost first_digit = { direction_of };
 
     fn digits(&self) -> u32 {
         match self {

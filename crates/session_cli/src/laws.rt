@@ -10,15 +10,15 @@ pub fn one_outcome()
     promotions_have_one_outcome();
 }
 
-/// Where the store tells its files and a run ends with `Done` or `Refused`, what it printed, the store's files and the status are a function of the
-/// script and of the files at the beginning.
+/// Where the store reports its files and a run ends with `Done` or `Refused`, what it printed, the store's files and the status are a function of
+/// the script and of the files at the beginning.
 pub fn one_run()
     ensures { OneRun }
 {
     promotions_have_one_outcome();
 }
 
-/// At most as many commands are refused by the store as its count of faults rose, unless that stands at its last value.
+/// At most as many commands are refused by the store as its count of faults rose, unless that is at its last value.
 pub fn store_faults_counted()
     ensures { StoreFaultsCounted }
 {}

@@ -50,7 +50,7 @@ pub(crate) fn letter_parts(
     Ok(parts)
 }
 
-// The relation of the places at which a letter stands.
+// The relation of the places at which a letter is.
 fn letter_relation(
     alloc: Global,
     formulas: Formulas<'_>,

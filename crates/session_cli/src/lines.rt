@@ -4,7 +4,7 @@ ghost use Rattle.std.specs.List.{flat_map};
 ghost use Rattle.wal_outside.specs.Folders.{folder_text};
 ghost use Rattle.wal_outside.specs.Sending.{Sends};
 ghost use Rattle.session_cli.specs.Lines.{grammar_name as grammar_text, flaw_text, refusal_name, refusal_letter, law_name as law_text, detail, fault_line};
-ghost use Rattle.session_cli.specs.SpellingTexts.{digits_text, digit_behind, letter_text, spelling_text};
+ghost use Rattle.session_cli.specs.RepresentationTexts.{digits_text, digit_after, letter_text, representation_text};
 
 use crate::fault::{Fault, Grammar};
 use adder_check::admit_fault::Law;
@@ -13,7 +13,7 @@ use digit_tuple::name::Name;
 use itoa::Buffer;
 use morph_words::MorphismKind;
 use wal_outside::{Folder, Sink, WriteFault, send, send_four, send_two};
-use word_output::spelling::Spelling;
+use word_output::representation::Representation;
 
 impl Grammar {
     /// The part's name in a line.
@@ -45,7 +45,7 @@ fn law_name(law: Law) -> &'static str
 /// Hands over the line of a command that begins on `line` and is refused by `fault`. It takes no memory.
 ///
 /// # Errors
-/// As `send`: what was appended is a front of the line.
+/// As `send`: what was appended is a prefix of the line.
 pub(crate) fn send_fault<K: Sink>(out: &mut K, line: u64, fault: &Fault) -> Result<(), WriteFault>
     ensures { Sends (K.view out.old) (fault_line line fault.now) result (K.view out.new) }
 {
@@ -85,7 +85,7 @@ fn send_detail<K: Sink>(out: &mut K, fault: &Fault) -> Result<(), WriteFault>
         ),
         Fault::Letters(step) => send_number(out, b": F18 Letters step ", *step),
         Fault::States(step) => send_number(out, b": F19 States step ", *step),
-        Fault::WordGap(name, spelling) => send_gap(out, name, spelling),
+        Fault::WordGap(name, representation) => send_gap(out, name, representation),
         Fault::Plain(name) => send_two(out, b": F21 Plain ", name.as_bytes()),
         Fault::Morphism(kind) => send_kind(out, *kind),
         Fault::LetterMissing(letter) => send_signed(out, b": F23 LetterMissing ", *letter),
@@ -121,7 +121,7 @@ fn send_place<K: Sink>(
     )
 }
 
-/// Hands over a fault's number and name, and the number behind it.
+/// Hands over a fault's number and name, and the number after it.
 fn send_number<K: Sink>(out: &mut K, name: &[u8], number: u64) -> Result<(), WriteFault>
     ensures { Sends (K.view out.old) (name.now ++ decimal number) result (K.view out.new) }
 {
@@ -129,7 +129,7 @@ fn send_number<K: Sink>(out: &mut K, name: &[u8], number: u64) -> Result<(), Wri
     send_two(out, name, buffer.format(number).as_bytes())
 }
 
-/// Hands over a fault's number and name, and the signed number behind it.
+/// Hands over a fault's number and name, and the signed number after it.
 fn send_signed<K: Sink>(out: &mut K, name: &[u8], number: i32) -> Result<(), WriteFault>
     ensures { Sends (K.view out.old) (name.now ++ signed_decimal number) result (K.view out.new) }
 {
@@ -170,7 +170,7 @@ fn kind_name(kind: MorphismKind) -> &'static str
     }
 }
 
-/// The letter that tells it.
+/// The letter that determines it.
 fn kind_letter(kind: MorphismKind) -> i32
     ensures { result ≡ refusal_letter kind }
 {
@@ -280,20 +280,27 @@ fn send_clash<K: Sink>(
     send_two(out, b" ", other.as_bytes())
 }
 
-/// Hands over the fault of a word without a letter at the place with this spelling.
-fn send_gap<K: Sink>(out: &mut K, name: &Name, spelling: &Spelling) -> Result<(), WriteFault>
-    ensures { Sends (K.view out.old) ((codes ": F20 WordGap " ++ name.now) ++ (codes " " ++ spelling_text spelling.now)) result (K.view out.new) }
+/// Hands over the fault of a word without a letter at the place with this representation.
+fn send_gap<K: Sink>(
+    out: &mut K,
+    name: &Name,
+    representation: &Representation,
+) -> Result<(), WriteFault>
+    ensures { Sends (K.view out.old) ((codes ": F20 WordGap " ++ name.now) ++ (codes " " ++ representation_text representation.now)) result (K.view out.new) }
 {
     send_two(out, b": F20 WordGap ", name.as_bytes())?;
     send(out, b" ")?;
-    send_spelling(out, spelling)
+    send_representation(out, representation)
 }
 
-/// Hands over a spelling: the digits of each letter in brackets, and empty brackets where it has no letter.
-fn send_spelling<K: Sink>(out: &mut K, spelling: &Spelling) -> Result<(), WriteFault>
-    ensures { Sends (K.view out.old) (spelling_text spelling.now) result (K.view out.new) }
+/// Hands over a representation: the digits of each letter in brackets, and empty brackets where it has no letter.
+fn send_representation<K: Sink>(
+    out: &mut K,
+    representation: &Representation,
+) -> Result<(), WriteFault>
+    ensures { Sends (K.view out.old) (representation_text representation.now) result (K.view out.new) }
 {
-    let letters = spelling.letters();
+    let letters = representation.letters();
     if letters.is_empty() {
         return send(out, b"[]");
     }
@@ -327,14 +334,14 @@ fn send_digits<K: Sink>(out: &mut K, digits: &[u32]) -> Result<(), WriteFault>
         [] => Ok(()),
         [first, rest @ ..] => {
             send_number(out, b"", u64::from(*first))?;
-            send_digits_behind(out, rest)
+            send_digits_after(out, rest)
         }
     }
 }
 
-/// Hands over digits, each behind a comma.
-fn send_digits_behind<K: Sink>(out: &mut K, digits: &[u32]) -> Result<(), WriteFault>
-    ensures { Sends (K.view out.old) (flat_map digit_behind digits.now) result (K.view out.new) }
+/// Hands over digits, each after a comma.
+fn send_digits_after<K: Sink>(out: &mut K, digits: &[u32]) -> Result<(), WriteFault>
+    ensures { Sends (K.view out.old) (flat_map digit_after digits.now) result (K.view out.new) }
 {
     for digit in digits {
         send_number(out, b",", u64::from(*digit))?;

@@ -66,7 +66,7 @@ fn fixed_point(alloc: Global, options: StepOptions, morphism: &Morphism) -> Resu
 /// The text of a word over a base, the most significant digit first, under the name of the base.
 ///
 /// # Errors
-/// `Long` exactly where the text has more bytes than a text may have, or `Memory`.
+/// `Long` if and only if the text has more bytes than a text may have, or `Memory`.
 fn base_text(alloc: Global, word: &Word) -> Result<Vec<u8>, Fault>
     requires { (k : ℕ) × IsOverBase word.now k }
     ensures { (k : ℕ) → IsOverBase word.now k → PrintsOverBase word.now k result }

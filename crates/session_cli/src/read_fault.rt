@@ -8,15 +8,15 @@ use digit_tuple::faults::OutOfMemory;
 use digit_tuple::name::Name;
 use digit_tuple::step_fault::StepFault;
 use std::alloc::AllocFailed;
-use word_output::spelling::Spelling;
+use word_output::representation::Representation;
 
 /// Why the tables of a formula are not read.
 #[derive(Drop)]
 pub(crate) enum ReadFault {
     /// A step passes a limit, or memory ran out.
     Step(StepFault),
-    /// The word of this name has no letter at some place: this is the first of all spellings of such places.
-    Gap(Name, Spelling),
+    /// The word of this name has no letter at some place: this is the first of all representations of such places.
+    Gap(Name, Representation),
 }
 
 impl From<StepFault> for ReadFault {

@@ -43,7 +43,7 @@ impl SealedSystems {
         }
     }
 
-    /// Adds those of these names that are built in, and the one where no mark stands, `msd_2`, to other systems.
+    /// Adds those of these names that are built in, and the one where no mark is, `msd_2`, to other systems.
     pub(crate) fn add_all(
         &mut self,
         alloc: Global,
@@ -76,7 +76,7 @@ impl SealedSystems {
 
     /// The system of a name, if it is built in, sealed at its first use.
     fn sealed(&mut self, alloc: Global, name: &Name) -> Result<Option<Rc<System>>, OutOfMemory>
-        ensures { IfOk result (λ found. MatchOption found (¬ IsBuiltInName name.now) (λ s. IsBuiltInSystem name.now s.value.way (system_of s.value))) }
+        ensures { IfOk result (λ found. MatchOption found (¬ IsBuiltInName name.now) (λ s. IsBuiltInSystem name.now s.value.direction (system_of s.value))) }
     {
         if let Some(system) = self.systems.get(name) {
             return Ok(Some(system.clone()?));

@@ -26,11 +26,11 @@ use word_output::word_fault::WordFault;
 use word_output::word_reading::read_word_steps;
 
 /// What the table of each file makes, under the name of the file: an automaton's a relation, and a word's a word. It is made by
-/// the table's steps, one table after another. No table is over sets, and the systems of each stand under their names.
+/// the table's steps, one table after another. No table is over sets, and the systems of each are under their names.
 ///
 /// # Errors
-/// `Letters` and `States` exactly at the first step that passes a limit, with its number; `Gap` exactly where the steps of a word
-/// are done and it has no letter at some place, with its name and the first of all spellings of such places.
+/// `Letters` and `States` exactly at the first step that passes a limit, with its number; `Gap` if and only if the steps of a
+/// word are done and it has no letter at some place, with its name and the first of all representations of such places.
 pub(crate) fn read_tables(
     alloc: Global,
     tables: &[Loaded],
@@ -103,13 +103,13 @@ fn read_word(
     match read_word_steps(alloc, &table.listed, &tracks, steps) {
         Ok(word) => Ok(word),
         Err(WordFault::Step(fault)) => Err(ReadFault::Step(fault)),
-        Err(WordFault::Gap(spelling)) => {
-            Err(ReadFault::Gap(table.name().copy(alloc)?, spelling))
+        Err(WordFault::Gap(representation)) => {
+            Err(ReadFault::Gap(table.name().copy(alloc)?, representation))
         }
     }
 }
 
-/// The systems that stand under the names of a header, none below `true` and `false`.
+/// The systems that are under the names of a header, none below `true` and `false`.
 fn tracks_under(
     alloc: Global,
     header: &FileHeader,

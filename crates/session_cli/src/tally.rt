@@ -11,7 +11,7 @@ pub(crate) struct Tally {
     pub(crate) refused: bool,
     /// By the store.
     pub(crate) store: bool,
-    /// For want of memory.
+    /// Because memory ran out.
     pub(crate) memory: bool,
 }
 

@@ -2,7 +2,7 @@
 
 ghost use Rattle.std.specs.Prelude.{◌≡◌, IfOk};
 ghost use Rattle.reg_steps.specs.Relations.{IsSystemLanguage};
-ghost use Rattle.session_cli.specs.TrackSystems.{system_of, way_of};
+ghost use Rattle.session_cli.specs.TrackSystems.{system_of, direction_of};
 
 use crate::known_system::KnownSystem;
 use digit_tuple::dfa::Dfa;
@@ -36,7 +36,7 @@ pub(crate) struct TrackSystem {
 impl TrackSystem {
     /// The direction in which its words are read.
     pub(crate) fn direction(&self) -> Direction
-        ensures { result ≡ way_of self.now }
+        ensures { result ≡ direction_of self.now }
     {
         match &self.meaning {
             Meaning::BuiltIn(system) => system.direction(),
@@ -56,7 +56,7 @@ impl TrackSystem {
 
     /// The canonical automaton of its words.
     pub(crate) fn language(&self, alloc: Global) -> Result<Rc<Dfa>, OutOfMemory>
-        ensures { IfOk result (λ language. IsSystemLanguage (way_of self.now) (system_of self.now) language.value) }
+        ensures { IfOk result (λ language. IsSystemLanguage (direction_of self.now) (system_of self.now) language.value) }
     {
         match &self.meaning {
             Meaning::BuiltIn(system) => {

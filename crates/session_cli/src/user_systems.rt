@@ -72,7 +72,7 @@ impl UserSystems {
     }
 }
 
-/// Names in the order in which they stand first, each once.
+/// Names in the order in which they come first, each once.
 pub(crate) fn names_once(alloc: Global, names: &[Name]) -> Result<Vec<Name>, OutOfMemory>
     ensures { IfOk result (λ once. once.items ≡ each_once bytes_eq names.now) }
 {

@@ -15,11 +15,11 @@ use wal_outside::{Sink, Source, Store, WriteFault, send};
 /// of the command line, the program's name first. They may have the option `--states N`, in two words or as `--states=N`: a step
 /// may have N values, from 16 to 1,000,000, and 100,000 without the option.
 ///
-/// The status is the first of these that applies: `Usage` where the words are refused, and then the usage line is printed, or what
-/// the sink takes of it; `Outside` where source or sink failed; `Memory`; `Outside` where the store failed; `Refused`; `Done`. Want of
-/// memory to read the words, or to print the usage line, comes before all of them. A source or sink that fails, and want of memory
-/// outside a command, end the run: what was answered until then stands. Where the source failed, that is each command whose
-/// terminator it gave. A call that failed is not made again. At most one byte past the first 16,777,216 is read.
+/// The status is the first of these that applies: `Usage` where the words are refused, and then the usage line is printed, or what the
+/// sink takes of it; `Outside` where source or sink failed; `Memory`; `Outside` where the store failed; `Refused`; `Done`. Out of
+/// memory to read the words, or to print the usage line, comes before all of them. A source or sink that fails, and out of memory
+/// outside a command, end the run: what was answered until then is. Where the source failed, that is each command whose terminator it
+/// gave. A call that failed is not made again. At most one byte past the first 16,777,216 is read.
 pub fn run<S: Source, K: Sink, T: Store>(
     alloc: Global,
     words: &[String],

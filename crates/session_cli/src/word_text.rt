@@ -21,7 +21,7 @@ use word_output::word::Word;
 /// The text of a word under the names of its systems.
 ///
 /// # Errors
-/// `Long` exactly where the text has more bytes than a text may have, or `Memory`.
+/// `Long` if and only if the text has more bytes than a text may have, or `Memory`.
 pub(crate) fn word_text(alloc: Global, names: &[Name], word: &Word) -> Result<Vec<u8>, Fault>
     requires { HaveNames names.now word.now.systems }
     ensures { MatchResult result (λ text. IsWordTextOf names.now word.now text.items) (HasNoWordText names.now word.now) }

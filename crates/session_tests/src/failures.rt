@@ -25,7 +25,7 @@ static THREES: [usize; 64] = [3; 64];
 
 static SEVENS: [usize; 32] = [7; 32];
 
-/// Whether texts stand under `p`, `q` and `r` among the automata.
+/// Whether texts are under `p`, `q` and `r` among the automata.
 fn are_stored(ran: &Ran) -> [bool; 3] {
     [
         is_stored(ran, Folder::Automata, "p"),
@@ -99,7 +99,7 @@ fn run_over_failing_store(alloc: Global, failing_store: &'static [u64]) -> Ran {
     run_line(alloc, "walnut", THREE, &outside)
 }
 
-/// Which call of the store fails, what is printed, the status and how many texts are stored, and whether these stand under
+/// Which call of the store fails, what is printed, the status and how many texts are stored, and whether these are under
 /// `p`, `q` and `r`.
 type StoreRow = (&'static [u64], &'static str, (u8, usize), [bool; 3]);
 
@@ -147,8 +147,8 @@ fn a_sink_that_fails_or_takes_nothing_ends_the_run(rt: HostRuntime) {
     expect_printed(&rt, "fails", &failed, "");
     let stuck = run_over_sink(rt.alloc(), &[5, 0], &[]);
     expect(&rt, "takes nothing", &ended(&stuck), &(3, 0));
-    let is_front = PRINTED.as_bytes().starts_with(printed_in(&stuck));
-    expect(&rt, "takes nothing", &is_front, &true);
+    let is_prefix = PRINTED.as_bytes().starts_with(printed_in(&stuck));
+    expect(&rt, "takes nothing", &is_prefix, &true);
 }
 
 #[test]

@@ -24,7 +24,7 @@ fn run_nested(alloc: Global, open: &str, close: &str, depth: usize) -> Ran {
     run_script(alloc, script.as_bytes())
 }
 
-// Of each 128 may stand within one another, and 129 may not.
+// Of each 128 may be within one another, and 129 may not.
 #[test]
 fn formulas_nest_128_deep(rt: HostRuntime) {
     for (open, close, fault) in &NESTING {
@@ -111,7 +111,7 @@ fn run_over_source(alloc: Global) -> Ran {
     run_line(alloc, "walnut", b"def p \"x=0\"; ", &outside)
 }
 
-// The source fails behind the first command, which was answered.
+// The source fails after the first command, which was answered.
 #[test]
 fn a_source_that_fails_leaves_the_formula_before(rt: HostRuntime) {
     let ran = run_over_source(rt.alloc());

@@ -4,7 +4,7 @@ use crate::whole::{Ran, count_in, expect, expect_printed, run_script};
 use std::alloc::Global;
 use std::process::Abort;
 
-/// A formula, and what is printed of it and the true sentence behind it.
+/// A formula, and what is printed of it and the true sentence after it.
 static PLACES: [(&str, &str); 28] = [
     (
         "x+=1 & p=1 & q=2",

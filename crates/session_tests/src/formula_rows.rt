@@ -4,7 +4,7 @@ use crate::whole::{Ran, SURE, ended, expect, expect_printed, run_line};
 use std::alloc::Global;
 use std::process::Abort;
 
-/// A command, and the lines of its steps with the verdict behind them.
+/// A command, and the lines of its steps with the verdict after them.
 static STEPS: [(&str, &str); 23] = [
     (
         "eval a \"Ex x+x=0\":",
@@ -189,7 +189,7 @@ fn run_under(alloc: Global, limit: &str, script: &str) -> Ran {
     run_line(alloc, &line, script.as_bytes(), &SURE)
 }
 
-/// A run printed this, ended with this status, and stored something exactly where no command was refused.
+/// A run printed this, ended with this status, and stored something if and only if no command was refused.
 fn expect_run(rt: &impl Abort, script: &str, ran: &Ran, printed: &str, code: u8) {
     expect_printed(rt, script, ran, printed);
     expect(rt, script, &ended(ran), &(code, usize::from(code == 0)));

@@ -205,7 +205,7 @@ static OVER_USERS: [ScriptRow; 5] = [
     ),
 ];
 
-/// Images of tables that are not least, and of a word that takes its own name.
+/// Images of tables that are not minimal, and of a word that takes its own name.
 static OF_TABLES: [ScriptRow; 5] = [
     (
         "image W g Un:",

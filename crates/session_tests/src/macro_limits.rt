@@ -7,7 +7,7 @@ use crate::whole::{Ran, SURE, expect_printed, run_over};
 use std::alloc::Global;
 use wal_outside::{Folder, MemStore, TEXT_LIMIT};
 
-/// What calls within one another open with, how many they are, what stands inside, and what is printed.
+/// What calls within one another open with, how many they are, what is inside, and what is printed.
 static NESTED: [(&str, usize, &str, &str); 16] = [
     ("#one(", 16, "1=1", "TRUE\n"),
     ("#one(", 17, "1=1", "error 1: F09 MacroDepth one\n"),

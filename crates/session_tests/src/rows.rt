@@ -1,4 +1,4 @@
-//! Scripts with what they print, their status and, where a name is given, what stands under it.
+//! Scripts with what they print, their status and, where a name is given, what is under it.
 
 use crate::command_rows::COMMANDS;
 use crate::fibonacci_rows::FIBONACCI;

@@ -51,7 +51,7 @@ const ZECKENDORF_ADDER: &str =
 /// Words without three ones side by side.
 const TRIBONACCI: &str = "{0,1}\n0 1\n0 -> 0\n1 -> 1\n1 1\n0 -> 0\n1 -> 2\n2 1\n0 -> 0\n";
 
-/// Words in which a 0 stands behind each 1.
+/// Words in which a 0 comes after each 1.
 const TAILED: &str = "{0,1}\n0 1\n0 -> 0\n1 -> 1\n1 0\n0 -> 0\n";
 
 /// All words over five digits.

@@ -72,7 +72,7 @@ pub fn run_over(
     Ok(left_by(alloc, &words, source, out, store))
 }
 
-/// The words of a command line, between which stand blanks.
+/// The words of a command line, between which are blanks.
 fn words_of(alloc: Global, line: &str) -> Result<Vec<String>, NoAnswer> {
     let mut words = Vec::new(alloc);
     for word in line.split(' ') {
@@ -138,7 +138,7 @@ pub fn ended(ran: &Ran) -> (u8, usize) {
     (code_of(ran), count_in(ran))
 }
 
-/// The text that stands under a name after a run, or no bytes where none does.
+/// The text that is under a name after a run, or no bytes where none does.
 pub fn stored_in<'a>(ran: &'a Ran, folder: Folder, name: &str) -> &'a [u8] {
     match ran {
         Ok(left) => left.store.text(folder, name).unwrap_or(b""),
@@ -146,7 +146,7 @@ pub fn stored_in<'a>(ran: &'a Ran, folder: Folder, name: &str) -> &'a [u8] {
     }
 }
 
-/// Whether a text stands under a name after a run.
+/// Whether a text is under a name after a run.
 pub fn is_stored(ran: &Ran, folder: Folder, name: &str) -> bool {
     match ran {
         Ok(left) => left.store.text(folder, name).is_some(),
@@ -169,7 +169,7 @@ pub fn expect_printed(rt: &impl Abort, script: &str, ran: &Ran, printed: &str) {
     expect_bytes(rt, script, printed_in(ran), printed.as_bytes());
 }
 
-/// Asserts that a text stands under a name.
+/// Asserts that a text is under a name.
 pub fn expect_stored(rt: &impl Abort, ran: &Ran, (folder, name): (Folder, &str), text: &str) {
     expect_bytes(rt, name, stored_in(ran, folder, name), text.as_bytes());
 }

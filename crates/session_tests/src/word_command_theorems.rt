@@ -1,6 +1,6 @@
 //! Theorems of the literature on words that commands make, with their verdicts.
 //!
-//! The macros say of a word that some factor has itself behind it, for so many letters; which lengths the halves of its squares
+//! The macros say of a word that some factor has itself after it, for so many letters; which lengths the halves of its squares
 //! have, its palindromes, and its factors without border; and that it is periodic from some place on.
 
 use crate::whole::{Ran, expect_printed, run_script};

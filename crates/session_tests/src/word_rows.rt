@@ -9,7 +9,7 @@ use wal_outside::{Folder, MemStore};
 type FileRow = (&'static str, &'static str);
 
 /// The words that the scripts name: `T` is the Thue-Morse word and `L` the same read from the least significant digit on; `Q`
-/// at i and j tells whether the Thue-Morse word has one letter there; `G` has no letter past 0, and `H` none at 2; `N` has a
+/// at i and j says whether the Thue-Morse word has one letter there; `G` has no letter past 0, and `H` none at 2; `N` has a
 /// negative letter; `B` gives a letter two targets, `S` has a header of sets, and `Z` is 0 everywhere, over another system.
 static FILES: [FileRow; 10] = [
     ("T", "msd_2\n\n0 0\n0 -> 0\n1 -> 1\n\n1 1\n0 -> 1\n1 -> 0\n"),

@@ -73,7 +73,7 @@ static STATEMENTS: [(&str, &str); 18] = [
     ),
 ];
 
-/// Runs the command that decides a statement, behind the one that it stands on.
+/// Runs the command that decides a statement, after the one that it is on.
 fn run_statement(alloc: Global, statement: &str) -> Ran {
     let script = format!(in alloc; "{POWER}eval w \"{statement}\";")?;
     run_over_words(alloc, &WORDS, &script)

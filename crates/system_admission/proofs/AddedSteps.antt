@@ -1,4 +1,4 @@
--- The steps of admissions stand after those that were there, under the same limit.
+-- The steps of admissions come after those that were there, under the same limit.
 use Rattle.std.proofs.Common.{◌≡◌, ℕ, Bool, true, false, List, [], ◌∷◌, ◌++◌, Result, Ok, Err, MatchResult, inl, inr, append_assoc, refl, sym, ap, ◌∙◌}
 use Rattle.std.specs.Prelude.{⊤}
 use Rattle.digit_tuple.specs.Automaton.{Branching}
@@ -23,7 +23,7 @@ use Rattle.automaton_steps.specs.ValidSteps.{IsValidStep, ValidExceeds}
 use Rattle.adder_check.specs.AdderRelation.{DoesAdder, adder_names, name_z}
 use Rattle.adder_check.specs.Admission.{DoesAdmission, DoesLanguage, DoesLaws, IsThrough, KeepsLanguage, Where}
 use Rattle.adder_check.specs.Faults.{Then, Lifted, TellsSame}
-use Rattle.adder_check.specs.LanguageSteps.{DoesFile, DoesTurn}
+use Rattle.adder_check.specs.LanguageSteps.{DoesFile, DoesReversal}
 use Rattle.adder_check.specs.NextSums.{DoesNextSums, DoesSumsWithNext, DoesNextOfSums, sum_on, name_v, name_w}
 use Rattle.adder_check.specs.SuccessorPlan.{DoesChain, DoesBetween, DoesNext, DoesSuccessor}
 use Rattle.adder_check.specs.ZeroSums.{DoesZeroSums, DoesZeroLaw, on_y}
@@ -75,21 +75,21 @@ tells_adds a b old new (Err f) told = absurd told
 join_adds : (op : Op) (languages : List Automaton) (a b : NamedAutomaton) → AddsSteps (λ old result new. DoesJoin old op languages a b result new)
 join_adds op languages a b = step_adds (λ limit joined line. IsJoinStep limit op languages a b joined line) (JoinExceedsLetters a b) (λ limit. JoinExceeds limit op languages a b)
 
-project_adds : (way : Direction) (track : List ℕ) (a : NamedAutomaton) → AddsSteps (λ old result new. DoesProject old way track a result new)
-project_adds way track a = step_adds (λ limit made line. IsProjectStep limit way track a made line) (ProjectExceedsLetters track a) (λ limit. ProjectExceeds limit way track a)
+project_adds : (direction : Direction) (track : List ℕ) (a : NamedAutomaton) → AddsSteps (λ old result new. DoesProject old direction track a result new)
+project_adds direction track a = step_adds (λ limit made line. IsProjectStep limit direction track a made line) (ProjectExceedsLetters track a) (λ limit. ProjectExceeds limit direction track a)
 
-turn_adds : (reversed : Bool) (read : Automaton) → AddsSteps (DoesTurn reversed read)
+turn_adds : (reversed : Bool) (read : Automaton) → AddsSteps (DoesReversal reversed read)
 turn_adds true read = step_adds (λ limit made line. IsReverseStep limit read made line) ⊥ (λ limit. ReverseExceeds limit read)
 turn_adds false read = λ old new r does. same_adds old new does.1
 
 file_adds : (listed : Branching) (reversed : Bool) → AddsSteps (DoesFile listed reversed)
 file_adds listed reversed =
-    then_adds (λ old result new. DoesRead old listed result new) (DoesTurn reversed) (step_adds (λ limit read line. IsReadStep limit listed read line) ⊥ (λ limit. ReadExceeds limit listed)) (turn_adds reversed)
+    then_adds (λ old result new. DoesRead old listed result new) (DoesReversal reversed) (step_adds (λ limit read line. IsReadStep limit listed read line) ⊥ (λ limit. ReadExceeds limit listed)) (turn_adds reversed)
 
-adder_adds : (way : Direction) (listed : Branching) (reversed : Bool) (languages : List Automaton) → AddsSteps (DoesAdder way listed reversed languages)
-adder_adds way listed reversed languages =
-    then_adds (DoesFile listed reversed) _ (file_adds listed reversed) (λ read. then_adds (λ old result new. DoesPad old way read result new) _
-    (step_adds (λ limit closed line. IsPadStep limit way read closed line) ⊥ (λ limit. PadExceeds limit way read))
+adder_adds : (direction : Direction) (listed : Branching) (reversed : Bool) (languages : List Automaton) → AddsSteps (DoesAdder direction listed reversed languages)
+adder_adds direction listed reversed languages =
+    then_adds (DoesFile listed reversed) _ (file_adds listed reversed) (λ read. then_adds (λ old result new. DoesPad old direction read result new) _
+    (step_adds (λ limit closed line. IsPadStep limit direction read closed line) ⊥ (λ limit. PadExceeds limit direction read))
     (λ closed. let named : NamedAutomaton = record { names = adder_names; automaton = closed } in step_adds (λ limit part line. IsValidStep limit languages named part line) ⊥ (λ limit. ValidExceeds limit languages named)))
 
 next_adds : (less : Automaton) (between : NamedAutomaton) → AddsSteps (DoesNext less between)
@@ -97,62 +97,62 @@ next_adds less between =
     step_adds (λ limit next line. IsJoinStep limit AndNot [] (order_on less name_x name_y) between (order_on next name_x name_y) line) (JoinExceedsLetters (order_on less name_x name_y) between)
     (λ limit. JoinExceeds limit AndNot [] (order_on less name_x name_y) between)
 
-successor_adds : (way : Direction) (d : Automaton) → AddsSteps (DoesSuccessor way d)
-successor_adds way d =
-    then_adds (λ old result new. DoesOrder old way d result new) _ (step_adds (λ limit ordered line. IsOrderStep limit way d ordered line) (OrderExceedsLetters d) (λ limit. OrderExceeds limit way d))
+successor_adds : (direction : Direction) (d : Automaton) → AddsSteps (DoesSuccessor direction d)
+successor_adds direction d =
+    then_adds (λ old result new. DoesOrder old direction d result new) _ (step_adds (λ limit ordered line. IsOrderStep limit direction d ordered line) (OrderExceedsLetters d) (λ limit. OrderExceeds limit direction d))
     (λ less. then_adds (DoesChain less) _ (join_adds And [] (order_on less name_x name_u) (order_on less name_u name_y))
-    (λ chain. then_adds (DoesBetween way chain) _ (project_adds way name_u chain) (next_adds less)))
+    (λ chain. then_adds (DoesBetween direction chain) _ (project_adds direction name_u chain) (next_adds less)))
 
-sums_adds : (way : Direction) (track : List ℕ) (a b : NamedAutomaton)
-    → AddsSteps (Then (λ old result new. DoesJoin old And [] a b result new) (λ joined old result new. DoesProject old way track joined result new))
-sums_adds way track a b = then_adds (λ old result new. DoesJoin old And [] a b result new) _ (join_adds And [] a b) (project_adds way track)
+sums_adds : (direction : Direction) (track : List ℕ) (a b : NamedAutomaton)
+    → AddsSteps (Then (λ old result new. DoesJoin old And [] a b result new) (λ joined old result new. DoesProject old direction track joined result new))
+sums_adds direction track a b = then_adds (λ old result new. DoesJoin old And [] a b result new) _ (join_adds And [] a b) (project_adds direction track)
 
-next_sums_adds : (way : Direction) (adder next : Automaton) → AddsSteps (DoesNextSums way adder next)
-next_sums_adds way adder next =
-    then_adds (DoesSumsWithNext way adder next) _ (sums_adds way name_v (order_on next name_y name_v) (sum_on adder name_x name_v name_z))
-    (λ with_next. then_adds (DoesNextOfSums way adder next) _ (sums_adds way name_w (sum_on adder name_x name_y name_w) (order_on next name_w name_z)) (λ of_sums. tells_adds with_next.automaton of_sums.automaton))
+next_sums_adds : (direction : Direction) (adder next : Automaton) → AddsSteps (DoesNextSums direction adder next)
+next_sums_adds direction adder next =
+    then_adds (DoesSumsWithNext direction adder next) _ (sums_adds direction name_v (order_on next name_y name_v) (sum_on adder name_x name_v name_z))
+    (λ with_next. then_adds (DoesNextOfSums direction adder next) _ (sums_adds direction name_w (sum_on adder name_x name_y name_w) (order_on next name_w name_z)) (λ of_sums. tells_adds with_next.automaton of_sums.automaton))
 
-zero_law_adds : (way : Direction) (d : Automaton) (adder : NamedAutomaton) → AddsSteps (DoesZeroLaw way d adder)
-zero_law_adds way d adder old new r (inl ran_out) = same_adds old new ran_out.1
-zero_law_adds way d adder old new r (inr (zero, equal, are, does)) =
-    then_adds (DoesZeroSums way adder zero) (λ sums. TellsSame sums.automaton equal) (sums_adds way name_y adder (on_y zero)) (λ sums. tells_adds sums.automaton equal) old new r does
+zero_law_adds : (direction : Direction) (d : Automaton) (adder : NamedAutomaton) → AddsSteps (DoesZeroLaw direction d adder)
+zero_law_adds direction d adder old new r (inl ran_out) = same_adds old new ran_out.1
+zero_law_adds direction d adder old new r (inr (zero, equal, are, does)) =
+    then_adds (DoesZeroSums direction adder zero) (λ sums. TellsSame sums.automaton equal) (sums_adds direction name_y adder (on_y zero)) (λ sums. tells_adds sums.automaton equal) old new r does
 
 where_adds : {B : Type 0} (holds : Bool) (law : Law) (next : StepLog → Result B AdmitFault → StepLog → Type 0) → AddsSteps next → AddsSteps (Where holds law next)
 where_adds true law next one old new r does = one old new r does
 where_adds false law next one old new r does = same_adds old new does.1
 
-laws_add : (way : Direction) (d next : Automaton) (adder : NamedAutomaton) → AddsSteps (DoesLaws way d next adder)
-laws_add way d next adder =
-    then_adds (Lifted (DoesZeroLaw way d adder)) _ (lifted_adds (DoesZeroLaw way d adder) (zero_law_adds way d adder))
-    (λ zero_law. where_adds zero_law laws.ZeroLaw _ (then_adds (Lifted (DoesNextSums way adder.automaton next)) _ (lifted_adds (DoesNextSums way adder.automaton next) (next_sums_adds way adder.automaton next))
+laws_add : (direction : Direction) (d next : Automaton) (adder : NamedAutomaton) → AddsSteps (DoesLaws direction d next adder)
+laws_add direction d next adder =
+    then_adds (Lifted (DoesZeroLaw direction d adder)) _ (lifted_adds (DoesZeroLaw direction d adder) (zero_law_adds direction d adder))
+    (λ zero_law. where_adds zero_law laws.ZeroLaw _ (then_adds (Lifted (DoesNextSums direction adder.automaton next)) _ (lifted_adds (DoesNextSums direction adder.automaton next) (next_sums_adds direction adder.automaton next))
     (λ next_law. where_adds next_law laws.SuccessorLaw IsThrough (λ old new r does. same_adds old new does.1))))
 
-language_adds : (way : Direction) (listed : Branching) (reversed : Bool) → AddsSteps (DoesLanguage way listed reversed)
-language_adds way listed reversed =
-    then_adds (Lifted (DoesFile listed reversed)) (KeepsLanguage way) (lifted_adds (DoesFile listed reversed) (file_adds listed reversed)) (λ d old new r does. same_adds old new does.0)
+language_adds : (direction : Direction) (listed : Branching) (reversed : Bool) → AddsSteps (DoesLanguage direction listed reversed)
+language_adds direction listed reversed =
+    then_adds (Lifted (DoesFile listed reversed)) (KeepsLanguage direction) (lifted_adds (DoesFile listed reversed) (file_adds listed reversed)) (λ d old new r does. same_adds old new does.0)
 
-admission_adds : (way : Direction) (language adder : Branching) (reversed : Bool) → AddsSteps (DoesAdmission way language adder reversed)
-admission_adds way language adder reversed =
-    then_adds (DoesLanguage way language reversed) _ (language_adds way language reversed)
-    (λ d. then_adds (Lifted (DoesSuccessor way d)) _ (lifted_adds (DoesSuccessor way d) (successor_adds way d))
-    (λ next. then_adds (Lifted (DoesAdder way adder reversed (d ∷ d ∷ d ∷ []))) _ (lifted_adds (DoesAdder way adder reversed (d ∷ d ∷ d ∷ [])) (adder_adds way adder reversed (d ∷ d ∷ d ∷ [])))
-    (λ sums. then_adds (DoesLaws way d next sums) _ (laws_add way d next sums) (λ done old new r made. same_adds old new made.0))))
+admission_adds : (direction : Direction) (language adder : Branching) (reversed : Bool) → AddsSteps (DoesAdmission direction language adder reversed)
+admission_adds direction language adder reversed =
+    then_adds (DoesLanguage direction language reversed) _ (language_adds direction language reversed)
+    (λ d. then_adds (Lifted (DoesSuccessor direction d)) _ (lifted_adds (DoesSuccessor direction d) (successor_adds direction d))
+    (λ next. then_adds (Lifted (DoesAdder direction adder reversed (d ∷ d ∷ d ∷ []))) _ (lifted_adds (DoesAdder direction adder reversed (d ∷ d ∷ d ∷ [])) (adder_adds direction adder reversed (d ∷ d ∷ d ∷ [])))
+    (λ sums. then_adds (DoesLaws direction d next sums) _ (laws_add direction d next sums) (λ done old new r made. same_adds old new made.0))))
 
-files_add : (way : Direction) (files : SystemFiles) → AddsSteps (AdmitsFiles way files)
-files_add way files old new r (inl ran_out) = same_adds old new ran_out.1
-files_add way files old new r (inr (inl (large, refused))) = same_adds old new refused.1
-files_add way files old new r (inr (inr (language, table, inl (large, stops)))) =
-    admission_adds way language language files.reversed old new r (stops_admission way language language files.reversed old new r stops)
-files_add way files old new r (inr (inr (language, table, inr (adder, sums, does)))) = admission_adds way language adder files.reversed old new r does
+files_add : (direction : Direction) (files : SystemFiles) → AddsSteps (AdmitsFiles direction files)
+files_add direction files old new r (inl ran_out) = same_adds old new ran_out.1
+files_add direction files old new r (inr (inl (large, refused))) = same_adds old new refused.1
+files_add direction files old new r (inr (inr (language, table, inl (large, stops)))) =
+    admission_adds direction language language files.reversed old new r (stops_admission direction language language files.reversed old new r stops)
+files_add direction files old new r (inr (inr (language, table, inr (adder, sums, does)))) = admission_adds direction language adder files.reversed old new r does
 
 module _ (custom : Custom) (name : List ℕ) where
   refused_adds : (old new : StepLog) (fault : SystemFault) → RefusesName custom name old fault new → Adds old new
   refused_adds old new fault (inl (none, told, same)) = same_adds old new same
-  refused_adds old new fault (inr (inl (way, part, named, refuses, same))) = same_adds old new same
-  refused_adds old new fault (inr (inr not)) = files_add not.way not.files old new (Err not.refusal) not.admits
+  refused_adds old new fault (inr (inl (direction, part, named, refuses, same))) = same_adds old new same
+  refused_adds old new fault (inr (inr not)) = files_add not.direction not.files old new (Err not.refusal) not.admits
 
   other_adds : (old new : StepLog) (r : Result ⊤ SystemFault) → AdmitsOther custom name old r new → Adds old new
-  other_adds old new (Ok a) (user, is) = files_add is.way is.files old new (Ok user) is.admits
+  other_adds old new (Ok a) (user, is) = files_add is.direction is.files old new (Ok user) is.admits
   other_adds old new (Err fault) refuses = refused_adds old new fault refuses
 
   name_adds : AddsSteps (AdmitsName custom name)

@@ -12,7 +12,7 @@ use Rattle.dfa_reading.specs.Branching.{IsBranching, IsLetterOfDigits}
 use Rattle.dfa_reading.specs.Listed.{Listed, ListedAccepts}
 use Rattle.dfa_reading.proofs.Words.{accepts_listed}
 use Rattle.dfa_reading.proofs.TupleWords.{tuples_of, word_of_tuples}
-use Rattle.numeration.specs.Spelling.{sizes_of}
+use Rattle.numeration.specs.Representation.{sizes_of}
 use Rattle.numeration.specs.Systems.{System}
 use Rattle.adder_check.specs.AdderRelation.{adds_in_file, three_of}
 use Rattle.adder_check.specs.Admission.{IsSystemOfFile, IsFirstFault, IsFirstFaultOfFiles, IsAdmitted, user_system}
@@ -78,43 +78,43 @@ module _ (s : System) (adds other : ℕ → ℕ → ℕ → Type 0) (same : (x y
   first_fault_same (faults.States step) wrong = tt
   first_fault_same faults.Memory wrong = tt
 
-module _ (way : Direction) (files : SystemFiles) (language : Branching) (words : IsBranching (files.digits ∷ []) files.language language) where
+module _ (direction : Direction) (files : SystemFiles) (language : Branching) (words : IsBranching (files.digits ∷ []) files.language language) where
   -- the systems of the automaton are those of the file
-  pub words_in_file : (s : System) → IsSystemOfFile way language files.reversed s → AreWordsOf way files s
+  pub words_in_file : (s : System) → IsSystemOfFile direction language files.reversed s → AreWordsOf direction files s
   words_in_file s is = record { digits = digits; language = λ w. (there w, back w) }
     where
       digits : s.digits ≡ files.digits
       digits = first_size s.digits files.digits language.sizes is.sizes words.sizes_are
 
-      there : (w : List ℕ) → IsTrue (s.test w) → ListedAccepts (s.digits ∷ []) files.language (in_file files.reversed (singles (in_order way w)))
+      there : (w : List ℕ) → IsTrue (s.test w) → ListedAccepts (s.digits ∷ []) files.language (in_file files.reversed (singles (in_order direction w)))
       there w t =
-          let accepts = word_listed files.digits files.language language words files.reversed (in_order way w) ((is.language w).0 t) in
-          subst (λ (k : ℕ). ListedAccepts (k ∷ []) files.language (in_file files.reversed (singles (in_order way w)))) (sym digits) accepts
+          let accepts = word_listed files.digits files.language language words files.reversed (in_order direction w) ((is.language w).0 t) in
+          subst (λ (k : ℕ). ListedAccepts (k ∷ []) files.language (in_file files.reversed (singles (in_order direction w)))) (sym digits) accepts
 
-      back : (w : List ℕ) → ListedAccepts (s.digits ∷ []) files.language (in_file files.reversed (singles (in_order way w))) → IsTrue (s.test w)
+      back : (w : List ℕ) → ListedAccepts (s.digits ∷ []) files.language (in_file files.reversed (singles (in_order direction w))) → IsTrue (s.test w)
       back w accepts =
-          let here = subst (λ (k : ℕ). ListedAccepts (k ∷ []) files.language (in_file files.reversed (singles (in_order way w)))) digits accepts in
-          (is.language w).1 (listed_word files.digits files.language language words files.reversed (in_order way w) here)
+          let here = subst (λ (k : ℕ). ListedAccepts (k ∷ []) files.language (in_file files.reversed (singles (in_order direction w)))) digits accepts in
+          (is.language w).1 (listed_word files.digits files.language language words files.reversed (in_order direction w) here)
 
-  pub words_of_file : (s : System) → AreWordsOf way files s → IsSystemOfFile way language files.reversed s
+  pub words_of_file : (s : System) → AreWordsOf direction files s → IsSystemOfFile direction language files.reversed s
   words_of_file s are = record { sizes = words.sizes_are ∙ ap (λ (k : ℕ). k ∷ []) (sym are.digits); language = λ w. (there w, back w) }
     where
-      there : (w : List ℕ) → IsTrue (s.test w) → IsWord (letters_of language) (in_order way w) × Accepts language (word_in_file files.reversed (in_order way w))
+      there : (w : List ℕ) → IsTrue (s.test w) → IsWord (letters_of language) (in_order direction w) × Accepts language (word_in_file files.reversed (in_order direction w))
       there w t =
-          let here = subst (λ (k : ℕ). ListedAccepts (k ∷ []) files.language (in_file files.reversed (singles (in_order way w)))) are.digits ((are.language w).0 t) in
-          listed_word files.digits files.language language words files.reversed (in_order way w) here
+          let here = subst (λ (k : ℕ). ListedAccepts (k ∷ []) files.language (in_file files.reversed (singles (in_order direction w)))) are.digits ((are.language w).0 t) in
+          listed_word files.digits files.language language words files.reversed (in_order direction w) here
 
-      back : (w : List ℕ) → IsWord (letters_of language) (in_order way w) × Accepts language (word_in_file files.reversed (in_order way w)) → IsTrue (s.test w)
+      back : (w : List ℕ) → IsWord (letters_of language) (in_order direction w) × Accepts language (word_in_file files.reversed (in_order direction w)) → IsTrue (s.test w)
       back w both =
-          let accepts = word_listed files.digits files.language language words files.reversed (in_order way w) both in
-          (are.language w).1 (subst (λ (k : ℕ). ListedAccepts (k ∷ []) files.language (in_file files.reversed (singles (in_order way w)))) (sym are.digits) accepts)
+          let accepts = word_listed files.digits files.language language words files.reversed (in_order direction w) both in
+          (are.language w).1 (subst (λ (k : ℕ). ListedAccepts (k ∷ []) files.language (in_file files.reversed (singles (in_order direction w)))) (sym are.digits) accepts)
 
   -- what is wrong with the automaton's language is wrong with the files
-  pub language_first : (d : Automaton) → IsOfFile language files.reversed d → (fault : AdmitFault) → IsFirstLanguageFault way d fault → IsFirstFaultIn way files fault
+  pub language_first : (d : Automaton) → IsOfFile language files.reversed d → (fault : AdmitFault) → IsFirstLanguageFault direction d fault → IsFirstFaultIn direction files fault
   language_first d file (faults.NotAdmitted laws.NoZero) wrong s are =
-      language_fault way language files.reversed d file files.digits words.sizes_are (faults.NotAdmitted laws.NoZero) wrong language s (words_of_file s are)
+      language_fault direction language files.reversed d file files.digits words.sizes_are (faults.NotAdmitted laws.NoZero) wrong language s (words_of_file s are)
   language_first d file (faults.NotAdmitted laws.Finite) wrong s are =
-      language_fault way language files.reversed d file files.digits words.sizes_are (faults.NotAdmitted laws.Finite) wrong language s (words_of_file s are)
+      language_fault direction language files.reversed d file files.digits words.sizes_are (faults.NotAdmitted laws.Finite) wrong language s (words_of_file s are)
   language_first d file (faults.NotAdmitted laws.ZeroLaw) wrong s are = absurd wrong
   language_first d file (faults.NotAdmitted laws.SuccessorLaw) wrong s are = absurd wrong
   language_first d file (faults.Letters step) wrong s are = tt
@@ -123,7 +123,7 @@ module _ (way : Direction) (files : SystemFiles) (language : Branching) (words :
 
   module _ (adder : Branching) (sums : IsBranching (files.digits ∷ files.digits ∷ files.digits ∷ []) files.adder adder) where
     -- the sums of the adder's automaton are those of its file
-    sums_same : (s : System) → s.digits ≡ files.digits → (x y z : ℕ) → adds_in_file way s adder files.reversed x y z ↔ AddsInFile way files s x y z
+    sums_same : (s : System) → s.digits ≡ files.digits → (x y z : ℕ) → adds_in_file direction s adder files.reversed x y z ↔ AddsInFile direction files s x y z
     sums_same s digits x y z = (there, back)
       where
         over : IsBranching (sizes_of (three_of s)) files.adder adder
@@ -132,25 +132,25 @@ module _ (way : Direction) (files : SystemFiles) (language : Branching) (words :
         letters : letters_of adder ≡ product (sizes_of (three_of s))
         letters = ap product over.sizes_are
 
-        there : adds_in_file way s adder files.reversed x y z → AddsInFile way files s x y z
-        there (v, word, spells, accepts) =
+        there : adds_in_file direction s adder files.reversed x y z → AddsInFile direction files s x y z
+        there (v, word, represents, accepts) =
             let tuples = tuples_of (sizes_of (three_of s)) v (subst (λ (k : ℕ). IsWord k v) letters word) in
             record {
               tuples = tuples.0;
               word = v;
               letters = tuples.1;
-              spells = spells;
+              represents = represents;
               accepts = (accepts_listed (sizes_of (three_of s)) files.adder adder over (in_file files.reversed tuples.0) (word_in_file files.reversed v) (zip_in_file files.reversed (sizes_of (three_of s)) tuples.0 v tuples.1)).0 accepts;
             }
 
-        back : AddsInFile way files s x y z → adds_in_file way s adder files.reversed x y z
+        back : AddsInFile direction files s x y z → adds_in_file direction s adder files.reversed x y z
         back adds =
             let word = subst (λ (k : ℕ). IsWord k adds.word) (sym letters) (word_of_tuples (sizes_of (three_of s)) adds.tuples adds.word adds.letters) in
             let zipped = zip_in_file files.reversed (sizes_of (three_of s)) adds.tuples adds.word adds.letters in
-            (adds.word, word, adds.spells, (accepts_listed (sizes_of (three_of s)) files.adder adder over (in_file files.reversed adds.tuples) (word_in_file files.reversed adds.word) zipped).1 adds.accepts)
+            (adds.word, word, adds.represents, (accepts_listed (sizes_of (three_of s)) files.adder adder over (in_file files.reversed adds.tuples) (word_in_file files.reversed adds.word) zipped).1 adds.accepts)
 
     -- the system that is admitted is the one that the files define
-    pub defined : (user : UserSystem) → IsAdmitted way language adder files.reversed user → IsSystemIn way files user
+    pub defined : (user : UserSystem) → IsAdmitted direction language adder files.reversed user → IsSystemIn direction files user
     defined user is =
         let words = words_in_file (user_system user) is.words in
         let same = sums_same (user_system user) words.digits in
@@ -164,6 +164,6 @@ module _ (way : Direction) (files : SystemFiles) (language : Branching) (words :
         }
 
     -- and what is wrong with the automata is wrong with the files
-    pub first_in_files : (fault : AdmitFault) → IsFirstFaultOfFiles way language adder files.reversed fault → IsFirstFaultIn way files fault
+    pub first_in_files : (fault : AdmitFault) → IsFirstFaultOfFiles direction language adder files.reversed fault → IsFirstFaultIn direction files fault
     first_in_files fault wrong s are =
-        first_fault_same s (adds_in_file way s adder files.reversed) (AddsInFile way files s) (sums_same s are.digits) fault (wrong s (words_of_file s are))
+        first_fault_same s (adds_in_file direction s adder files.reversed) (AddsInFile direction files s) (sums_same s are.digits) fault (wrong s (words_of_file s are))

@@ -25,34 +25,34 @@ use Rattle.system_admission.specs.declared.system_fault.SystemFault.TheVariants 
 
 module _ (custom : Custom) (name : List ℕ) (other : ¬ IsBuiltInName name) (old : StepLog) where
   -- its files are not loaded
-  pub not_loaded : (way : Direction) (part : List ℕ) (load : LoadFault) → IsUserName way part name → FailsFiles custom way part load → FailsName custom name old old (faults.Load load)
-  not_loaded way part (loads.Unknown folder at) named fails = inr (other, inr (inl (way, part, named, (loads.Unknown folder at, fails, refl), refl)))
-  not_loaded way part (loads.File folder at flaw) named fails = inr (other, inr (inl (way, part, named, (loads.File folder at flaw, fails, refl), refl)))
-  not_loaded way part (loads.Store folder at) named fails = ((other, (way, part, named, fails)), refl)
-  not_loaded way part loads.Memory named fails = tt
+  pub not_loaded : (read_direction : Direction) (part : List ℕ) (load : LoadFault) → IsUserName read_direction part name → FailsFiles custom read_direction part load → FailsName custom name old old (faults.Load load)
+  not_loaded read_direction part (loads.Unknown folder at) named fails = inr (other, inr (inl (read_direction, part, named, (loads.Unknown folder at, fails, refl), refl)))
+  not_loaded read_direction part (loads.File folder at flaw) named fails = inr (other, inr (inl (read_direction, part, named, (loads.File folder at flaw, fails, refl), refl)))
+  not_loaded read_direction part (loads.Store folder at) named fails = ((other, (read_direction, part, named, fails)), refl)
+  not_loaded read_direction part loads.Memory named fails = tt
 
-  module _ (new : StepLog) (way : Direction) (files : SystemFiles) (has : HasFiles custom name way files) where
-    refused : (refusal : AdmitFault) → AdmitsFiles way files old (Err refusal) new → RefusesName custom name old (fault_of name refusal) new
-    refused refusal does = inr (inr (record { way = way; files = files; has_files = has; refusal = refusal; admits = does; fault_is = refl }))
+  module _ (new : StepLog) (read_direction : Direction) (files : SystemFiles) (has : HasFiles custom name read_direction files) where
+    refused : (refusal : AdmitFault) → AdmitsFiles read_direction files old (Err refusal) new → RefusesName custom name old (fault_of name refusal) new
+    refused refusal does = inr (inr (record { read_direction = read_direction; files = files; has_files = has; refusal = refusal; admits = does; fault_is = refl }))
 
-    fails : (refusal : AdmitFault) → AdmitsFiles way files old (Err refusal) new → FailsName custom name old new (fault_of name refusal)
+    fails : (refusal : AdmitFault) → AdmitsFiles read_direction files old (Err refusal) new → FailsName custom name old new (fault_of name refusal)
     fails (admits.NotAdmitted law) does = inr (other, refused (admits.NotAdmitted law) does)
     fails (admits.Letters step) does = inr (other, refused (admits.Letters step) does)
     fails (admits.States step) does = inr (other, refused (admits.States step) does)
     fails admits.Memory does = tt
 
     -- its files are not admitted
-    pub not_admitted : (fault : SystemFault) → AdmitsUnder name way files old new (Err fault) → FailsName custom name old new fault
+    pub not_admitted : (fault : SystemFault) → AdmitsUnder name read_direction files old new (Err fault) → FailsName custom name old new fault
     not_admitted fault (inl ran_out) = subst (FailsName custom name old new) (sym ran_out) tt
     not_admitted fault (inr (refusal, does, is)) = subst (FailsName custom name old new) (sym is) (fails refusal does)
 
     -- they are admitted, and the system is sealed
-    pub is_named : (user : UserSystem) (s : SystemValue) → AdmitsFiles way files old (Ok user) new → IsSystemIn way files user → IsSealed s → system_of s ≡ user_system user → s.way ≡ user.direction
+    pub is_named : (user : UserSystem) (s : SystemValue) → AdmitsFiles read_direction files old (Ok user) new → IsSystemIn read_direction files user → IsSealed s → system_of s ≡ user_system user → s.direction ≡ user.direction
         → IsNamedSystem custom name old new s
     is_named user s does is sealed system direction = record {
-      admits = inr (other, (user, record { way = way; files = files; has_files = has; admits = does }));
+      admits = inr (other, (user, record { read_direction = read_direction; files = files; has_files = has; admits = does }));
       sealed = sealed;
-      means = subst IsMeant (sym (direction ∙ is.direction)) (record { part = has.part; is_name = has.is_name; files = files; found = has.found; defined = subst (IsDefinedBy way files) (sym system) is.defined });
+      means = subst IsMeant (sym (direction ∙ is.direction)) (record { part = has.part; is_name = has.is_name; files = files; found = has.found; defined = subst (IsDefinedBy read_direction files) (sym system) is.defined });
     }
       where
         IsMeant : Direction → Type 0
@@ -63,10 +63,10 @@ pub failing : {A E : Type 0} (P : A → Type 0) (Q : E → Type 0) (r : Result A
 failing {A = A} {E = E} P Q r fault is holds = let M : Result A E → Type 0 = λ x. MatchResult x P Q in subst M (sym is) holds
 
 -- a fault of an admission is none of loading
-pub under_loading : (name : List ℕ) (way : Direction) (files : SystemFiles) (old new : StepLog) (fault : SystemFault) → AdmitsUnder name way files old new (Err fault)
+pub under_loading : (name : List ℕ) (read_direction : Direction) (files : SystemFiles) (old new : StepLog) (fault : SystemFault) → AdmitsUnder name read_direction files old new (Err fault)
     → as_loading (let bad : Result SystemValue SystemFault = Err fault in bad) ≡ Ok tt
-under_loading name way files old new fault (inl ran_out) = ap (λ (f : SystemFault). as_loading (let bad : Result SystemValue SystemFault = Err f in bad)) ran_out
-under_loading name way files old new fault (inr (refusal, does, is)) = ap (λ (f : SystemFault). as_loading (let bad : Result SystemValue SystemFault = Err f in bad)) is ∙ by refusal
+under_loading name read_direction files old new fault (inl ran_out) = ap (λ (f : SystemFault). as_loading (let bad : Result SystemValue SystemFault = Err f in bad)) ran_out
+under_loading name read_direction files old new fault (inr (refusal, does, is)) = ap (λ (f : SystemFault). as_loading (let bad : Result SystemValue SystemFault = Err f in bad)) is ∙ by refusal
   where
     by : (r : AdmitFault) → as_loading (let bad : Result SystemValue SystemFault = Err (fault_of name r) in bad) ≡ Ok tt
     by (admits.NotAdmitted law) = refl

@@ -15,24 +15,24 @@ use Rattle.adder_check.proofs.OneAnswers.{from_err, ok_not_err}
 use Rattle.system_admission.specs.Admissions.{StopsAtLanguage}
 
 -- the file of a language is read and keeps the laws, or not
-module _ (way : Direction) (listed : Branching) (reversed : Bool) (old mid : StepLog) where
-  pub file_refused : (fault : StepFault) → DoesFile listed reversed old (Err fault) mid → DoesLanguage way listed reversed old (Err (fault_of fault)) mid
+module _ (direction : Direction) (listed : Branching) (reversed : Bool) (old mid : StepLog) where
+  pub file_refused : (fault : StepFault) → DoesFile listed reversed old (Err fault) mid → DoesLanguage direction listed reversed old (Err (fault_of fault)) mid
   file_refused fault does = inr (fault_of fault, (fault, does, refl), refl)
 
-  pub language_refused : (d : Automaton) (fault : AdmitFault) → DoesFile listed reversed old (Ok d) mid → IsFirstLanguageFault way d fault → DoesLanguage way listed reversed old (Err fault) mid
+  pub language_refused : (d : Automaton) (fault : AdmitFault) → DoesFile listed reversed old (Ok d) mid → IsFirstLanguageFault direction d fault → DoesLanguage direction listed reversed old (Err fault) mid
   language_refused d fault does wrong = inl (d, mid, does, (refl, wrong))
 
-  pub language_done : (d : Automaton) → DoesFile listed reversed old (Ok d) mid → KeepsZeros (language_in way d) → IsEndless (language_in way d) → DoesLanguage way listed reversed old (Ok d) mid
+  pub language_done : (d : Automaton) → DoesFile listed reversed old (Ok d) mid → KeepsZeros (language_in direction d) → IsEndless (language_in direction d) → DoesLanguage direction listed reversed old (Ok d) mid
   language_done d does keeps endless = inl (d, mid, does, (refl, (refl, keeps, endless)))
 
 -- what stops at the language stops so whatever the adder is
-pub stops_admission : (way : Direction) (language adder : Branching) (reversed : Bool) (old new : StepLog) (result : Result UserSystem AdmitFault) → StopsAtLanguage way language reversed old result new
-    → DoesAdmission way language adder reversed old result new
-stops_admission way language adder reversed old new result (inl (next, mid, does, none)) = absurd none
-stops_admission way language adder reversed old new result (inr (fault, inl (d, mid, words, next), is)) = inl (d, mid, words, inr (fault, next, is))
-stops_admission way language adder reversed old new result (inr (fault, inr (other, words, same), is)) = inr (other, words, is ∙ ap (λ (f : AdmitFault). Err f) (from_err fault other same))
+pub stops_admission : (direction : Direction) (language adder : Branching) (reversed : Bool) (old new : StepLog) (result : Result UserSystem AdmitFault) → StopsAtLanguage direction language reversed old result new
+    → DoesAdmission direction language adder reversed old result new
+stops_admission direction language adder reversed old new result (inl (next, mid, does, none)) = absurd none
+stops_admission direction language adder reversed old new result (inr (fault, inl (d, mid, words, next), is)) = inl (d, mid, words, inr (fault, next, is))
+stops_admission direction language adder reversed old new result (inr (fault, inr (other, words, same), is)) = inr (other, words, is ∙ ap (λ (f : AdmitFault). Err f) (from_err fault other same))
 
 -- and gives no system
-pub not_stopped : (way : Direction) (language : Branching) (reversed : Bool) (old new : StepLog) (user : UserSystem) → StopsAtLanguage way language reversed old (Ok user) new → ⊥
-not_stopped way language reversed old new user (inl (next, mid, does, none)) = none
-not_stopped way language reversed old new user (inr (fault, does, is)) = ok_not_err user fault is
+pub not_stopped : (direction : Direction) (language : Branching) (reversed : Bool) (old new : StepLog) (user : UserSystem) → StopsAtLanguage direction language reversed old (Ok user) new → ⊥
+not_stopped direction language reversed old new user (inl (next, mid, does, none)) = none
+not_stopped direction language reversed old new user (inr (fault, does, is)) = ok_not_err user fault is

@@ -28,23 +28,23 @@ table_one sizes listed n m one other =
     (λ p letter q. (λ there. (second.leads p letter q).1 ((first.leads p letter q).0 there), λ there. (first.leads p letter q).1 ((second.leads p letter q).0 there)))
     one.table other.table
 
-module _ (way : Direction) (files : SystemFiles) where
+module _ (direction : Direction) (files : SystemFiles) where
   -- with the language's automaton
-  with_language_one : (language : Branching) → IsTableOf (files.digits ∷ []) files.language language → HasOneAnswer faults.Memory (AdmitsWithLanguage way files language)
+  with_language_one : (language : Branching) → IsTableOf (files.digits ∷ []) files.language language → HasOneAnswer faults.Memory (AdmitsWithLanguage direction files language)
   with_language_one language table old r s m n (inl (large, stops)) (inl (also_large, also)) =
-      admission_one way language language files.reversed files.digits table.is_branching.sizes_are old r s m n
-      (stops_admission way language language files.reversed old m r stops) (stops_admission way language language files.reversed old n s also)
+      admission_one direction language language files.reversed files.digits table.is_branching.sizes_are old r s m n
+      (stops_admission direction language language files.reversed old m r stops) (stops_admission direction language language files.reversed old n s also)
   with_language_one language table old r s m n (inl (large, stops)) (inr (adder, sums, does)) =
-      admission_one way language adder files.reversed files.digits table.is_branching.sizes_are old r s m n (stops_admission way language adder files.reversed old m r stops) does
+      admission_one direction language adder files.reversed files.digits table.is_branching.sizes_are old r s m n (stops_admission direction language adder files.reversed old m r stops) does
   with_language_one language table old r s m n (inr (adder, sums, does)) (inl (large, stops)) =
-      admission_one way language adder files.reversed files.digits table.is_branching.sizes_are old r s m n does (stops_admission way language adder files.reversed old n s stops)
+      admission_one direction language adder files.reversed files.digits table.is_branching.sizes_are old r s m n does (stops_admission direction language adder files.reversed old n s stops)
   with_language_one language table old r s m n (inr (adder, sums, does)) (inr (other, also_sums, also)) =
       let same = table_one (files.digits ∷ files.digits ∷ files.digits ∷ []) files.adder adder other sums also_sums in
-      admission_one way language adder files.reversed files.digits table.is_branching.sizes_are old r s m n does
-      (subst (λ (b : Branching). DoesAdmission way language b files.reversed old s n) (sym same) also)
+      admission_one direction language adder files.reversed files.digits table.is_branching.sizes_are old r s m n does
+      (subst (λ (b : Branching). DoesAdmission direction language b files.reversed old s n) (sym same) also)
 
   -- the admission of files
-  pub files_one : HasOneAnswer faults.Memory (AdmitsFiles way files)
+  pub files_one : HasOneAnswer faults.Memory (AdmitsFiles direction files)
   files_one old r s m n (inl one) other = inl one.0
   files_one old r s m n (inr one) (inl other) = inr (inl other.0)
   files_one old r s m n (inr (inl (large, one))) (inr (inl (also_large, other))) = inr (inr (one.0 ∙ sym other.0, one.1 ∙ sym other.1))
@@ -52,13 +52,13 @@ module _ (way : Direction) (files : SystemFiles) where
   files_one old r s m n (inr (inr (language, table, one))) (inr (inl (large, other))) = absurd (not_too_large (files.digits ∷ []) table.fits large)
   files_one old r s m n (inr (inr (language, table, one))) (inr (inr (words, also_table, other))) =
       let same = table_one (files.digits ∷ []) files.language language words table also_table in
-      with_language_one language table old r s m n one (subst (λ (b : Branching). AdmitsWithLanguage way files b old s n) (sym same) other)
+      with_language_one language table old r s m n one (subst (λ (b : Branching). AdmitsWithLanguage direction files b old s n) (sym same) other)
 
   -- what is admitted is the system that the files define
-  pub files_define : (old new : StepLog) (user : UserSystem) → AdmitsFiles way files old (Ok user) new → IsSystemIn way files user
+  pub files_define : (old new : StepLog) (user : UserSystem) → AdmitsFiles direction files old (Ok user) new → IsSystemIn direction files user
   files_define old new user (inl (none, same)) = absurd (ok_not_err user faults.Memory none)
   files_define old new user (inr (inl (large, refused))) = absurd (ok_not_err user (faults.Letters _) refused.0)
-  files_define old new user (inr (inr (language, table, inl (large, stops)))) = absurd (not_stopped way language files.reversed old new user stops)
+  files_define old new user (inr (inr (language, table, inl (large, stops)))) = absurd (not_stopped direction language files.reversed old new user stops)
   files_define old new user (inr (inr (language, table, inr (adder, sums, does)))) =
-      defined way files language table.is_branching adder sums.is_branching user
-      (admitted way language adder files.reversed files.digits table.is_branching.sizes_are sums.is_branching.sizes_are old new user does)
+      defined direction files language table.is_branching adder sums.is_branching user
+      (admitted direction language adder files.reversed files.digits table.is_branching.sizes_are sums.is_branching.sizes_are old new user does)

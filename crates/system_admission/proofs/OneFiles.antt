@@ -83,11 +83,11 @@ one_flaw reads text (Line at) TooLong one also = absurd (too_long (length text) 
 one_flaw reads text TooLong (Line at) one also = absurd (too_long (length text) TEXT_LIMIT also.0 one)
 one_flaw reads text TooLong TooLong one also = refl
 
-module _ (custom : Custom) (way : Direction) (part : List ℕ) where
+module _ (custom : Custom) (direction : Direction) (part : List ℕ) where
   abbrev taken : List ℕ
-  taken = taken_name custom way part
+  taken = taken_name custom direction part
 
-  pub one_files : (files others : SystemFiles) → AreFilesOf custom way part files → AreFilesOf custom way part others → files ≡ others
+  pub one_files : (files others : SystemFiles) → AreFilesOf custom direction part files → AreFilesOf custom direction part others → files ≡ others
   one_files files others one other = λ i. record { digits = same.0 i; reversed = reversed i; language = same.1 i; adder = adders i }
     where
       same : (files.digits ≡ others.digits) × (files.language ≡ others.language)
@@ -101,19 +101,19 @@ module _ (custom : Custom) (way : Direction) (part : List ℕ) where
           adder_one custom (adder_name taken) others.digits files.adder others.adder (subst (λ (d : ℕ). IsAdderAt custom (adder_name taken) d files.adder) same.0 one.adder) other.adder
 
   -- a language that lists something is there, and has no flaw
-  not_missing : (digits : ℕ) (name : List ℕ) → HasLanguage custom way part digits → custom name ≡ None → name ≡ taken → ⊥
+  not_missing : (digits : ℕ) (name : List ℕ) → HasLanguage custom direction part digits → custom name ≡ None → name ≡ taken → ⊥
   not_missing digits name has none is = no_text (custom taken) has.1.text (ap custom (sym is) ∙ none) has.1.there
 
-  not_flawed : (digits : ℕ) (name text : List ℕ) (flaw : FileFlaw) → HasLanguage custom way part digits → custom name ≡ Some text → name ≡ taken → IsNoLanguage text flaw → ⊥
+  not_flawed : (digits : ℕ) (name text : List ℕ) (flaw : FileFlaw) → HasLanguage custom direction part digits → custom name ≡ Some text → name ≡ taken → IsNoLanguage text flaw → ⊥
   not_flawed digits name text flaw has there is flawed =
       let same : text ≡ has.1.text = one_text (custom taken) text has.1.text (ap custom (sym is) ∙ there) has.1.there in
       no_flaw (language_of has.1.text) has.1.text flaw has.0 (language_flaw has.1.text flaw (subst (λ (t : List ℕ). IsNoLanguage t flaw) same flawed)) has.1.short has.1.lists
 
-  one_size : (digits others : ℕ) → HasLanguage custom way part digits → HasLanguage custom way part others → digits ≡ others
+  one_size : (digits others : ℕ) → HasLanguage custom direction part digits → HasLanguage custom direction part others → digits ≡ others
   one_size digits others one other = (language_one custom taken digits others one.0 other.0 one.1 other.1).0
 
   -- files that are there are not refused
-  pub not_refused : (files : SystemFiles) (load : LoadFault) → AreFilesOf custom way part files → RefusesFiles custom way part load → ⊥
+  pub not_refused : (files : SystemFiles) (load : LoadFault) → AreFilesOf custom direction part files → RefusesFiles custom direction part load → ⊥
   not_refused files (faults.Unknown folder name) are (folder_is, inl (none, is)) = no_text (custom taken) are.language.text none are.language.there
   not_refused files (faults.Unknown folder name) are (folder_is, inr (digits, has, none, is)) =
       no_text (custom (adder_name taken)) are.adder.text (ap custom (sym is) ∙ none) are.adder.there
@@ -127,20 +127,20 @@ module _ (custom : Custom) (way : Direction) (part : List ℕ) where
   not_refused files (faults.Store folder name) are refuses = absurd refuses
   not_refused files faults.Memory are refuses = absurd refuses
 
-  one_missing : (name other : List ℕ) → IsMissing custom way part name → IsMissing custom way part other → name ≡ other
+  one_missing : (name other : List ℕ) → IsMissing custom direction part name → IsMissing custom direction part other → name ≡ other
   one_missing name other (inl (none, is)) (inl (nothing, also)) = is ∙ sym also
   one_missing name other (inl (none, is)) (inr (digits, has, nothing, also)) = absurd (not_missing digits taken has none refl)
   one_missing name other (inr (digits, has, none, is)) (inl (nothing, also)) = absurd (not_missing digits taken has nothing refl)
   one_missing name other (inr (digits, has, none, is)) (inr (others, also_has, nothing, also)) = is ∙ sym also
 
-  missing_or_flawed : (name other : List ℕ) (flaw : FileFlaw) → IsMissing custom way part name → IsFlawed custom way part other flaw → ⊥
+  missing_or_flawed : (name other : List ℕ) (flaw : FileFlaw) → IsMissing custom direction part name → IsFlawed custom direction part other flaw → ⊥
   missing_or_flawed name other flaw (inl (none, is)) (inl (text, there, also, flawed)) = no_text (custom taken) text none (ap custom (sym also) ∙ there)
   missing_or_flawed name other flaw (inl (none, is)) (inr (digits, has, rest)) = not_missing digits taken has none refl
   missing_or_flawed name other flaw (inr (digits, has, none, is)) (inl (text, there, also, flawed)) = not_flawed digits other text flaw has there also flawed
   missing_or_flawed name other flaw (inr (digits, has, none, is)) (inr (others, also_has, (text, there, also, flawed))) =
       no_text (custom (adder_name taken)) text (ap custom (sym is) ∙ none) (ap custom (sym also) ∙ there)
 
-  flawed_one : (name other : List ℕ) (flaw another : FileFlaw) → IsFlawed custom way part name flaw → IsFlawed custom way part other another → (name ≡ other) × (flaw ≡ another)
+  flawed_one : (name other : List ℕ) (flaw another : FileFlaw) → IsFlawed custom direction part name flaw → IsFlawed custom direction part other another → (name ≡ other) × (flaw ≡ another)
   flawed_one name other flaw another (inl (text, there, is, flawed)) (inl (more, also_there, also, wrong)) =
       let same : text ≡ more = one_text (custom taken) text more (ap custom (sym is) ∙ there) (ap custom (sym also) ∙ also_there) in
       (is ∙ sym also, one_flaw (language_of more) more flaw another (language_flaw more flaw (subst (λ (t : List ℕ). IsNoLanguage t flaw) same flawed)) (language_flaw more another wrong))
@@ -152,7 +152,7 @@ module _ (custom : Custom) (way : Direction) (part : List ℕ) where
       let here : IsNoAdder others more flaw = subst (λ (d : ℕ). IsNoAdder d more flaw) size (subst (λ (t : List ℕ). IsNoAdder digits t flaw) same flawed) in
       (is ∙ sym also, one_flaw (adder_of others more) more flaw another (adder_flaw others more flaw here) (adder_flaw others more another wrong))
 
-  pub one_refusal : (load other : LoadFault) → RefusesFiles custom way part load → RefusesFiles custom way part other → load ≡ other
+  pub one_refusal : (load other : LoadFault) → RefusesFiles custom direction part load → RefusesFiles custom direction part other → load ≡ other
   one_refusal (faults.Unknown folder name) (faults.Unknown place other) (first, one) (second, also) =
       let folders = first ∙ sym second in
       let names = one_missing name other one also in

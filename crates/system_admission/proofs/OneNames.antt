@@ -25,48 +25,48 @@ use Rattle.system_admission.proofs.OneFiles.{not_refused, one_files, one_refusal
 
 pub admitted_are_meant : AdmittedSystemsAreMeant
 admitted_are_meant custom name old new user is =
-    let made = files_define is.way is.files old new user is.admits in
-    let way : is.way ≡ user.direction = sym made.direction in
+    let made = files_define is.direction is.files old new user is.admits in
+    let direction : is.direction ≡ user.direction = sym made.direction in
     record {
       part = is.has_files.part;
-      is_name = subst (λ (turn : Direction). IsUserName turn is.has_files.part name) way is.has_files.is_name;
+      is_name = subst (λ (turn : Direction). IsUserName turn is.has_files.part name) direction is.has_files.is_name;
       files = is.files;
-      found = subst (λ (turn : Direction). AreFilesOf custom turn is.has_files.part is.files) way is.has_files.found;
-      defined = subst (λ (turn : Direction). IsDefinedBy turn is.files (user_system user)) way made.defined;
+      found = subst (λ (turn : Direction). AreFilesOf custom turn is.has_files.part is.files) direction is.has_files.found;
+      defined = subst (λ (turn : Direction). IsDefinedBy turn is.files (user_system user)) direction made.defined;
     }
 
 module _ (custom : Custom) (name : List ℕ) where
   -- a name has one pair of files in one direction
-  same_way : (way turn : Direction) (files others : SystemFiles) → HasFiles custom name way files → HasFiles custom name turn others → way ≡ turn
-  same_way way turn files others one other = (one_user_system way turn one.part other.part name one.is_name other.is_name).0
+  same_direction : (direction turn : Direction) (files others : SystemFiles) → HasFiles custom name direction files → HasFiles custom name turn others → direction ≡ turn
+  same_direction direction turn files others one other = (one_user_system direction turn one.part other.part name one.is_name other.is_name).0
 
-  same_files : (way turn : Direction) (files others : SystemFiles) → HasFiles custom name way files → HasFiles custom name turn others → files ≡ others
-  same_files way turn files others one other =
-      let told = one_user_system way turn one.part other.part name one.is_name other.is_name in
+  same_files : (direction turn : Direction) (files others : SystemFiles) → HasFiles custom name direction files → HasFiles custom name turn others → files ≡ others
+  same_files direction turn files others one other =
+      let told = one_user_system direction turn one.part other.part name one.is_name other.is_name in
       one_files custom turn other.part files others
-      (subst (λ (w : Direction). AreFilesOf custom w other.part files) told.0 (subst (λ (p : List ℕ). AreFilesOf custom way p files) told.1 one.found)) other.found
+      (subst (λ (w : Direction). AreFilesOf custom w other.part files) told.0 (subst (λ (p : List ℕ). AreFilesOf custom direction p files) told.1 one.found)) other.found
 
   -- and one admission
-  both : (way turn : Direction) (files others : SystemFiles) (old : StepLog) (r s : Result UserSystem AdmitFault) (m n : StepLog) → HasFiles custom name way files → HasFiles custom name turn others
-      → AdmitsFiles way files old r m → AdmitsFiles turn others old s n → AreOne admits.Memory r m s n
-  both way turn files others old r s m n one other does also =
-      let ways = same_way way turn files others one other in
-      let same = same_files way turn files others one other in
-      files_one way files old r s m n does
-      (subst (λ (w : Direction). AdmitsFiles w files old s n) (sym ways) (subst (λ (f : SystemFiles). AdmitsFiles turn f old s n) (sym same) also))
+  both : (direction turn : Direction) (files others : SystemFiles) (old : StepLog) (r s : Result UserSystem AdmitFault) (m n : StepLog) → HasFiles custom name direction files → HasFiles custom name turn others
+      → AdmitsFiles direction files old r m → AdmitsFiles turn others old s n → AreOne admits.Memory r m s n
+  both direction turn files others old r s m n one other does also =
+      let directions = same_direction direction turn files others one other in
+      let same = same_files direction turn files others one other in
+      files_one direction files old r s m n does
+      (subst (λ (w : Direction). AdmitsFiles w files old s n) (sym directions) (subst (λ (f : SystemFiles). AdmitsFiles turn f old s n) (sym same) also))
 
   -- files that are there are not refused
-  there_or_not : (way turn : Direction) (part : List ℕ) (files : SystemFiles) (load : LoadFault) → HasFiles custom name way files → IsUserName turn part name → RefusesFiles custom turn part load → ⊥
-  there_or_not way turn part files load has named refuses =
-      let told = one_user_system way turn has.part part name has.is_name named in
-      not_refused custom turn part files load (subst (λ (w : Direction). AreFilesOf custom w part files) told.0 (subst (λ (p : List ℕ). AreFilesOf custom way p files) told.1 has.found)) refuses
+  there_or_not : (direction turn : Direction) (part : List ℕ) (files : SystemFiles) (load : LoadFault) → HasFiles custom name direction files → IsUserName turn part name → RefusesFiles custom turn part load → ⊥
+  there_or_not direction turn part files load has named refuses =
+      let told = one_user_system direction turn has.part part name has.is_name named in
+      not_refused custom turn part files load (subst (λ (w : Direction). AreFilesOf custom w part files) told.0 (subst (λ (p : List ℕ). AreFilesOf custom direction p files) told.1 has.found)) refuses
 
   abbrev memory : SystemFault
   memory = faults.Step steps.Memory
 
   -- what was admitted and what was not
   not_both : (old m n : StepLog) (user : UserSystem) (fault : SystemFault) → IsAdmittedName custom name old user m → IsNotAdmitted custom name old fault n → fault ≡ memory
-  not_both old m n user fault is not = not.fault_is ∙ ap (fault_of name) (by (both is.way not.way is.files not.files old (Ok user) (Err not.refusal) m n is.has_files not.has_files is.admits not.admits))
+  not_both old m n user fault is not = not.fault_is ∙ ap (fault_of name) (by (both is.direction not.direction is.files not.files old (Ok user) (Err not.refusal) m n is.has_files not.has_files is.admits not.admits))
     where
       by : (let good : Result UserSystem AdmitFault = Ok user in AreOne admits.Memory good m (Err not.refusal) n) → not.refusal ≡ admits.Memory
       by (inl none) = absurd (ok_not_err user admits.Memory none)
@@ -74,8 +74,8 @@ module _ (custom : Custom) (name : List ℕ) where
       by (inr (inr same)) = absurd (ok_not_err user not.refusal same.0)
 
   admitted_or_refused : (old m n : StepLog) (user : UserSystem) (fault : SystemFault) → IsAdmittedName custom name old user m → RefusesName custom name old fault n → fault ≡ memory
-  admitted_or_refused old m n user fault is (inl (none, told, same)) = absurd (none (is.way, is.has_files.part, is.has_files.is_name))
-  admitted_or_refused old m n user fault is (inr (inl (way, part, named, (load, refuses, told), same))) = absurd (there_or_not is.way way part is.files load is.has_files named refuses)
+  admitted_or_refused old m n user fault is (inl (none, told, same)) = absurd (none (is.direction, is.has_files.part, is.has_files.is_name))
+  admitted_or_refused old m n user fault is (inr (inl (direction, part, named, (load, refuses, told), same))) = absurd (there_or_not is.direction direction part is.files load is.has_files named refuses)
   admitted_or_refused old m n user fault is (inr (inr not)) = not_both old m n user fault is not
 
   abbrev AreOneFault : SystemFault → StepLog → SystemFault → StepLog → Type 0
@@ -83,17 +83,17 @@ module _ (custom : Custom) (name : List ℕ) where
 
   refused_one : (old m n : StepLog) (fault other : SystemFault) → RefusesName custom name old fault m → RefusesName custom name old other n → AreOneFault fault m other n
   refused_one old m n fault other (inl (none, told, same)) (inl (also_none, also_told, also_same)) = inr (inr (told ∙ sym also_told, same ∙ sym also_same))
-  refused_one old m n fault other (inl (none, told, same)) (inr (inl (way, part, named, rest, also))) = absurd (none (way, part, named))
-  refused_one old m n fault other (inl (none, told, same)) (inr (inr not)) = absurd (none (not.way, not.has_files.part, not.has_files.is_name))
-  refused_one old m n fault other (inr (inl (way, part, named, rest, also))) (inl (none, told, same)) = absurd (none (way, part, named))
-  refused_one old m n fault other (inr (inr not)) (inl (none, told, same)) = absurd (none (not.way, not.has_files.part, not.has_files.is_name))
-  refused_one old m n fault other (inr (inl (way, part, named, (load, refuses, told), same))) (inr (inl (turn, another, also_named, (also_load, also_refuses, also_told), also_same))) =
-      let names = one_user_system way turn part another name named also_named in
-      let here = subst (λ (w : Direction). RefusesFiles custom w another load) names.0 (subst (λ (p : List ℕ). RefusesFiles custom way p load) names.1 refuses) in
+  refused_one old m n fault other (inl (none, told, same)) (inr (inl (direction, part, named, rest, also))) = absurd (none (direction, part, named))
+  refused_one old m n fault other (inl (none, told, same)) (inr (inr not)) = absurd (none (not.direction, not.has_files.part, not.has_files.is_name))
+  refused_one old m n fault other (inr (inl (direction, part, named, rest, also))) (inl (none, told, same)) = absurd (none (direction, part, named))
+  refused_one old m n fault other (inr (inr not)) (inl (none, told, same)) = absurd (none (not.direction, not.has_files.part, not.has_files.is_name))
+  refused_one old m n fault other (inr (inl (direction, part, named, (load, refuses, told), same))) (inr (inl (turn, another, also_named, (also_load, also_refuses, also_told), also_same))) =
+      let names = one_user_system direction turn part another name named also_named in
+      let here = subst (λ (w : Direction). RefusesFiles custom w another load) names.0 (subst (λ (p : List ℕ). RefusesFiles custom direction p load) names.1 refuses) in
       inr (inr (told ∙ ap faults.Load (one_refusal custom turn another load also_load here also_refuses) ∙ sym also_told, same ∙ sym also_same))
-  refused_one old m n fault other (inr (inl (way, part, named, (load, refuses, told), same))) (inr (inr not)) = absurd (there_or_not not.way way part not.files load not.has_files named refuses)
-  refused_one old m n fault other (inr (inr not)) (inr (inl (way, part, named, (load, refuses, told), same))) = absurd (there_or_not not.way way part not.files load not.has_files named refuses)
-  refused_one old m n fault other (inr (inr one)) (inr (inr not)) = by (both one.way not.way one.files not.files old (Err one.refusal) (Err not.refusal) m n one.has_files not.has_files one.admits not.admits)
+  refused_one old m n fault other (inr (inl (direction, part, named, (load, refuses, told), same))) (inr (inr not)) = absurd (there_or_not not.direction direction part not.files load not.has_files named refuses)
+  refused_one old m n fault other (inr (inr not)) (inr (inl (direction, part, named, (load, refuses, told), same))) = absurd (there_or_not not.direction direction part not.files load not.has_files named refuses)
+  refused_one old m n fault other (inr (inr one)) (inr (inr not)) = by (both one.direction not.direction one.files not.files old (Err one.refusal) (Err not.refusal) m n one.has_files not.has_files one.admits not.admits)
     where
       by : (let bad : AdmitFault → Result UserSystem AdmitFault = λ x. Err x in AreOne admits.Memory (bad one.refusal) m (bad not.refusal) n) → AreOneFault fault m other n
       by (inl ran_out) = inl (one.fault_is ∙ ap (fault_of name) (from_err {A = UserSystem} one.refusal admits.Memory ran_out))
@@ -101,7 +101,7 @@ module _ (custom : Custom) (name : List ℕ) where
       by (inr (inr same)) = inr (inr (one.fault_is ∙ ap (fault_of name) (from_err {A = UserSystem} one.refusal not.refusal same.0) ∙ sym not.fault_is, same.1))
 
   same_admitted : (old m n : StepLog) (user other : UserSystem) → IsAdmittedName custom name old user m → IsAdmittedName custom name old other n → m ≡ n
-  same_admitted old m n user other one also = by (both one.way also.way one.files also.files old (Ok user) (Ok other) m n one.has_files also.has_files one.admits also.admits)
+  same_admitted old m n user other one also = by (both one.direction also.direction one.files also.files old (Ok user) (Ok other) m n one.has_files also.has_files one.admits also.admits)
     where
       by : (let good : UserSystem → Result UserSystem AdmitFault = λ x. Ok x in AreOne admits.Memory (good user) m (good other) n) → m ≡ n
       by (inl none) = absurd (ok_not_err user admits.Memory none)

@@ -20,6 +20,6 @@ AdmissionsHaveOneOutcome = (custom : Custom) (names : List (List ℕ)) → HasOn
 abbrev pub AdmittedSystemsAreMeant : Type 0
 AdmittedSystemsAreMeant = (custom : Custom) (name : List ℕ) (old new : StepLog) (user : UserSystem) → IsAdmittedName custom name old user new → IsUserSystem custom name user.direction (user_system user)
 
--- the steps stand after those that were there, under the same limit
+-- the steps come after those that were there, under the same limit
 abbrev pub AdmissionsAddSteps : Type 0
 AdmissionsAddSteps = (custom : Custom) (names : List (List ℕ)) (old new : StepLog) (result : Result ⊤ SystemFault) → AdmitsNames custom names old result new → (lines : List StepLine) × (new ≡ with_lines old lines)

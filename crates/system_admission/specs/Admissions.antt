@@ -33,31 +33,31 @@ RunsOut old result new = (result ≡ Err faults.Memory) × (new ≡ old)
 
 -- the steps and laws of a language's file, and the steps of its successor
 abbrev pub DoesNumbers : Direction → Branching → Bool → StepLog → Result Automaton AdmitFault → StepLog → Type 0
-DoesNumbers way language reversed = Then (DoesLanguage way language reversed) (λ d. Lifted (DoesSuccessor way d))
+DoesNumbers read_direction language reversed = Then (DoesLanguage read_direction language reversed) (λ d. Lifted (DoesSuccessor read_direction d))
 
 -- one of these laws does not hold, or one of these steps is refused
 abbrev pub StopsAtLanguage : Direction → Branching → Bool → StepLog → Result UserSystem AdmitFault → StepLog → Type 0
-StopsAtLanguage way language reversed = Then (DoesNumbers way language reversed) (λ next old result new. ⊥)
+StopsAtLanguage read_direction language reversed = Then (DoesNumbers read_direction language reversed) (λ next old result new. ⊥)
 
 -- With the language's automaton. Three tracks of so many digits may have too many letters for an adder, and then a step before its own is
 -- refused: the successor takes three tracks too.
 abbrev pub AdmitsWithLanguage : Direction → SystemFiles → Branching → StepLog → Result UserSystem AdmitFault → StepLog → Type 0
-AdmitsWithLanguage way files language old result new =
-    (IsTooLarge (files.digits ∷ files.digits ∷ files.digits ∷ []) × StopsAtLanguage way language files.reversed old result new)
-    ⊎ ((adder : Branching) × IsTableOf (files.digits ∷ files.digits ∷ files.digits ∷ []) files.adder adder × DoesAdmission way language adder files.reversed old result new)
+AdmitsWithLanguage read_direction files language old result new =
+    (IsTooLarge (files.digits ∷ files.digits ∷ files.digits ∷ []) × StopsAtLanguage read_direction language files.reversed old result new)
+    ⊎ ((adder : Branching) × IsTableOf (files.digits ∷ files.digits ∷ files.digits ∷ []) files.adder adder × DoesAdmission read_direction language adder files.reversed old result new)
 
 -- the steps and laws of admission, as the next ones, with the answer
 abbrev pub AdmitsFiles : Direction → SystemFiles → StepLog → Result UserSystem AdmitFault → StepLog → Type 0
-AdmitsFiles way files old result new =
+AdmitsFiles read_direction files old result new =
     RunsOut old result new
     ⊎ ((IsTooLarge (files.digits ∷ []) × IsFirstRefused old result new)
-    ⊎ ((language : Branching) × IsTableOf (files.digits ∷ []) files.language language × AdmitsWithLanguage way files language old result new))
+    ⊎ ((language : Branching) × IsTableOf (files.digits ∷ []) files.language language × AdmitsWithLanguage read_direction files language old result new))
 
 -- the first law that does not hold of the words and the sums of the files
 abbrev pub IsFirstFaultIn : Direction → SystemFiles → AdmitFault → Type 0
-IsFirstFaultIn way files fault = (s : System) → AreWordsOf way files s → IsFirstFault s (AddsInFile way files s) fault
+IsFirstFaultIn read_direction files fault = (s : System) → AreWordsOf read_direction files s → IsFirstFault s (AddsInFile read_direction files s) fault
 
 -- the user's system is the one that the files define
-pub record IsSystemIn (way : Direction) (files : SystemFiles) (user : UserSystem) : Type 0 where
-  pub direction : user.direction ≡ way
-  pub defined : IsDefinedBy way files (user_system user)
+pub record IsSystemIn (read_direction : Direction) (files : SystemFiles) (user : UserSystem) : Type 0 where
+  pub direction : user.direction ≡ read_direction
+  pub defined : IsDefinedBy read_direction files (user_system user)

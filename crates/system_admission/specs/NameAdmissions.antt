@@ -19,9 +19,9 @@ use Rattle.system_admission.specs.declared.system_fault.SystemFault.TheVariants 
 pub record IsNamedSystem (custom : Custom) (name : List ℕ) (old new : StepLog) (s : SystemValue) : Type 0 where
   pub admits : AdmitsName custom name old (Ok tt) new
   pub sealed : IsSealed s
-  pub means : IsUserSystem custom name s.way (system_of s)
+  pub means : IsUserSystem custom name s.direction (system_of s)
 
--- why there is no system of the name: by the texts, or because the store failed, or for want of memory
+-- why there is no system of the name: by the texts, or because the store failed, or because memory ran out
 abbrev pub FailsName : Custom → List ℕ → StepLog → StepLog → SystemFault → Type 0
 FailsName custom name old new (faults.Load (loads.Store folder at)) = IsReadFor custom name folder at × (new ≡ old)
 FailsName custom name old new (faults.Load loads.Memory) = ⊤
@@ -41,5 +41,5 @@ as_loading (Err (faults.Step fault)) = Ok tt
 
 -- the files are admitted, or a fault of their admission is that of the system of this name, or memory ran out
 abbrev pub AdmitsUnder : List ℕ → Direction → SystemFiles → StepLog → StepLog → Result UserSystem SystemFault → Type 0
-AdmitsUnder name way files old new (Ok user) = AdmitsFiles way files old (Ok user) new
-AdmitsUnder name way files old new (Err fault) = (fault ≡ faults.Step steps.Memory) ⊎ ((refusal : AdmitFault) × AdmitsFiles way files old (Err refusal) new × (fault ≡ fault_of name refusal))
+AdmitsUnder name direction files old new (Ok user) = AdmitsFiles direction files old (Ok user) new
+AdmitsUnder name direction files old new (Err fault) = (fault ≡ faults.Step steps.Memory) ⊎ ((refusal : AdmitFault) × AdmitsFiles direction files old (Err refusal) new × (fault ≡ fault_of name refusal))

@@ -26,32 +26,32 @@ fault_of name (admits.States step) = faults.Step (steps.States step)
 fault_of name admits.Memory = faults.Step steps.Memory
 
 -- the files of the user's system of this name are there
-pub record HasFiles (custom : Custom) (name : List ℕ) (way : Direction) (files : SystemFiles) : Type 0 where
+pub record HasFiles (custom : Custom) (name : List ℕ) (direction : Direction) (files : SystemFiles) : Type 0 where
   pub part : List ℕ
-  pub is_name : IsUserName way part name
-  pub found : AreFilesOf custom way part files
+  pub is_name : IsUserName direction part name
+  pub found : AreFilesOf custom direction part files
 
 -- they are admitted, and the steps are these
 pub record IsAdmittedName (custom : Custom) (name : List ℕ) (old : StepLog) (user : UserSystem) (new : StepLog) : Type 0 where
-  pub way : Direction
+  pub direction : Direction
   pub files : SystemFiles
-  pub has_files : HasFiles custom name way files
-  pub admits : AdmitsFiles way files old (Ok user) new
+  pub has_files : HasFiles custom name direction files
+  pub admits : AdmitsFiles direction files old (Ok user) new
 
 -- they are not admitted
 pub record IsNotAdmitted (custom : Custom) (name : List ℕ) (old : StepLog) (fault : SystemFault) (new : StepLog) : Type 0 where
-  pub way : Direction
+  pub direction : Direction
   pub files : SystemFiles
-  pub has_files : HasFiles custom name way files
+  pub has_files : HasFiles custom name direction files
   pub refusal : AdmitFault
-  pub admits : AdmitsFiles way files old (Err refusal) new
+  pub admits : AdmitsFiles direction files old (Err refusal) new
   pub fault_is : fault ≡ fault_of name refusal
 
 -- no user's system is called so; or its files are not there; or they are not admitted
 abbrev pub RefusesName : Custom → List ℕ → StepLog → SystemFault → StepLog → Type 0
 RefusesName custom name old fault new =
     ((¬ IsUsersName name) × (fault ≡ faults.Load (loads.Unknown Bases name)) × (new ≡ old))
-    ⊎ (((way : Direction) × (part : List ℕ) × IsUserName way part name × ((load : LoadFault) × RefusesFiles custom way part load × (fault ≡ faults.Load load)) × (new ≡ old))
+    ⊎ (((direction : Direction) × (part : List ℕ) × IsUserName direction part name × ((load : LoadFault) × RefusesFiles custom direction part load × (fault ≡ faults.Load load)) × (new ≡ old))
     ⊎ IsNotAdmitted custom name old fault new)
 
 -- a name that is not built in
@@ -70,7 +70,7 @@ AdmitsNames custom (name ∷ names) old result new = Then (AdmitsName custom nam
 
 -- a file of the system of this name is read there
 abbrev pub IsReadFor : Custom → List ℕ → Folder → List ℕ → Type 0
-IsReadFor custom name folder at = (¬ IsBuiltInName name) × ((way : Direction) × (part : List ℕ) × IsUserName way part name × AreReadAt custom way part folder at)
+IsReadFor custom name folder at = (¬ IsBuiltInName name) × ((direction : Direction) × (part : List ℕ) × IsUserName direction part name × AreReadAt custom direction part folder at)
 
 -- one of the names has a file that is read there, and those before it are admitted
 abbrev pub ReadsFor : Custom → List (List ℕ) → StepLog → Folder → List ℕ → Type 0

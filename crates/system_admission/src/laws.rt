@@ -12,7 +12,7 @@ pub fn admitted_systems_are_meant()
     ensures { AdmittedSystemsAreMeant }
 {}
 
-/// The steps of admissions stand after those that were there, under the same limit.
+/// The steps of admissions come after those that were there, under the same limit.
 pub fn admissions_add_steps()
     ensures { AdmissionsAddSteps }
 {}

@@ -1,4 +1,4 @@
--- What was found, and what it says of a folder in which it stands.
+-- What was found, and what it says of a folder in which it is.
 use Rattle.std.proofs.Common.{◌≡◌, ◌≢◌, ℕ, zero, suc, ◌+◌, ◌<◌, Bool, true, false, cond, List, [], ◌∷◌, ◌++◌, length, get_or, bytes_eq, inl, inr, true≢false, Option, None, Some, Result, Ok, Err, refl, sym, ap, ◌∙◌, subst, arith}
 use Rattle.std.specs.Prelude.{slice_get}
 use Rattle.std.specs.Option.{IfSome}
@@ -27,13 +27,13 @@ use Rattle.system_files.specs.TextViews.{found_view, texts_in}
 use Rattle.system_files.specs.declared.texts.FoundText.{FoundText as TextKept}
 use Rattle.system_files.specs.Looks.{IsNew, IsAt, is_text, CanBeFound, ListsPart, ListsNoPart, HasFlaw, IsListedPart, IsPartAt, IsNoPart, FailsPart, FailsLook, Loads}
 
--- what was found at a place stands under its name
+-- what was found at a place is under its name
 pub stands_at : (custom : Custom) (found : List FoundText) (place : ℕ) (one : FoundText) → Agrees custom found → slice_get found place ≡ Some one → StandsAs (custom one.name) one.finding
 stands_at custom [] place one agrees at = absurd (cc)
 stands_at custom (f ∷ found) zero one agrees at = let same : f ≡ one = let e : Some f ≡ Some one = at in cc in subst (λ (o : FoundText). StandsAs (custom o.name) o.finding) same agrees.0
 stands_at custom (f ∷ found) (suc place) one agrees at = stands_at custom found place one agrees.1 at
 
--- a text stands there where one was found
+-- a text is there where one was found
 pub text_stands : (there : Option (List ℕ)) (finding : Finding) → StandsAs there finding → is_there there ≡ is_text finding
 text_stands there Absent h = ap is_there h
 text_stands there (Text text) h = ap is_there h.0
@@ -75,7 +75,7 @@ agrees_with custom (f ∷ found) name there new agrees = (
   agrees_with custom found name there (λ place one at. new (suc place) one at) agrees.1,
 )
 
--- what is found under a new name can stand beside what was
+-- what is found under a new name can be beside what was
 pub can_stand_more : (found : List FoundText) (one : FoundText) → IsNew found one.name → CanBeFound one.finding → CanStand found → CanStand (found ++ one ∷ [])
 can_stand_more found one new (there, stands) (custom, agrees) = (
   with_text custom one.name there,
@@ -87,7 +87,7 @@ can_stand_more found one new (there, stands) (custom, agrees) = (
 pub long_text : CanBeFound TooLong
 long_text = let past = text_past TEXT_LIMIT in (Some past.0, (past.0, refl, past.1))
 
--- what stands at a place, as the code keeps it
+-- what is at a place, as the code keeps it
 pub kept_at : (found : List TextKept) (place : ℕ) (one : TextKept) → place < length found → one ≡ get_or found place one → slice_get (texts_in found) place ≡ Some (found_view one)
 kept_at found place one within at =
     slice_get_read (texts_in found) (length (texts_in found)) place (found_view one) refl (omega (arith, within, length-map found found_view)) (by found place within at)
@@ -98,10 +98,10 @@ kept_at found place one within at =
     by (f ∷ some) (suc place) less same = by some place (omega (arith, less)) same
 
 -- none of those in front has the name, nor has the next
-pub none_in_front : (found : List TextKept) (place : ℕ) (one : TextKept) (name : List ℕ) → ((k : ℕ) (f : FoundText) → k < place → slice_get (texts_in found) k ≡ Some f → f.name ≢ name) → place < length found → one ≡ get_or found place one → one.name ≢ name
+pub none_in_prefix : (found : List TextKept) (place : ℕ) (one : TextKept) (name : List ℕ) → ((k : ℕ) (f : FoundText) → k < place → slice_get (texts_in found) k ≡ Some f → f.name ≢ name) → place < length found → one ≡ get_or found place one → one.name ≢ name
     → (k : ℕ) (f : FoundText) → k < place + 1 → slice_get (texts_in found) k ≡ Some f → f.name ≢ name
-none_in_front found place one name front within at apart k f less there = elim (cases_lt k place) [
-  | inl before ↦ front k f before there
+none_in_prefix found place one name prefix within at apart k f less there = elim (cases_lt k place) [
+  | inl before ↦ prefix k f before there
   | inr past ↦ (let here : k ≡ place = omega (arith, less, past) in
       let same : Some (found_view one) ≡ Some f = sym (kept_at found place one within at) ∙ ap (slice_get (texts_in found)) (sym here) ∙ there in
       let text : found_view one ≡ f = cc in

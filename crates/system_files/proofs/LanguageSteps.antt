@@ -23,9 +23,9 @@ no_language : (text : List ℕ) (flaw : FileFlaw) → IsNoPart Language text fla
 no_language text (flaws.Line at) is = is
 no_language text flaws.TooLong is = is
 
-module _ (way : Direction) (part : List ℕ) where
+module _ (direction : Direction) (part : List ℕ) where
   -- why the language that is taken lists nothing
-  language_fails : (custom : Custom) (fault : LoadFault) → is_there (custom (taken_name custom way part)) ≡ true → IsQuiet fault → FailsPart Language custom (taken_name custom way part) fault → FailsFiles custom way part fault
+  language_fails : (custom : Custom) (fault : LoadFault) → is_there (custom (taken_name custom direction part)) ≡ true → IsQuiet fault → FailsPart Language custom (taken_name custom direction part) fault → FailsFiles custom direction part fault
   language_fails custom (faults.Unknown folder name) there quiet fails = absurd (true≢false (sym there ∙ ap is_there fails.2))
   language_fails custom (faults.File folder name flaw) there quiet fails =
       let (text, stands, none) = fails.2 in
@@ -34,34 +34,34 @@ module _ (way : Direction) (part : List ℕ) where
   language_fails custom faults.Memory there quiet fails = tt
 
   -- the same, as it was found
-  found_fails : (custom : Custom) (found : List FoundText) (taken : Taken) (one : FoundText) (fault : LoadFault) → Agrees custom found → IsTaken way part custom found taken → slice_get found taken.place ≡ Some one → IsQuiet fault → ListsNoPart Language one fault → FailsFiles custom way part fault
+  found_fails : (custom : Custom) (found : List FoundText) (taken : Taken) (one : FoundText) (fault : LoadFault) → Agrees custom found → IsTaken direction part custom found taken → slice_get found taken.place ≡ Some one → IsQuiet fault → ListsNoPart Language one fault → FailsFiles custom direction part fault
   found_fails custom found taken one fault agrees is at quiet refuses =
-      let named = named_so found (taken_name custom way part) taken.place one is.at at in
+      let named = named_so found (taken_name custom direction part) taken.place one is.at at in
       language_fails custom fault is.there quiet (subst (λ (n : List ℕ). FailsPart Language custom n fault) named (fails_at Language custom one fault (stands_at custom found taken.place one agrees at) refuses))
 
-  module _ (before after : List FoundText) (old new : StoreView) (taken : Taken) (one : FoundText) (at : slice_get after taken.place ≡ Some one) (takes : Loads (IsTaken way part) (λ custom fault. FailsFiles custom way part fault) before old (Ok taken) after new) where
-    refuse : (fault : LoadFault) → IsQuiet fault → ListsNoPart Language one fault → Loads (IsTakenLanguage way part) (λ custom fault. FailsFiles custom way part fault) before old (Err fault) after new
+  module _ (before after : List FoundText) (old new : StoreView) (taken : Taken) (one : FoundText) (at : slice_get after taken.place ≡ Some one) (takes : Loads (IsTaken direction part) (λ custom fault. FailsFiles custom direction part fault) before old (Ok taken) after new) where
+    refuse : (fault : LoadFault) → IsQuiet fault → ListsNoPart Language one fault → Loads (IsTakenLanguage direction part) (λ custom fault. FailsFiles custom direction part fault) before old (Err fault) after new
     refuse fault quiet refuses =
-        refused_so (IsTaken way part) (λ custom fault. FailsFiles custom way part fault) (IsTakenLanguage way part) (λ custom fault. FailsFiles custom way part fault) before after old new taken fault quiet takes
+        refused_so (IsTaken direction part) (λ custom fault. FailsFiles custom direction part fault) (IsTakenLanguage direction part) (λ custom fault. FailsFiles custom direction part fault) before after old new taken fault quiet takes
         (λ custom agrees is. found_fails custom after taken one fault agrees is at quiet refuses)
 
-    pub lists_none : (fault : LoadFault) → ListsNoPart Language one fault → Loads (IsTakenLanguage way part) (λ custom fault. FailsFiles custom way part fault) before old (Err fault) after new
+    pub lists_none : (fault : LoadFault) → ListsNoPart Language one fault → Loads (IsTakenLanguage direction part) (λ custom fault. FailsFiles custom direction part fault) before old (Err fault) after new
     lists_none (faults.Unknown folder name) refuses = refuse (faults.Unknown folder name) tt refuses
     lists_none (faults.File folder name flaw) refuses = refuse (faults.File folder name flaw) tt refuses
     lists_none (faults.Store folder name) refuses = absurd refuses
     lists_none faults.Memory refuses = refuse faults.Memory tt refuses
 
     pub lists_language : (name : List ℕ) (listed : Listed) → name ≡ one.name → ListsPart Language one.finding listed
-        → Loads (IsTakenLanguage way part) (λ custom fault. FailsFiles custom way part fault) before old (Ok (record { name = name; reversed = taken.reversed; language = listed })) after new
+        → Loads (IsTakenLanguage direction part) (λ custom fault. FailsFiles custom direction part fault) before old (Ok (record { name = name; reversed = taken.reversed; language = listed })) after new
     lists_language name listed copied lists =
-        loads_so (IsTaken way part) (λ custom fault. FailsFiles custom way part fault) (IsTakenLanguage way part) (λ custom fault. FailsFiles custom way part fault) before after old new taken (record { name = name; reversed = taken.reversed; language = listed }) takes
+        loads_so (IsTaken direction part) (λ custom fault. FailsFiles custom direction part fault) (IsTakenLanguage direction part) (λ custom fault. FailsFiles custom direction part fault) before after old new taken (record { name = name; reversed = taken.reversed; language = listed }) takes
         (λ custom agrees is. record {
           reversed = is.reversed;
-          name = copied ∙ named_so after (taken_name custom way part) taken.place one is.at at;
-          language = lists_at Language custom (taken_name custom way part) one.finding listed (named_stands custom after (taken_name custom way part) taken.place one agrees is.at at) lists;
+          name = copied ∙ named_so after (taken_name custom direction part) taken.place one is.at at;
+          language = lists_at Language custom (taken_name custom direction part) one.finding listed (named_stands custom after (taken_name custom direction part) taken.place one agrees is.at at) lists;
         })
 
   -- no language is taken
-  pub takes_no_language : (before after : List FoundText) (old new : StoreView) (fault : LoadFault) → Loads (IsTaken way part) (λ custom fault. FailsFiles custom way part fault) before old (Err fault) after new → Loads (IsTakenLanguage way part) (λ custom fault. FailsFiles custom way part fault) before old (Err fault) after new
+  pub takes_no_language : (before after : List FoundText) (old new : StoreView) (fault : LoadFault) → Loads (IsTaken direction part) (λ custom fault. FailsFiles custom direction part fault) before old (Err fault) after new → Loads (IsTakenLanguage direction part) (λ custom fault. FailsFiles custom direction part fault) before old (Err fault) after new
   takes_no_language before after old new fault takes =
-      fails_so (IsTaken way part) (λ custom fault. FailsFiles custom way part fault) (IsTakenLanguage way part) (λ custom fault. FailsFiles custom way part fault) before after old new fault takes (λ custom agrees fails. fails)
+      fails_so (IsTaken direction part) (λ custom fault. FailsFiles custom direction part fault) (IsTakenLanguage direction part) (λ custom fault. FailsFiles custom direction part fault) before after old new fault takes (λ custom agrees fails. fails)

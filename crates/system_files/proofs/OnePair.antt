@@ -33,9 +33,9 @@ module _ (custom : Custom) (name : List ℕ) where
       let e : Ok listed ≡ Ok other = sym is.lists ∙ ap (adder_of digits) text ∙ also.lists in cc
 
 pub names_take_one_pair : NamesTakeOnePair
-names_take_one_pair custom way part files others is also =
-    let language = one_language custom (taken_name custom way part) files.digits others.digits files.language others.language is.language also.language in
-    let turned : files.reversed ≡ others.reversed = is.reversed ∙ sym also.reversed in
-    let adder_name_is = adder_name (taken_name custom way part) in
+names_take_one_pair custom direction part files others is also =
+    let language = one_language custom (taken_name custom direction part) files.digits others.digits files.language others.language is.language also.language in
+    let opposite : files.reversed ≡ others.reversed = is.reversed ∙ sym also.reversed in
+    let adder_name_is = adder_name (taken_name custom direction part) in
     let adder : files.adder ≡ others.adder = one_adder custom adder_name_is others.digits files.adder others.adder (subst (λ (n : ℕ). IsAdderAt custom adder_name_is n files.adder) language.0 is.adder) also.adder in
-    λ i. record { digits = language.0 i; reversed = turned i; language = language.1 i; adder = adder i }
+    λ i. record { digits = language.0 i; reversed = opposite i; language = language.1 i; adder = adder i }

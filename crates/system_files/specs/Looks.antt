@@ -34,7 +34,7 @@ is_text TooLong = true
 abbrev pub CanBeFound : Finding → Type 0
 CanBeFound finding = (there : Option (List ℕ)) × StandsAs there finding
 
--- Something was read, or not, by the texts that were found, whatever else stands in their folder.
+-- Something was read, or not, by the texts that were found, whatever else is in their folder.
 pub record Loads {X : Type 0} (Holds : Custom → List FoundText → X → Type 0) (Fails : Custom → LoadFault → Type 0) (before : List FoundText) (old : StoreView) (result : Result X LoadFault) (after : List FoundText) (new : StoreView) : Type 0 where
   pub gives : (custom : Custom) → Agrees custom after → MatchResult result (Holds custom after) (Fails custom)
   pub found : HasFound before old after
@@ -70,7 +70,7 @@ ListsNoPart part found (faults.File folder name flaw) = (folder ≡ Bases) × (n
 ListsNoPart part found (faults.Store folder name) = ⊥
 ListsNoPart part found faults.Memory = ⊤
 
--- a text stands under the name, short enough, that lists this as that part of a system
+-- a text is under the name, short enough, that lists this as that part of a system
 pub record IsPartAt (part : SystemPart) (custom : Custom) (name : List ℕ) (listed : Listed) : Type 0 where
   pub text : List ℕ
   pub there : custom name ≡ Some text

@@ -8,15 +8,15 @@ use Rattle.wal_outside.specs.Views.{StoreView}
 use Rattle.system_files.specs.SystemFiles.{Custom, SystemFiles, AreFilesOf, RefusesFiles, AreReadAt}
 use Rattle.system_files.specs.SystemTexts.{FoundText, Agrees, HasFound}
 
--- why the files are not loaded: by what stands there, or because the store failed, or for want of memory
+-- why the files are not loaded: by what is there, or because the store failed, or because memory ran out
 abbrev pub FailsFiles : Custom → Direction → List ℕ → LoadFault → Type 0
-FailsFiles custom way part (faults.Unknown folder name) = RefusesFiles custom way part (faults.Unknown folder name)
-FailsFiles custom way part (faults.File folder name flaw) = RefusesFiles custom way part (faults.File folder name flaw)
-FailsFiles custom way part (faults.Store folder name) = AreReadAt custom way part folder name
-FailsFiles custom way part faults.Memory = ⊤
+FailsFiles custom direction part (faults.Unknown folder name) = RefusesFiles custom direction part (faults.Unknown folder name)
+FailsFiles custom direction part (faults.File folder name flaw) = RefusesFiles custom direction part (faults.File folder name flaw)
+FailsFiles custom direction part (faults.Store folder name) = AreReadAt custom direction part folder name
+FailsFiles custom direction part faults.Memory = ⊤
 
--- They were loaded, or not, whatever else stands in the folder in which all that was found stands.
-pub record AreFilesLoaded (way : Direction) (part : List ℕ) (before : List FoundText) (old : StoreView) (result : Result SystemFiles LoadFault) (after : List FoundText) (new : StoreView) : Type 0 where
-  pub gives : (custom : Custom) → Agrees custom after → MatchResult result (AreFilesOf custom way part) (FailsFiles custom way part)
+-- They were loaded, or not, whatever else is in the folder in which all that was found is.
+pub record AreFilesLoaded (direction : Direction) (part : List ℕ) (before : List FoundText) (old : StoreView) (result : Result SystemFiles LoadFault) (after : List FoundText) (new : StoreView) : Type 0 where
+  pub gives : (custom : Custom) → Agrees custom after → MatchResult result (AreFilesOf custom direction part) (FailsFiles custom direction part)
   pub found : HasFound before old after
   pub has_read : HasRead old result new

@@ -17,17 +17,17 @@ pub record FoundText : Type 0 where
   pub name : List ℕ
   pub finding : Finding
 
--- this stands there
+-- this is there
 abbrev pub StandsAs : Option (List ℕ) → Finding → Type 0
 StandsAs there Absent = there ≡ None
 StandsAs there (Text text) = (there ≡ Some text) × (length text ≤ TEXT_LIMIT)
 StandsAs there TooLong = (text : List ℕ) × (there ≡ Some text) × (TEXT_LIMIT < length text)
 
--- all that was found stands in the folder
+-- all that was found is in the folder
 abbrev pub Agrees : Custom → List FoundText → Type 0
 Agrees custom found = AllByRecursion (λ (f : FoundText). StandsAs (custom f.name) f.finding) found
 
--- what was found before was found still; and it stands in the store's folder, where the store tells that, if it did before
+-- what was found before was found still; and it is in the store's folder, where the store reports that, if it did before
 pub record HasFound (before : List FoundText) (old : StoreView) (after : List FoundText) : Type 0 where
   pub kept : (custom : Custom) → Agrees custom after → Agrees custom before
   pub told : IfSome old.files (λ (files : Files). Agrees (files Bases) before → Agrees (files Bases) after)

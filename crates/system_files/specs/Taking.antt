@@ -9,13 +9,13 @@ use Rattle.system_files.specs.declared.taking.Taken.{Taken}
 use Rattle.system_files.specs.declared.taking.TakenLanguage.{TakenLanguage}
 
 -- the text of the language that is taken is at this place, and whether it is the one of the other direction
-pub record IsTaken (way : Direction) (part : List ℕ) (custom : Custom) (found : List FoundText) (taken : Taken) : Type 0 where
-  pub reversed : taken.reversed ≡ is_reversed custom way part
-  pub at : IsAt found (taken_name custom way part) taken.place
-  pub there : is_there (custom (taken_name custom way part)) ≡ true
+pub record IsTaken (direction : Direction) (part : List ℕ) (custom : Custom) (found : List FoundText) (taken : Taken) : Type 0 where
+  pub reversed : taken.reversed ≡ is_reversed custom direction part
+  pub at : IsAt found (taken_name custom direction part) taken.place
+  pub there : is_there (custom (taken_name custom direction part)) ≡ true
 
 -- and it lists this language
-pub record IsTakenLanguage (way : Direction) (part : List ℕ) (custom : Custom) (found : List FoundText) (taken : TakenLanguage) : Type 0 where
-  pub reversed : taken.reversed ≡ is_reversed custom way part
-  pub name : taken.name ≡ taken_name custom way part
-  pub language : IsPartAt Language custom (taken_name custom way part) taken.language
+pub record IsTakenLanguage (direction : Direction) (part : List ℕ) (custom : Custom) (found : List FoundText) (taken : TakenLanguage) : Type 0 where
+  pub reversed : taken.reversed ≡ is_reversed custom direction part
+  pub name : taken.name ≡ taken_name custom direction part
+  pub language : IsPartAt Language custom (taken_name custom direction part) taken.language

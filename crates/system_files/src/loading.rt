@@ -13,7 +13,7 @@ use system_names::{UserName, adder_name};
 use wal_outside::Store;
 
 /// What the files of a user's system list: the language under the system's name, or, where none is there, the one under its name
-/// in the other direction; and the adder beside that language. They stand in the folder of users' systems. A text that was read
+/// in the other direction; and the adder beside that language. They are in the folder of users' systems. A text that was read
 /// before is not read again. The time is in proportion to the bytes of the texts, and the number of texts read.
 ///
 /// # Errors

@@ -16,7 +16,7 @@ use digit_tuple::name::Name;
 use std::alloc::Global;
 use wal_outside::{Folder, Found, Store};
 
-/// The place of what stands under a name, which is read where it was not.
+/// The place of what is under a name, which is read where it was not.
 ///
 /// # Errors
 /// `Store` where the store failed, or `Memory`.
@@ -36,7 +36,7 @@ pub(crate) fn look<T: Store>(
     Ok(texts.add(found)?)
 }
 
-/// What stands under a name, read from the store.
+/// What is under a name, read from the store.
 fn read<T: Store>(alloc: Global, name: Name, store: &mut T) -> Result<FoundText, LoadFault>
     ensures gives { MatchResult result (λ found. (found.name ≡ name) × CanBeFound (found_view found).finding) (FailsLook name) }
     ensures told { IfOk result (λ found. IfSome (T.view store.old).files (λ (files : Files). StandsAs (files Bases name) (found_view found).finding)) }
@@ -64,7 +64,7 @@ fn read<T: Store>(alloc: Global, name: Name, store: &mut T) -> Result<FoundText,
 /// What the text under a name lists as a part of a system.
 ///
 /// # Errors
-/// `Unknown` where nothing stands there, `File` where the text is too long or breaks the format, `Store`, or `Memory`.
+/// `Unknown` where nothing is there, `File` where the text is too long or breaks the format, `Store`, or `Memory`.
 pub(crate) fn load_part<T: Store>(
     alloc: Global,
     part: SystemPart,

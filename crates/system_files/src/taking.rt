@@ -71,7 +71,7 @@ fn take<T: Store>(
             reversed: false,
         });
     }
-    let place = look(alloc, user.turned().name(alloc)?, texts, store)?;
+    let place = look(alloc, user.opposite().name(alloc)?, texts, store)?;
     if texts.at(place).is_there() {
         return Ok(Taken {
             place,

@@ -24,7 +24,7 @@ pub struct FoundText {
 }
 
 /// The texts of users' systems that were read so far in a command, in the order in which they were read. Each name is read once, so
-/// that all of them may stand in one folder.
+/// that all of them may be in one folder.
 #[derive(Drop)]
 pub struct SystemTexts {
     found: Vec<FoundText>,
@@ -57,7 +57,7 @@ impl SystemTexts {
         }
     }
 
-    /// What was found stands in some folder. It does nothing.
+    /// What was found is in some folder. It does nothing.
     pub fn can_stand(&self)
         ensures { CanStand self.now }
     {

@@ -1,4 +1,4 @@
--- A name tells its system.
+-- A name determines its system.
 use Rattle.std.proofs.Common.{◌≡◌, ℕ, ◌≤◌, List, length, take, drop, get_or, codes, decimal, refl, sym, ap, ◌∙◌, arith}
 use Rattle.std.proofs.lemmas.Fmt.{decimal_injective, length-decimal-le}
 use Rattle.digit_tuple.specs.declared.direction.Direction.{Direction}
@@ -7,17 +7,17 @@ use Rattle.system_names.specs.declared.system_kind.SystemKind.{SystemKind}
 use Rattle.system_names.specs.declared.system_kind.SystemKind.TheVariants.{Base, Fibonacci}
 use Rattle.system_names.specs.Names.{direction_part, kind_part, system_name, IsBase, IsSystemKind, NamesTellSystems}
 
--- the front of a name says the direction, and what stands after it the kind
-pub front_of : (way : Direction) (kind : SystemKind) → take 4 (system_name way kind) ≡ direction_part way
-front_of Msd kind = refl
-front_of Lsd kind = refl
+-- the prefix of a name says the direction, and what follows it the kind
+pub prefix_of : (direction : Direction) (kind : SystemKind) → take 4 (system_name direction kind) ≡ direction_part direction
+prefix_of Msd kind = refl
+prefix_of Lsd kind = refl
 
-pub rest_of : (way : Direction) (kind : SystemKind) → drop 4 (system_name way kind) ≡ kind_part kind
+pub rest_of : (direction : Direction) (kind : SystemKind) → drop 4 (system_name direction kind) ≡ kind_part kind
 rest_of Msd kind = refl
 rest_of Lsd kind = refl
 
 -- directions differ in their names
-pub one_direction : (way other : Direction) → direction_part way ≡ direction_part other → way ≡ other
+pub one_direction : (direction other : Direction) → direction_part direction ≡ direction_part other → direction ≡ other
 one_direction Msd Msd same = refl
 one_direction Lsd Lsd same = refl
 one_direction Msd Lsd same = let first : 109 ≡ 108 = ap (λ (xs : List ℕ). get_or xs 0 0) same in absurd (omega (arith, first))
@@ -38,8 +38,8 @@ one_kind Fibonacci (Base n) one two same = absurd (base_is_short n two (sym same
 one_kind Fibonacci Fibonacci one two same = refl
 
 pub one_system : NamesTellSystems
-one_system way other kind another name (is, named) (is', named') =
-    let same : system_name way kind ≡ system_name other another = sym named ∙ named' in (
-      one_direction way other (sym (front_of way kind) ∙ (ap (λ (xs : List ℕ). take 4 xs) same ∙ front_of other another)),
-      one_kind kind another is is' (sym (rest_of way kind) ∙ (ap (λ (xs : List ℕ). drop 4 xs) same ∙ rest_of other another)),
+one_system direction other kind another name (is, named) (is', named') =
+    let same : system_name direction kind ≡ system_name other another = sym named ∙ named' in (
+      one_direction direction other (sym (prefix_of direction kind) ∙ (ap (λ (xs : List ℕ). take 4 xs) same ∙ prefix_of other another)),
+      one_kind kind another is is' (sym (rest_of direction kind) ∙ (ap (λ (xs : List ℕ). drop 4 xs) same ∙ rest_of other another)),
     )

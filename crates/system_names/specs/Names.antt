@@ -17,7 +17,7 @@ kind_part Fibonacci = codes "fib"
 
 -- the name of a system in a direction
 abbrev pub system_name : Direction → SystemKind → List ℕ
-system_name way kind = direction_part way ++ kind_part kind
+system_name direction kind = direction_part direction ++ kind_part kind
 
 -- there is such a base
 pub record IsBase (k : ℕ) : Type 0 where
@@ -36,12 +36,12 @@ digit_count Fibonacci = 2
 
 -- the name is that of a system in a direction
 abbrev pub IsBuiltIn : Direction → SystemKind → List ℕ → Type 0
-IsBuiltIn way kind name = IsSystemKind kind × (name ≡ system_name way kind)
+IsBuiltIn direction kind name = IsSystemKind kind × (name ≡ system_name direction kind)
 
 -- the name is that of a system that is built in
 abbrev pub IsBuiltInName : List ℕ → Type 0
-IsBuiltInName name = (way : Direction) × (kind : SystemKind) × IsBuiltIn way kind name
+IsBuiltInName name = (direction : Direction) × (kind : SystemKind) × IsBuiltIn direction kind name
 
 -- a name has one direction and one kind, at most
 abbrev pub NamesTellSystems : Type 0
-NamesTellSystems = (way other : Direction) (kind another : SystemKind) (name : List ℕ) → IsBuiltIn way kind name → IsBuiltIn other another name → (way ≡ other) × (kind ≡ another)
+NamesTellSystems = (direction other : Direction) (kind another : SystemKind) (name : List ℕ) → IsBuiltIn direction kind name → IsBuiltIn other another name → (direction ≡ other) × (kind ≡ another)

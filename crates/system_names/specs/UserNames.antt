@@ -20,28 +20,28 @@ pub record IsUserPart (part : List ℕ) : Type 0 where
 
 -- the name that says a direction and what the system is called
 abbrev pub user_name : Direction → List ℕ → List ℕ
-user_name way part = direction_part way ++ part
+user_name direction part = direction_part direction ++ part
 
 -- the name is that of a user's system, which is called so, in this direction
 abbrev pub IsUserName : Direction → List ℕ → List ℕ → Type 0
-IsUserName way part name = IsUserPart part × (name ≡ user_name way part)
+IsUserName direction part name = IsUserPart part × (name ≡ user_name direction part)
 
 -- the name is that of some user's system
 abbrev pub IsUsersName : List ℕ → Type 0
-IsUsersName name = (way : Direction) × (part : List ℕ) × IsUserName way part name
+IsUsersName name = (direction : Direction) × (part : List ℕ) × IsUserName direction part name
 
 -- the other direction
-abbrev pub turned : Direction → Direction
-turned Msd = Lsd
-turned Lsd = Msd
+abbrev pub opposite : Direction → Direction
+opposite Msd = Lsd
+opposite Lsd = Msd
 
--- the name of the adder that stands beside a language of this name
+-- the name of the adder that is beside a language of this name
 abbrev pub adder_name : List ℕ → List ℕ
 adder_name name = name ++ codes "_addition"
 
 -- a name says one direction and one system at most
 abbrev pub UserNamesTellSystems : Type 0
-UserNamesTellSystems = (way other : Direction) (part another : List ℕ) (name : List ℕ) → IsUserName way part name → IsUserName other another name → (way ≡ other) × (part ≡ another)
+UserNamesTellSystems = (direction other : Direction) (part another : List ℕ) (name : List ℕ) → IsUserName direction part name → IsUserName other another name → (direction ≡ other) × (part ≡ another)
 
 -- and it is the name of none that is built in
 abbrev pub UserNamesAreNotBuiltIn : Type 0

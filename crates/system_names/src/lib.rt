@@ -8,7 +8,7 @@ mod system_kind;
 mod naming;
 // the names of users' systems
 mod users;
-// a name tells its system
+// a name determines its system
 mod laws;
 
 pub use laws::{names_tell_systems, user_names_are_not_built_in, user_names_tell_systems};

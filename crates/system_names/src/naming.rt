@@ -41,19 +41,19 @@ pub fn built_in(name: &[u8]) -> Option<BuiltIn>
     if name.len() < 4 {
         return None;
     }
-    let (front, rest) = name.split_at(4);
-    let direction = direction_named(front)?;
+    let (prefix, rest) = name.split_at(4);
+    let direction = direction_named(prefix)?;
     let kind = kind_named(rest)?;
     Some(BuiltIn { direction, kind })
 }
 
-// The direction that a name's front says.
-fn direction_named(front: &[u8]) -> Option<Direction>
-    ensures { MatchOption result ((way : Direction) → front.now ≢ direction_part way) (λ way. front.now ≡ direction_part way) }
+// The direction that a name's prefix says.
+fn direction_named(prefix: &[u8]) -> Option<Direction>
+    ensures { MatchOption result ((direction : Direction) → prefix.now ≢ direction_part direction) (λ direction. prefix.now ≡ direction_part direction) }
 {
-    if front == b"msd_".as_slice() {
+    if prefix == b"msd_".as_slice() {
         Some(Direction::Msd)
-    } else if front == b"lsd_".as_slice() {
+    } else if prefix == b"lsd_".as_slice() {
         Some(Direction::Lsd)
     } else {
         None

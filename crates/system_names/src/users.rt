@@ -2,7 +2,7 @@
 ghost use Rattle.std.specs.Prelude.{◌≡◌, ◌≢◌, ℕ, List, IfOk, IsTrue, ◌↔◌, MatchOption};
 ghost use Rattle.digit_tuple.specs.declared.direction.Direction.{Direction};
 ghost use Rattle.system_names.specs.Names.{direction_part};
-ghost use Rattle.system_names.specs.UserNames.{IsUserPart, IsUserName, IsUsersName, is_word_of_letters as letters_are, user_name as name_of_user, adder_name as name_of_adder, turned as turned_way};
+ghost use Rattle.system_names.specs.UserNames.{IsUserPart, IsUserName, IsUsersName, is_word_of_letters as letters_are, user_name as name_of_user, adder_name as name_of_adder, opposite as opposite_direction};
 
 use digit_tuple::direction::Direction;
 use digit_tuple::faults::OutOfMemory;
@@ -33,12 +33,12 @@ impl<'a> UserName<'a> {
     }
 
     /// The same system, read in the other direction. It takes no memory.
-    pub fn turned(&self) -> UserName<'a>
-        ensures direction { result.direction ≡ turned_way self.now.direction }
+    pub fn opposite(&self) -> UserName<'a>
+        ensures direction { result.direction ≡ opposite_direction self.now.direction }
         ensures part { result.part.now ≡ self.now.part.now }
     {
         UserName {
-            direction: turned(self.direction),
+            direction: opposite(self.direction),
             part: self.part,
         }
     }
@@ -58,7 +58,7 @@ pub fn user_name(name: &str) -> Option<UserName<'_>>
     }
 }
 
-/// The name of the adder that stands beside the language of this name, in memory of its own.
+/// The name of the adder that is beside the language of this name, in memory of its own.
 pub fn adder_name(alloc: Global, language: &Name) -> Result<Name, OutOfMemory>
     ensures { IfOk result (λ name. name ≡ name_of_adder language.now) }
 {
@@ -78,8 +78,8 @@ fn direction_text(direction: Direction) -> &'static str
 }
 
 // The other direction.
-fn turned(direction: Direction) -> Direction
-    ensures { result ≡ turned_way direction }
+fn opposite(direction: Direction) -> Direction
+    ensures { result ≡ opposite_direction direction }
 {
     match direction {
         Direction::Msd => Direction::Lsd,
@@ -87,9 +87,9 @@ fn turned(direction: Direction) -> Direction
     }
 }
 
-// The direction that the front of a name says, and what stands after it.
+// The direction that the prefix of a name says, and what follows it.
 fn directed(name: &str) -> Option<UserName<'_>>
-    ensures { MatchOption result ((way : Direction) (part : List ℕ) → name.now ≢ name_of_user way part) (λ user. name.now ≡ name_of_user user.direction user.part.now) }
+    ensures { MatchOption result ((direction : Direction) (part : List ℕ) → name.now ≢ name_of_user direction part) (λ user. name.now ≡ name_of_user user.direction user.part.now) }
 {
     if let Some(part) = name.strip_prefix("msd_") {
         return Some(UserName {

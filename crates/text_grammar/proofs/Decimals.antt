@@ -8,7 +8,7 @@ use Rattle.std.proofs.lemmas.List.{length-append}
 use Rattle.std.proofs.lemmas.Fmt.{decimal_by_steps}
 use Rattle.text_grammar.specs.declared.class.Class.TheVariants.{Digit}
 use Rattle.text_grammar.specs.Bytes.{is_digit}
-use Rattle.text_grammar.specs.Fronts.{front_len}
+use Rattle.text_grammar.specs.Prefixes.{prefix_len}
 use Rattle.text_grammar.specs.Numbers.{begins_with, value_after, value_of, signed, is_short, are_digits, is_number, number_of}
 
 is_digit-glyph : (d : ℕ) → d < 10 → is_digit (48 + d) ≡ true
@@ -42,16 +42,16 @@ pub no_sign : (ds : List ℕ) → AllByRecursion (λ b. is_digit b ≡ true) ds 
 no_sign [] h = refl
 no_sign (d ∷ ds) h = let digit = h.0 in grind (arith, nat_tests)
 
-pub all_digits : (ds : List ℕ) → AllByRecursion (λ b. is_digit b ≡ true) ds → front_len Digit ds ≡ length ds
+pub all_digits : (ds : List ℕ) → AllByRecursion (λ b. is_digit b ≡ true) ds → prefix_len Digit ds ≡ length ds
 all_digits [] all = refl
-all_digits (d ∷ ds) all = ap (λ (b : Bool). if b then suc (front_len Digit ds) else 0) all.0 ∙ ap suc (all_digits ds all.1)
+all_digits (d ∷ ds) all = ap (λ (b : Bool). if b then suc (prefix_len Digit ds) else 0) all.0 ∙ ap suc (all_digits ds all.1)
 
 pub digits_are : (n : ℕ) (ds : List ℕ) → AreDigitsOf n ds → are_digits ds ≡ true
 digits_are n ds p =
     let some : 0 < length ds = p.some in
     let nonzero : eqb (length ds) 0 ≡ false = grind (arith, nat_tests) in
     let whole : eqb (length ds) (length ds) ≡ true = grind (arith, nat_tests) in
-    ap (λ (b : Bool). not b && (front_len Digit ds == length ds)) nonzero ∙ (ap (λ k. eqb k (length ds)) (all_digits ds p.digits) ∙ whole)
+    ap (λ (b : Bool). not b && (prefix_len Digit ds == length ds)) nonzero ∙ (ap (λ k. eqb k (length ds)) (all_digits ds p.digits) ∙ whole)
 
 -- a printed number is one
 pub record IsNumberOf (z : ℤ) (text : List ℕ) : Type 0 where

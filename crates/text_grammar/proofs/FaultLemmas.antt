@@ -4,7 +4,7 @@ use Rattle.std.proofs.lemmas.Bool.{cases_lt}
 use Rattle.std.proofs.lemmas.List.{take-append-drop, take-take}
 use Rattle.text_grammar.specs.Faults.{Begins, BreaksAt}
 
--- a front of what begins a text begins one
+-- a prefix of what begins a text begins one
 pub begins_shorter : {X T : Type 0} (grammar : List X → T → Type 0) (text : List X) (i j : ℕ) → i ≤ j → Begins grammar (take j text) → Begins grammar (take i text)
 begins_shorter {X} {T} grammar text i j l b =
     let e : take i text ++ (drop i (take j text) ++ b.0) ≡ take j text ++ b.0 =
@@ -12,7 +12,7 @@ begins_shorter {X} {T} grammar text i j l b =
     let P : List X → Type 0 = λ w. grammar w b.1 in
     (drop i (take j text) ++ b.0, b.1, subst P (sym e) b.2)
 
--- each front of a text of the grammar begins one
+-- each prefix of a text of the grammar begins one
 pub whole_begins : {X T : Type 0} (grammar : List X → T → Type 0) (text : List X) (i : ℕ) (tree : T) → grammar text tree → Begins grammar (take i text)
 whole_begins {X} grammar text i tree g = let P : List X → Type 0 = λ w. grammar w tree in (drop i text, tree, subst P (sym (take-append-drop i text)) g)
 

@@ -2,7 +2,7 @@
 pub mod FaultLemmas
 pub mod NumberSteps
 pub mod Decimals
-pub mod FrontLemmas
+pub mod PrefixLemmas
 pub mod SpotLemmas
 pub mod SignLemmas
 pub mod SystemLemmas

@@ -4,7 +4,7 @@ use Rattle.std.specs.Prelude.{if◌then◌else◌}
 use Rattle.std.proofs.Math.Seq.{drop-cons, drop-nil}
 use Rattle.std.proofs.lemmas.List.{length-drop}
 use Rattle.text_grammar.specs.declared.class.Class.{Class}
-use Rattle.text_grammar.specs.Fronts.{is_in, front_len}
+use Rattle.text_grammar.specs.Prefixes.{is_in, prefix_len}
 use Rattle.text_grammar.specs.Spots.{Lexeme, Lexing, Spot, spot_of, spots_from}
 
 pub drop_add : (text : List ℕ) (i j : ℕ) → drop j (drop i text) ≡ drop (i + j) text
@@ -29,25 +29,25 @@ at_byte : {M T : Type 0} (lexing : Lexing M T) (m : M) (at b : ℕ) (bs : List �
 at_byte lexing m at b bs q e = ap (λ p. if p then spots_from lexing m (suc at) 0 bs else token_at lexing m at (lexing.lexeme m at b bs) bs) e
 
 -- the bytes between tokens are passed over, where they are those of a class
-pub spots_front : {M T : Type 0} (lexing : Lexing M T) (class : Class) → ((b : ℕ) → lexing.divides b ≡ is_in class b) → (m : M) (at : ℕ) (bs : List ℕ) →
-    spots_from lexing m at 0 bs ≡ spots_from lexing m (at + front_len class bs) 0 (drop (front_len class bs) bs)
-spots_front lexing class divides m at [] = let e : at + 0 ≡ at = omega arith in rw e refl
-spots_front lexing class divides m at (b ∷ bs) = pick (is_in class b) (divides b) (spots_front lexing class divides m (suc at) bs)
+pub spots_prefix : {M T : Type 0} (lexing : Lexing M T) (class : Class) → ((b : ℕ) → lexing.divides b ≡ is_in class b) → (m : M) (at : ℕ) (bs : List ℕ) →
+    spots_from lexing m at 0 bs ≡ spots_from lexing m (at + prefix_len class bs) 0 (drop (prefix_len class bs) bs)
+spots_prefix lexing class divides m at [] = let e : at + 0 ≡ at = omega arith in rw e refl
+spots_prefix lexing class divides m at (b ∷ bs) = pick (is_in class b) (divides b) (spots_prefix lexing class divides m (suc at) bs)
   where
-    pick : (q : Bool) → lexing.divides b ≡ q → spots_from lexing m (suc at) 0 bs ≡ spots_from lexing m (suc at + front_len class bs) 0 (drop (front_len class bs) bs) →
-        spots_from lexing m at 0 (b ∷ bs) ≡ spots_from lexing m (at + (if q then suc (front_len class bs) else 0)) 0 (drop (if q then suc (front_len class bs) else 0) (b ∷ bs))
+    pick : (q : Bool) → lexing.divides b ≡ q → spots_from lexing m (suc at) 0 bs ≡ spots_from lexing m (suc at + prefix_len class bs) 0 (drop (prefix_len class bs) bs) →
+        spots_from lexing m at 0 (b ∷ bs) ≡ spots_from lexing m (at + (if q then suc (prefix_len class bs) else 0)) 0 (drop (if q then suc (prefix_len class bs) else 0) (b ∷ bs))
     pick true e more =
-        let next : suc at + front_len class bs ≡ at + suc (front_len class bs) = omega arith in
-        at_byte lexing m at b bs true e ∙ (more ∙ ap (λ k. spots_from lexing m k 0 (drop (front_len class bs) bs)) next)
+        let next : suc at + prefix_len class bs ≡ at + suc (prefix_len class bs) = omega arith in
+        at_byte lexing m at b bs true e ∙ (more ∙ ap (λ k. spots_from lexing m k 0 (drop (prefix_len class bs) bs)) next)
     pick false e more = let same : at + 0 ≡ at = omega arith in rw same refl
 
 -- the same from a byte of a text on
-pub spots_front_at : {M T : Type 0} (lexing : Lexing M T) (class : Class) → ((b : ℕ) → lexing.divides b ≡ is_in class b) → (m : M) (text : List ℕ) (start n : ℕ) → n ≡ front_len class (drop start text) →
+pub spots_prefix_at : {M T : Type 0} (lexing : Lexing M T) (class : Class) → ((b : ℕ) → lexing.divides b ≡ is_in class b) → (m : M) (text : List ℕ) (start n : ℕ) → n ≡ prefix_len class (drop start text) →
     spots_from lexing m start 0 (drop start text) ≡ spots_from lexing m (start + n) 0 (drop (start + n) text)
-spots_front_at lexing class divides m text start n e =
+spots_prefix_at lexing class divides m text start n e =
     subst (λ k. spots_from lexing m start 0 (drop start text) ≡ spots_from lexing m (start + k) 0 (drop (start + k) text)) (sym e)
-    (spots_front lexing class divides m start (drop start text)
-    ∙ ap (spots_from lexing m (start + front_len class (drop start text)) 0) (drop_add text start (front_len class (drop start text))))
+    (spots_prefix lexing class divides m start (drop start text)
+    ∙ ap (spots_from lexing m (start + prefix_len class (drop start text)) 0) (drop_add text start (prefix_len class (drop start text))))
 
 -- a token, and those after its bytes
 pub spots_token : {M T : Type 0} (lexing : Lexing M T) (m : M) (text : List ℕ) (at : ℕ) (l : Lexeme T) → at < length text → lexing.divides (get_or text at 0) ≡ false →

@@ -1,6 +1,6 @@
 pub mod Faults
 pub mod Bytes
-pub mod Fronts
+pub mod Prefixes
 pub mod Numbers
 pub mod Systems
 pub mod Spots

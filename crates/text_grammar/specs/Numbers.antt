@@ -1,7 +1,7 @@
 -- Whole numbers: decimal digits, with an optional `-` directly before them.
 use Rattle.std.specs.Prelude.{ℕ, ◌+◌, ◌*◌, ◌-◌, ◌==◌, nat_lt, Bool, false, not, ◌&&◌, if◌then◌else◌, List, [], ◌∷◌, length, drop, ℤ, pos, negsuc, neg_ℤ}
 use Rattle.text_grammar.specs.declared.class.Class.TheVariants.{Digit}
-use Rattle.text_grammar.specs.Fronts.{front_len, all_in}
+use Rattle.text_grammar.specs.Prefixes.{prefix_len, all_in}
 
 -- whether the first byte is this one
 abbrev pub begins_with : ℕ → List ℕ → Bool
@@ -44,4 +44,4 @@ number_of bytes = signed (begins_with 45 bytes) (value_of (unsigned bytes))
 
 -- how long the number is with which the bytes begin, or 0 if they begin with none
 abbrev pub number_len : List ℕ → ℕ
-number_len bytes = if front_len Digit (unsigned bytes) == 0 then 0 else (if begins_with 45 bytes then 1 else 0) + front_len Digit (unsigned bytes)
+number_len bytes = if prefix_len Digit (unsigned bytes) == 0 then 0 else (if begins_with 45 bytes then 1 else 0) + prefix_len Digit (unsigned bytes)

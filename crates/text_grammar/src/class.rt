@@ -1,6 +1,6 @@
 ghost use Rattle.std.specs.Prelude.{◌≡◌};
 ghost use Rattle.text_grammar.specs.Bytes.{is_blank as is_blank_byte};
-ghost use Rattle.text_grammar.specs.Fronts.{is_in};
+ghost use Rattle.text_grammar.specs.Prefixes.{is_in};
 
 /// A class of bytes.
 #[derive(Clone, Copy, Debug, PartialEq, Eq)]

@@ -1,13 +1,13 @@
 ghost use Rattle.std.specs.Prelude.{◌≡◌, ◌<◌, ◌≤◌, ◌^◌, length, MatchOption, true, false};
-ghost use Rattle.text_grammar.specs.Numbers.{begins_with as begins_with_byte, value_of, signed as signed_number, is_short, unsigned as behind_sign, are_digits as are_digits_text, is_number as is_number_text, number_of as number_of_text, number_len as len_of_number};
+ghost use Rattle.text_grammar.specs.Numbers.{begins_with as begins_with_byte, value_of, signed as signed_number, is_short, unsigned as after_sign, are_digits as are_digits_text, is_number as is_number_text, number_of as number_of_text, number_len as len_of_number};
 
 use super::class::Class;
-use super::front::{all_in, front_len};
+use super::prefix::{all_in, prefix_len};
 
 /// The greatest distance of a number of 32 bits from 0.
 const FARTHEST: u64 = 2147483648;
 
-/// Whether this byte stands first.
+/// Whether this byte comes first.
 pub fn begins_with(byte: u8, bytes: &[u8]) -> bool
     ensures { result ≡ begins_with_byte byte bytes.now }
 {
@@ -63,7 +63,7 @@ fn signed(negative: bool, magnitude: u64) -> Option<i32>
 
 /// The bytes after the sign, if there is one.
 pub fn unsigned(bytes: &[u8]) -> &[u8]
-    ensures { result.now ≡ behind_sign bytes.now }
+    ensures { result.now ≡ after_sign bytes.now }
 {
     if begins_with(b'-', bytes) {
         &bytes[1..]
@@ -100,7 +100,7 @@ pub fn number_len(bytes: &[u8]) -> usize
     ensures within { result ≤ length bytes.now }
 {
     let digits = unsigned(bytes);
-    let len = front_len(Class::Digit, digits);
+    let len = prefix_len(Class::Digit, digits);
     if len == 0 {
         0
     } else {

@@ -11,9 +11,9 @@ use Rattle.wal_outside.specs.Views.{SinkView}
 use Rattle.wal_outside.specs.Sending.{Grows, Sends, HasSent}
 
 -- a text has bytes where a part of it has
-some_behind : (text more : List ℕ) → more ≢ [] → text ++ more ≢ []
-some_behind [] more some = some
-some_behind (b ∷ bs) more some = λ is. cc
+some_after : (text more : List ℕ) → more ≢ [] → text ++ more ≢ []
+some_after [] more some = some
+some_after (b ∷ bs) more some = λ is. cc
 
 some_before : (text more : List ℕ) → text ≢ [] → text ++ more ≢ []
 some_before [] more some = λ is. some refl
@@ -43,7 +43,7 @@ grows_more (Some held) (Some mid) (Some new) text more sent taken = grind (arith
 -- a call that failed in the middle of a text
 grows_kept : (held mid new : Option (List ℕ)) (text more : List ℕ) (fault : WriteFault) → Grows held mid text (Ok tt) → Keeps mid new → more ≢ [] → Grows held new (text ++ more) (Err fault)
 unfolding Grows
-grows_kept None mid new text more fault sent kept some = some_behind text more some
+grows_kept None mid new text more fault sent kept some = some_after text more some
 grows_kept (Some held) None new text more fault sent kept some = cc
 grows_kept (Some held) (Some mid) None text more fault sent kept some = absurd kept
 grows_kept (Some held) (Some mid) (Some new) text more fault sent kept some = (text, record { rest = more; some = some; split = refl }, grind (arith, kept, sent))
@@ -52,16 +52,16 @@ grows_kept (Some held) (Some mid) (Some new) text more fault sent kept some = (t
 grows_some : (held new : Option (List ℕ)) (text : List ℕ) (fault : WriteFault) → Grows held new text (Err fault) → text ≢ []
 unfolding Grows
 grows_some None new text fault sends = sends
-grows_some (Some held) new text fault (front, p, now) = let P : List ℕ → Type 0 = λ xs. xs ≢ [] in subst P (sym p.split) (some_behind front p.rest p.some)
+grows_some (Some held) new text fault (prefix, p, now) = let P : List ℕ → Type 0 = λ xs. xs ≢ [] in subst P (sym p.split) (some_after prefix p.rest p.some)
 
 -- a text after what was sent
 grows_then : (held mid new : Option (List ℕ)) (text more : List ℕ) (result : Result (Unit {0}) WriteFault) → Grows held mid text (Ok tt) → Grows mid new more result → Grows held new (text ++ more) result
 unfolding Grows
 grows_then None mid new text more (Ok x) sent sends = tt
-grows_then None mid new text more (Err fault) sent sends = some_behind text more (grows_some mid new more fault sends)
+grows_then None mid new text more (Err fault) sent sends = some_after text more (grows_some mid new more fault sends)
 grows_then (Some held) None new text more result sent sends = cc
 grows_then (Some held) (Some mid) new text more (Ok x) sent sends = grind (arith, sends, sent, append_assoc)
-grows_then (Some held) (Some mid) new text more (Err fault) sent (front, p, now) = (text ++ front, record { rest = p.rest; some = p.some; split = rw (p.split, append_assoc) refl }, grind (arith, now, sent, append_assoc))
+grows_then (Some held) (Some mid) new text more (Err fault) sent (prefix, p, now) = (text ++ prefix, record { rest = p.rest; some = p.some; split = rw (p.split, append_assoc) refl }, grind (arith, now, sent, append_assoc))
 
 pub sends_then : (old mid new : SinkView) (text more : List ℕ) (result : Result (Unit {0}) WriteFault) → HasSent old text mid → Sends mid more result new → Sends old (text ++ more) result new
 sends_then old mid new text more result sent sends = record { held = grows_then old.held mid.held new.held text more result sent.held sends.held; faults = rw sent.faults at sends.faults }
@@ -70,7 +70,7 @@ sends_then old mid new text more result sent sends = record { held = grows_then 
 grows_cut : (held new : Option (List ℕ)) (text more : List ℕ) (fault : WriteFault) → Grows held new text (Err fault) → Grows held new (text ++ more) (Err fault)
 unfolding Grows
 grows_cut None new text more fault sends = some_before text more sends
-grows_cut (Some held) new text more fault (front, p, now) = (front, record { rest = p.rest ++ more; some = some_before p.rest more p.some; split = rw (p.split, append_assoc) refl }, now)
+grows_cut (Some held) new text more fault (prefix, p, now) = (prefix, record { rest = p.rest ++ more; some = some_before p.rest more p.some; split = rw (p.split, append_assoc) refl }, now)
 
 pub sends_cut : (old new : SinkView) (text more : List ℕ) (fault : WriteFault) → Sends old text (Err fault) new → Sends old (text ++ more) (Err fault) new
 sends_cut old new text more fault sends = record { held = grows_cut old.held new.held text more fault sends.held; faults = sends.faults }

@@ -38,11 +38,11 @@ cond_same : (b : Bool) (x y z : Option (List ℕ)) → (b ≡ false → y ≡ z)
 cond_same true x y z same = refl
 cond_same false x y z same = same refl
 
--- a new text in front, and the one in whose place it stands taken out, at one name
+-- a new text in front, and the one in whose place it is taken out, at one name
 replaced_at : (text : Text) (texts : List Text) (i : ℕ) (g : Folder) (m bytes : List ℕ) → text.folder ≡ g → string_bytes text.name ≡ m → text.bytes.items ≡ bytes → HasAt texts i g m → (h : Folder) (p : List ℕ) → lookup (remove (text ∷ texts) (i + 1)) h p ≡ put (lookup texts) g m bytes h p
 replaced_at text texts i g m bytes folder name is has h p =
-    let front : remove (text ∷ texts) (i + 1) ≡ text ∷ remove texts i = rw add-one in
-    rw (front, folder, name, is) (cond_same (same_file g m h p) (Some bytes) (lookup (remove texts i) h p) (lookup texts h p) (λ other. lookup-remove texts i g h m p has other))
+    let prefix : remove (text ∷ texts) (i + 1) ≡ text ∷ remove texts i = rw add-one in
+    rw (prefix, folder, name, is) (cond_same (same_file g m h p) (Some bytes) (lookup (remove texts i) h p) (lookup texts h p) (λ other. lookup-remove texts i g h m p has other))
 
 -- and so at every name
 pub lookup-replaced : (text : Text) (texts : List Text) (i : ℕ) (g : Folder) (m bytes : List ℕ) → text.folder ≡ g → string_bytes text.name ≡ m → text.bytes.items ≡ bytes → HasAt texts i g m → lookup (remove (text ∷ texts) (i + 1)) ≡ put (lookup texts) g m bytes

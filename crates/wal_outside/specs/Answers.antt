@@ -1,4 +1,4 @@
--- What a store's answers say of its files, where these are told.
+-- What a store's answers say of its files, where these are reported.
 use Rattle.std.specs.Prelude.{◌≡◌, ℕ, ◌<◌, ◌≤◌, List, length, Option, None, Some, IfSome, Result, Ok, Err, ⊤}
 use Rattle.wal_outside.specs.Files.{Files, put}
 use Rattle.wal_outside.specs.declared.folder.Folder.{Folder}
@@ -15,11 +15,11 @@ Answers there answers.TooLong into = (text : List ℕ) × (there ≡ Some text) 
 Answers there answers.Failed into = ⊤
 Answers there answers.Memory into = ⊤
 
--- what a read of a name answers, where the files are told
+-- what a read of a name answers, where the files are reported
 abbrev pub Finds : Option Files → Folder → List ℕ → Found → List ℕ → Type 0
 Finds told folder name result into = IfSome told (λ files. Answers (files folder name) result into)
 
--- a write that answers Ok changes the files at one name; every other write, and what isn't told, leaves them
+-- a write that answers Ok changes the files at one name; every other write, and what isn't reported, leaves them
 abbrev pub Keeps : Option Files → Option Files → Folder → List ℕ → List ℕ → Result (Unit {0}) WriteFault → Type 0
 Keeps None new folder name text result = new ≡ None
 Keeps (Some files) new folder name text (Ok _) = new ≡ Some (put files folder name text)

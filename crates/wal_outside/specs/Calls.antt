@@ -1,4 +1,4 @@
--- What one call of the outside tells.
+-- What one call of the outside reports.
 use Rattle.std.specs.Prelude.{◌≡◌, ℕ, ◌<◌, ◌≤◌, Bool, true, false, List, length, Result, Ok, Err}
 use Rattle.std.specs.Io.KnownBytes.{ReadConsumes, WriteAppends}
 use Rattle.wal_outside.specs.declared.sink.WriteFault.{WriteFault}

@@ -7,7 +7,7 @@ use Rattle.wal_outside.specs.declared.sink.WriteFault.TheVariants as faults
 abbrev pub one_more : ℕ → ℕ
 one_more n = min (n + 1) (2 ^ 64 - 1)
 
--- the count is larger than before, or stands at its last value
+-- the count is larger than before, or is at its last value
 abbrev pub Rose : ℕ → ℕ → Type 0
 Rose before now = one_more before ≤ now
 
@@ -16,7 +16,7 @@ abbrev pub CountsFault : Bool → ℕ → ℕ → Type 0
 CountsFault true before now = (before ≤ now) × Rose before now
 CountsFault false before now = now ≡ before
 
--- whether a call failed; want of memory is no failure of a call
+-- whether a call failed; running out of memory is no failure of a call
 abbrev pub is_failure : WriteFault → Bool
 is_failure faults.Failed = true
 is_failure faults.Memory = false

@@ -7,7 +7,7 @@ use Rattle.wal_outside.specs.declared.folder.Folder.{Folder}
 abbrev pub Place : Type 0
 Place = Folder × List ℕ
 
--- where the last failed call is told, a call that fails is the last from then on, and no other call changes which it is
+-- where the last failed call is reported, a call that fails is the last from then on, and no other call changes which it is
 abbrev pub FailedAt : Bool → Place → Option (Option Place) → Option (Option Place) → Type 0
 FailedAt true place old new = new ≡ option_map (λ _. Some place) old
 FailedAt false place old new = new ≡ old

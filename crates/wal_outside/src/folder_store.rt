@@ -12,11 +12,11 @@ use std::io::{ErrorKind, Read, Write};
 use std::rt::Files;
 use std::{fs, io};
 
-/// A store over the files of the current folder: a text stands in the file `FOLDER/NAME.txt`.
+/// A store over the files of the current folder: a text is in the file `FOLDER/NAME.txt`.
 ///
-/// It opens no file outside the folders that `Folder` names: a name with a slash or a NUL is
-/// `Absent` to a read, and `Failed` to a write. A write makes a missing folder. A write that fails
-/// may leave a file that holds a front of its text.
+/// It opens no file outside the folders that `Folder` names: a name with a slash or a NUL is `Absent` to a read, and
+/// `Failed` to a write. A write makes a missing folder. A write that fails may leave a file that holds a prefix of its
+/// text.
 #[derive(Debug)]
 pub struct FolderStore<'a, R: Files> {
     rt: &'a R,
@@ -74,7 +74,7 @@ impl<'a, R: Files> FolderStore<'a, R> {
 }
 
 impl<'a, R: Files> Store for FolderStore<'a, R> {
-    // files tell nothing
+    // files say nothing
     ghost view = { λ s. record { files = None; faults = s.faults; failed = None } };
 
     fn read(&mut self, folder: Folder, name: &str, into: &mut Vec<u8>) -> Found {

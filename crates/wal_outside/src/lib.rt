@@ -1,7 +1,7 @@
 //! The outside: where a script comes from, where answers go, and where texts are stored.
 //!
-//! Everything above reads, prints and stores through three traits. Each has a count of faults, so
-//! that an answer `Failed` has a cause, and says what it holds where it can be told.
+//! Everything above reads, prints and stores through three traits. Each has a count of faults, so that an answer
+//! `Failed` has a cause, and says what it holds where it can be reported.
 #![tactic(auto)]
 
 // The traits.

@@ -21,7 +21,7 @@ pub struct FailedCall {
     pub name: String,
 }
 
-/// A store in memory, which fails at given calls and tells of the last one that failed.
+/// A store in memory, which fails at given calls and says of the last one that failed.
 #[derive(Debug, Drop)]
 pub struct MemStore {
     alloc: Global,

@@ -7,8 +7,8 @@ use crate::sink::{Sink, WriteFault};
 /// Hands the whole piece to the sink, in as many calls as it takes. An empty piece makes no call.
 ///
 /// # Errors
-/// `Failed` where a call failed or took nothing, and `Memory` where a call had none: the bytes that
-/// were appended are a front of the piece and not all of it. No call is made after that one.
+/// `Failed` where a call failed or took nothing, and `Memory` where a call had none: the bytes that were appended are a
+/// prefix of the piece and not all of it. No call is made after that one.
 pub fn send<K: Sink>(out: &mut K, piece: &[u8]) -> Result<(), WriteFault>
     ensures sent { Sends (K.view out.old) piece.now result (K.view out.new) }
     ensures empty { piece.now ≡ [] → (result ≡ Ok tt) × (out.new ≡ out.old) }
@@ -24,10 +24,10 @@ pub fn send<K: Sink>(out: &mut K, piece: &[u8]) -> Result<(), WriteFault>
     Ok(())
 }
 
-/// Hands over two pieces, one behind the other, as `send` does.
+/// Hands over two pieces, one after the other, as `send` does.
 ///
 /// # Errors
-/// As `send`: what was appended is a front of the two.
+/// As `send`: what was appended is a prefix of the two.
 pub fn send_two<K: Sink>(out: &mut K, first: &[u8], second: &[u8]) -> Result<(), WriteFault>
     ensures { Sends (K.view out.old) (first.now ++ second.now) result (K.view out.new) }
 {
@@ -35,10 +35,10 @@ pub fn send_two<K: Sink>(out: &mut K, first: &[u8], second: &[u8]) -> Result<(),
     send(out, second)
 }
 
-/// Hands over four pieces, one behind the other, as `send` does.
+/// Hands over four pieces, one after the other, as `send` does.
 ///
 /// # Errors
-/// As `send`: what was appended is a front of the four.
+/// As `send`: what was appended is a prefix of the four.
 pub fn send_four<K: Sink>(
     out: &mut K,
     first: &[u8],

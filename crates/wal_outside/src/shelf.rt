@@ -11,7 +11,7 @@ use crate::folder::Folder;
 use crate::store::{Found, TEXT_LIMIT};
 use std::alloc::{AllocError, Global};
 
-/// A text, and the name and folder under which it stands.
+/// A text, and the name and folder under which it is.
 #[derive(Debug, Drop)]
 pub struct Text {
     pub folder: Folder,
@@ -34,7 +34,7 @@ impl Text {
         })
     }
 
-    /// Whether the text stands under this name in this folder.
+    /// Whether the text is under this name in this folder.
     pub fn is_at(&self, folder: Folder, name: &str) -> bool
         ensures { result ≡ same_file self.now.folder (string_bytes self.now.name) folder name.now }
     {
@@ -76,7 +76,7 @@ impl Shelf {
         None
     }
 
-    // Where the text under a name in a folder stands.
+    // Where the text under a name in a folder is.
     fn position(&self, folder: Folder, name: &str) -> Option<usize>
         ensures { IfSome result (λ i. HasAt self.now.texts.items i folder name.now) }
     {

@@ -9,8 +9,8 @@ pub struct Failed;
 
 /// Where the bytes of a script are read.
 pub trait Source {
-    // the bytes that are left to be read, where they are told, and how many calls and faults there were; these counts never fall, and
-    // stand still at their last value
+    // the bytes that are left to be read, where they are reported, and how many calls and faults there were; these counts never fall,
+    // and stand still at their last value
     ghost view: { Self → SourceView };
 
     /// Takes bytes off the front of what is left, at most as many as `buf` has room for, and puts

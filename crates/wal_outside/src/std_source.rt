@@ -34,7 +34,7 @@ impl<R: Read> StdSource<R> {
 }
 
 impl<R: Read> Source for StdSource<R> {
-    // what the reader tells
+    // what the reader reports
     ghost view = { λ s. record { left = R.remaining s.reader; calls = s.calls; faults = s.faults } };
 
     fn read(&mut self, buf: &mut [u8]) -> Result<usize, Failed> {

@@ -39,7 +39,7 @@ module _ (m : Meanings) (s : Name) (k : ℕ) (b : ℤ) (a : Assignment) where
 
   split : (n : ℕ) (P : Type 0) → ChainHolds m (places_before s k b n) a P → IsReachedBefore n ⊎ P
   split zero P holds = inr holds
-  split (suc n) P (inl front) = by (split n (Holds m (at_place s k b n) a) front)
+  split (suc n) P (inl prefix) = by (split n (Holds m (at_place s k b n) a) prefix)
     where
       by : IsReachedBefore n ⊎ Holds m (at_place s k b n) a → IsReachedBefore (suc n) ⊎ P
       by (inl h) = inl (record { r = h.r; small = omega (arith, h.small); reached_is = h.reached_is })

@@ -1,4 +1,4 @@
--- The letters of a word that lack rules, and the letters that stand in images.
+-- The letters of a word that lack rules, and the letters that are in images.
 use Rattle.std.proofs.Common.{Bor, ◌≡◌, ℕ, ◌+◌, ◌<◌, ◌≤◌, List, [], ◌∷◌, ◌++◌, length, map, get_or, take, ℤ, pos, ◌≤ℤ◌, ◌⊎◌, inl, inr, Bool, Option, None, Some, refl, sym, ap, ◌∙◌, subst, arith}
 use Rattle.std.specs.List.{Contains, dedup}
 use Rattle.std.specs.List.Sorted.{IsPermutation, IsSorted}

@@ -27,7 +27,7 @@ letter_listed letters (suc c) a few is = (c, omega (arith, few), get_or_default 
 
 -- what a place has occurs
 pub occurs : (word : WordValue) (ns : List ℕ) (a : ℤ) → IsWordValue word → HasLetter word ns a → OccursIn word a
-occurs word ns a is (w, spelled, has) =
+occurs word ns a is (w, represented, has) =
     letter_listed word.function.letters (class_of word.function.classes (led word.function is.function w)) a (within (led word.function is.function w)) (sym (letter_after-lead word.function is.function w) ∙ has)
   where
     within : (q : ℕ) → class_of word.function.classes q ≤ length word.function.letters
@@ -38,7 +38,7 @@ occurs word ns a is (w, spelled, has) =
         by (inr past) = omega (arith, get_or_past word.function.classes q 0 past)
 
 module _ (rules : Rules) (word : WordValue) (k : ℕ) where
-  -- the letter stands at place r of the image of the letter at q
+  -- the letter is at place r of the image of the letter at q
   pub record StandsAt (n : ℕ) (b : ℤ) : Type 0 where
     pub q : ℕ
     pub r : ℕ
@@ -62,10 +62,10 @@ module _ (rules : Rules) (word : WordValue) (k : ℕ) (is : IsWordValue word) (t
   positive = omega (arith, mapped.length_is.allowed.0)
 
   -- the first so many letters of the word
-  front : (n : ℕ) → (letters : List ℤ) × (length letters ≡ n) × ((i : ℕ) → i < n → HasLetter word (i ∷ []) (get_or letters i (pos 0)))
-  front zero = ([], refl, λ i less. absurd (omega (arith, less)))
-  front (suc n) =
-      let before = front n in
+  prefix : (n : ℕ) → (letters : List ℤ) × (length letters ≡ n) × ((i : ℕ) → i < n → HasLetter word (i ∷ []) (get_or letters i (pos 0)))
+  prefix zero = ([], refl, λ i less. absurd (omega (arith, less)))
+  prefix (suc n) =
+      let before = prefix n in
       let last = some n in
       (before.0 ++ last.0 ∷ [], length_push before.0 last.0 ∙ omega (arith, before.1), λ i less. at before last i less (cases_lt i n))
     where
@@ -82,33 +82,33 @@ module _ (rules : Rules) (word : WordValue) (k : ℕ) (is : IsWordValue word) (t
   all_ruled (a ∷ letters) from are =
       (ruled (from + 0) a (are 0 (omega arith)), all_ruled letters (suc from) (λ i less. subst (λ m. HasLetter word (m ∷ []) (get_or letters i (pos 0))) (let at : from + suc i ≡ suc from + i = omega arith in at) (are (suc i) (omega (arith, less)))))
 
-  front_ruled : (letters : List ℤ) → ((i : ℕ) → i < length letters → HasLetter word (i ∷ []) (get_or letters i (pos 0))) → AllByRecursion (HasRule rules) letters
-  front_ruled letters are = all_ruled letters 0 (λ i less. subst (λ m. HasLetter word (m ∷ []) (get_or letters i (pos 0))) (let at : i ≡ 0 + i = omega arith in at) (are i less))
+  prefix_ruled : (letters : List ℤ) → ((i : ℕ) → i < length letters → HasLetter word (i ∷ []) (get_or letters i (pos 0))) → AllByRecursion (HasRule rules) letters
+  prefix_ruled letters are = all_ruled letters 0 (λ i less. subst (λ m. HasLetter word (m ∷ []) (get_or letters i (pos 0))) (let at : i ≡ 0 + i = omega arith in at) (are i less))
 
   -- it is a letter of the image
   pub image_of_standing : (n : ℕ) (b : ℤ) → StandsAt rules word k n b → IsImageLetter rules (LetterOf word) n b
   image_of_standing n b h = record {
-    front = first.0;
+    prefix = first.0;
     letters = λ i less. first.2 i (omega (arith, less, first.1));
     letter_is = ap (slice_get (applied rules first.0)) h.place_is
-        ∙ slice_get-applied rules k mapped.length_is.uniform first.0 h.q h.r (get_or first.0 h.q (pos 0)) (front_ruled first.0 (λ i less. first.2 i (omega (arith, less, first.1)))) (slice_get-get_or first.0 h.q (pos 0) (omega (arith, first.1))) h.small
+        ∙ slice_get-applied rules k mapped.length_is.uniform first.0 h.q h.r (get_or first.0 h.q (pos 0)) (prefix_ruled first.0 (λ i less. first.2 i (omega (arith, less, first.1)))) (slice_get-get_or first.0 h.q (pos 0) (omega (arith, first.1))) h.small
         ∙ ap (λ a. slice_get (image rules a) h.r) (one h.q (get_or first.0 h.q (pos 0)) h.letter (first.2 h.q (omega arith)) h.has)
         ∙ h.image_is;
   }
     where
       first : (letters : List ℤ) × (length letters ≡ suc h.q) × ((i : ℕ) → i < suc h.q → HasLetter word (i ∷ []) (get_or letters i (pos 0)))
-      first = front (suc h.q)
+      first = prefix (suc h.q)
 
-  -- each letter of the image stands so
+  -- each letter of the image is so
   pub standing_of_image : (n : ℕ) (b : ℤ) → IsImageLetter rules (LetterOf word) n b → StandsAt rules word k n b
   standing_of_image n b h = record {
     q = q;
     r = r;
     small = small;
     place_is = place;
-    letter = get_or h.front q (pos 0);
+    letter = get_or h.prefix q (pos 0);
     has = h.letters q inside;
-    image_is = sym (slice_get-applied rules k mapped.length_is.uniform h.front q r (get_or h.front q (pos 0)) all (slice_get-get_or h.front q (pos 0) inside) small) ∙ ap (slice_get (applied rules h.front)) (sym place) ∙ h.letter_is;
+    image_is = sym (slice_get-applied rules k mapped.length_is.uniform h.prefix q r (get_or h.prefix q (pos 0)) all (slice_get-get_or h.prefix q (pos 0) inside) small) ∙ ap (slice_get (applied rules h.prefix)) (sym place) ∙ h.letter_is;
   }
     where
       q : ℕ
@@ -123,20 +123,20 @@ module _ (rules : Rules) (word : WordValue) (k : ℕ) (is : IsWordValue word) (t
       place : n ≡ q * k + r
       place = sym (div-add-mod' n k)
 
-      all : AllByRecursion (HasRule rules) h.front
-      all = front_ruled h.front h.letters
+      all : AllByRecursion (HasRule rules) h.prefix
+      all = prefix_ruled h.prefix h.letters
 
-      within : n < length h.front * k
-      within = omega (arith, slice_get_within (applied rules h.front) n b h.letter_is, length-applied rules k mapped.length_is.uniform h.front all)
+      within : n < length h.prefix * k
+      within = omega (arith, slice_get_within (applied rules h.prefix) n b h.letter_is, length-applied rules k mapped.length_is.uniform h.prefix all)
 
-      inside : q < length h.front
-      inside = by (cases_lt q (length h.front))
+      inside : q < length h.prefix
+      inside = by (cases_lt q (length h.prefix))
         where
-          by : (q < length h.front) ⊎ (length h.front ≤ q) → q < length h.front
+          by : (q < length h.prefix) ⊎ (length h.prefix ≤ q) → q < length h.prefix
           by (inl less) = less
-          by (inr past) = absurd (omega (arith, within, place, mul-le (length h.front) k q k past (omega arith)))
+          by (inr past) = absurd (omega (arith, within, place, mul-le (length h.prefix) k q k past (omega arith)))
 
-  -- one letter stands at a place
+  -- one letter is at a place
   pub one_standing : (n : ℕ) (b c : ℤ) → StandsAt rules word k n b → StandsAt rules word k n c → b ≡ c
   one_standing n b c h g =
       same_Some b c (sym h.image_is ∙ (λ i. slice_get (image rules (letters i)) (rs i)) ∙ g.image_is)

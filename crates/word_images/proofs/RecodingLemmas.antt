@@ -8,7 +8,7 @@ use Rattle.std.proofs.lemmas.List.{get_or_append_left, get_or_past, get_or_push,
 use Rattle.std.proofs.lemmas.Option.{none-some, slice_get-get_or, slice_get_past, slice_get_read}
 use Rattle.digit_tuple.specs.Deterministic.{Automaton, letters_of, run_of, states_of}
 use Rattle.digit_tuple.specs.Letters.{IsWord, product}
-use Rattle.numeration.specs.Spelling.{letters_in}
+use Rattle.numeration.specs.Representation.{letters_in}
 use Rattle.num_system.specs.Sealed.{SystemValue}
 use Rattle.num_system.specs.Tracks.{systems_of}
 use Rattle.minimise.specs.Classes.{class_of}
@@ -16,7 +16,7 @@ use Rattle.morph_words.specs.Rules.{Rules}
 use Rattle.morph_words.specs.Images.{image}
 use Rattle.word_output.specs.LetterFunctions.{IsLetterFunction, LetterFunctionValue, letter_after, letter_in}
 use Rattle.word_output.specs.StateLetters.{letter_at, letter_led, letter_of_state}
-use Rattle.word_output.specs.Words.{IsWordValue, SpellsPlace, WordValue}
+use Rattle.word_output.specs.Words.{IsWordValue, RepresentsPlace, WordValue}
 use Rattle.word_output.proofs.OptionLemmas.{some_there, some_value}
 use Rattle.word_images.specs.ImageWords.{IsMapped}
 use Rattle.word_images.specs.Recoded.{IsRecoded}
@@ -70,14 +70,14 @@ module _ (rules : Rules) (r k : ℕ) (word : WordValue) (is : IsWordValue word) 
   letter_is : (w : List ℕ) → IsWord (letters_in (systems_of word.systems)) w → letter_after g w ≡ recoded_letter rules r (letter_after word.function w)
   letter_is w over = letters w (subst (λ (ss : List ℕ). IsWord (product ss) w) (sym is.sizes) over) ∙ led_is rules r word.function is.function w
 
-  there : (ns w : List ℕ) → SpellsPlace word.systems ns w → (b : ℤ) × (letter_after g w ≡ Some b)
-  there ns w spelled =
-      let a = some_value (letter_after word.function w) ((is.everywhere w spelled.over).1 (ns, spelled)) in
-      let ruled = mapped.ruled a.0 (occurs word ns a.0 is (w, spelled, a.1)) in
-      (get_or (image rules a.0) r (pos 0), letter_is w spelled.over ∙ ap (recoded_letter rules r) a.1 ∙ slice_get-get_or (image rules a.0) r (pos 0) (omega (arith, small, mapped.length_is.uniform a.0 ruled)))
+  there : (ns w : List ℕ) → RepresentsPlace word.systems ns w → (b : ℤ) × (letter_after g w ≡ Some b)
+  there ns w represented =
+      let a = some_value (letter_after word.function w) ((is.everywhere w represented.over).1 (ns, represented)) in
+      let ruled = mapped.ruled a.0 (occurs word ns a.0 is (w, represented, a.1)) in
+      (get_or (image rules a.0) r (pos 0), letter_is w represented.over ∙ ap (recoded_letter rules r) a.1 ∙ slice_get-get_or (image rules a.0) r (pos 0) (omega (arith, small, mapped.length_is.uniform a.0 ruled)))
 
-  spelled_by : (w : List ℕ) → IsWord (letters_in (systems_of word.systems)) w → IsSome (letter_after g w) → (ns : List ℕ) × SpellsPlace word.systems ns w
-  spelled_by w over has = (is.everywhere w over).0 (by (letter_after word.function w) refl)
+  represented_by : (w : List ℕ) → IsWord (letters_in (systems_of word.systems)) w → IsSome (letter_after g w) → (ns : List ℕ) × RepresentsPlace word.systems ns w
+  represented_by w over has = (is.everywhere w over).0 (by (letter_after word.function w) refl)
     where
       by : (o : Option ℤ) → letter_after word.function w ≡ o → IsSome o
       by None e = let b = some_value (letter_after g w) has in absurd (none-some b.0 (sym (letter_is w over ∙ ap (recoded_letter rules r) e) ∙ b.1))
@@ -92,9 +92,9 @@ module _ (rules : Rules) (r k : ℕ) (word : WordValue) (is : IsWordValue word) 
     function = function;
     some = is.some;
     sealed = is.sealed;
-    one_way = is.one_way;
+    shared_direction = is.shared_direction;
     sizes = sizes ∙ is.sizes;
-    everywhere = λ w over. ((λ has. spelled_by w over has), (λ spelled. let b = there spelled.0 w spelled.1 in some_there (letter_after g w) b.0 b.1));
+    everywhere = λ w over. ((λ has. represented_by w over has), (λ represented. let b = there represented.0 w represented.1 in some_there (letter_after g w) b.0 b.1));
     one = λ ns w u first second. letter_is w first.over ∙ ap (recoded_letter rules r) (is.one ns w u first second) ∙ sym (letter_is u second.over);
   }
 

@@ -1,4 +1,4 @@
--- The formula of one letter of the image of a word: of the places at which the letter stands.
+-- The formula of one letter of the image of a word: of the places at which the letter is.
 use Rattle.std.specs.Prelude.{ℕ, zero, suc, ◌-◌, ℤ, codes, decimal}
 use Rattle.formula_parse.specs.Tokens.{Name, equal, plus, some}
 use Rattle.formula_parse.specs.Trees.{no_names, names, Term, variable, numeral, product, sum, no_factors, factors, times, no_terms, terms, no_addends, addends, compare, word_letter, and, or, Formula, atom, chain, quantified, Operands, no_operands, operands}
@@ -10,7 +10,7 @@ place_variable = codes "n"
 abbrev pub whole_variable : Name
 whole_variable = codes "q"
 
--- the name under which the word stands whose letters are those at this place of the images: the place in decimal
+-- the name under which the word is whose letters are those at this place of the images: the place in decimal
 abbrev pub word_name : ℕ → Name
 word_name r = decimal r
 

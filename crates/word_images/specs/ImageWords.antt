@@ -8,7 +8,7 @@ use Rattle.morph_words.specs.ImageLetters.{IsImageLetter}
 use Rattle.morph_words.specs.Uniform.{HasLength, HasRule, IsImageLength}
 use Rattle.word_output.specs.Words.{HasLetter, IsWordValue, WordValue}
 
--- the letter stands at some place of the word
+-- the letter is at some place of the word
 abbrev pub OccursIn : WordValue → ℤ → Type 0
 OccursIn word letter = Contains word.function.letters letter
 
@@ -21,7 +21,7 @@ pub record IsMissing (rules : Rules) (word : WordValue) (letter : ℤ) : Type 0 
 abbrev pub AreRuled : Rules → WordValue → Type 0
 AreRuled rules word = (letter : ℤ) → OccursIn word letter → HasRule rules letter
 
--- the letter stands in the image of a letter that occurs in the word
+-- the letter is in the image of a letter that occurs in the word
 pub record IsOutput (rules : Rules) (word : WordValue) (letter : ℤ) : Type 0 where
   pub from : ℤ
   pub occurs : OccursIn word from

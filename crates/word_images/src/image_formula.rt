@@ -13,9 +13,9 @@ use formula_parse::tree::{
 use itoa::Buffer;
 use std::alloc::Global;
 
-/// The formula that is true of the places of the image at which this letter stands, in a system: for one place r of
-/// the images, `Eq n=k*q+r & U[q]=@b`, where `U` is the word of that place. All images have this length. Time and
-/// memory follow the length.
+/// The formula that is true of the places of the image at which this letter is, in a system: for one place r of the
+/// images, `Eq n=k*q+r & U[q]=@b`, where `U` is the word of that place. All images have this length. Time and memory
+/// follow the length.
 pub fn image_formula(
     alloc: Global,
     system: &Name,
@@ -112,7 +112,7 @@ fn has_letter(
     }))
 }
 
-/// The name under which the word of a place stands.
+/// The name under which the word of a place is.
 pub fn word_name(alloc: Global, place: usize) -> Result<Name, OutOfMemory>
     ensures { IfOk result (λ name. name ≡ word_name place) }
 {

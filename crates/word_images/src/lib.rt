@@ -8,7 +8,7 @@
 /// The letters of a word that have no rule.
 mod missing;
 
-/// The letters that stand in images.
+/// The letters that are in images.
 mod outputs;
 
 /// Words whose letters are those at one place of the images.

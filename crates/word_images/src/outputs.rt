@@ -1,4 +1,4 @@
-//! The letters that stand in images.
+//! The letters that are in images.
 
 ghost use Rattle.std.specs.Prelude.{IfOk};
 ghost use Rattle.word_images.specs.ImageWords.{AreOutputs};
@@ -8,7 +8,7 @@ use morph_words::Morphism;
 use std::alloc::Global;
 use word_output::word::Word;
 
-/// The letters that stand in the images of the letters of a word, in ascending order. Time and memory follow these
+/// The letters that are in the images of the letters of a word, in ascending order. Time and memory follow these
 /// images, but for sorting.
 pub fn output_letters(
     alloc: Global,

@@ -8,18 +8,18 @@ use Rattle.std.proofs.lemmas.List.{append_assoc, append-nil, get_or_default, rev
 use Rattle.std.proofs.lemmas.List.Elements.{All-contains, All-push, All-weaker}
 use Rattle.digit_tuple.specs.Automaton as branching
 use Rattle.digit_tuple.specs.Automaton.{Branching, Leads}
-use Rattle.digit_tuple.specs.Deterministic.{Automaton, accepting_of, accepts_from, accepts_of, edges_of, letters_of, run_of, states_of, step_of}
+use Rattle.digit_tuple.specs.Deterministic.{Automaton, accepting_of, accepts_from, accepts_of, transitions_of, letters_of, run_of, states_of, step_of}
 use Rattle.digit_tuple.specs.Letters.{IsWord}
-use Rattle.digit_tuple.specs.Reversed.{IsReversal, edge_to}
+use Rattle.digit_tuple.specs.Reversed.{IsReversal, transition_to}
 use Rattle.digit_tuple.specs.Shortlex.{IsBefore}
-use Rattle.digit_tuple.specs.declared.edges.Edge.{Edge}
+use Rattle.digit_tuple.specs.declared.transitions.Transition.{Transition}
 use Rattle.digit_tuple.proofs.ReversedLemmas.{contains_from_target_by}
 use Rattle.digit_tuple.proofs.ShortlexLemmas.{IsBefore-irreflexive, IsBefore-last, IsBefore-more, IsBefore-push, IsBefore-trans}
-use Rattle.digit_tuple.proofs.WordLemmas.{IsWord-front, IsWord-push, run_of-append, run_of-push}
+use Rattle.digit_tuple.proofs.WordLemmas.{IsWord-prefix, IsWord-push, run_of-append, run_of-push}
 use Rattle.minimise.specs.Canonical.{IsCanonical}
 use Rattle.minimise.proofs.RunLemmas.{run_within}
 use Rattle.minimise.proofs.SinkLemmas.{row_of}
-use Rattle.word_output.specs.LeastWords.{AcceptsNothing, IsFirstAccepting, IsFirstEdge, IsFirstWordTo, IsLeastWord, NoLater}
+use Rattle.word_output.specs.LeastWords.{AcceptsNothing, IsFirstAccepting, IsFirstTransition, IsFirstWordTo, IsLeastWord, NoLater}
 
 -- no later in the order of words
 abbrev NoLaterWord : List ℕ → List ℕ → Type 0
@@ -33,31 +33,31 @@ before_and : (u v w : List ℕ) → IsBefore u v → NoLaterWord v w → IsBefor
 before_and u v w less (inl same) = subst (IsBefore u) same less
 before_and u v w less (inr before) = IsBefore-trans u v w less before
 
-NoLater-trans : (e f g : Edge) → NoLater e f → NoLater f g → NoLater e g
+NoLater-trans : (e f g : Transition) → NoLater e f → NoLater f g → NoLater e g
 NoLater-trans e f g (inl less) (inl more) = inl (omega (arith, less, more))
 NoLater-trans e f g (inl less) (inr same) = inl (omega (arith, less, same.0))
 NoLater-trans e f g (inr same) (inl more) = inl (omega (arith, same.0, more))
 NoLater-trans e f g (inr same) (inr equal) = inr (same.0 ∙ equal.0, omega (arith, same.1, equal.1))
 
--- one edge more
-pub first_more : (edges : List Edge) (i : ℕ) (old new e z : Edge) → i < length edges → get_or edges i z ≡ e → Contains edges old → All (NoLater old) (take i edges) → NoLater new old → NoLater new e → (new ≡ old) ⊎ (new ≡ e)
-    → Contains edges new × All (NoLater new) (take (i + 1) edges)
-first_more edges i old new e z inside at there none left right one = (
+-- one transition more
+pub first_more : (transitions : List Transition) (i : ℕ) (old new e z : Transition) → i < length transitions → get_or transitions i z ≡ e → Contains transitions old → All (NoLater old) (take i transitions) → NoLater new old → NoLater new e → (new ≡ old) ⊎ (new ≡ e)
+    → Contains transitions new × All (NoLater new) (take (i + 1) transitions)
+first_more transitions i old new e z inside at there none left right one = (
   by one,
-  subst (All (NoLater new)) (sym (take_more edges i z inside ∙ ap (λ x. take i edges ++ x ∷ []) at))
-      (All-push (NoLater new) (take i edges) e (All-weaker (NoLater old) (NoLater new) (λ g later. NoLater-trans new old g left later) (take i edges) none) right),
+  subst (All (NoLater new)) (sym (take_more transitions i z inside ∙ ap (λ x. take i transitions ++ x ∷ []) at))
+      (All-push (NoLater new) (take i transitions) e (All-weaker (NoLater old) (NoLater new) (λ g later. NoLater-trans new old g left later) (take i transitions) none) right),
 )
   where
-    by : (new ≡ old) ⊎ (new ≡ e) → Contains edges new
-    by (inl same) = subst (Contains edges) (sym same) there
-    by (inr same) = subst (Contains edges) (sym same) (subst (Contains edges) at (i, inside, get_or_default edges i (get_or edges i z) z inside))
+    by : (new ≡ old) ⊎ (new ≡ e) → Contains transitions new
+    by (inl same) = subst (Contains transitions) (sym same) there
+    by (inr same) = subst (Contains transitions) (sym same) (subst (Contains transitions) at (i, inside, get_or_default transitions i (get_or transitions i z) z inside))
 
 -- a word with a last letter
 last_letter : (a : ℕ) (w : List ℕ) → (x : List ℕ) × (b : ℕ) × (a ∷ w ≡ x ++ b ∷ [])
 last_letter a [] = ([], a, refl)
 last_letter a (b ∷ w) = let rest = last_letter b w in (a ∷ rest.0, rest.1, ap (λ v. a ∷ v) rest.2)
 
--- whether a word is accepted is told by where it leads
+-- whether a word is accepted is determined by where it leads
 pub accepts-run : (d : Automaton) (w : List ℕ) (q : ℕ) → accepts_from d q w ≡ option_map_or (λ p. accepting_of d p) (run_of d q w) false
 accepts-run d [] q = refl
 accepts-run d (a ∷ w) q = by (step_of d q a) (accepts-run d w)
@@ -96,15 +96,15 @@ module _ (d : Automaton) (canonical : IsCanonical d) where
       before_through w (first p) v (is.least (first p) (canonical.numbered.over p (omega (arith, less, inside))) (canonical.numbered.lead p (omega (arith, less, inside))))
       (before_and (first p) (first r) v (ordered p r less inside) (canonical.numbered.least r v over leads))
 
-  -- the last edge of a word that leads to a state
+  -- the last transition of a word that leads to a state
   pub record EndsBy (q : ℕ) (w : List ℕ) : Type 0 where
-    pub front : List ℕ
+    pub prefix : List ℕ
     pub letter : ℕ
     pub from : ℕ
-    pub word : w ≡ front ++ letter ∷ []
-    pub over : IsWord (letters_of d) front
+    pub word : w ≡ prefix ++ letter ∷ []
+    pub over : IsWord (letters_of d) prefix
     pub within : from < states_of d
-    pub leads : run_of d 0 front ≡ Some from
+    pub leads : run_of d 0 prefix ≡ Some from
     pub step : step_of d from letter ≡ Some q
 
   ends_by : (q : ℕ) (w : List ℕ) → 0 < q → IsWord (letters_of d) w → run_of d 0 w ≡ Some q → EndsBy q w
@@ -115,12 +115,12 @@ module _ (d : Automaton) (canonical : IsCanonical d) where
       split (x, b, word) = by (run_of d 0 x) refl (sym (run_of-append d 0 x (b ∷ [])) ∙ sym (ap (run_of d 0) word) ∙ leads)
         where
           inside : IsWord (letters_of d) x
-          inside = IsWord-front (letters_of d) x (b ∷ []) (subst (IsWord (letters_of d)) word over)
+          inside = IsWord-prefix (letters_of d) x (b ∷ []) (subst (IsWord (letters_of d)) word over)
 
           by : (o : Option ℕ) → run_of d 0 x ≡ o → option_and_then (λ p. run_of d p (b ∷ [])) o ≡ Some q → EndsBy q (a ∷ w)
           by None there none = absurd (none-some q none)
           by (Some p) there some = record {
-            front = x;
+            prefix = x;
             letter = b;
             from = p;
             word = word;
@@ -138,73 +138,73 @@ module _ (d : Automaton) (canonical : IsCanonical d) where
     first_end : EndsBy q (first q)
     first_end = ends_by q (first q) positive (canonical.numbered.over q inside) (canonical.numbered.lead q inside)
 
-    pub some_edge : 0 < length (branching.edges_of turned q)
-    some_edge = let there = (reversal.leads q first_end.letter first_end.from).1 (first_end.within, first_end.step) in omega (arith, there.1)
+    pub some_transition : 0 < length (branching.transitions_of turned q)
+    some_transition = let there = (reversal.leads q first_end.letter first_end.from).1 (first_end.within, first_end.step) in omega (arith, there.1)
 
-    module _ (edge : Edge) (is : IsFirstEdge (branching.edges_of turned q) edge) where
-      there : (edge.target < states_of d) × (step_of d edge.target edge.letter ≡ Some q)
-      there = (reversal.leads q edge.letter edge.target).0 is.there
+    module _ (transition : Transition) (is : IsFirstTransition (branching.transitions_of turned q) transition) where
+      there : (transition.target < states_of d) × (step_of d transition.target transition.letter ≡ Some q)
+      there = (reversal.leads q transition.letter transition.target).0 is.there
 
-      no_later : (a r : ℕ) → r < states_of d → step_of d r a ≡ Some q → (edge.target < r) ⊎ ((edge.target ≡ r) × (edge.letter ≤ a))
-      no_later a r small step = All-contains (NoLater edge) (branching.edges_of turned q) (edge_to a r) is.first ((reversal.leads q a r).1 (small, step))
+      no_later : (a r : ℕ) → r < states_of d → step_of d r a ≡ Some q → (transition.target < r) ⊎ ((transition.target ≡ r) × (transition.letter ≤ a))
+      no_later a r small step = All-contains (NoLater transition) (branching.transitions_of turned q) (transition_to a r) is.first ((reversal.leads q a r).1 (small, step))
 
-      -- the first edge comes from an earlier state
-      pub back : (edge.target < q) × (edge.target < states_of d)
+      -- the first transition comes from an earlier state
+      pub back : (transition.target < q) × (transition.target < states_of d)
       back =
           let from = first_end.from in
           let before : IsBefore (first from) (first q) =
-          subst (IsBefore (first from)) (sym first_end.word) (before_through (first from) first_end.front (first_end.front ++ first_end.letter ∷ [])
-          (canonical.numbered.least from first_end.front first_end.over first_end.leads) (IsBefore-more first_end.front first_end.letter)) in
+          subst (IsBefore (first from)) (sym first_end.word) (before_through (first from) first_end.prefix (first_end.prefix ++ first_end.letter ∷ [])
+          (canonical.numbered.least from first_end.prefix first_end.over first_end.leads) (IsBefore-more first_end.prefix first_end.letter)) in
           let low : from < q = earlier from q first_end.within before inside in
           (by low (no_later first_end.letter from first_end.within first_end.step), there.0)
         where
-          by : first_end.from < q → (edge.target < first_end.from) ⊎ ((edge.target ≡ first_end.from) × (edge.letter ≤ first_end.letter)) → edge.target < q
+          by : first_end.from < q → (transition.target < first_end.from) ⊎ ((transition.target ≡ first_end.from) × (transition.letter ≤ first_end.letter)) → transition.target < q
           by low (inl less) = omega (arith, low, less)
           by low (inr same) = omega (arith, low, same.0)
 
-      small_letter : edge.letter < letters_of d
+      small_letter : transition.letter < letters_of d
       small_letter =
-          let found = contains_from_target_by (edges_of d edge.target) edge.letter q there.1 in
-          (All-contains (λ e. (e.letter < letters_of d) × (e.target < states_of d)) (edges_of d edge.target) (edge_to edge.letter q) (row_of d canonical.table edge.target).in_range found).0
+          let found = contains_from_target_by (transitions_of d transition.target) transition.letter q there.1 in
+          (All-contains (λ e. (e.letter < letters_of d) × (e.target < states_of d)) (transitions_of d transition.target) (transition_to transition.letter q) (row_of d canonical.table transition.target).in_range found).0
 
       -- with it the first word to that state makes the first word to this one
-      pub one_more : (v : List ℕ) → IsFirstWordTo d edge.target v → IsFirstWordTo d q (v ++ edge.letter ∷ [])
+      pub one_more : (v : List ℕ) → IsFirstWordTo d transition.target v → IsFirstWordTo d q (v ++ transition.letter ∷ [])
       one_more v to = record {
-        over = IsWord-push (letters_of d) v edge.letter to.over small_letter;
-        leads = run_of-push d 0 edge.target v edge.letter to.leads ∙ there.1;
+        over = IsWord-push (letters_of d) v transition.letter to.over small_letter;
+        leads = run_of-push d 0 transition.target v transition.letter to.leads ∙ there.1;
         least = λ u over leads. least u (ends_by q u positive over leads);
       }
         where
-          least : (u : List ℕ) → EndsBy q u → NoLaterWord (v ++ edge.letter ∷ []) u
-          least u ends = subst (NoLaterWord (v ++ edge.letter ∷ [])) (sym ends.word) (by (no_later ends.letter ends.from ends.within ends.step))
+          least : (u : List ℕ) → EndsBy q u → NoLaterWord (v ++ transition.letter ∷ []) u
+          least u ends = subst (NoLaterWord (v ++ transition.letter ∷ [])) (sym ends.word) (by (no_later ends.letter ends.from ends.within ends.step))
             where
-              same_state : edge.target ≡ ends.from → edge.letter ≤ ends.letter → NoLaterWord v ends.front → NoLaterWord (v ++ edge.letter ∷ []) (ends.front ++ ends.letter ∷ [])
-              same_state same at_most (inr before) = inr (IsBefore-push v ends.front edge.letter ends.letter before)
-              same_state same at_most (inl equal) = letters (cases_lt edge.letter ends.letter)
+              same_state : transition.target ≡ ends.from → transition.letter ≤ ends.letter → NoLaterWord v ends.prefix → NoLaterWord (v ++ transition.letter ∷ []) (ends.prefix ++ ends.letter ∷ [])
+              same_state same at_most (inr before) = inr (IsBefore-push v ends.prefix transition.letter ends.letter before)
+              same_state same at_most (inl equal) = letters (cases_lt transition.letter ends.letter)
                 where
-                  letters : (edge.letter < ends.letter) ⊎ (ends.letter ≤ edge.letter) → NoLaterWord (v ++ edge.letter ∷ []) (ends.front ++ ends.letter ∷ [])
-                  letters (inl less) = inr (subst (λ x. IsBefore (v ++ edge.letter ∷ []) (x ++ ends.letter ∷ [])) equal (IsBefore-last v edge.letter ends.letter less))
-                  letters (inr more) = inl (ap (λ x. x ++ edge.letter ∷ []) equal ∙ ap (λ b. ends.front ++ b ∷ []) (omega (arith, at_most, more)))
+                  letters : (transition.letter < ends.letter) ⊎ (ends.letter ≤ transition.letter) → NoLaterWord (v ++ transition.letter ∷ []) (ends.prefix ++ ends.letter ∷ [])
+                  letters (inl less) = inr (subst (λ x. IsBefore (v ++ transition.letter ∷ []) (x ++ ends.letter ∷ [])) equal (IsBefore-last v transition.letter ends.letter less))
+                  letters (inr more) = inl (ap (λ x. x ++ transition.letter ∷ []) equal ∙ ap (λ b. ends.prefix ++ b ∷ []) (omega (arith, at_most, more)))
 
-              by : (edge.target < ends.from) ⊎ ((edge.target ≡ ends.from) × (edge.letter ≤ ends.letter)) → NoLaterWord (v ++ edge.letter ∷ []) (ends.front ++ ends.letter ∷ [])
-              by (inl less) = inr (IsBefore-push v ends.front edge.letter ends.letter (before_later edge.target ends.from v ends.front to less ends.within ends.over ends.leads))
-              by (inr (same, at_most)) = same_state same at_most (to.least ends.front ends.over (ends.leads ∙ ap Some (sym same)))
+              by : (transition.target < ends.from) ⊎ ((transition.target ≡ ends.from) × (transition.letter ≤ ends.letter)) → NoLaterWord (v ++ transition.letter ∷ []) (ends.prefix ++ ends.letter ∷ [])
+              by (inl less) = inr (IsBefore-push v ends.prefix transition.letter ends.letter (before_later transition.target ends.from v ends.prefix to less ends.within ends.over ends.leads))
+              by (inr (same, at_most)) = same_state same at_most (to.least ends.prefix ends.over (ends.leads ∙ ap Some (sym same)))
 
   -- the way back from a state: what leads to where it has come, with the letters on the way, leads to the state
-  pub record IsWayBack (state place : ℕ) (word : List ℕ) : Type 0 where
+  pub record IsPathBack (state place : ℕ) (word : List ℕ) : Type 0 where
     pub within : place < states_of d
     pub first_word : (v : List ℕ) → IsFirstWordTo d place v → IsFirstWordTo d state (v ++ reverse word)
 
-  pub IsWayBack-none : (state : ℕ) → state < states_of d → IsWayBack state state []
-  IsWayBack-none state inside = record { within = inside; first_word = λ v to. subst (IsFirstWordTo d state) (sym (append-nil v)) to }
+  pub IsPathBack-none : (state : ℕ) → state < states_of d → IsPathBack state state []
+  IsPathBack-none state inside = record { within = inside; first_word = λ v to. subst (IsFirstWordTo d state) (sym (append-nil v)) to }
 
-  pub IsWayBack-more : (turned : Branching) → IsReversal d turned → (state place : ℕ) (word : List ℕ) (edge : Edge) → 0 < place → IsWayBack state place word → IsFirstEdge (branching.edges_of turned place) edge
-      → IsWayBack state edge.target (word ++ edge.letter ∷ [])
-  IsWayBack-more turned reversal state place word edge positive way is = record {
-    within = (back turned reversal place positive way.within edge is).1;
+  pub IsPathBack-more : (turned : Branching) → IsReversal d turned → (state place : ℕ) (word : List ℕ) (transition : Transition) → 0 < place → IsPathBack state place word → IsFirstTransition (branching.transitions_of turned place) transition
+      → IsPathBack state transition.target (word ++ transition.letter ∷ [])
+  IsPathBack-more turned reversal state place word transition positive direction is = record {
+    within = (back turned reversal place positive direction.within transition is).1;
     first_word = λ v to.
-        subst (IsFirstWordTo d state) (append_assoc v (edge.letter ∷ []) (reverse word) ∙ ap (λ x. v ++ x) (sym (reverse-append word (edge.letter ∷ []))))
-        (way.first_word (v ++ edge.letter ∷ []) (one_more turned reversal place positive way.within edge is v to));
+        subst (IsFirstWordTo d state) (append_assoc v (transition.letter ∷ []) (reverse word) ∙ ap (λ x. v ++ x) (sym (reverse-append word (transition.letter ∷ []))))
+        (direction.first_word (v ++ transition.letter ∷ []) (one_more turned reversal place positive direction.within transition is v to));
   }
 
   pub IsFirstWordTo-start : IsFirstWordTo d 0 []
@@ -214,8 +214,8 @@ module _ (d : Automaton) (canonical : IsCanonical d) where
       by [] = inl refl
       by (a ∷ v) = inr (inl (omega arith))
 
-  pub IsFirstWordTo-back : (state : ℕ) (word : List ℕ) → IsWayBack state 0 word → IsFirstWordTo d state (reverse word)
-  IsFirstWordTo-back state word way = way.first_word [] IsFirstWordTo-start
+  pub IsFirstWordTo-back : (state : ℕ) (word : List ℕ) → IsPathBack state 0 word → IsFirstWordTo d state (reverse word)
+  IsFirstWordTo-back state word direction = direction.first_word [] IsFirstWordTo-start
 
   pub IsLeastWord-first : (q : ℕ) (w : List ℕ) → IsFirstAccepting d q → IsFirstWordTo d q w → IsLeastWord d w
   IsLeastWord-first q w first_accepting to = record {

@@ -1,4 +1,4 @@
--- Where words lead in the automaton of a letter function: to one state exactly where the same letters follow them.
+-- Where words lead in the automaton of a letter function: to one state if and only if the same letters follow them.
 use Rattle.std.proofs.Common.{◌≡◌, ℕ, ◌<◌, ◌≤◌, List, ◌++◌, length, ◌⊎◌, inl, inr, ap, arith, None}
 use Rattle.std.proofs.lemmas.Bool.{cases_lt}
 use Rattle.std.proofs.lemmas.List.{get_or_past}
@@ -13,7 +13,7 @@ use Rattle.word_output.proofs.LetterFunctionLemmas.{one_class}
 use Rattle.word_output.specs.StateLetters.{letter_of_state}
 
 module _ (f : LetterFunctionValue) (is : IsLetterFunction f) where
-  -- where a word leads from the first state
+  -- where a word leads from the initial state
   abbrev pub led : List ℕ → ℕ
   led w = lead f.automaton (first_of f.automaton) w
 

@@ -7,7 +7,7 @@ use Rattle.std.proofs.lemmas.Option.{none-some}
 use Rattle.digit_tuple.specs.Deterministic.{Automaton, accepting_of, accepts_of, run_of, states_of, step_of, target_by}
 use Rattle.digit_tuple.specs.Letters.{product, IsWord}
 use Rattle.digit_tuple.specs.Reflagged.{IsReflagged}
-use Rattle.digit_tuple.specs.declared.edges.Edge.{Edge}
+use Rattle.digit_tuple.specs.declared.transitions.Transition.{Transition}
 use Rattle.minimise.specs.Canonical.{IsCanonical}
 use Rattle.minimise.specs.Classes.{class_of}
 use Rattle.minimise.specs.Residuals.{SameLanguage}
@@ -21,7 +21,7 @@ use Rattle.word_output.proofs.FirstWordLemmas.{accepts-run}
 pub run-reflagged : (flags : List Bool) (old new : Automaton) → IsReflagged flags old new → (w : List ℕ) (q : ℕ) → run_of new q w ≡ run_of old q w
 run-reflagged flags old new is [] q = refl
 run-reflagged flags old new is (a ∷ w) q =
-    ap (λ (es : List Edge). option_and_then (λ p. run_of new p w) (target_by es a)) (is.states.edges q) ∙ by (step_of old q a) (run-reflagged flags old new is w)
+    ap (λ (es : List Transition). option_and_then (λ p. run_of new p w) (target_by es a)) (is.states.transitions q) ∙ by (step_of old q a) (run-reflagged flags old new is w)
   where
     by : (o : Option ℕ) → ((p : ℕ) → run_of new p w ≡ run_of old p w) → option_and_then (λ p. run_of new p w) o ≡ option_and_then (λ p. run_of old p w) o
     by None rest = refl

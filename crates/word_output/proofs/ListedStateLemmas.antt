@@ -7,7 +7,7 @@ use Rattle.std.proofs.lemmas.Bool.{cases_lt}
 use Rattle.std.proofs.lemmas.List.{get_or-map}
 use Rattle.std.proofs.lemmas.List.Elements.{All-weaker}
 use Rattle.std.proofs.lemmas.Option.{none-some, same_Some, slice_get-get_or, slice_get_past}
-use Rattle.digit_tuple.specs.Deterministic.{Automaton, IsTable, letters_of, states_of, edges_of, run_of}
+use Rattle.digit_tuple.specs.Deterministic.{Automaton, IsTable, letters_of, states_of, transitions_of, run_of}
 use Rattle.digit_tuple.specs.Explored.{key_at}
 use Rattle.digit_tuple.specs.Letters.{product, IsWord}
 use Rattle.digit_tuple.specs.Width.{HasApart, HasWidth}
@@ -53,8 +53,8 @@ module _ (sizes : List ℕ) (listed : Listed) (d : Automaton) (is : IsTableOf si
   own : (w : List ℕ) → IsWord (product sizes) w → IsWord (product d.sizes) w
   own w over = subst (λ ss. IsWord (product ss) w) (sym is.sizes_are) over
 
-  first_state : first_of d ≡ 0
-  first_state = ap (λ (b : Bool). if not b && (length (edges_of d 0) == 0) then states_of d else 0) (is.accepting 0 table.initial)
+  initial_state : first_of d ≡ 0
+  initial_state = ap (λ (b : Bool). if not b && (length (transitions_of d 0) == 0) then states_of d else 0) (is.accepting 0 table.initial)
 
   -- where a word leads, or one past the states
   abbrev pub end_of : List ℕ → ℕ
@@ -62,7 +62,7 @@ module _ (sizes : List ℕ) (listed : Listed) (d : Automaton) (is : IsTableOf si
 
   pub tuple_is : (w : List ℕ) → IsWord (product sizes) w → tuple_after readings w ≡ end_of w ∷ []
   tuple_is w over = ap (λ q. q ∷ [])
-      (ap (λ v. lead d (first_of d) v) (word_read-all d w (own w over)) ∙ ap (λ q. lead d q w) first_state ∙ lead-run d w 0)
+      (ap (λ v. lead d (first_of d) v) (word_read-all d w (own w over)) ∙ ap (λ q. lead d q w) initial_state ∙ lead-run d w 0)
 
   run_is : (tuples : List (List ℕ)) (w : List ℕ) (q : ℕ) → AllZip (IsLetterOfDigits sizes) tuples w → (run_of d 0 w ≡ Some q) ↔ MovesAlong sizes listed 0 tuples q
   run_is tuples w q zipped = moves_along sizes listed d is 0 q tuples w zipped
@@ -83,7 +83,7 @@ module _ (sizes : List ℕ) (listed : Listed) (d : Automaton) (is : IsTableOf si
           by None same = absurd (omega (arith, same, ends.1, is.states))
           by (Some t) same = ap Some (sym same)
 
-  -- words are alike exactly where they lead to one state
+  -- words are alike if and only if they lead to one state
   ended : (w : List ℕ) (q : ℕ) → IsWord (product sizes) w → LeadsListed sizes listed w q ↔ ((q ≡ end_of w) × (q < length listed.outputs))
   ended w q over = (
     (λ leads. (moves_end leads.tuples w q leads.letters).0 leads.path),

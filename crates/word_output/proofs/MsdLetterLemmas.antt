@@ -9,22 +9,22 @@ use Rattle.std.proofs.lemmas.List.Elements.{All-cons, All-filter, All-map, filte
 use Rattle.std.proofs.lemmas.List.Kept.{AllPairs-cons, AllPairs-filter}
 use Rattle.std.proofs.lemmas.Option.{none-some}
 use Rattle.digit_tuple.specs.Deterministic as deterministic
-use Rattle.digit_tuple.specs.Deterministic.{Automaton, IsTable, accepting_of, edges_of, letters_of, run_of, states_of, step_of, target_by}
+use Rattle.digit_tuple.specs.Deterministic.{Automaton, IsTable, accepting_of, transitions_of, letters_of, run_of, states_of, step_of, target_by}
 use Rattle.digit_tuple.specs.Explored.{IsExplored}
-use Rattle.digit_tuple.specs.Keys.{AreKeyEdges, IsByEarlier, KeyEdge, LeadAlike, key_by, key_run}
+use Rattle.digit_tuple.specs.Keys.{AreKeyTransitions, IsByEarlier, KeyTransition, LeadAlike, key_by, key_run}
 use Rattle.digit_tuple.specs.Letters.{IsWord}
 use Rattle.digit_tuple.specs.Paddings.{without_zeros}
-use Rattle.digit_tuple.specs.declared.edges.Edge.{Edge}
+use Rattle.digit_tuple.specs.declared.transitions.Transition.{Transition}
 use Rattle.digit_tuple.proofs.PaddingLemmas.{IsWord-without_zeros}
 use Rattle.minimise.specs.Classes.{class_of, first_of}
 use Rattle.minimise.proofs.LeadLemmas.{lead}
 use Rattle.minimise.proofs.PlaceLemmas.{lead-run}
 use Rattle.minimise.proofs.RunLemmas.{run_within}
-use Rattle.minimise.proofs.SinkLemmas.{no_edges_past, row_of}
+use Rattle.minimise.proofs.SinkLemmas.{no_transitions_past, row_of}
 use Rattle.project_close.proofs.SinkLeads.{first_cases}
 use Rattle.word_output.specs.LetterFunctions.{IsLetterFunction, LetterFunctionValue, letter_after, letter_in}
 use Rattle.word_output.specs.LetterPaddings.{MsdLettersAlike}
-use Rattle.word_output.specs.PastZeros.{edge_to_target, edges_from, is_by_other, key_of, key_to, past_after, past_edges}
+use Rattle.word_output.specs.PastZeros.{transition_to_target, transitions_from, is_by_other, key_of, key_to, past_after, past_transitions}
 use Rattle.word_output.specs.StateLetters.{head_letters, letter_led, letter_of_state}
 use Rattle.word_output.proofs.LetterLeads.{led, one_led, same_letters}
 use Rattle.word_output.proofs.LsdLetterLemmas.{letter_led-explored}
@@ -34,31 +34,31 @@ pub cons_from_length : (xs : List ℕ) → 0 < length xs → xs ≡ get_or xs 0 
 cons_from_length [] some = absurd (omega (arith, some))
 cons_from_length (x ∷ xs) some = refl
 
-positive : (e : Edge) → is_by_other e ≡ true → 0 < e.letter
+positive : (e : Transition) → is_by_other e ≡ true → 0 < e.letter
 positive e is = by e.letter refl
   where
     by : (a : ℕ) → e.letter ≡ a → 0 < e.letter
     by zero same = let no : false ≡ true = sym (ap (λ (x : ℕ). not (x == 0)) same) ∙ is in cc
     by (suc a) same = omega (arith, same)
 
-edges-ascending : (es : List Edge) → AllPairs deterministic.IsByEarlier es → AllPairs IsByEarlier (edges_from es)
-edges-ascending es up i j z before within =
-    let e : Edge = record { letter = 0; target = 0 } in
-    let inside : j < length es = omega (arith, within, length-map es edge_to_target) in
-    let one : get_or (edges_from es) i z ≡ edge_to_target (get_or es i e) = get_or-map edge_to_target es i e z (omega (arith, before, inside)) in
-    let two : get_or (edges_from es) j z ≡ edge_to_target (get_or es j e) = get_or-map edge_to_target es j e z inside in
-    omega (arith, ap (λ (k : KeyEdge). k.letter) one, ap (λ (k : KeyEdge). k.letter) two, up i j e before inside)
+transitions-ascending : (es : List Transition) → AllPairs deterministic.IsByEarlier es → AllPairs IsByEarlier (transitions_from es)
+transitions-ascending es up i j z before within =
+    let e : Transition = record { letter = 0; target = 0 } in
+    let inside : j < length es = omega (arith, within, length-map es transition_to_target) in
+    let one : get_or (transitions_from es) i z ≡ transition_to_target (get_or es i e) = get_or-map transition_to_target es i e z (omega (arith, before, inside)) in
+    let two : get_or (transitions_from es) j z ≡ transition_to_target (get_or es j e) = get_or-map transition_to_target es j e z inside in
+    omega (arith, ap (λ (k : KeyTransition). k.letter) one, ap (λ (k : KeyTransition). k.letter) two, up i j e before inside)
 
-key_by-edges : (es : List Edge) (a : ℕ) → key_by (edges_from es) a ≡ key_to (target_by es a)
-key_by-edges [] a = refl
-key_by-edges (e ∷ es) a = ap (λ o. if e.letter == a then Some (key_of e.target) else o) (key_by-edges es a) ∙ by (e.letter == a)
+key_by-transitions : (es : List Transition) (a : ℕ) → key_by (transitions_from es) a ≡ key_to (target_by es a)
+key_by-transitions [] a = refl
+key_by-transitions (e ∷ es) a = ap (λ o. if e.letter == a then Some (key_of e.target) else o) (key_by-transitions es a) ∙ by (e.letter == a)
   where
     by : (b : Bool) → (if b then Some (key_of e.target) else key_to (target_by es a)) ≡ key_to (if b then Some e.target else target_by es a)
     by true = refl
     by false = refl
 
 -- other letters than zero lead where they did
-target_by-others : (es : List Edge) (a : ℕ) → target_by (filter is_by_other es) (suc a) ≡ target_by es (suc a)
+target_by-others : (es : List Transition) (a : ℕ) → target_by (filter is_by_other es) (suc a) ≡ target_by es (suc a)
 target_by-others [] a = refl
 target_by-others (e ∷ es) a = by (e.letter == 0) refl (target_by-others es a)
   where
@@ -70,44 +70,44 @@ target_by-others (e ∷ es) a = by (e.letter == 0) refl (target_by-others es a)
     by false is rest = ap (λ (o : Option ℕ). if e.letter == suc a then Some e.target else o) rest
 
 module _ (d : Automaton) (table : IsTable (letters_of d) d.states) where
-  small_edges : (q letters : ℕ) → letters ≡ letters_of d → All (λ e. e.letter < letters) (edges_of d q)
-  small_edges q letters same k e within = let low = ((row_of d table q).in_range k e within).0 in omega (arith, low, same)
+  small_transitions : (q letters : ℕ) → letters ≡ letters_of d → All (λ e. e.letter < letters) (transitions_of d q)
+  small_transitions q letters same k e within = let low = ((row_of d table q).in_range k e within).0 in omega (arith, low, same)
 
-  -- the edges from a key
-  pub AreKeyEdges-past : (letters : ℕ) (key : List ℕ) → letters ≡ letters_of d → AreKeyEdges letters (past_after d key) (past_edges d letters key)
-  AreKeyEdges-past letters (q ∷ key) same = record {
-    in_range = All-map (λ k. k.letter < letters) edge_to_target (edges_of d q) (small_edges q letters same);
-    ascending = edges-ascending (edges_of d q) (row_of d table q).ascending;
-    lead = λ a small. key_by-edges (edges_of d q) a;
+  -- the transitions from a key
+  pub AreKeyTransitions-past : (letters : ℕ) (key : List ℕ) → letters ≡ letters_of d → AreKeyTransitions letters (past_after d key) (past_transitions d letters key)
+  AreKeyTransitions-past letters (q ∷ key) same = record {
+    in_range = All-map (λ k. k.letter < letters) transition_to_target (transitions_of d q) (small_transitions q letters same);
+    ascending = transitions-ascending (transitions_of d q) (row_of d table q).ascending;
+    lead = λ a small. key_by-transitions (transitions_of d q) a;
   }
-  AreKeyEdges-past zero [] same = record {
-    in_range = All-map (λ k. k.letter < 0) edge_to_target others (All-filter is_by_other (λ e. e.letter < 0) (edges_of d 0) (small_edges 0 zero same));
-    ascending = edges-ascending others (AllPairs-filter deterministic.IsByEarlier is_by_other (edges_of d 0) (row_of d table 0).ascending);
+  AreKeyTransitions-past zero [] same = record {
+    in_range = All-map (λ k. k.letter < 0) transition_to_target others (All-filter is_by_other (λ e. e.letter < 0) (transitions_of d 0) (small_transitions 0 zero same));
+    ascending = transitions-ascending others (AllPairs-filter deterministic.IsByEarlier is_by_other (transitions_of d 0) (row_of d table 0).ascending);
     lead = λ a small. absurd (omega (arith, small));
   }
     where
-      others : List Edge
-      others = filter is_by_other (edges_of d 0)
-  AreKeyEdges-past (suc letters) [] same = record {
-    in_range = All-cons (λ k. k.letter < suc letters) zero_edge (edges_from others) (omega arith)
-        (All-map (λ k. k.letter < suc letters) edge_to_target others (All-filter is_by_other (λ e. e.letter < suc letters) (edges_of d 0) (small_edges 0 (suc letters) same)));
-    ascending = AllPairs-cons IsByEarlier zero_edge (edges_from others)
-        (All-map (λ k. 0 < k.letter) edge_to_target others (λ k z within. positive (get_or others k z) (filter_passes is_by_other (edges_of d 0) k z within)))
-        (edges-ascending others (AllPairs-filter deterministic.IsByEarlier is_by_other (edges_of d 0) (row_of d table 0).ascending));
+      others : List Transition
+      others = filter is_by_other (transitions_of d 0)
+  AreKeyTransitions-past (suc letters) [] same = record {
+    in_range = All-cons (λ k. k.letter < suc letters) zero_transition (transitions_from others) (omega arith)
+        (All-map (λ k. k.letter < suc letters) transition_to_target others (All-filter is_by_other (λ e. e.letter < suc letters) (transitions_of d 0) (small_transitions 0 (suc letters) same)));
+    ascending = AllPairs-cons IsByEarlier zero_transition (transitions_from others)
+        (All-map (λ k. 0 < k.letter) transition_to_target others (λ k z within. positive (get_or others k z) (filter_passes is_by_other (transitions_of d 0) k z within)))
+        (transitions-ascending others (AllPairs-filter deterministic.IsByEarlier is_by_other (transitions_of d 0) (row_of d table 0).ascending));
     lead = lead_on;
   }
     where
-      others : List Edge
-      others = filter is_by_other (edges_of d 0)
+      others : List Transition
+      others = filter is_by_other (transitions_of d 0)
 
-      zero_edge : KeyEdge
-      zero_edge = record { letter = 0; key = [] }
+      zero_transition : KeyTransition
+      zero_transition = record { letter = 0; key = [] }
 
-      lead_on : (a : ℕ) → a < suc letters → key_by (zero_edge ∷ edges_from others) a ≡ past_after d [] a
+      lead_on : (a : ℕ) → a < suc letters → key_by (zero_transition ∷ transitions_from others) a ≡ past_after d [] a
       lead_on zero small = refl
       lead_on (suc a) small =
-          ap (λ (b : Bool). if b then Some [] else key_by (edges_from others) (suc a)) (ne_eqb 0 (suc a) (λ other. absurd (omega (arith, other))))
-          ∙ key_by-edges others (suc a) ∙ ap key_to (target_by-others (edges_of d 0) a)
+          ap (λ (b : Bool). if b then Some [] else key_by (transitions_from others) (suc a)) (ne_eqb 0 (suc a) (λ other. absurd (omega (arith, other))))
+          ∙ key_by-transitions others (suc a) ∙ ap key_to (target_by-others (transitions_of d 0) a)
 
 -- the key of a word without leading zeros
 abbrev pub past_key : Automaton → List ℕ → Option (List ℕ)
@@ -146,22 +146,22 @@ module _ (f : LetterFunctionValue) (is : IsLetterFunction f) where
   abbrev d : Automaton
   d = f.automaton
 
-  -- words of a letter or more lead from the first state where they lead from state 0
+  -- words of a letter or more lead from the initial state where they lead from state 0
   led-run : (a : ℕ) (u : List ℕ) → led f is (a ∷ u) ≡ unwrap_or (run_of d 0 (a ∷ u)) (states_of d)
   led-run a u = by (first_of d) refl (first_cases d)
     where
-      bare : first_of d ≡ states_of d → edges_of d 0 ≡ []
-      bare sink = at (accepting_of d 0) (length (edges_of d 0) == 0) refl sink
+      bare : first_of d ≡ states_of d → transitions_of d 0 ≡ []
+      bare sink = at (accepting_of d 0) (length (transitions_of d 0) == 0) refl sink
         where
-          at : (b z : Bool) → (length (edges_of d 0) == 0) ≡ z → (if not b && z then states_of d else 0) ≡ states_of d → edges_of d 0 ≡ []
+          at : (b z : Bool) → (length (transitions_of d 0) == 0) ≡ z → (if not b && z then states_of d else 0) ≡ states_of d → transitions_of d 0 ≡ []
           at true z length_is same = absurd (omega (arith, same, is.canonical.table.initial))
-          at false true length_is same = nil_from_length (edges_of d 0) ((Decides-eqb (length (edges_of d 0)) 0).0 length_is)
+          at false true length_is same = nil_from_length (transitions_of d 0) ((Decides-eqb (length (transitions_of d 0)) 0).0 length_is)
           at false false length_is same = absurd (omega (arith, same, is.canonical.table.initial))
 
       by : (q : ℕ) → first_of d ≡ q → (first_of d ≡ states_of d) ⊎ (first_of d ≡ 0) → lead d (first_of d) (a ∷ u) ≡ unwrap_or (run_of d 0 (a ∷ u)) (states_of d)
       by q same (inr zero_is) = ap (λ p. lead d p (a ∷ u)) zero_is ∙ lead-run d (a ∷ u) 0
       by q same (inl sink) = lead-run d (a ∷ u) (first_of d) ∙ ap (λ p. unwrap_or (run_of d p (a ∷ u)) (states_of d)) sink
-          ∙ ap (λ (es : List Edge). unwrap_or (option_and_then (λ p. run_of d p u) (target_by es a)) (states_of d)) (no_edges_past d (states_of d) (omega arith) ∙ sym (bare sink))
+          ∙ ap (λ (es : List Transition). unwrap_or (option_and_then (λ p. run_of d p u) (target_by es a)) (states_of d)) (no_transitions_past d (states_of d) (omega arith) ∙ sym (bare sink))
 
   pub alike_from_past : (w v : List ℕ) → IsWord (letters_of d) w → IsWord (letters_of d) v → LeadAlike (past_after d) [] w v → MsdLettersAlike f w v
   alike_from_past w v over there same = by (without_zeros w) (without_zeros v) refl refl (sym (run_past d w) ∙ same ∙ run_past d v)

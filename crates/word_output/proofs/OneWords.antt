@@ -13,9 +13,9 @@ use Rattle.digit_tuple.specs.declared.steps.StepLine.{StepLine}
 use Rattle.digit_tuple.proofs.ShortlexLemmas.{IsBefore-irreflexive, IsBefore-trans}
 use Rattle.dfa_reading.specs.Branching.{IsLetterOfDigits}
 use Rattle.dfa_reading.specs.Listed.{Listed}
-use Rattle.numeration.specs.Spelling.{sizes_of}
+use Rattle.numeration.specs.Representation.{sizes_of}
 use Rattle.num_system.specs.Sealed.{SystemValue}
-use Rattle.num_system.specs.Tracks.{languages_of, systems_of, way_of}
+use Rattle.num_system.specs.Tracks.{languages_of, systems_of, direction_of}
 use Rattle.num_system.proofs.LineLemmas.{only_memory}
 use Rattle.word_output.specs.Gaps.{IsLeastGap}
 use Rattle.word_output.specs.Laws.{WordReadingsHaveOneOutcome}
@@ -41,8 +41,8 @@ one_gap languages f w v one other = by (one.least v other.gap) (other.least w on
     by (inr before) (inr after) = absurd (IsBefore-irreflexive w (IsBefore-trans w v w before after))
 
 module _ (equal : LetterFunctionsAreEqual) (systems : List SystemValue) (listed : Listed) where
-  abbrev way : Direction
-  way = way_of systems
+  abbrev direction : Direction
+  direction = direction_of systems
 
   abbrev sizes : List ℕ
   sizes = sizes_of (systems_of systems)
@@ -55,14 +55,14 @@ module _ (equal : LetterFunctionsAreEqual) (systems : List SystemValue) (listed 
     pub same_first : a.first ≡ b.first
     same_first = (read_outcome equal limit sizes listed).line a.read b.read a.first b.first a.read_step b.read_step
 
-    also_pad : IsLetterPadStep limit way a.read b.padded b.second
-    also_pad = subst (λ (f : LetterFunctionValue). IsLetterPadStep limit way f b.padded b.second) (sym same_read) b.pad_step
+    also_pad : IsLetterPadStep limit direction a.read b.padded b.second
+    also_pad = subst (λ (f : LetterFunctionValue). IsLetterPadStep limit direction f b.padded b.second) (sym same_read) b.pad_step
 
     pub same_padded : a.padded ≡ b.padded
-    same_padded = (pad_outcome equal limit way a.read).result a.padded b.padded a.second b.second a.pad_step also_pad
+    same_padded = (pad_outcome equal limit direction a.read).result a.padded b.padded a.second b.second a.pad_step also_pad
 
     pub same_second : a.second ≡ b.second
-    same_second = (pad_outcome equal limit way a.read).line a.padded b.padded a.second b.second a.pad_step also_pad
+    same_second = (pad_outcome equal limit direction a.read).line a.padded b.padded a.second b.second a.pad_step also_pad
 
   -- so do all three
   module _ (limit : ℕ) (f g : LetterFunctionValue) (lines others : List StepLine) (one : AreWordSteps limit systems listed f lines) (other : AreWordSteps limit systems listed g others) where
@@ -92,9 +92,9 @@ module _ (equal : LetterFunctionsAreEqual) (systems : List SystemValue) (listed 
     pad_done : (fault : StepFault) (before : IsPaddedWord old.limit systems listed) → fault ≢ faults.Memory → WordPassesAtPad old systems listed fault → ⊥
     pad_done fault before apart passes =
         let same : passes.read ≡ before.read = (read_outcome equal old.limit sizes listed).result passes.read before.read passes.first before.first passes.read_step before.read_step in
-        not_refused LetterFunctionValue (IsLetterPadStep old.limit way before.read) ⊥ (LetterPadExceeds old.limit way before.read) (pad_outcome equal old.limit way before.read)
+        not_refused LetterFunctionValue (IsLetterPadStep old.limit direction before.read) ⊥ (LetterPadExceeds old.limit direction before.read) (pad_outcome equal old.limit direction before.read)
         (with_line old passes.first) fault before.padded before.second apart before.pad_step
-        (subst (λ (f : LetterFunctionValue). IsRefusedBy (with_line old passes.first) ⊥ (LetterPadExceeds old.limit way f) fault) same passes.refused)
+        (subst (λ (f : LetterFunctionValue). IsRefusedBy (with_line old passes.first) ⊥ (LetterPadExceeds old.limit direction f) fault) same passes.refused)
 
     -- nor a third
     valid_done : (fault : StepFault) (f : LetterFunctionValue) (lines : List StepLine) → fault ≢ faults.Memory → AreWordSteps old.limit systems listed f lines → WordPassesAtValid old systems listed fault → ⊥
@@ -110,10 +110,10 @@ module _ (equal : LetterFunctionsAreEqual) (systems : List SystemValue) (listed 
       one_at_pad one two =
           let read = (read_outcome equal old.limit sizes listed).result two.read one.read two.first one.first two.read_step one.read_step in
           let line = (read_outcome equal old.limit sizes listed).line two.read one.read two.first one.first two.read_step one.read_step in
-          one_refusal LetterFunctionValue (IsLetterPadStep old.limit way one.read) ⊥ (LetterPadExceeds old.limit way one.read) (pad_outcome equal old.limit way one.read)
+          one_refusal LetterFunctionValue (IsLetterPadStep old.limit direction one.read) ⊥ (LetterPadExceeds old.limit direction one.read) (pad_outcome equal old.limit direction one.read)
           (with_line old one.first) fault other apart away one.refused
-          (subst (λ (f : LetterFunctionValue). IsRefusedBy (with_line old one.first) ⊥ (LetterPadExceeds old.limit way f) other) read
-          (subst (λ (l : StepLine). IsRefusedBy (with_line old l) ⊥ (LetterPadExceeds old.limit way two.read) other) line two.refused))
+          (subst (λ (f : LetterFunctionValue). IsRefusedBy (with_line old one.first) ⊥ (LetterPadExceeds old.limit direction f) other) read
+          (subst (λ (l : StepLine). IsRefusedBy (with_line old l) ⊥ (LetterPadExceeds old.limit direction two.read) other) line two.refused))
 
       one_at_valid : WordPassesAtValid old systems listed fault → WordPassesAtValid old systems listed other → fault ≡ other
       one_at_valid one two =
@@ -154,18 +154,18 @@ module _ (equal : LetterFunctionsAreEqual) (systems : List SystemValue) (listed 
         ((λ i. record { systems = tracks i; function = functions i }), one.new_is ∙ ap (with_lines old) lines ∙ sym other.new_is)
 
     -- one gap
-    same_gap : (spelling other : List (List ℕ)) → HasWordGap old.limit systems listed spelling → HasWordGap old.limit systems listed other → spelling ≡ other
-    same_gap spelling other one two =
+    same_gap : (representation other : List (List ℕ)) → HasWordGap old.limit systems listed representation → HasWordGap old.limit systems listed other → representation ≡ other
+    same_gap representation other one two =
         let functions = same_function old.limit two.function one.function two.lines one.lines two.steps one.steps in
         let least = subst (λ (f : LetterFunctionValue). IsLeastGap (languages_of systems) f two.word) functions two.least in
         let words = one_gap (languages_of systems) one.function one.word two.word one.least least in
-        one_tuples sizes spelling other two.word (subst (λ (w : List ℕ). AllZip (IsLetterOfDigits sizes) spelling w) words one.digits) two.digits
+        one_tuples sizes representation other two.word (subst (λ (w : List ℕ). AllZip (IsLetterOfDigits sizes) representation w) words one.digits) two.digits
 
     -- one fault
     one_fault : (fault other : WordFault) → IsWordRefused old systems listed fault → IsWordRefused old systems listed other → fault ≢ Step faults.Memory → other ≢ Step faults.Memory → fault ≡ other
-    one_fault (Gap spelling) (Gap other) one two apart away = ap Gap (same_gap spelling other one two)
-    one_fault (Gap spelling) (Step other) one (inl memory) apart away = absurd (away (ap Step memory))
-    one_fault (Gap spelling) (Step other) one (inr two) apart away = absurd (not_passing other one.function one.lines (λ memory. away (ap Step memory)) one.steps two)
+    one_fault (Gap representation) (Gap other) one two apart away = ap Gap (same_gap representation other one two)
+    one_fault (Gap representation) (Step other) one (inl memory) apart away = absurd (away (ap Step memory))
+    one_fault (Gap representation) (Step other) one (inr two) apart away = absurd (not_passing other one.function one.lines (λ memory. away (ap Step memory)) one.steps two)
     one_fault (Step fault) (Gap other) (inl memory) two apart away = absurd (apart (ap Step memory))
     one_fault (Step fault) (Gap other) (inr one) two apart away = absurd (not_passing fault two.function two.lines (λ memory. apart (ap Step memory)) two.steps one)
     one_fault (Step fault) (Step other) (inl memory) two apart away = absurd (apart (ap Step memory))
@@ -174,7 +174,7 @@ module _ (equal : LetterFunctionsAreEqual) (systems : List SystemValue) (listed 
 
     -- and not both
     not_both : (v : WordValue) (new : StepLog) (fault : WordFault) → IsWordDone old systems listed v new → IsWordRefused old systems listed fault → fault ≡ Step faults.Memory
-    not_both v new (Gap spelling) done gap =
+    not_both v new (Gap representation) done gap =
         let functions = same_function old.limit gap.function v.function gap.lines done.lines gap.steps done.steps in
         let least = subst (λ (f : LetterFunctionValue). IsLeastGap (languages_of systems) f gap.word) functions gap.least in
         absurd (done.no_gap gap.word least.gap)

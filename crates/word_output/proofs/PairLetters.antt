@@ -119,7 +119,7 @@ module _ (f g : LetterFunctionValue) (is_f : IsLetterFunction f) (is_g : IsLette
               (λ has. flag ∙ fact.1 (has.0, has.1, sym first ∙ has.2, sym second ∙ has.3, has.4)),
             )
 
-    -- the least automaton of the same language accepts so too
+    -- the minimal automaton of the same language accepts so too
     pub least_accepts : (e : Automaton) → SameLanguage table e → (w : List ℕ) → IsWord (letters_of f.automaton) w → IsTrue (accepts_of e w) ↔ Compare w
     least_accepts e same_words w over =
         subst (λ b. IsTrue b ↔ Compare w) (same_words w (subst (λ (ss : List ℕ). IsWord (product ss) w) (sym (reflagged.sizes ∙ sizes)) over)) (pair_accepts w over)

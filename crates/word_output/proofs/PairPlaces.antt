@@ -17,11 +17,11 @@ use Rattle.minimise.specs.Tracked.{NamedAutomaton}
 use Rattle.product_op.proofs.SizeLemmas.{AreDistinct-ordered}
 use Rattle.numeration.specs.Systems.{System}
 use Rattle.numeration.specs.SomeTracks.{system_at, systems_at}
-use Rattle.numeration.specs.Spelling.{Spells, letters_in, sizes_of}
-use Rattle.numeration.proofs.PartSpelling.{AreValid, IsWord-at, numerals_at, numerals_valid, ranks, sizes_at}
-use Rattle.numeration.proofs.TrackLemmas.{numerals_from_spelling, spelling_from_numerals, track}
+use Rattle.numeration.specs.Representation.{Represents, letters_in, sizes_of}
+use Rattle.numeration.proofs.PartRepresentation.{AreValid, IsWord-at, numerals_at, numerals_valid, ranks, sizes_at}
+use Rattle.numeration.proofs.TrackLemmas.{numerals_from_representation, representation_from_numerals, track}
 use Rattle.num_system.specs.Sealed.{SystemValue, system_of}
-use Rattle.num_system.specs.Tracks.{AgreeUnder, HaveOneWay, absent_system, number_under, system_under, systems_of, systems_under, way_of}
+use Rattle.num_system.specs.Tracks.{AgreeUnder, ShareDirection, absent_system, number_under, system_under, systems_of, systems_under, direction_of}
 use Rattle.num_system.specs.declared.comparison.Comparison.{Comparison}
 use Rattle.num_system.proofs.NamedLinks.{place_among}
 use Rattle.num_system.proofs.ReadTracks.{track_valid}
@@ -31,7 +31,7 @@ use Rattle.word_output.specs.Laws.{PairsHold}
 use Rattle.word_output.specs.LetterFunctions.{letter_after}
 use Rattle.word_output.specs.LetterSets.{ComparesLetters}
 use Rattle.word_output.specs.WordPairs.{IsPair, PlacedLetters, letter_read, pair_names, pair_sizes}
-use Rattle.word_output.specs.Words.{HasLetter, IsWordValue, SpellsPlace, WordValue}
+use Rattle.word_output.specs.Words.{HasLetter, IsWordValue, RepresentsPlace, WordValue}
 use Rattle.word_output.proofs.PlaceLaws.{letter_of_place, place_of_letter}
 
 -- the numbers at the places of names are those under the names
@@ -39,45 +39,45 @@ numbers_under : (names some : List (List ℕ)) (ns : List ℕ) → picked (place
 numbers_under names some ns = map-map (λ place. get_or ns place 0) (place_of names) some
 
 -- tracks of one direction have that of the first, and so have the last of them
-last_ways : (w : Direction) (xs ys : List SystemValue) → AllByRecursion (λ (s : SystemValue). s.way ≡ w) (xs ++ ys) → AllByRecursion (λ (s : SystemValue). s.way ≡ w) ys
-last_ways w [] ys ways = ways
-last_ways w (x ∷ xs) ys ways = last_ways w xs ys ways.1
+last_directions : (w : Direction) (xs ys : List SystemValue) → AllByRecursion (λ (s : SystemValue). s.direction ≡ w) (xs ++ ys) → AllByRecursion (λ (s : SystemValue). s.direction ≡ w) ys
+last_directions w [] ys directions = directions
+last_directions w (x ∷ xs) ys directions = last_directions w xs ys directions.1
 
-second_way : (xs ys : List SystemValue) → 0 < length xs → 0 < length ys → HaveOneWay (xs ++ ys) → way_of ys ≡ way_of xs
-second_way [] ys some also one = absurd (omega (arith, some))
-second_way (x ∷ xs) [] some also one = absurd (omega (arith, also))
-second_way (x ∷ xs) (y ∷ ys) some also one = (last_ways x.way xs (y ∷ ys) one.1).0
+second_direction : (xs ys : List SystemValue) → 0 < length xs → 0 < length ys → ShareDirection (xs ++ ys) → direction_of ys ≡ direction_of xs
+second_direction [] ys some also one = absurd (omega (arith, some))
+second_direction (x ∷ xs) [] some also one = absurd (omega (arith, also))
+second_direction (x ∷ xs) (y ∷ ys) some also one = (last_directions x.direction xs (y ∷ ys) one.1).0
 
--- what a word tells of its part on some tracks, which are those of systems of their own
-module _ (way : Direction) (ss : List System) (places : List ℕ) (inside : All (λ place. place < length ss) places) (own : List SystemValue)
-    (at : systems_at places ss ≡ systems_of own) (own_way : way_of own ≡ way) (w : List ℕ) (over : IsWord (letters_in ss) w) where
+-- what a word says of its part on some tracks, which are those of systems of their own
+module _ (direction : Direction) (ss : List System) (places : List ℕ) (inside : All (λ place. place < length ss) places) (own : List SystemValue)
+    (at : systems_at places ss ≡ systems_of own) (own_direction : direction_of own ≡ direction) (w : List ℕ) (over : IsWord (letters_in ss) w) where
   abbrev read : List ℕ
   read = part (sizes_of ss) places w
 
-  turned : IsWord (letters_in ss) (in_order way w)
-  turned = IsWord-in_order way (letters_in ss) w over
+  turned : IsWord (letters_in ss) (in_order direction w)
+  turned = IsWord-in_order direction (letters_in ss) w over
 
-  -- it spells the numbers there
-  pub part_spells : (ns : List ℕ) → Spells ss (in_order way w) ns → SpellsPlace own (picked places ns) read
-  part_spells ns spelled =
+  -- it represents the numbers there
+  pub part_represents : (ns : List ℕ) → Represents ss (in_order direction w) ns → RepresentsPlace own (picked places ns) read
+  part_represents ns represented =
       let tracks : List System = systems_at places ss in
-      let numerals = numerals_at ss places inside (in_order way w) ns turned (numerals_from_spelling ss (in_order way w) ns spelled) in
-      let here : Spells tracks (part (sizes_of ss) places (in_order way w)) (picked places ns) = spelling_from_numerals tracks (part (sizes_of ss) places (in_order way w)) (picked places ns) numerals in
+      let numerals = numerals_at ss places inside (in_order direction w) ns turned (numerals_from_representation ss (in_order direction w) ns represented) in
+      let here : Represents tracks (part (sizes_of ss) places (in_order direction w)) (picked places ns) = representation_from_numerals tracks (part (sizes_of ss) places (in_order direction w)) (picked places ns) numerals in
       record {
         over = subst (λ (ts : List System). IsWord (letters_in ts) read) at (IsWord-at ss places inside w over);
-        spells = subst (λ (d : Direction). Spells (systems_of own) (in_order d read) (picked places ns)) (sym own_way)
-            (subst (λ (ts : List System). Spells ts (in_order way read) (picked places ns)) at
-            (subst (λ (v : List ℕ). Spells tracks v (picked places ns)) (part-in_order way (sizes_of ss) places w) here));
+        represents = subst (λ (d : Direction). Represents (systems_of own) (in_order d read) (picked places ns)) (sym own_direction)
+            (subst (λ (ts : List System). Represents ts (in_order direction read) (picked places ns)) at
+            (subst (λ (v : List ℕ). Represents tracks v (picked places ns)) (part-in_order direction (sizes_of ss) places w) here));
       }
 
-  -- where it spells numbers, its tracks are valid
-  pub part_valid : (ms : List ℕ) → SpellsPlace own ms read → (i : ℕ) → Contains places i → IsTrue ((system_at ss i).test (track ss i (in_order way w)))
-  part_valid ms spelled i found =
+  -- where it represents numbers, its tracks are valid
+  pub part_valid : (ms : List ℕ) → RepresentsPlace own ms read → (i : ℕ) → Contains places i → IsTrue ((system_at ss i).test (track ss i (in_order direction w)))
+  part_valid ms represented i found =
       let tracks : List System = systems_at places ss in
-      let there : Spells tracks (in_order way read) ms =
-      subst (λ (ts : List System). Spells ts (in_order way read) ms) (sym at)
-      (subst (λ (d : Direction). Spells (systems_of own) (in_order d read) ms) own_way spelled.spells) in
-      track_valid ss places inside (in_order way w) ms turned (subst (λ (v : List ℕ). Spells tracks v ms) (sym (part-in_order way (sizes_of ss) places w)) there) i found
+      let there : Represents tracks (in_order direction read) ms =
+      subst (λ (ts : List System). Represents ts (in_order direction read) ms) (sym at)
+      (subst (λ (d : Direction). Represents (systems_of own) (in_order d read) ms) own_direction represented.represents) in
+      track_valid ss places inside (in_order direction w) ms turned (subst (λ (v : List ℕ). Represents tracks v ms) (sym (part-in_order direction (sizes_of ss) places w)) there) i found
 
 -- the joint tracks of two lists of tracks under names
 module _ (under others : List (List ℕ)) (xs ys : List SystemValue) (count_x : length under ≡ length xs) (count_y : length others ≡ length ys) (agree : AgreeUnder (under ++ others) (xs ++ ys)) where
@@ -163,7 +163,7 @@ module _ (under others : List (List ℕ)) (xs ys : List SystemValue) (count_x : 
       ap (picked all) (sym sizes_all) ∙ sym (sizes_at (systems_of (xs ++ ys)) all inside) ∙ ap sizes_of (at_places (under ++ others) (xs ++ ys) names count there)
 
 module _ (v u : WordValue) (under others : List (List ℕ)) (comparison : Comparison) (paired : NamedAutomaton) (is_v : IsWordValue v) (is_u : IsWordValue u)
-    (count_v : length under ≡ length v.systems) (count_u : length others ≡ length u.systems) (agree : AgreeUnder (under ++ others) (v.systems ++ u.systems)) (one : HaveOneWay (v.systems ++ u.systems))
+    (count_v : length under ≡ length v.systems) (count_u : length others ≡ length u.systems) (agree : AgreeUnder (under ++ others) (v.systems ++ u.systems)) (one : ShareDirection (v.systems ++ u.systems))
     (made : IsPair comparison (record { function = v.function; under = under }) (record { function = u.function; under = others }) paired) where
   abbrev a : PlacedLetters
   a = record { function = v.function; under = under }
@@ -177,11 +177,11 @@ module _ (v u : WordValue) (under others : List (List ℕ)) (comparison : Compar
   abbrev ss : List System
   ss = systems_of (systems_under (under ++ others) (v.systems ++ u.systems) tracks)
 
-  abbrev way : Direction
-  way = way_of v.systems
+  abbrev direction : Direction
+  direction = direction_of v.systems
 
-  other_way : way_of u.systems ≡ way
-  other_way = second_way v.systems u.systems is_v.some is_u.some one
+  other_direction : direction_of u.systems ≡ direction
+  other_direction = second_direction v.systems u.systems is_v.some is_u.some one
 
   same_sizes : pair_sizes a b ≡ sizes_of ss
   same_sizes =
@@ -233,39 +233,39 @@ module _ (v u : WordValue) (under others : List (List ℕ)) (comparison : Compar
     second_over : IsWord (letters_in (systems_of u.systems)) second
     second_over = subst (λ (ts : List System). IsWord (letters_in ts) second) second_systems (IsWord-at ss seconds inside_second w over)
 
-    -- where the word spells numbers, its parts spell those under the names
-    first_spells : (ns : List ℕ) → Spells ss (in_order way w) ns → SpellsPlace v.systems (map (number_under tracks ns) under) first
-    first_spells ns spelled = subst (λ (ms : List ℕ). SpellsPlace v.systems ms first) (numbers_under tracks under ns) (part_spells way ss firsts inside_first v.systems first_systems refl w over ns spelled)
+    -- where the word represents numbers, its parts represent those under the names
+    first_represents : (ns : List ℕ) → Represents ss (in_order direction w) ns → RepresentsPlace v.systems (map (number_under tracks ns) under) first
+    first_represents ns represented = subst (λ (ms : List ℕ). RepresentsPlace v.systems ms first) (numbers_under tracks under ns) (part_represents direction ss firsts inside_first v.systems first_systems refl w over ns represented)
 
-    second_spells : (ns : List ℕ) → Spells ss (in_order way w) ns → SpellsPlace u.systems (map (number_under tracks ns) others) second
-    second_spells ns spelled = subst (λ (ms : List ℕ). SpellsPlace u.systems ms second) (numbers_under tracks others ns) (part_spells way ss seconds inside_second u.systems second_systems other_way w over ns spelled)
+    second_represents : (ns : List ℕ) → Represents ss (in_order direction w) ns → RepresentsPlace u.systems (map (number_under tracks ns) others) second
+    second_represents ns represented = subst (λ (ms : List ℕ). RepresentsPlace u.systems ms second) (numbers_under tracks others ns) (part_represents direction ss seconds inside_second u.systems second_systems other_direction w over ns represented)
 
     -- where both parts have letters, the word is valid
-    both_valid : (x y : ℤ) → letter_after v.function first ≡ Some x → letter_after u.function second ≡ Some y → AreValid ss (in_order way w)
+    both_valid : (x y : ℤ) → letter_after v.function first ≡ Some x → letter_after u.function second ≡ Some y → AreValid ss (in_order direction w)
     both_valid x y first_is second_is i within =
         let one_place = place_of_letter v first x is_v first_over first_is in
         let other_place = place_of_letter u second y is_u second_over second_is in
         elim (either under others v.systems u.systems count_v count_u agree i within) [
-          | inl found ↦ part_valid way ss firsts inside_first v.systems first_systems refl w over one_place.0 one_place.1 i found
-          | inr found ↦ part_valid way ss seconds inside_second u.systems second_systems other_way w over other_place.0 other_place.1 i found
+          | inl found ↦ part_valid direction ss firsts inside_first v.systems first_systems refl w over one_place.0 one_place.1 i found
+          | inr found ↦ part_valid direction ss seconds inside_second u.systems second_systems other_direction w over other_place.0 other_place.1 i found
         ]
 
-    accepted_compares : IsTrue (accepts_of paired.automaton w) → (ns : List ℕ) × Spells ss (in_order way w) ns × Compare ns
+    accepted_compares : IsTrue (accepts_of paired.automaton w) → (ns : List ℕ) × Represents ss (in_order direction w) ns × Compare ns
     accepted_compares accepted =
         let (x, y, x_is, y_is, compares) = (made.language w here).0 accepted in
         let first_is : letter_after v.function first ≡ Some x = sym first_read ∙ x_is in
         let second_is : letter_after u.function second ≡ Some y = sym second_read ∙ y_is in
-        let ns : List ℕ = ranks ss (in_order way w) in
-        let spelled : Spells ss (in_order way w) ns = spelling_from_numerals ss (in_order way w) ns (numerals_valid ss (in_order way w) (both_valid x y first_is second_is)) in
-        (ns, spelled, (x, y, (first, first_spells ns spelled, first_is), (second, second_spells ns spelled, second_is), compares))
+        let ns : List ℕ = ranks ss (in_order direction w) in
+        let represented : Represents ss (in_order direction w) ns = representation_from_numerals ss (in_order direction w) ns (numerals_valid ss (in_order direction w) (both_valid x y first_is second_is)) in
+        (ns, represented, (x, y, (first, first_represents ns represented, first_is), (second, second_represents ns represented, second_is), compares))
 
-    compares_accepted : (ns : List ℕ) × Spells ss (in_order way w) ns × Compare ns → IsTrue (accepts_of paired.automaton w)
-    compares_accepted (ns, spelled, (x, y, first_has, second_has, compares)) =
+    compares_accepted : (ns : List ℕ) × Represents ss (in_order direction w) ns × Compare ns → IsTrue (accepts_of paired.automaton w)
+    compares_accepted (ns, represented, (x, y, first_has, second_has, compares)) =
         (made.language w here).1 (
           x,
           y,
-          first_read ∙ letter_of_place v (map (number_under tracks ns) under) first x is_v (first_spells ns spelled) first_has,
-          second_read ∙ letter_of_place u (map (number_under tracks ns) others) second y is_u (second_spells ns spelled) second_has,
+          first_read ∙ letter_of_place v (map (number_under tracks ns) under) first x is_v (first_represents ns represented) first_has,
+          second_read ∙ letter_of_place u (map (number_under tracks ns) others) second y is_u (second_represents ns represented) second_has,
           compares,
         )
 

@@ -6,32 +6,32 @@ use Rattle.digit_tuple.specs.Letters.{IsWord, product}
 use Rattle.digit_tuple.specs.Paddings.{in_order}
 use Rattle.digit_tuple.proofs.TruthLemmas.{same_tests}
 use Rattle.minimise.proofs.CanonicalLemmas.{canonical_forms}
-use Rattle.numeration.specs.Spelling.{Spells, letters_in}
-use Rattle.num_system.specs.Tracks.{systems_of, way_of}
+use Rattle.numeration.specs.Representation.{Represents, letters_in}
+use Rattle.num_system.specs.Tracks.{systems_of, direction_of}
 use Rattle.num_system.specs.declared.comparison.Comparison.{Comparison}
 use Rattle.word_output.specs.LetterFunctions.{letter_after}
 use Rattle.word_output.specs.LetterSets.{ComparesLetters, IsLetterSet}
 use Rattle.word_output.specs.Laws.{LetterSetsHold, OneLetterSet, PlacesHaveLetters, PlacesHaveOneLetter}
-use Rattle.word_output.specs.Words.{HasLetter, IsWordValue, SpellsPlace, WordValue}
+use Rattle.word_output.specs.Words.{HasLetter, IsWordValue, RepresentsPlace, WordValue}
 use Rattle.word_output.proofs.OptionLemmas.{some_there, some_value}
-use Rattle.word_output.proofs.PlaceLemmas.{place_spelled}
+use Rattle.word_output.proofs.PlaceLemmas.{place_represented}
 
 pub one_letter : PlacesHaveOneLetter
 one_letter v ns b c is (w, first, first_is) (u, second, second_is) = same_Some b c (sym first_is ∙ is.one ns w u first second ∙ second_is)
 
 pub some_letter : PlacesHaveLetters
 some_letter v ns is count =
-    let found = place_spelled v.systems is.sealed is.one_way ns count in
+    let found = place_represented v.systems is.sealed is.shared_direction ns count in
     let letter = some_value (letter_after v.function found.0) ((is.everywhere found.0 found.1.over).1 (ns, found.1)) in
     (letter.0, (found.0, found.1, letter.1))
 
--- a word has the letter of the place that it spells
-pub letter_of_place : (v : WordValue) (ns w : List ℕ) (b : ℤ) → IsWordValue v → SpellsPlace v.systems ns w → HasLetter v ns b → letter_after v.function w ≡ Some b
-letter_of_place v ns w b is spelled (u, also, has) = is.one ns w u spelled also ∙ has
+-- a word has the letter of the place that it represents
+pub letter_of_place : (v : WordValue) (ns w : List ℕ) (b : ℤ) → IsWordValue v → RepresentsPlace v.systems ns w → HasLetter v ns b → letter_after v.function w ≡ Some b
+letter_of_place v ns w b is represented (u, also, has) = is.one ns w u represented also ∙ has
 
--- a word that has a letter spells a place, which has the letter
+-- a word that has a letter represents a place, which has the letter
 pub place_of_letter : (v : WordValue) (w : List ℕ) (b : ℤ) → IsWordValue v → IsWord (letters_in (systems_of v.systems)) w → letter_after v.function w ≡ Some b
-    → (ns : List ℕ) × SpellsPlace v.systems ns w × HasLetter v ns b
+    → (ns : List ℕ) × RepresentsPlace v.systems ns w × HasLetter v ns b
 place_of_letter v w b is over has =
     let found = (is.everywhere w over).0 (some_there (letter_after v.function w) b has) in
     (found.0, found.1, (w, found.1, has))
@@ -43,15 +43,15 @@ module _ (v : WordValue) (comparison : Comparison) (letter : ℤ) (d : Automaton
   to_function : (w : List ℕ) → IsWord (letters_in (systems_of v.systems)) w → IsWord (letters_of v.function.automaton) w
   to_function w over = subst (λ (sizes : List ℕ). IsWord (product sizes) w) (sym is.sizes) over
 
-  there : (w : List ℕ) → IsWord (letters_in (systems_of v.systems)) w → IsTrue (accepts_of d w) → (ns : List ℕ) × Spells (systems_of v.systems) (in_order (way_of v.systems) w) ns × HasSuch ns
+  there : (w : List ℕ) → IsWord (letters_in (systems_of v.systems)) w → IsTrue (accepts_of d w) → (ns : List ℕ) × Represents (systems_of v.systems) (in_order (direction_of v.systems) w) ns × HasSuch ns
   there w over accepted =
       let such = (set.language w (to_function w over)).0 accepted in
       let place = place_of_letter v w such.0 is over such.1 in
-      (place.0, place.1.spells, (such.0, place.2, such.2))
+      (place.0, place.1.represents, (such.0, place.2, such.2))
 
-  back : (w : List ℕ) → IsWord (letters_in (systems_of v.systems)) w → (ns : List ℕ) × Spells (systems_of v.systems) (in_order (way_of v.systems) w) ns × HasSuch ns → IsTrue (accepts_of d w)
-  back w over (ns, spelled, (b, has, compares)) =
-      (set.language w (to_function w over)).1 (b, letter_of_place v ns w b is (record { over = over; spells = spelled }) has, compares)
+  back : (w : List ℕ) → IsWord (letters_in (systems_of v.systems)) w → (ns : List ℕ) × Represents (systems_of v.systems) (in_order (direction_of v.systems) w) ns × HasSuch ns → IsTrue (accepts_of d w)
+  back w over (ns, represented, (b, has, compares)) =
+      (set.language w (to_function w over)).1 (b, letter_of_place v ns w b is (record { over = over; represents = represented }) has, compares)
 
 pub letter_sets : LetterSetsHold
 letter_sets v comparison letter d is set = record {

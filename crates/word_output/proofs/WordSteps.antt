@@ -9,22 +9,22 @@ use Rattle.digit_tuple.specs.declared.steps.StepLine.{StepLine}
 use Rattle.dfa_reading.specs.Listed.{Listed}
 use Rattle.product_op.specs.Validity.{is_valid}
 use Rattle.numeration.specs.Systems.{System}
-use Rattle.numeration.specs.Spelling.{letters_in, sizes_of}
+use Rattle.numeration.specs.Representation.{letters_in, sizes_of}
 use Rattle.num_system.specs.Sealed.{IsSealed, SystemValue}
-use Rattle.num_system.specs.Tracks.{HaveOneWay, languages_of, systems_of, way_of}
+use Rattle.num_system.specs.Tracks.{ShareDirection, languages_of, systems_of, direction_of}
 use Rattle.word_output.specs.Gaps.{HasNoGap}
 use Rattle.word_output.specs.Laws.{WordsHaveListedLetters}
 use Rattle.word_output.specs.LetterFunctions.{LetterFunctionValue, letter_after}
 use Rattle.word_output.specs.WordReadings.{AreWordSteps, HasListedLetterAt}
-use Rattle.word_output.specs.Words.{HasLetter, IsWordValue, SpellsPlace}
+use Rattle.word_output.specs.Words.{HasLetter, IsWordValue, RepresentsPlace}
 use Rattle.word_output.proofs.OptionLemmas.{kept_passes, there_or}
-use Rattle.word_output.proofs.PlaceLemmas.{one_stripped, place_of_valid, stripped_spells, valid_of_place}
+use Rattle.word_output.proofs.PlaceLemmas.{one_stripped, place_of_valid, stripped_represents, valid_of_place}
 use Rattle.word_output.proofs.StripLemmas.{strip-twice}
 use Rattle.dfa_reading.proofs.TupleWords.{tuples_of, word_of_tuples}
 
 module _ (limit : ℕ) (systems : List SystemValue) (listed : Listed) (f : LetterFunctionValue) (lines : List StepLine) (steps : AreWordSteps limit systems listed f lines) where
-  abbrev way : Direction
-  way = way_of systems
+  abbrev direction : Direction
+  direction = direction_of systems
 
   abbrev ss : List System
   ss = systems_of systems
@@ -51,26 +51,26 @@ module _ (limit : ℕ) (systems : List SystemValue) (listed : Listed) (f : Lette
   is_valid_here w = is_valid (sizes_of ss) (languages_of systems) w ≡ true
 
   -- the letter of a word is the listed one of the word without leading zeros, where it is valid
-  kept_letter : (w : List ℕ) → IsWord (letters_in ss) w → letter_after f w ≡ (if is_valid (sizes_of ss) (languages_of systems) w then letter_after read (strip way w) else None)
+  kept_letter : (w : List ℕ) → IsWord (letters_in ss) w → letter_after f w ≡ (if is_valid (sizes_of ss) (languages_of systems) w then letter_after read (strip direction w) else None)
   kept_letter w over =
       steps.valid_step.valid_letters.letters w (over_sizes padded.automaton.sizes w padded_sizes over)
       ∙ ap (λ (sizes : List ℕ). if is_valid sizes (languages_of systems) w then letter_after padded w else None) padded_sizes
       ∙ ap (λ (o : Option ℤ). if is_valid (sizes_of ss) (languages_of systems) w then o else None) (steps.before.pad_step.padding.letters w (over_sizes read.automaton.sizes w read_sizes over))
 
-  valid_letter : (w : List ℕ) → IsWord (letters_in ss) w → is_valid_here w → letter_after f w ≡ letter_after read (strip way w)
-  valid_letter w over valid = kept_letter w over ∙ ap (λ b. if b then letter_after read (strip way w) else None) valid
+  valid_letter : (w : List ℕ) → IsWord (letters_in ss) w → is_valid_here w → letter_after f w ≡ letter_after read (strip direction w)
+  valid_letter w over valid = kept_letter w over ∙ ap (λ b. if b then letter_after read (strip direction w) else None) valid
 
   letter_valid : (w : List ℕ) → IsWord (letters_in ss) w → IsSome (letter_after f w) → is_valid_here w
-  letter_valid w over there = kept_passes (is_valid (sizes_of ss) (languages_of systems) w) (letter_after read (strip way w)) (subst IsSome (kept_letter w over) there)
+  letter_valid w over there = kept_passes (is_valid (sizes_of ss) (languages_of systems) w) (letter_after read (strip direction w)) (subst IsSome (kept_letter w over) there)
 
-  module _ (sealed : AllByRecursion IsSealed systems) (one : HaveOneWay systems) where
+  module _ (sealed : AllByRecursion IsSealed systems) (one : ShareDirection systems) where
     -- where no valid word lacks a letter, these are the letters of a word
     module _ (some : 0 < length systems) (no_gap : HasNoGap (languages_of systems) f) where
-      place_lettered : (ns w : List ℕ) → SpellsPlace systems ns w → IsSome (letter_after f w)
-      place_lettered ns w spelled = there_or (letter_after f w)
+      place_lettered : (ns w : List ℕ) → RepresentsPlace systems ns w → IsSome (letter_after f w)
+      place_lettered ns w represented = there_or (letter_after f w)
           (λ none. no_gap w (record {
-            over = over_sizes f.automaton.sizes w function_sizes spelled.over;
-            valid = subst (λ (sizes : List ℕ). is_valid sizes (languages_of systems) w ≡ true) (sym function_sizes) (valid_of_place systems sealed one ns w spelled);
+            over = over_sizes f.automaton.sizes w function_sizes represented.over;
+            valid = subst (λ (sizes : List ℕ). is_valid sizes (languages_of systems) w ≡ true) (sym function_sizes) (valid_of_place systems sealed one ns w represented);
             none = none;
           }))
 
@@ -79,7 +79,7 @@ module _ (limit : ℕ) (systems : List SystemValue) (listed : Listed) (f : Lette
         function = steps.valid_step.valid_letters.function;
         some = some;
         sealed = sealed;
-        one_way = one;
+        shared_direction = one;
         sizes = function_sizes;
         everywhere = λ w over. (
           λ there. place_of_valid systems sealed one w over (letter_valid w over there),
@@ -92,34 +92,34 @@ module _ (limit : ℕ) (systems : List SystemValue) (listed : Listed) (f : Lette
       }
 
     -- a word's letter at a place is listed there
-    pub listed_letter : (ns : List ℕ) (letter : ℤ) → HasLetter (record { systems = systems; function = f }) ns letter → HasListedLetterAt way ss listed ns letter
-    listed_letter ns letter (w, spelled, has) =
-        let short = stripped_spells systems sealed one ns w spelled in
-        let tuples = tuples_of (sizes_of ss) (strip way w) short.over in
-        let read_is : letter_after read (strip way w) ≡ Some letter = sym (valid_letter w spelled.over (valid_of_place systems sealed one ns w spelled)) ∙ has in
+    pub listed_letter : (ns : List ℕ) (letter : ℤ) → HasLetter (record { systems = systems; function = f }) ns letter → HasListedLetterAt direction ss listed ns letter
+    listed_letter ns letter (w, represented, has) =
+        let short = stripped_represents systems sealed one ns w represented in
+        let tuples = tuples_of (sizes_of ss) (strip direction w) short.over in
+        let read_is : letter_after read (strip direction w) ≡ Some letter = sym (valid_letter w represented.over (valid_of_place systems sealed one ns w represented)) ∙ has in
         record {
           tuples = tuples.0;
-          word = strip way w;
+          word = strip direction w;
           letters = tuples.1;
-          spells = short.spells;
-          shortest = strip-twice way w;
-          letter_is = (steps.before.read_step.reading.letters tuples.0 (strip way w) letter tuples.1).0 read_is;
+          represents = short.represents;
+          shortest = strip-twice direction w;
+          letter_is = (steps.before.read_step.reading.letters tuples.0 (strip direction w) letter tuples.1).0 read_is;
         }
 
     -- and one that is listed there is its letter
-    pub letter_listed : (ns : List ℕ) (letter : ℤ) → HasListedLetterAt way ss listed ns letter → HasLetter (record { systems = systems; function = f }) ns letter
+    pub letter_listed : (ns : List ℕ) (letter : ℤ) → HasListedLetterAt direction ss listed ns letter → HasLetter (record { systems = systems; function = f }) ns letter
     letter_listed ns letter has =
         let over = word_of_tuples (sizes_of ss) has.tuples has.word has.letters in
-        let spelled : SpellsPlace systems ns has.word = record { over = over; spells = has.spells } in (
+        let represented : RepresentsPlace systems ns has.word = record { over = over; represents = has.represents } in (
           has.word,
-          spelled,
-          valid_letter has.word over (valid_of_place systems sealed one ns has.word spelled)
+          represented,
+          valid_letter has.word over (valid_of_place systems sealed one ns has.word represented)
               ∙ ap (letter_after read) has.shortest
               ∙ (steps.before.read_step.reading.letters has.tuples has.word letter has.letters).1 has.letter_is,
         )
 
 pub words_listed : WordsHaveListedLetters
 words_listed limit listed v lines are is steps ns letter = (
-  listed_letter limit v.systems listed v.function lines steps is.sealed is.one_way ns letter,
-  letter_listed limit v.systems listed v.function lines steps is.sealed is.one_way ns letter,
+  listed_letter limit v.systems listed v.function lines steps is.sealed is.shared_direction ns letter,
+  letter_listed limit v.systems listed v.function lines steps is.sealed is.shared_direction ns letter,
 )

@@ -5,9 +5,9 @@ use Rattle.digit_tuple.specs.Steps.{StepLog, with_line, with_lines}
 use Rattle.digit_tuple.specs.declared.step_fault.StepFault.{StepFault}
 use Rattle.digit_tuple.specs.declared.step_fault.StepFault.TheVariants as faults
 use Rattle.dfa_reading.specs.Listed.{Listed}
-use Rattle.numeration.specs.Spelling.{sizes_of}
+use Rattle.numeration.specs.Representation.{sizes_of}
 use Rattle.num_system.specs.Sealed.{SystemValue}
-use Rattle.num_system.specs.Tracks.{languages_of, systems_of, way_of}
+use Rattle.num_system.specs.Tracks.{languages_of, systems_of, direction_of}
 use Rattle.num_system.proofs.LineLemmas.{with_more}
 use Rattle.word_output.specs.LetterFunctions.{LetterFunctionValue}
 use Rattle.word_output.specs.LetterPaddings.{IsLetterPadStep}
@@ -23,7 +23,7 @@ module _ (old : StepLog) (systems : List SystemValue) (listed : Listed) where
     mid_limit : mid.limit ≡ old.limit
     mid_limit = ap (λ (log : StepLog). log.limit) first.new_is
 
-    module _ (late : StepLog) (padded : LetterFunctionValue) (second : IsDone mid (IsLetterPadStep mid.limit (way_of systems) read padded) late) where
+    module _ (late : StepLog) (padded : LetterFunctionValue) (second : IsDone mid (IsLetterPadStep mid.limit (direction_of systems) read padded) late) where
       late_limit : late.limit ≡ old.limit
       late_limit = ap (λ (log : StepLog). log.limit) second.new_is ∙ mid_limit
 
@@ -34,7 +34,7 @@ module _ (old : StepLog) (systems : List SystemValue) (listed : Listed) where
         first = first.line;
         second = second.line;
         read_step = first.step;
-        pad_step = subst (λ (limit : ℕ). IsLetterPadStep limit (way_of systems) read padded second.line) mid_limit second.step;
+        pad_step = subst (λ (limit : ℕ). IsLetterPadStep limit (direction_of systems) read padded second.line) mid_limit second.step;
       }
 
       late_is : late ≡ with_lines old (first.line ∷ second.line ∷ [])

@@ -11,7 +11,7 @@ use Rattle.dfa_reading.specs.WordFiles.{IsWordListed}
 use Rattle.minimise.specs.Tracked.{NamedAutomaton}
 use Rattle.numeration.specs.Relations.{HoldsOf}
 use Rattle.num_system.specs.Sealed.{SystemValue}
-use Rattle.num_system.specs.Tracks.{AgreeUnder, HaveOneWay, number_under, systems_of, systems_under, way_of}
+use Rattle.num_system.specs.Tracks.{AgreeUnder, ShareDirection, number_under, systems_of, systems_under, direction_of}
 use Rattle.num_system.specs.declared.comparison.Comparison.{Comparison}
 use Rattle.automaton_steps.specs.Laws.{HasOneOutcome}
 use Rattle.word_output.specs.LetterFunctions.{LetterFunctionValue}
@@ -25,7 +25,7 @@ use Rattle.word_output.specs.declared.word_fault.WordFault.TheVariants.{Step}
 -- a word that is read has at each place the letter that is listed there
 abbrev pub WordsHaveListedLetters : Type 0
 WordsHaveListedLetters = (limit : ℕ) (listed : Listed) (v : WordValue) (lines : List StepLine) → IsWordListed listed → IsWordValue v → AreWordSteps limit v.systems listed v.function lines
-    → (ns : List ℕ) (letter : ℤ) → HasLetter v ns letter ↔ HasListedLetterAt (way_of v.systems) (systems_of v.systems) listed ns letter
+    → (ns : List ℕ) (letter : ℤ) → HasLetter v ns letter ↔ HasListedLetterAt (direction_of v.systems) (systems_of v.systems) listed ns letter
 
 -- a place has one letter at most
 abbrev pub PlacesHaveOneLetter : Type 0
@@ -38,15 +38,15 @@ PlacesHaveLetters = (v : WordValue) (ns : List ℕ) → IsWordValue v → length
 -- the automaton of a set of letters holds of the places that have such a letter
 abbrev pub LetterSetsHold : Type 0
 LetterSetsHold = (v : WordValue) (comparison : Comparison) (letter : ℤ) (d : Automaton) → IsWordValue v → IsLetterSet comparison letter v.function d
-    → HoldsOf (way_of v.systems) (systems_of v.systems) (λ ns. (b : ℤ) × HasLetter v ns b × ComparesLetters comparison b letter) d
+    → HoldsOf (direction_of v.systems) (systems_of v.systems) (λ ns. (b : ℤ) × HasLetter v ns b × ComparesLetters comparison b letter) d
 
 -- that of a pair holds of the numbers under the names for which both words have letters that compare so
 abbrev pub PairsHold : Type 0
 PairsHold = (v u : WordValue) (under others : List (List ℕ)) (comparison : Comparison) (paired : NamedAutomaton)
     → IsWordValue v → IsWordValue u → length under ≡ length v.systems → length others ≡ length u.systems
-    → AgreeUnder (under ++ others) (v.systems ++ u.systems) → HaveOneWay (v.systems ++ u.systems)
+    → AgreeUnder (under ++ others) (v.systems ++ u.systems) → ShareDirection (v.systems ++ u.systems)
     → IsPair comparison (record { function = v.function; under = under }) (record { function = u.function; under = others }) paired
-    → HoldsOf (way_of v.systems) (systems_of (systems_under (under ++ others) (v.systems ++ u.systems) (joint_names under others)))
+    → HoldsOf (direction_of v.systems) (systems_of (systems_under (under ++ others) (v.systems ++ u.systems) (joint_names under others)))
     (λ ns. (b : ℤ) × (c : ℤ) × HasLetter v (map (number_under (joint_names under others) ns) under) b × HasLetter u (map (number_under (joint_names under others) ns) others) c × ComparesLetters comparison b c)
     paired.automaton
 

@@ -4,7 +4,7 @@ use Rattle.std.specs.List.{All, Contains}
 use Rattle.digit_tuple.specs.Deterministic.{Automaton, accepting_of, accepts_of, letters_of, run_of, states_of}
 use Rattle.digit_tuple.specs.Letters.{IsWord}
 use Rattle.digit_tuple.specs.Shortlex.{IsBefore}
-use Rattle.digit_tuple.specs.declared.edges.Edge.{Edge}
+use Rattle.digit_tuple.specs.declared.transitions.Transition.{Transition}
 
 -- it accepts no word over its alphabet
 abbrev pub AcceptsNothing : Automaton → Type 0
@@ -28,11 +28,11 @@ pub record IsFirstAccepting (d : Automaton) (q : ℕ) : Type 0 where
   pub accepts : accepting_of d q ≡ true
   pub none_before : (p : ℕ) → p < q → accepting_of d p ≡ false
 
--- the one edge has the smaller target, or the same and no larger letter
-abbrev pub NoLater : Edge → Edge → Type 0
+-- the one transition has the smaller target, or the same and no larger letter
+abbrev pub NoLater : Transition → Transition → Type 0
 NoLater e f = (e.target < f.target) ⊎ ((e.target ≡ f.target) × (e.letter ≤ f.letter))
 
--- an edge of the smallest target, and of those that of the smallest letter
-pub record IsFirstEdge (edges : List Edge) (edge : Edge) : Type 0 where
-  pub there : Contains edges edge
-  pub first : All (NoLater edge) edges
+-- a transition of the smallest target, and of those that of the smallest letter
+pub record IsFirstTransition (transitions : List Transition) (transition : Transition) : Type 0 where
+  pub there : Contains transitions transition
+  pub first : All (NoLater transition) transitions

@@ -1,4 +1,4 @@
--- The step that compares the letters of two words, whose tracks stand under names: tracks of one name are one track.
+-- The step that compares the letters of two words, whose tracks are under names: tracks of one name are one track.
 use Rattle.std.specs.Prelude.{◌≡◌, ◌↔◌, ℕ, ◌<◌, ℤ, List, [], ◌++◌, length, slice_index_or, Option, Some, IsTrue, Result, MatchResult}
 use Rattle.digit_tuple.specs.Deterministic.{accepts_of, states_of}
 use Rattle.digit_tuple.specs.Letters.{product, IsAlphabet, IsTooLarge, IsWord}

@@ -11,10 +11,10 @@ use Rattle.digit_tuple.specs.declared.step_fault.StepFault.TheVariants as faults
 use Rattle.digit_tuple.specs.declared.steps.StepLine.{StepLine}
 use Rattle.dfa_reading.specs.Branching.{IsLetterOfDigits}
 use Rattle.dfa_reading.specs.Listed.{Listed}
-use Rattle.numeration.specs.Spelling.{Spells, sizes_of}
+use Rattle.numeration.specs.Representation.{Represents, sizes_of}
 use Rattle.numeration.specs.Systems.{System}
 use Rattle.num_system.specs.Sealed.{SystemValue}
-use Rattle.num_system.specs.Tracks.{languages_of, systems_of, way_of}
+use Rattle.num_system.specs.Tracks.{languages_of, systems_of, direction_of}
 use Rattle.word_output.specs.LetterFunctions.{LetterFunctionValue}
 use Rattle.word_output.specs.LetterReadings.{HasListedLetter, IsLetterReadStep, LetterReadExceeds}
 use Rattle.word_output.specs.LetterPaddings.{IsLetterPadStep, LetterPadExceeds}
@@ -24,13 +24,13 @@ use Rattle.word_output.specs.Words.{WordValue}
 use Rattle.word_output.specs.declared.word_fault.WordFault.{WordFault}
 use Rattle.word_output.specs.declared.word_fault.WordFault.TheVariants.{Gap, Step}
 
--- the numbers, and their spelling without leading zeros, which a listed path spells that ends in a state with this letter
-pub record HasListedLetterAt (way : Direction) (ss : List System) (listed : Listed) (ns : List ℕ) (letter : ℤ) : Type 0 where
+-- the numbers, and their representation without leading zeros, which a listed path spells that ends in a state with this letter
+pub record HasListedLetterAt (direction : Direction) (ss : List System) (listed : Listed) (ns : List ℕ) (letter : ℤ) : Type 0 where
   pub tuples : List (List ℕ)
   pub word : List ℕ
   pub letters : AllZip (IsLetterOfDigits (sizes_of ss)) tuples word
-  pub spells : Spells ss (in_order way word) ns
-  pub shortest : strip way word ≡ word
+  pub represents : Represents ss (in_order direction word) ns
+  pub shortest : strip direction word ≡ word
   pub letter_is : HasListedLetter (sizes_of ss) listed tuples letter
 
 -- the steps read and pad were done
@@ -40,7 +40,7 @@ pub record IsPaddedWord (limit : ℕ) (systems : List SystemValue) (listed : Lis
   pub first : StepLine
   pub second : StepLine
   pub read_step : IsLetterReadStep limit (sizes_of (systems_of systems)) listed read first
-  pub pad_step : IsLetterPadStep limit (way_of systems) read padded second
+  pub pad_step : IsLetterPadStep limit (direction_of systems) read padded second
 
 -- the steps read, pad and valid make this letter function, with these lines
 pub record AreWordSteps (limit : ℕ) (systems : List SystemValue) (listed : Listed) (f : LetterFunctionValue) (lines : List StepLine) : Type 0 where
@@ -54,7 +54,7 @@ pub record WordPassesAtPad (old : StepLog) (systems : List SystemValue) (listed 
   pub read : LetterFunctionValue
   pub first : StepLine
   pub read_step : IsLetterReadStep old.limit (sizes_of (systems_of systems)) listed read first
-  pub refused : IsRefusedBy (with_line old first) ⊥ (LetterPadExceeds old.limit (way_of systems) read) fault
+  pub refused : IsRefusedBy (with_line old first) ⊥ (LetterPadExceeds old.limit (direction_of systems) read) fault
 
 -- the third step does
 pub record WordPassesAtValid (old : StepLog) (systems : List SystemValue) (listed : Listed) (fault : StepFault) : Type 0 where
@@ -86,19 +86,19 @@ pub record IsWordDone (old : StepLog) (systems : List SystemValue) (listed : Lis
   pub systems_are : word.systems ≡ systems
   pub new_is : new ≡ with_lines old lines
 
--- all three steps are within the limit, and some place has no letter: this is the least spelling of such a place, by its digits
-pub record HasWordGap (limit : ℕ) (systems : List SystemValue) (listed : Listed) (spelling : List (List ℕ)) : Type 0 where
+-- all three steps are within the limit, and some place has no letter: this is the least representation of such a place, by its digits
+pub record HasWordGap (limit : ℕ) (systems : List SystemValue) (listed : Listed) (representation : List (List ℕ)) : Type 0 where
   pub function : LetterFunctionValue
   pub lines : List StepLine
   pub steps : AreWordSteps limit systems listed function lines
   pub word : List ℕ
-  pub digits : AllZip (IsLetterOfDigits (sizes_of (systems_of systems))) spelling word
+  pub digits : AllZip (IsLetterOfDigits (sizes_of (systems_of systems))) representation word
   pub least : IsLeastGap (languages_of systems) function word
 
 -- why no word is read
 abbrev pub IsWordRefused : StepLog → List SystemValue → Listed → WordFault → Type 0
 IsWordRefused old systems listed (Step fault) = (fault ≡ faults.Memory) ⊎ PassesWord old systems listed fault
-IsWordRefused old systems listed (Gap spelling) = HasWordGap old.limit systems listed spelling
+IsWordRefused old systems listed (Gap representation) = HasWordGap old.limit systems listed representation
 
 -- they are done, or the first that passes a limit is refused, or a letter is missing, or memory runs out
 abbrev pub DoesWord : StepLog → List SystemValue → Listed → Result WordValue WordFault → StepLog → Type 0

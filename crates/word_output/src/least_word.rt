@@ -3,17 +3,17 @@
 ghost use Rattle.std.specs.Prelude.{◌≡◌, ◌<◌, ◌⊎◌, ℕ, false, List, length, IfOk, MatchOption};
 ghost use Rattle.digit_tuple.specs.Deterministic.{accepting_of, states_of};
 ghost use Rattle.minimise.specs.Canonical.{IsCanonical};
-ghost use Rattle.word_output.specs.LeastWords.{AcceptsNothing, IsFirstAccepting, IsFirstEdge, IsFirstWordTo, IsLeastWord, NoLater};
+ghost use Rattle.word_output.specs.LeastWords.{AcceptsNothing, IsFirstAccepting, IsFirstTransition, IsFirstWordTo, IsLeastWord, NoLater};
 
 use digit_tuple::dfa::Dfa;
-use digit_tuple::edges::Edge;
 use digit_tuple::faults::OutOfMemory;
 use digit_tuple::reversed::reversed;
+use digit_tuple::transitions::Transition;
 use std::alloc::Global;
 
-/// The first of the words that a canonical automaton accepts, shorter words first, or None where it
-/// accepts none. States are numbered by the first words that lead to them, so it is that of the first
-/// state that accepts. Each edge is looked at once or twice.
+/// The first of the words that a canonical automaton accepts, shorter words first, or None where it accepts none.
+/// States are numbered by the first words that lead to them, so it is that of the first state that accepts. Each
+/// transition is looked at once or twice.
 pub fn least_word(alloc: Global, d: &Dfa) -> Result<Option<Vec<u32>>, OutOfMemory>
     requires { IsCanonical d.now }
     ensures { IfOk result (λ word. MatchOption word (AcceptsNothing d.now) (λ w. IsLeastWord d.now w.items)) }
@@ -36,7 +36,7 @@ fn first_accepting(d: &Dfa) -> Option<u32>
     None
 }
 
-// The first word that leads to a state: it comes by the first edge to each state on the way.
+// The first word that leads to a state: it comes by the first transition to each state on the way.
 fn first_word_to(alloc: Global, d: &Dfa, state: u32) -> Result<Vec<u32>, OutOfMemory>
     requires canonical { IsCanonical d.now }
     requires state { state < states_of d.now }
@@ -46,28 +46,28 @@ fn first_word_to(alloc: Global, d: &Dfa, state: u32) -> Result<Vec<u32>, OutOfMe
     let mut word = Vec::new(alloc);
     let mut place = state;
     while place != 0 {
-        let edge = first_edge(turned.edges(place));
-        word.push(edge.letter)?;
-        place = edge.target;
+        let transition = first_transition(turned.transitions(place));
+        word.push(transition.letter)?;
+        place = transition.target;
     }
     word.reverse();
     Ok(word)
 }
 
-// The edge of the smallest target, and of those the one of the smallest letter.
-fn first_edge(edges: &[Edge]) -> Edge
-    requires { 0 < length edges.now }
-    ensures { IsFirstEdge edges.now result }
+// The transition of the smallest target, and of those the one of the smallest letter.
+fn first_transition(transitions: &[Transition]) -> Transition
+    requires { 0 < length transitions.now }
+    ensures { IsFirstTransition transitions.now result }
 {
-    let mut first = edges[0];
-    for edge in edges {
-        first = earlier(first, *edge);
+    let mut first = transitions[0];
+    for transition in transitions {
+        first = earlier(first, *transition);
     }
     first
 }
 
-// The edge of the smaller target, or where they have one, of the smaller letter.
-fn earlier(first: Edge, second: Edge) -> Edge
+// The transition of the smaller target, or where they have one, of the smaller letter.
+fn earlier(first: Transition, second: Transition) -> Transition
     ensures left { NoLater result first }
     ensures right { NoLater result second }
     ensures one { (result ≡ first) ⊎ (result ≡ second) }

@@ -15,9 +15,9 @@ use minimise::canonical_classes::canonical_classes;
 use std::alloc::Global;
 use std::marker::Model;
 
-/// A function from words to letters, which some words may lack: the least automaton that tells it, with
-/// the class of each state. A state of class 0 has no letter, and one of class 1 the first letter. The
-/// letters stand in ascending order, and each is that of some word.
+/// A function from words to letters, which some words may lack: the minimal automaton that determines it, with the
+/// class of each state. A state of class 0 has no letter, and one of class 1 the first letter. The letters are in
+/// ascending order, and each is that of some word.
 #[derive(Drop)]
 pub struct LetterFunction {
     table: Dfa,
@@ -37,8 +37,8 @@ impl Model for LetterFunction {
 }
 
 impl LetterFunction {
-    /// The function that gives words the letters of the states that they lead to in a table. Some word
-    /// leads to each state. Time and memory are those of making the table least, but for sorting letters.
+    /// The function that gives words the letters of the states that they lead to in a table. Some word leads to each
+    /// state. Time and memory are those of minimising the table, but for sorting letters.
     pub fn of_states(
         alloc: Global,
         table: &Dfa,

@@ -17,15 +17,13 @@ use digit_tuple::stepped::Stepped;
 use digit_tuple::steps::Steps;
 use std::alloc::Global;
 
-/// The function that gives each word the letter of the word without the zeros at the end of its most
-/// significant letters, by the step `pad` as the next one. The width is, where the most significant digit
-/// comes first, that of pairs of whether a word is all zeros and of what follows it without its leading
-/// zeros; else that of pairs of what follows a word without its trailing zeros and with them. Time and
-/// memory follow the width and the edges.
+/// The function that gives each word the letter of the word without the zeros at the end of its most significant
+/// letters, by the step `pad` as the next one. The width is, where the most significant digit comes first, that of
+/// pairs of whether a word is all zeros and of what follows it without its leading zeros; else that of pairs of what
+/// follows a word without its trailing zeros and with them. Time and memory follow the width and the transitions.
 ///
 /// # Errors
-/// `States` exactly where the width passes the limit. The steps are as before then, also where memory is
-/// wanting.
+/// `States` if and only if the width passes the limit. The steps are as before then, also where memory is wanting.
 pub fn pad_letters(
     alloc: Global,
     function: &LetterFunction,

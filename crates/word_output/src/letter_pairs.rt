@@ -24,9 +24,9 @@ use product_op::argument_readers::whole_reader;
 use product_op::tuples::explore_tuples;
 use std::alloc::Global;
 
-/// The canonical automaton of the words that have letters of both functions which compare so. Both are over
-/// the same tracks. The width is that of pairs of what follows a word in the one and in the other. `States`
-/// comes exactly where it passes the limit, and `Letters` never.
+/// The canonical automaton of the words that have letters of both functions which compare so. Both are over the same
+/// tracks. The width is that of pairs of what follows a word in the one and in the other. `States` comes if and only if
+/// it passes the limit, and `Letters` never.
 pub(crate) fn compared(
     alloc: Global,
     first: &LetterFunction,

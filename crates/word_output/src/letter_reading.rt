@@ -28,14 +28,13 @@ use product_op::argument_readers::whole_reader;
 use product_op::tuples::explore_tuples;
 use std::alloc::Global;
 
-/// The function that gives words the letters that a word's file lists, by the step `read` as the next
-/// one. `digits` gives how many digits each system of the header has. The width is the number of listed
-/// states that words lead to, and one more where some word leads to none. Time and memory follow the
-/// edges of the listed table.
+/// The function that gives words the letters that a word's file lists, by the step `read` as the next one. `digits`
+/// gives how many digits each system of the header has. The width is the number of listed states that words lead to,
+/// and one more where some word leads to none. Time and memory follow the transitions of the listed table.
 ///
 /// # Errors
-/// `Letters` exactly where there are too many tracks or letters, looked at first; `States` exactly where
-/// the width passes the limit. The steps are as before then, also where memory is wanting.
+/// `Letters` if and only if there are too many tracks or letters, looked at first; `States` if and only if the width
+/// passes the limit. The steps are as before then, also where memory is wanting.
 pub fn read_letters(
     alloc: Global,
     listed: &Listed,

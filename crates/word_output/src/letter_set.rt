@@ -11,9 +11,8 @@ use minimise::canonical::canonical;
 use num_system::comparison::Comparison;
 use std::alloc::Global;
 
-/// The canonical automaton of the words that have a letter which compares so with the given one, the
-/// word's letter standing on the left. It makes no step; the cost is that of making a table of the same
-/// edges least.
+/// The canonical automaton of the words that have a letter which compares so with the given one, with the word's letter
+/// on the left. It makes no step; the cost is that of minimising a table of the same transitions.
 pub fn letter_set(
     alloc: Global,
     function: &LetterFunction,

@@ -1,5 +1,4 @@
-//! Automatic words: the letter at each place, as an automaton that gives letters to the words that spell
-//! places.
+//! Automatic words: the letter at each place, as an automaton that gives letters to the words that represent places.
 #![tactic(auto)]
 
 /// The letters of the states of an automaton.
@@ -32,8 +31,8 @@ mod least_word;
 /// Valid words without a letter.
 pub mod gap;
 
-/// Spellings of places.
-pub mod spelling;
+/// Representations of places.
+pub mod representation;
 
 /// Why no word is read.
 pub mod word_fault;

@@ -15,7 +15,7 @@ use digit_tuple::exploration::{Explored, explore_keys};
 use digit_tuple::faults::OpFault;
 use digit_tuple::no_words::no_words_within;
 use digit_tuple::stepped::Stepped;
-use minimise::sink::first_state;
+use minimise::sink::initial_state;
 use project_close::padded_pairs::PaddedPairs;
 use std::alloc::Global;
 
@@ -33,7 +33,7 @@ pub(crate) fn pad_lsd(
 {
     let dfa = function.dfa();
     let alphabet = dfa.alphabet().copy(alloc)?;
-    if first_state(dfa) == dfa.states() {
+    if initial_state(dfa) == dfa.states() {
         no_letters(alloc, function, alphabet, limit)
     } else {
         explore_pairs(alloc, function, alphabet, limit)

@@ -2,21 +2,21 @@
 
 ghost use Rattle.std.specs.Prelude.{◌≡◌, ◌+◌, ◌<◌, ◌≤◌, ◌++◌, [], false, filter, IfOk, OnOk};
 ghost use Rattle.std.specs.Result.{IsErrOf};
-ghost use Rattle.digit_tuple.specs.Deterministic.{IsTable, edges_of, letters_of, states_of};
+ghost use Rattle.digit_tuple.specs.Deterministic.{IsTable, transitions_of, letters_of, states_of};
 ghost use Rattle.digit_tuple.specs.Width.{HasApart, HasWidth};
 ghost use Rattle.digit_tuple.specs.declared.direction.Direction.TheVariants.{Msd};
 ghost use Rattle.word_output.specs.LetterPaddings.{IsLetterPadding, PaddedLettersAlike};
-ghost use Rattle.word_output.specs.PastZeros.{IsPast, edge_by_zero, edges_from, is_by_other, past_after, past_after_is_past, past_edges};
+ghost use Rattle.word_output.specs.PastZeros.{IsPast, transition_by_zero, transitions_from, is_by_other, past_after, past_after_is_past, past_transitions};
 
 use crate::head_letters::head_letters;
 use crate::letter_function::LetterFunction;
 use digit_tuple::dfa::Dfa;
-use digit_tuple::edges::Edge;
 use digit_tuple::exploration::{Explored, explore_keys};
 use digit_tuple::faults::{OpFault, OutOfMemory};
-use digit_tuple::key_edges::KeyEdges;
 use digit_tuple::key_graph::KeyGraph;
+use digit_tuple::key_transitions::KeyTransitions;
 use digit_tuple::stepped::Stepped;
+use digit_tuple::transitions::Transition;
 use std::alloc::Global;
 
 /// What words lead to without their leading zeros: no state while there are zeros alone, then a state.
@@ -48,16 +48,21 @@ impl KeyGraph for PastZeros<'_> {
         Ok(Vec::new(alloc))
     }
 
-    fn edges(&self, alloc: Global, key: &[u32], out: &mut KeyEdges) -> Result<(), OutOfMemory> {
+    fn transitions(
+        &self,
+        alloc: Global,
+        key: &[u32],
+        out: &mut KeyTransitions,
+    ) -> Result<(), OutOfMemory> {
         let mut row = Vec::new(alloc);
         match key {
             [] => {
                 push_zero(self.letters, out)?;
-                self.dfa.edges_into(0, &mut row)?;
+                self.dfa.transitions_into(0, &mut row)?;
                 push_others(&row, out)
             }
             [state, ..] => {
-                self.dfa.edges_into(*state, &mut row)?;
+                self.dfa.transitions_into(*state, &mut row)?;
                 push_all(&row, out)
             }
         }
@@ -68,9 +73,9 @@ impl KeyGraph for PastZeros<'_> {
     }
 }
 
-// Adds the edge by a zero after zeros, if there are letters.
-fn push_zero(letters: u32, out: &mut KeyEdges) -> Result<(), OutOfMemory>
-    ensures { OnOk result (out.new ≡ out.old ++ edge_by_zero letters) }
+// Adds the transition by a zero after zeros, if there are letters.
+fn push_zero(letters: u32, out: &mut KeyTransitions) -> Result<(), OutOfMemory>
+    ensures { OnOk result (out.new ≡ out.old ++ transition_by_zero letters) }
 {
     if letters > 0 {
         out.push(0, &[])?;
@@ -78,24 +83,24 @@ fn push_zero(letters: u32, out: &mut KeyEdges) -> Result<(), OutOfMemory>
     Ok(())
 }
 
-// Adds the edges by other letters than zero.
-fn push_others(row: &[Edge], out: &mut KeyEdges) -> Result<(), OutOfMemory>
-    ensures { OnOk result (out.new ≡ out.old ++ edges_from (filter is_by_other row.now)) }
+// Adds the transitions by other letters than zero.
+fn push_others(row: &[Transition], out: &mut KeyTransitions) -> Result<(), OutOfMemory>
+    ensures { OnOk result (out.new ≡ out.old ++ transitions_from (filter is_by_other row.now)) }
 {
-    for edge in row {
-        if edge.letter != 0 {
-            out.push(edge.letter, &[edge.target])?;
+    for transition in row {
+        if transition.letter != 0 {
+            out.push(transition.letter, &[transition.target])?;
         }
     }
     Ok(())
 }
 
-// Adds all edges.
-fn push_all(row: &[Edge], out: &mut KeyEdges) -> Result<(), OutOfMemory>
-    ensures { OnOk result (out.new ≡ out.old ++ edges_from row.now) }
+// Adds all transitions.
+fn push_all(row: &[Transition], out: &mut KeyTransitions) -> Result<(), OutOfMemory>
+    ensures { OnOk result (out.new ≡ out.old ++ transitions_from row.now) }
 {
-    for edge in row {
-        out.push(edge.letter, &[edge.target])?;
+    for transition in row {
+        out.push(transition.letter, &[transition.target])?;
     }
     Ok(())
 }

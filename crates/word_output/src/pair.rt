@@ -25,15 +25,14 @@ use minimise::tracked::Tracked;
 use num_system::comparison::Comparison;
 use std::alloc::Global;
 
-/// The words over the tracks of both in which two letters are read that compare so, by the step `product`
-/// as the next one. Tracks of one name, of one function too, are one track, and have one number of digits;
-/// they become one before the step. The result is canonical, and its tracks stand in byte order of their
-/// names. The width is that of pairs of what follows a word in the one and in the other. Time and memory
-/// follow the letters and the pairs.
+/// The words over the tracks of both in which two letters are read that compare so, by the step `product` as the next
+/// one. Tracks of one name, of one function too, are one track, and have one number of digits; they become one before
+/// the step. The result is canonical, and its tracks are in byte order of their names. The width is that of pairs of
+/// what follows a word in the one and in the other. Time and memory follow the letters and the pairs.
 ///
 /// # Errors
-/// `Letters` exactly where there are too many tracks or letters, looked at first; `States` exactly where
-/// the width passes the limit. The steps are as before then, also where memory is wanting.
+/// `Letters` if and only if there are too many tracks or letters, looked at first; `States` if and only if the width
+/// passes the limit. The steps are as before then, also where memory is wanting.
 pub fn pair_step(
     alloc: Global,
     first: Placed<'_>,

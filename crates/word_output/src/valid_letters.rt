@@ -23,14 +23,13 @@ use product_op::validity::validity_readers;
 use std::alloc::Global;
 use std::rc::Rc;
 
-/// The function that gives the words whose tracks are each in the track's language the letters that they
-/// have, and other words none, by the step `valid` as the next one. There is a canonical language for each
-/// track. The width is that of tuples of what follows a word and of the residuals of all languages. Time
-/// and memory follow the width and the edges.
+/// The function that gives the words whose tracks are each in the track's language the letters that they have, and
+/// other words none, by the step `valid` as the next one. There is a canonical language for each track. The width is
+/// that of tuples of what follows a word and of the residuals of all languages. Time and memory follow the width and
+/// the transitions.
 ///
 /// # Errors
-/// `States` exactly where the width passes the limit. The steps are as before then, also where memory is
-/// wanting.
+/// `States` if and only if the width passes the limit. The steps are as before then, also where memory is wanting.
 pub fn valid_letters(
     alloc: Global,
     function: &LetterFunction,

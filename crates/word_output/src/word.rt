@@ -12,8 +12,8 @@ use num_system::system::System;
 use std::marker::Model;
 use std::rc::Rc;
 
-/// An automatic word: a letter at each place, which is a tuple of numbers. Each track has a sealed system,
-/// and these have one direction. All spellings of a place have its letter, and other words have none.
+/// An automatic word: a letter at each place, which is a tuple of numbers. Each track has a sealed system, and these
+/// have one direction. All representations of a place have its letter, and other words have none.
 #[derive(Drop)]
 pub struct Word {
     letter_function: LetterFunction,
@@ -60,8 +60,8 @@ impl Word {
         self.letter_function.letters()
     }
 
-    /// The letter of a word over the tracks. Of words over their digits it is None exactly for those that
-    /// spell no place. It takes no memory; the time follows the word.
+    /// The letter of a word over the tracks. Of words over their digits it is None exactly for those that represent no
+    /// place. It takes no memory; the time follows the word.
     pub fn value(&self, word: &[u32]) -> Option<i32>
         ensures value { result ≡ letter_after self.now.function word.now }
         ensures word { IsWordValue self.now }

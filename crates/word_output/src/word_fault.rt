@@ -4,15 +4,15 @@ ghost use Rattle.std.specs.Prelude.{◌≡◌};
 ghost use Rattle.digit_tuple.specs.declared.step_fault.StepFault.TheVariants.{Memory};
 ghost use Rattle.word_output.specs.declared.word_fault.WordFault.TheVariants.{Step};
 
-use crate::spelling::Spelling;
+use crate::representation::Representation;
 use digit_tuple::faults::OutOfMemory;
 use digit_tuple::step_fault::StepFault;
 
 /// Why no word is read from what a file lists.
 #[derive(Drop)]
 pub enum WordFault {
-    /// Some place has no letter: its spelling is the first of all that have none.
-    Gap(Spelling),
+    /// Some place has no letter: its representation is the first of all that have none.
+    Gap(Representation),
     /// A step passes a limit, or memory ran out.
     Step(StepFault),
 }

@@ -6,14 +6,14 @@ ghost use Rattle.std.specs.Rc.{rc_value};
 ghost use Rattle.dfa_reading.specs.WordFiles.{IsWordListed};
 ghost use Rattle.dfa_reading.specs.Headers.{digits_in};
 ghost use Rattle.num_system.specs.Sealed.{IsSealed};
-ghost use Rattle.num_system.specs.Tracks.{HaveOneWay, languages_of as languages_of_systems};
+ghost use Rattle.num_system.specs.Tracks.{ShareDirection, languages_of as languages_of_systems};
 ghost use Rattle.word_output.specs.WordReadings.{DoesLetterSteps, DoesWord};
 
 use crate::gap::least_gap;
 use crate::letter_function::LetterFunction;
 use crate::letter_padding::pad_letters;
 use crate::letter_reading::read_letters;
-use crate::spelling::Spelling;
+use crate::representation::Representation;
 use crate::valid_letters::valid_letters;
 use crate::word::Word;
 use crate::word_fault::WordFault;
@@ -27,14 +27,14 @@ use num_system::tracks::{digits_of, direction_of, languages_of, shared};
 use std::alloc::Global;
 use std::rc::Rc;
 
-/// The word whose letter at each place is that which a word's file lists there: where the path of the
-/// place's spelling without leading zeros ends. It is made by the steps `read`, `pad` and `valid` as the
-/// next ones. There is a system for each track of the header, and all have one direction. The widths and
-/// the costs are those of the steps.
+/// The word whose letter at each place is that which a word's file lists there: where the path of the place's
+/// representation without leading zeros ends. It is made by the steps `read`, `pad` and `valid` as the next ones. There
+/// is a system for each track of the header, and all have one direction. The widths and the costs are those of the
+/// steps.
 ///
 /// # Errors
-/// `Letters` and `States` exactly at the first step that passes a limit. Where each step is within them,
-/// `Gap` exactly where some place has no letter, with the first spelling of all such places.
+/// `Letters` and `States` exactly at the first step that passes a limit. Where each step is within them, `Gap` if and
+/// only if some place has no letter, with the first representation of all such places.
 pub fn read_word_steps(
     alloc: Global,
     listed: &Listed,
@@ -44,7 +44,7 @@ pub fn read_word_steps(
     requires states { 0 < length listed.now.outputs }
     requires word { IsWordListed listed.now }
     requires tracks { length systems.now ≡ length (digits_in listed.now.header) }
-    requires direction { HaveOneWay (map rc_value systems.now) }
+    requires direction { ShareDirection (map rc_value systems.now) }
     ensures { DoesWord steps.old (map rc_value systems.now) listed.now result steps.new }
 {
     are_sealed(systems);
@@ -53,7 +53,7 @@ pub fn read_word_steps(
     let function = letter_steps(alloc, listed, systems, &languages, steps)?;
     match least_gap(alloc, &function, &languages)? {
         None => Ok(Word::from_parts(function, kept)),
-        Some(gap) => Err(WordFault::Gap(Spelling::of_word(
+        Some(gap) => Err(WordFault::Gap(Representation::of_word(
             alloc,
             function.dfa().alphabet(),
             &gap,

@@ -4,7 +4,7 @@ use Rattle.adder_check.specs.LanguageLaws.{IsEndless, language_in}
 use Rattle.adder_check.proofs.endless.is_endless.Goals as goal
 
 pub returns-in-Msd : goal.returns-in-Msd
-returns-in-Msd c = subst (λ (way : Direction). IfOk c.has_round_first.result (λ is. IsTrue is ↔ IsEndless (language_in way c.args.language.now))) (sym c.in-Msd.is) c.has_round_first.ensures
+returns-in-Msd c = subst (λ (direction : Direction). IfOk c.has_round_first.result (λ is. IsTrue is ↔ IsEndless (language_in direction c.args.language.now))) (sym c.in-Msd.is) c.has_round_first.ensures
 
 pub returns-in-Lsd : goal.returns-in-Lsd
-returns-in-Lsd c = subst (λ (way : Direction). IfOk c.has_round_last.result (λ is. IsTrue is ↔ IsEndless (language_in way c.args.language.now))) (sym c.in-Lsd.is) c.has_round_last.ensures
+returns-in-Lsd c = subst (λ (direction : Direction). IfOk c.has_round_last.result (λ is. IsTrue is ↔ IsEndless (language_in direction c.args.language.now))) (sym c.in-Lsd.is) c.has_round_last.ensures

@@ -1,11 +1,11 @@
 use Rattle.std.proofs.Common.{arith, ℕ, get_or}
 use Rattle.std.proofs.lemmas.List.{get_or_default}
-use Rattle.adder_check.proofs.EdgeCounts.{room_left}
+use Rattle.adder_check.proofs.TransitionCounts.{room_left}
 use Rattle.adder_check.proofs.sorting.add_links.Goals as goal
 
 pub overflow_add-index_mut : goal.overflow_add-index_mut
 overflow_add-index_mut c =
-    let t : ℕ = (get_or c.args.edges.now c.loop-edge.edge-index (record { letter = 0; target = 0 })).target in
-    let inside = c.requires.targets c.loop-edge.edge-index (record { letter = 0; target = 0 }) c.loop-edge-test.true in
-    let room = room_left c.args.without_zero c.args.edges.now c.loop-edge.edge-index t c.args.pending.now.items c.loop-edge.pending.items c.loop-edge-test.true c.loop-edge.invariant inside c.requires.room in
-    omega (arith, room, c.index_mut.ensures.value, get_or_default c.loop-edge.pending.items t c.index_mut.result.now 0 (omega (arith, inside, c.loop-edge.invariant.width)))
+    let t : ℕ = (get_or c.args.transitions.now c.loop-transition.transition-index (record { letter = 0; target = 0 })).target in
+    let inside = c.requires.targets c.loop-transition.transition-index (record { letter = 0; target = 0 }) c.loop-transition-test.true in
+    let room = room_left c.args.without_zero c.args.transitions.now c.loop-transition.transition-index t c.args.pending.now.items c.loop-transition.pending.items c.loop-transition-test.true c.loop-transition.invariant inside c.requires.room in
+    omega (arith, room, c.index_mut.ensures.value, get_or_default c.loop-transition.pending.items t c.index_mut.result.now 0 (omega (arith, inside, c.loop-transition.invariant.width)))

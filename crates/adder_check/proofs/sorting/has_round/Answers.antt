@@ -1,7 +1,7 @@
 use Rattle.std.proofs.Common.{◌<◌, arith}
 use Rattle.std.proofs.lemmas.List.{get_or_default}
 use Rattle.digit_tuple.specs.Deterministic.{states_of}
-use Rattle.adder_check.proofs.WayLemmas.{HasRound-left}
+use Rattle.adder_check.proofs.PathLemmas.{HasRound-left}
 use Rattle.adder_check.proofs.sorting.has_round.Goals as goal
 
 pub returns-then-index-gt0-clause-round : goal.returns-then-index-gt0-clause-round

@@ -2,9 +2,9 @@ use Rattle.std.proofs.Common.{take, length}
 use Rattle.adder_check.specs.Counts.{AreReleased, AreFree, Grows}
 use Rattle.adder_check.proofs.sorting.release.Given as goal
 
-abbrev pub invariant-loop-edge : goal.invariant-loop-edge
-invariant-loop-edge l = record {
-  released : AreReleased l.without_zero (take l.edge-index l.edges) l.fn.pending.items l.pending.items;
+abbrev pub invariant-loop-transition : goal.invariant-loop-transition
+invariant-loop-transition l = record {
+  released : AreReleased l.without_zero (take l.transition-index l.transitions) l.fn.pending.items l.pending.items;
   free : AreFree l.pending.items l.order.items (length l.pending.items);
   grows : Grows l.fn.order.items l.order.items;
 }

@@ -2,9 +2,9 @@ use Rattle.std.proofs.Common.{◌≡◌, ◌<◌, ℕ, ◌+◌, Vec, Global, len
 use Rattle.std.proofs.lemmas.List.{get_or_default}
 use Rattle.digit_tuple.specs.Deterministic.{states_of}
 use Rattle.adder_check.specs.Counts.{AreFree}
-use Rattle.adder_check.proofs.WayLemmas.{IsUnderWay, IsUnderWay-start, IsUnderWay-skip, IsUnderWay-more, links_left, IsSorted-end}
+use Rattle.adder_check.proofs.PathLemmas.{IsUnderWay, IsUnderWay-start, IsUnderWay-skip, IsUnderWay-more, links_left, IsSorted-end}
 use Rattle.adder_check.proofs.sorting.sorted.Goals as goal
-use Rattle.adder_check.proofs.sorting.sorted.Goals.{then-place-len+in_ok-edges_into+in_ok-release, else-place-len}
+use Rattle.adder_check.proofs.sorting.sorted.Goals.{then-place-len+in_ok-transitions_into+in_ok-release, else-place-len}
 
 pub free_states-requires : goal.free_states-requires
 free_states-requires c = omega (arith, ap length c.deref.ensures.value, c.in_ok-pending.ensures.width, c.states-states.ensures.table.part.small)
@@ -18,18 +18,18 @@ pub release-requires-clause-enough : goal.release-requires-clause-enough
 release-requires-clause-enough c =
     links_left c.args.language.now c.args.without c.loop-place.pending.items c.loop-place.order.items c.loop-place.place c.loop-place.invariant (omega (arith, c.if-place-len.true, c.len.ensures))
     c.index-state.result.now c.deref-then-place-len.result.now (c.index-state.ensures ∙ get_or_default c.loop-place.order.items c.loop-place.place c.index-state.result.now 0 (omega (arith, c.if-place-len.true, c.len.ensures)))
-    (c.deref-then-place-len.ensures.value ∙ c.in_ok-edges_into.ensures.edges)
+    (c.deref-then-place-len.ensures.value ∙ c.in_ok-transitions_into.ensures.transitions)
 
 pub loop-place-preserved : goal.loop-place-preserved
 loop-place-preserved c = elim c.if-place-len.branch [
-  | then-place-len+in_ok-edges_into+in_ok-release w ↦
+  | then-place-len+in_ok-transitions_into+in_ok-release w ↦
       let within : c.loop-place.place < length c.loop-place.order.items = omega (arith, w.if-place-len.true, c.len.ensures) in
       subst (λ (v : Vec ℕ Global). IsUnderWay c.args.language.now c.args.without v.items c.if-place-len.order.items (c.loop-place.place + 1)) (sym w.pending-is)
       (subst (λ (v : Vec ℕ Global). IsUnderWay c.args.language.now c.args.without w.release.new.pending.items v.items (c.loop-place.place + 1)) (sym w.order-is)
       (IsUnderWay-more c.args.language.now c.args.without c.loop-place.pending.items c.loop-place.order.items c.loop-place.place c.loop-place.invariant within
       w.release.new.pending.items w.release.new.order.items w.index-state.result.now w.deref-then-place-len.result.now
       (w.index-state.ensures ∙ get_or_default c.loop-place.order.items c.loop-place.place w.index-state.result.now 0 within)
-      (w.deref-then-place-len.ensures.value ∙ w.in_ok-edges_into.ensures.edges) w.in_ok-release.ensures.released w.in_ok-release.ensures.free w.in_ok-release.ensures.grows))
+      (w.deref-then-place-len.ensures.value ∙ w.in_ok-transitions_into.ensures.transitions) w.in_ok-release.ensures.released w.in_ok-release.ensures.free w.in_ok-release.ensures.grows))
   | else-place-len w ↦
       subst (λ (v : Vec ℕ Global). IsUnderWay c.args.language.now c.args.without v.items c.if-place-len.order.items (c.loop-place.place + 1)) (sym w.pending-is)
       (subst (λ (v : Vec ℕ Global). IsUnderWay c.args.language.now c.args.without c.loop-place.pending.items v.items (c.loop-place.place + 1)) (sym w.order-is)

@@ -1,4 +1,4 @@
-use Rattle.adder_check.proofs.WayLemmas.{IsUnderWay}
+use Rattle.adder_check.proofs.PathLemmas.{IsUnderWay}
 use Rattle.adder_check.proofs.sorting.sorted.Given as goal
 
 abbrev pub invariant-loop-place : goal.invariant-loop-place

@@ -5,8 +5,8 @@ use Rattle.adder_check.proofs.ZeroSumLemmas.{zero_law_told}
 use Rattle.adder_check.proofs.zero_sums.keeps_zero_law.Goals as goal
 
 pub returns-clause-law : goal.returns-clause-law
-returns-clause-law c = λ way s test system sums equal.
-    let told = zero_law_told test way s c.args.sums.now.automaton c.args.equal.now system sums equal in
+returns-clause-law c = λ direction s test system sums equal.
+    let told = zero_law_told test direction s c.args.sums.now.automaton c.args.equal.now system sums equal in
     let here = subst (λ (d : Automaton). SameLanguage d c.args.equal.now) c.dfa.ensures.value in
     let back = subst (λ (d : Automaton). SameLanguage d c.args.equal.now) (sym c.dfa.ensures.value) in
     ((λ t. told.0 (here (c.same.ensures.0 t))), (λ law. c.same.ensures.1 (back (told.1 law))))

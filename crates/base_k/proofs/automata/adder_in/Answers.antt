@@ -15,8 +15,8 @@ from_states-requires c =
     let states : AreCarryStates c.args.direction k c.in_ok-none.none c.in_ok-one.one = record {
       accepts = c.in_ok-none.ensures.accepting;
       refuses = c.in_ok-one.ensures.accepting;
-      none_edges = c.in_ok-none.ensures.edges;
-      one_edges = c.in_ok-one.ensures.edges;
+      none_transitions = c.in_ok-none.ensures.transitions;
+      one_transitions = c.in_ok-one.ensures.transitions;
     } in
     let sizes : c.alphabet.inside.digit_counts.items ≡ k ∷ k ∷ k ∷ [] = cc (c.alphabet.view_is, c.in_ok-alphabet.ensures) in
     subst (λ (sizes : List ℕ). IsTable (product sizes) (states_in c.in_ok-vec.field-0.items)) (sym sizes)
@@ -29,8 +29,8 @@ returns c =
     let states : AreCarryStates c.args.direction k c.in_ok-none.none c.in_ok-one.one = record {
       accepts = c.in_ok-none.ensures.accepting;
       refuses = c.in_ok-one.ensures.accepting;
-      none_edges = c.in_ok-none.ensures.edges;
-      one_edges = c.in_ok-one.ensures.edges;
+      none_transitions = c.in_ok-none.ensures.transitions;
+      one_transitions = c.in_ok-one.ensures.transitions;
     } in
     let sizes : c.alphabet.inside.digit_counts.items ≡ k ∷ k ∷ k ∷ [] = cc (c.alphabet.view_is, c.in_ok-alphabet.ensures) in
     let same : (let d : Automaton = record { sizes = c.alphabet.inside.digit_counts.items; states = states_in c.in_ok-vec.field-0.items } in d) ≡ record { sizes = k ∷ k ∷ k ∷ []; states = states_in (c.in_ok-none.none ∷ c.in_ok-one.one ∷ []) } =

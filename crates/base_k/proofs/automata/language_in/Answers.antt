@@ -12,10 +12,10 @@ use Rattle.base_k.proofs.automata.language_in.Goals as goal
 pub returns : goal.returns
 returns c =
     let k = c.args.k in
-    let state : DfaState = record { accepting = true; edges = c.in_ok-edges_home.field-0 } in
+    let state : DfaState = record { accepting = true; transitions = c.in_ok-transitions_home.field-0 } in
     let sizes : c.alphabet.inside.digit_counts.items ≡ k ∷ [] = cc (c.alphabet.view_is, c.in_ok-alphabet.ensures) in
     let same : (let d : Automaton = record { sizes = c.alphabet.inside.digit_counts.items; states = states_in c.in_ok-vec.field-0.items } in d) ≡ record { sizes = k ∷ []; states = states_in (state ∷ []) } =
     λ i. record { sizes = sizes i; states = states_in (c.in_ok-vec.ensures.items i) } in
-    IfOk-weaker c.from_states.result (λ dfa. dfa ≡ record { sizes = c.alphabet.inside.digit_counts.items; states = states_in c.in_ok-vec.field-0.items }) (λ dfa. (way : Direction) → IsLanguageOf way (base k) dfa)
-    (λ dfa is way. language_holds way k state dfa refl c.in_ok-edges_home.ensures (is ∙ same))
+    IfOk-weaker c.from_states.result (λ dfa. dfa ≡ record { sizes = c.alphabet.inside.digit_counts.items; states = states_in c.in_ok-vec.field-0.items }) (λ dfa. (direction : Direction) → IsLanguageOf direction (base k) dfa)
+    (λ dfa is direction. language_holds direction k state dfa refl c.in_ok-transitions_home.ensures (is ∙ same))
     c.from_states.ensures

@@ -9,7 +9,7 @@ use Rattle.product_op.specs.Readings.{AreReadings, Reading, readings_in}
 use Rattle.product_op.specs.TrackReadings.{AllFitTracks}
 use Rattle.product_op.specs.Tuples.{AreTuples, LeadToOne}
 use Rattle.product_op.proofs.ReaderLemmas.{length-readings}
-use Rattle.numeration.specs.Spelling.{sizes_of}
+use Rattle.numeration.specs.Representation.{sizes_of}
 use Rattle.num_system.specs.Sealed.{SystemValue}
 use Rattle.num_system.specs.Tracks.{languages_of, systems_of}
 use Rattle.num_system.proofs.LineLemmas.{handed_on}

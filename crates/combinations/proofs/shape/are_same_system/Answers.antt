@@ -7,10 +7,10 @@ pub returns : goal.returns
 returns c =
     let first : c.as_ref.result.now ≡ c.args.system.now.language = c.as_ref.ensures ∙ c.language.ensures.value in
     let second : c.as_ref-2.result.now ≡ c.args.other.now.language = c.as_ref-2.ensures ∙ c.language-2.ensures.value in
-    let way : c.direction.result ≡ c.direction-2.result = search rules in (
+    let direction : c.direction.result ≡ c.direction-2.result = search rules in (
       λ is. record {
         digits = omega (arith, c.digits.ensures.value, c.digits-2.ensures.value, c.if-digits.false);
-        way = sym c.direction.ensures.value ∙ way ∙ c.direction-2.ensures.value;
+        direction = sym c.direction.ensures.value ∙ direction ∙ c.direction-2.ensures.value;
         language =
             subst (λ (d : Automaton). SameLanguage d c.args.other.now.language) first
             (subst (λ (e : Automaton). SameLanguage c.as_ref.result.now e) second (c.same.ensures.0 is));

@@ -12,25 +12,25 @@ use Rattle.command_head.proofs.Listing.{listing_first, listing_more, listing_ref
 use Rattle.command_head.proofs.combining.combine_parts.Goals as goal
 use Rattle.command_head.proofs.combining.combine_parts.Goals.{then-is_empty, else-is_empty+then-not-is_empty}
 
-pub returns-in_err-behind-clause-head : goal.returns-in_err-behind-clause-head
-returns-in_err-behind-clause-head c =
+pub returns-in_err-suffix-clause-head : goal.returns-in_err-suffix-clause-head
+returns-in_err-suffix-clause-head c =
     let p = err_from_is_err_and c.from_residual.result c.from_residual.ensures.1 in
-    rw (p.1, p.2, c.in_err-behind.ensures.1) (word_syntax SpellsCombine _ c.args.text.now first_expects c.in_err-behind.ensures.0 (first_long (first_word_of c.args.text.now)))
+    rw (p.1, p.2, c.in_err-suffix.ensures.1) (word_syntax SpellsCombine _ c.args.text.now first_expects c.in_err-suffix.ensures.0 (first_long (first_word_of c.args.text.now)))
 
 pub returns-in_err-word-clause-head : goal.returns-in_err-word-clause-head
 returns-in_err-word-clause-head c =
     let p = err_from_is_err_and c.from_residual-in_err-word.result c.from_residual-in_err-word.ensures.1 in
-    let read = word_read c.args.text.now (codes "combine") _ _ _ c.in_ok-behind.ensures.0 c.in_ok-behind.ensures.1 c.in_ok-behind.ensures.2 c.in_ok-behind.ensures.3 in
+    let read = word_read c.args.text.now (codes "combine") _ _ _ c.in_ok-suffix.ensures.0 c.in_ok-suffix.ensures.1 c.in_ok-suffix.ensures.2 c.in_ok-suffix.ensures.3 in
     rw (p.1, p.2, c.in_err-word.ensures.1)
     (refused_syntax SpellsCombine (codes "combine" ∷ []) _ c.args.text.now _ _ _ c.first_part-first.result.bytes.now _ word_expects (λ none. word_unended) read
     c.first_part-first.ensures.at c.first_part-first.ensures.bytes (refuted _ c.in_err-word.ensures.0) (word_long c.first_part-first.result.bytes.now))
 
 pub automata-init : goal.automata-init
 automata-init c =
-    let before = word_read c.args.text.now (codes "combine") _ _ _ c.in_ok-behind.ensures.0 c.in_ok-behind.ensures.1 c.in_ok-behind.ensures.2 c.in_ok-behind.ensures.3 in
+    let before = word_read c.args.text.now (codes "combine") _ _ _ c.in_ok-suffix.ensures.0 c.in_ok-suffix.ensures.1 c.in_ok-suffix.ensures.2 c.in_ok-suffix.ensures.3 in
     let read = part_read c.args.text.now (codes "combine" ∷ []) _ _ _ _ _ c.first_part-first.result.bytes.now _ before (not_empty is_word _ refl c.in_ok-word.ensures.1) c.first_part-first.ensures.bytes c.first_part-first.ensures.whole c.first_part-first.ensures.blank c.first_part-first.ensures.rest in
     rw (c.new-automata.ensures.items, c.in_ok-word.ensures.0)
-    (listing_first c.args.text.now c.first_part-first.result.bytes.now _ _ _ _ read c.in_ok-behind.ensures.3 c.first_part-first.ensures.blank c.first_part-first.ensures.rest)
+    (listing_first c.args.text.now c.first_part-first.result.bytes.now _ _ _ _ read c.in_ok-suffix.ensures.3 c.first_part-first.ensures.blank c.first_part-first.ensures.rest)
 
 pub returns-in_err-valued_name-clause-head : goal.returns-in_err-valued_name-clause-head
 returns-in_err-valued_name-clause-head c =

@@ -4,7 +4,7 @@ use Rattle.command_head.proofs.CombineHeads.{not_named, not_value, split_is}
 use Rattle.command_head.proofs.combining.valued_name.Goals as goal
 
 pub returns-then-not-is_name : goal.returns-then-not-is_name
-returns-then-not-is_name c = (refl, not_named c.args.part.now.bytes.now c.split_at.result.0.now c.front_len.result c.is_name.result c.front_len.ensures.len c.split_at.ensures.front c.is_name.ensures c.if-not-is_name.true)
+returns-then-not-is_name c = (refl, not_named c.args.part.now.bytes.now c.split_at.result.0.now c.prefix_len.result c.is_name.result c.prefix_len.ensures.len c.split_at.ensures.prefix c.is_name.ensures c.if-not-is_name.true)
 
 pub name_of-requires : goal.name_of-requires
 name_of-requires c = IsAscii-name c.split_at.result.0.now (sym c.is_name.ensures ∙ c.if-not-is_name.false)
@@ -14,8 +14,8 @@ returns-in-Long c = (
   length c.split_at.result.0.now + 1,
   record {
     name = c.split_at.result.0.now;
-    behind = c.split_at.result.1.now;
-    part_is = split_is c.args.part.now.bytes.now c.split_at.result.0.now c.split_at.result.1.now c.front_len.result c.split_at.ensures.front c.split_at.ensures.back;
+    suffix = c.split_at.result.1.now;
+    part_is = split_is c.args.part.now.bytes.now c.split_at.result.0.now c.split_at.result.1.now c.prefix_len.result c.split_at.ensures.prefix c.split_at.ensures.back;
     is_named = sym c.is_name.ensures ∙ c.if-not-is_name.false;
     value = c.in-Long.ensures;
     place = refl;
@@ -24,4 +24,4 @@ returns-in-Long c = (
 )
 
 pub returns-in-Other : goal.returns-in-Other
-returns-in-Other c = (refl, not_value c.args.part.now.bytes.now c.split_at.result.1.now c.front_len.result c.front_len.ensures.len c.split_at.ensures.back c.in-Other.ensures)
+returns-in-Other c = (refl, not_value c.args.part.now.bytes.now c.split_at.result.1.now c.prefix_len.result c.prefix_len.ensures.len c.split_at.ensures.back c.in-Other.ensures)

@@ -22,23 +22,23 @@ returns-in_err-word-clause-states c refused s laws language =
 
 pub returns-clause-constant : goal.returns-clause-constant
 returns-clause-constant c s laws language =
-    let way = c.args.direction in
+    let direction = c.args.direction in
     let d = c.in_ok-paddings.paddings in
     let word = c.in_ok-word.word.items in
-    let paddings : (w : List ℕ) → IsTrue (accepts_of d w) ↔ (without_zeros (in_order way w) ≡ word) =
-    subst (λ v. (w : List ℕ) → IsTrue (accepts_of d w) ↔ (without_zeros (in_order way w) ≡ v)) c.deref.ensures.value c.in_ok-paddings.ensures.paddings in
+    let paddings : (w : List ℕ) → IsTrue (accepts_of d w) ↔ (without_zeros (in_order direction w) ≡ word) =
+    subst (λ v. (w : List ℕ) → IsTrue (accepts_of d w) ↔ (without_zeros (in_order direction w) ≡ v)) c.deref.ensures.value c.in_ok-paddings.ensures.paddings in
     let sizes : d.sizes ≡ s.digits ∷ [] = c.in_ok-paddings.ensures.sizes ∙ c.in_ok-alphabet.ensures ∙ c.alphabet.ensures.sizes ∙ language.sizes in
-    constant_is way s c.args.number word d c.in_ok-canonical.field-0 laws (c.in_ok-word.ensures.word s laws language) sizes paddings c.in_ok-canonical.ensures.sizes c.in_ok-canonical.ensures.language
+    constant_is direction s c.args.number word d c.in_ok-canonical.field-0 laws (c.in_ok-word.ensures.word s laws language) sizes paddings c.in_ok-canonical.ensures.sizes c.in_ok-canonical.ensures.language
 
 pub returns-clause-width : goal.returns-clause-width
 returns-clause-width c s laws language =
-    let way = c.args.direction in
+    let direction = c.args.direction in
     let d = c.in_ok-paddings.paddings in
     let word = c.in_ok-word.word.items in
-    let path : IsPaddingPath way word d = subst (λ v. IsPaddingPath way v d) c.deref.ensures.value c.in_ok-paddings.ensures.path in
+    let path : IsPaddingPath direction word d = subst (λ v. IsPaddingPath direction v d) c.deref.ensures.value c.in_ok-paddings.ensures.path in
     let long : length word ≡ c.len.result = ap length (sym c.deref.ensures.value) ∙ c.deref.ensures.len ∙ sym c.len.ensures in
-    subst (λ n. HasWidth (ConstantAlike way s c.args.number) s.digits (n + 2)) long
-    (constant_width way s c.args.number word laws (c.in_ok-word.ensures.word s laws language) d path)
+    subst (λ n. HasWidth (ConstantAlike direction s c.args.number) s.digits (n + 2)) long
+    (constant_width direction s c.args.number word laws (c.in_ok-word.ensures.word s laws language) d path)
 
 pub returns-clause-size : goal.returns-clause-size
 returns-clause-size c =

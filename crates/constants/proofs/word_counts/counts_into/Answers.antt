@@ -1,7 +1,7 @@
 use Rattle.std.proofs.Common.{◌≡◌, ℕ, ◌+◌, ◌<◌, List, cond, nat_eq, length, take, drop, ◌++◌, get_or, sym, ap, ◌∙◌, subst, arith, add-one}
 use Rattle.std.specs.List.{sum_by}
 use Rattle.std.proofs.Math.Seq.{take-append_seam}
-use Rattle.digit_tuple.specs.declared.edges.Edge.{Edge}
+use Rattle.digit_tuple.specs.declared.transitions.Transition.{Transition}
 use Rattle.digit_tuple.specs.Deterministic.{states_of}
 use Rattle.numeration.proofs.CountLemmas.{sum_below}
 use Rattle.constants.specs.WordCounts.{capped}
@@ -28,7 +28,7 @@ loop-state-preserved c =
           let below : p < length c.deref_mut.result.now = subst (λ k. p < k) (sym (ap length c.deref_mut.ensures.value ∙ c.loop-state.invariant.long)) within in
           let first : get_or c.deref_mut.result.now p 0 ≡ capped before = ap (λ (xs : List ℕ). get_or xs p 0) c.deref_mut.ensures.value ∙ was in
           c.add_along.ensures p before below first
-          ∙ ap (λ (es : List Edge). capped (before + sum_by (λ e. cond {A = ℕ} (nat_eq e.target p) (get_or row state 0) 0) es)) (c.deref.ensures.value ∙ c.in_ok-edges_into.ensures.edges)
+          ∙ ap (λ (es : List Transition). capped (before + sum_by (λ e. cond {A = ℕ} (nat_eq e.target p) (get_or row state 0) 0) es)) (c.deref.ensures.value ∙ c.in_ok-transitions_into.ensures.transitions)
           ∙ brought-more a n p state (get_or row state 0) before (are.counts state inside)
           ∙ ap (λ k. capped (sum_below (λ q. brought a n p q) k)) (sym (add-one state)));
     }

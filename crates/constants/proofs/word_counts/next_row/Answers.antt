@@ -7,10 +7,10 @@ pub returns-in-Msd : goal.returns-in-Msd
 returns-in-Msd c =
     let a = c.args.language.now in
     let row = c.args.row.now in
-    subst (λ (way : Direction). IfOk c.counts_from.result (λ next. (n : ℕ) → AreCounts way a n row → AreCounts way a (suc n) next.items)) (sym c.in-Msd.is) c.counts_from.ensures
+    subst (λ (direction : Direction). IfOk c.counts_from.result (λ next. (n : ℕ) → AreCounts direction a n row → AreCounts direction a (suc n) next.items)) (sym c.in-Msd.is) c.counts_from.ensures
 
 pub returns-in-Lsd : goal.returns-in-Lsd
 returns-in-Lsd c =
     let a = c.args.language.now in
     let row = c.args.row.now in
-    subst (λ (way : Direction). IfOk c.counts_into.result (λ next. (n : ℕ) → AreCounts way a n row → AreCounts way a (suc n) next.items)) (sym c.in-Lsd.is) c.counts_into.ensures
+    subst (λ (direction : Direction). IfOk c.counts_into.result (λ next. (n : ℕ) → AreCounts direction a n row → AreCounts direction a (suc n) next.items)) (sym c.in-Lsd.is) c.counts_into.ensures

@@ -2,7 +2,7 @@ use Rattle.std.proofs.Common.{◌≡◌, ℕ, List, map, sym, ap, ◌∙◌, sub
 use Rattle.std.specs.Rc.{rc_value}
 use Rattle.digit_tuple.specs.Letters.{IsAlphabet}
 use Rattle.dfa_reading.specs.Branching.{AreGiven, IsBranching, sizes_in}
-use Rattle.numeration.specs.Spelling.{sizes_of}
+use Rattle.numeration.specs.Representation.{sizes_of}
 use Rattle.num_system.specs.Tracks.{systems_of}
 use Rattle.definitions.proofs.TableSystems.{given_below, sizes_below}
 use Rattle.definitions.proofs.table.branching_of.Goals as goal

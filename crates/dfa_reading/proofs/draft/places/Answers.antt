@@ -1,7 +1,7 @@
 use Rattle.std.proofs.Common.{◌+◌, List, ℕ, drop, sym, ap, ◌∙◌}
 use Rattle.dfa_reading.specs.Lines.{each_of}
 use Rattle.dfa_reading.specs.Reading.{state_at}
-use Rattle.dfa_reading.proofs.ReadHeaders.{with_front}
+use Rattle.dfa_reading.proofs.ReadHeaders.{with_prefix}
 use Rattle.dfa_reading.proofs.Options.{each_more, each_fails}
 use Rattle.dfa_reading.proofs.draft.places.Goals as goal
 
@@ -11,5 +11,5 @@ returns-in-None c =
 
 pub loop-target-preserved : goal.loop-target-preserved
 loop-target-preserved c =
-    ap (λ (places : List ℕ). with_front places (each_of (state_at c.args.numbers.now.keys) (drop (c.loop-target.target-index + 1) c.args.targets.now))) c.in_ok-push-in-Some.ensures.items
+    ap (λ (places : List ℕ). with_prefix places (each_of (state_at c.args.numbers.now.keys) (drop (c.loop-target.target-index + 1) c.args.targets.now))) c.in_ok-push-in-Some.ensures.items
     ∙ each_more (state_at c.args.numbers.now.keys) c.args.targets.now c.loop-target.target-index 0 c.in-Some.place c.loop-target.places.items _ c.loop-target-test.true (sym c.get_index_of.ensures.index ∙ c.in-Some.is) c.loop-target.invariant

@@ -24,4 +24,4 @@ returns c =
     sym (same_sets c.args.set.now (digit_set c.args.digits) (are_digits c.args.set.now c.args.digits c.loop-place.invariant.count
     (λ k within.
     let inside : k < c.loop-place.place = omega (arith, within, ap length c.loop-place.invariant.members, c.loop-place-test.false) in
-    sym (ap (λ (l : List ℤ). get_or l k (pos 0)) c.loop-place.invariant.members) ∙ c.loop-place.invariant.front k inside)))
+    sym (ap (λ (l : List ℤ). get_or l k (pos 0)) c.loop-place.invariant.members) ∙ c.loop-place.invariant.prefix k inside)))

@@ -6,5 +6,5 @@ abbrev pub invariant-loop-place : goal.invariant-loop-place
 invariant-loop-place l = record {
   members : l.members ≡ l.set;
   count : length l.set ≡ l.digits;
-  front : (k : ℕ) → k < l.place → get_or l.members k (pos 0) ≡ pos k;
+  prefix : (k : ℕ) → k < l.place → get_or l.members k (pos 0) ≡ pos k;
 }

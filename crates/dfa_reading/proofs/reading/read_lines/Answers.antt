@@ -10,7 +10,7 @@ pub lines-init : goal.lines-init
 lines-init g c = record {
   read = ap (λ (d : Draft). add_lines_by (g.R.LineReader.adds c.args.reader) 1 d (lines_of c.args.text.now)) c.requires.nothing;
   after = refl;
-  is = c.requires.front;
+  is = c.requires.prefix;
   room = omega arith;
 }
 
@@ -28,6 +28,6 @@ lines-preserved g c =
     record {
       read = kept ∙ read_line (g.R.LineReader.adds reader) c.lines.at (g.R.LineReader.was_read reader) (g.R.LineReader.was_read next) c.lines.rest.now c.cut_at.result.0.now c.in-Some.next.now total lines added c.lines.invariant.read;
       after = count_line c.lines.at (1 + line_after (lines_of c.args.text.now)) c.lines.rest.now c.cut_at.result.0.now c.in-Some.next.now lines c.lines.invariant.after;
-      is = c.in_ok-add_line.ensures.front c.if-not-branch.false;
+      is = c.in_ok-add_line.ensures.prefix c.if-not-branch.false;
       room = omega (arith, c.lines.invariant.room);
     }

@@ -7,7 +7,7 @@ abbrev pub invariant-lines : goal.invariant-lines
 invariant-lines g l = record {
   read : add_lines_by (g.R.LineReader.adds l.reader) l.at (g.R.LineReader.was_read l.reader) (lines_of l.rest) ≡ add_lines_by (g.R.LineReader.adds l.fn.reader) 1 no_draft (lines_of l.text);
   after : l.at + line_after (lines_of l.rest) ≡ 1 + line_after (lines_of l.text);
-  is : g.R.LineReader.is_front l.reader;
+  is : g.R.LineReader.is_prefix l.reader;
   room : l.at + length l.rest ≤ 1 + length l.text;
 }
 

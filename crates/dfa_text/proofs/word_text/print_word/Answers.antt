@@ -18,5 +18,5 @@ loop-state-preserved c =
       text = lines_more (state_lines sets d outputs) c.push_header.new.out.items c.loop-state.out.items c.push_lines.new.out.items state c.loop-state.invariant.text
           (state_more c.loop-state.out.items c.push_output.new.out.items c.push_lines.new.out.items (state_text state (get_or outputs state (pos 0))) (steps_lines sets d state) (simp to_z-of_z at c.in_ok-push_output.ensures) c.in_ok-push_lines.ensures.text);
       tracks = c.in_ok-push_lines.ensures.tracks;
-      fronts = c.in_ok-push_lines.ensures.fronts;
+      prefixes = c.in_ok-push_lines.ensures.prefixes;
     }

@@ -4,7 +4,7 @@ use Rattle.std.proofs.lemmas.List.Sums.{sum_by-take-le}
 use Rattle.digit_tuple.specs.CellCounts.{cells_of}
 use Rattle.digit_tuple.specs.Decisions.{rows_in}
 use Rattle.digit_tuple.specs.Letters.{product}
-use Rattle.digit_tuple.specs.Reversed.{edge_to}
+use Rattle.digit_tuple.specs.Reversed.{transition_to}
 use Rattle.digit_tuple.proofs.BlockCellLemmas.{AreRowLetters-at, cells-more, few-cells, few-letters}
 use Rattle.digit_tuple.proofs.block_cells.whole_cells.Goals as goal
 
@@ -28,12 +28,12 @@ pub overflow_add-cells : goal.overflow_add-cells
 overflow_add-cells c =
     let at = AreRowLetters-at c.args.tracks.now c.args.rows.now c.loop-place.place c.in-Some.letters.now c.requires.over c.in-Some.ensures.one.1 (omega (arith, c.loop-place-test.true, c.len-place-end.ensures)) in
     let rows = rows_in c.args.rows.now in
-    let count = c.letter_cells-cells.ensures ∙ ap (λ (ss : List ℕ). cells_of ss (map (λ letter. edge_to (letter - 0) 0) c.list.result.now)) c.sizes.ensures.sizes in
+    let count = c.letter_cells-cells.ensures ∙ ap (λ (ss : List ℕ). cells_of ss (map (λ letter. transition_to (letter - 0) 0) c.list.result.now)) c.sizes.ensures.sizes in
     let more = cells-more c.args.tracks.now rows c.loop-place.place c.loop-place.cells c.letter_cells-cells.result c.list.result.now at.within c.loop-place.invariant (c.list.ensures ∙ at.same) count in
     omega (arith, more, sum_by-take-le (cells_of c.args.tracks.now) rows (c.loop-place.place + 1), few-cells c.args.tracks.now rows, c.requires.few)
 
 pub loop-place-preserved : goal.loop-place-preserved
 loop-place-preserved c =
     let at = AreRowLetters-at c.args.tracks.now c.args.rows.now c.loop-place.place c.in-Some.letters.now c.requires.over c.in-Some.ensures.one.1 (omega (arith, c.loop-place-test.true, c.len-place-end.ensures)) in
-    let count = c.letter_cells-cells.ensures ∙ ap (λ (ss : List ℕ). cells_of ss (map (λ letter. edge_to (letter - 0) 0) c.list.result.now)) c.sizes.ensures.sizes in
+    let count = c.letter_cells-cells.ensures ∙ ap (λ (ss : List ℕ). cells_of ss (map (λ letter. transition_to (letter - 0) 0) c.list.result.now)) c.sizes.ensures.sizes in
     cells-more c.args.tracks.now (rows_in c.args.rows.now) c.loop-place.place c.loop-place.cells c.letter_cells-cells.result c.list.result.now at.within c.loop-place.invariant (c.list.ensures ∙ at.same) count

@@ -3,4 +3,4 @@ use Rattle.std.specs.List.{All}
 use Rattle.digit_tuple.proofs.decisions.run_length.Given as goal
 
 abbrev pub invariant-loop-place : goal.invariant-loop-place
-invariant-loop-place l = All (λ edge. edge.letter < l.bound) (take l.place l.edges)
+invariant-loop-place l = All (λ transition. transition.letter < l.bound) (take l.place l.transitions)

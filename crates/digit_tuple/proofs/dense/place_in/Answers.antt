@@ -2,11 +2,11 @@ use Rattle.std.proofs.Common.{arith}
 use Rattle.digit_tuple.proofs.DfaLemmas.{before_through, after_from}
 use Rattle.digit_tuple.proofs.dense.place_in.Goals as goal
 
-pub loop-low-preserved-then-edges-middle : goal.loop-low-preserved-then-edges-middle
-loop-low-preserved-then-edges-middle c = record {
+pub loop-low-preserved-then-transitions-middle : goal.loop-low-preserved-then-transitions-middle
+loop-low-preserved-then-transitions-middle c = record {
   order = omega arith;
   within = omega arith;
-  before = before_through c.args.edges.now c.args.letter _ _ c.requires (omega arith) c.if-edges-middle.true;
+  before = before_through c.args.transitions.now c.args.letter _ _ c.requires (omega arith) c.if-transitions-middle.true;
   after = c.loop-low.invariant.after;
 }
 
@@ -15,5 +15,5 @@ loop-low-preserved c = record {
   order = omega arith;
   within = omega arith;
   before = c.loop-low.invariant.before;
-  after = after_from c.args.edges.now c.args.letter _ _ c.requires (omega arith) c.if-edges-middle.false;
+  after = after_from c.args.transitions.now c.args.letter _ _ c.requires (omega arith) c.if-transitions-middle.false;
 }

@@ -6,10 +6,10 @@ use Rattle.digit_tuple.specs.Deterministic.{Automaton, State, IsTable, accepts_o
 use Rattle.digit_tuple.specs.FirstWords.{IsNumberedByFirsts}
 use Rattle.digit_tuple.specs.Letters.{product, IsWord}
 use Rattle.digit_tuple.specs.Width.{HasApart, HasWidth}
-use Rattle.digit_tuple.specs.declared.edges.Edge.{Edge}
+use Rattle.digit_tuple.specs.declared.transitions.Transition.{Transition}
 use Rattle.digit_tuple.specs.Keys.{LeadAlike, key_accepts}
 use Rattle.digit_tuple.specs.Explored.{AreNumbered, NumbersSome, key_at, IsExplored}
-use Rattle.digit_tuple.proofs.KeyEdgeLemmas.{Overflows-written, first_numbered, length-are_numbered}
+use Rattle.digit_tuple.proofs.KeyTransitionLemmas.{Overflows-written, first_numbered, length-are_numbered}
 use Rattle.digit_tuple.proofs.FrontierLemmas.{All-state_from, IsFrontier-start}
 use Rattle.digit_tuple.proofs.ExploredLemmas.{IsExploring, IsExploring-start, IsExploring-overflows, IsExploring-gap, HasApart-firsts, IsTable-explored, IsExplored-done, IsNumberedByFirsts-done, HasWidth-done, accepts_of-explored}
 use Rattle.digit_tuple.proofs.RoundLemmas.{IsRound, IsRound-written}
@@ -19,18 +19,18 @@ use Rattle.digit_tuple.proofs.exploration.explore_keys.Goals.{After-deref-in-exp
 
 -- the state that a round makes
 abbrev state_in : (g : Over) → After-deref-in-explore g → State
-state_in g c = record { accepting = c.is_accepting-accepting.result; edges = c.deref-in-explore.result.now }
+state_in g c = record { accepting = c.is_accepting-accepting.result; transitions = c.deref-in-explore.result.now }
 
 -- the round that makes it
 round : (g : Over) (c : After-deref-in-explore g)
-    → IsRound (g.G.KeyGraph.letters c.args.graph.now) (g.G.KeyGraph.start c.args.graph.now) (g.G.KeyGraph.after c.args.graph.now) (g.G.KeyGraph.accepts c.args.graph.now) c.explore.keys c.number_edges.new.keys c.explore.states.states (state_in g c) c.if-len-letters.gap
+    → IsRound (g.G.KeyGraph.letters c.args.graph.now) (g.G.KeyGraph.start c.args.graph.now) (g.G.KeyGraph.after c.args.graph.now) (g.G.KeyGraph.accepts c.args.graph.now) c.explore.keys c.number_transitions.new.keys c.explore.states.states (state_in g c) c.if-len-letters.gap
 round g c =
     let s = c.args.graph.now in
-    let written : c.deref-in-explore.result.now ≡ c.number_edges.new.edges.items = c.deref-in-explore.ensures.value in
-    let size : c.len-in-explore-3.result ≡ length c.deref-in-explore.result.now = omega (arith, c.len-in-explore-3.ensures, c.number_edges.new.edges.ok, ap length written) in
-    IsRound-written (g.G.KeyGraph.letters s) (g.G.KeyGraph.start s) (g.G.KeyGraph.after s) (g.G.KeyGraph.accepts s) c.explore.keys c.number_edges.new.keys c.explore.states.states (state_in g c)
-    c.explore.gap c.if-len-letters.gap c.key-key.result.now c.edges.new.out c.explore.invariant.exploring (omega (arith, c.len-in-explore-2.ensures)) (c.key-key.ensures ∙ ap (key_at c.explore.keys) c.len-in-explore-2.ensures) c.in_ok-edges-2.ensures
-    (subst (λ es. AreNumbered c.edges.new.out es c.explore.keys c.number_edges.new.keys) (sym written) c.in_ok-number_edges.ensures.edges) c.is_accepting-accepting.ensures
+    let written : c.deref-in-explore.result.now ≡ c.number_transitions.new.transitions.items = c.deref-in-explore.ensures.value in
+    let size : c.len-in-explore-3.result ≡ length c.deref-in-explore.result.now = omega (arith, c.len-in-explore-3.ensures, c.number_transitions.new.transitions.ok, ap length written) in
+    IsRound-written (g.G.KeyGraph.letters s) (g.G.KeyGraph.start s) (g.G.KeyGraph.after s) (g.G.KeyGraph.accepts s) c.explore.keys c.number_transitions.new.keys c.explore.states.states (state_in g c)
+    c.explore.gap c.if-len-letters.gap c.key-key.result.now c.transitions.new.out c.explore.invariant.exploring (omega (arith, c.len-in-explore-2.ensures)) (c.key-key.ensures ∙ ap (key_at c.explore.keys) c.len-in-explore-2.ensures) c.in_ok-transitions-2.ensures
+    (subst (λ es. AreNumbered c.transitions.new.out es c.explore.keys c.number_transitions.new.keys) (sym written) c.in_ok-number_transitions.ensures.transitions) c.is_accepting-accepting.ensures
     (elim c.if-len-letters.branch [
       | then-len-letters w ↦ inl (omega (arith, w.if-len-letters.true, size, c.letters-letters.ensures.value, c.requires.letters), w.gap-is)
       | else-len-letters w ↦ inr (omega (arith, w.if-len-letters.false, size, c.letters-letters.ensures.value, c.requires.letters), w.gap-is)
@@ -60,21 +60,21 @@ explore-init g c =
           (IsExploring-start (g.G.KeyGraph.letters s) (g.G.KeyGraph.start s) (g.G.KeyGraph.after s) (g.G.KeyGraph.accepts s)));
     }
 
-pub returns-in_err-number_edges-clause-states : goal.returns-in_err-number_edges-clause-states
-returns-in_err-number_edges-clause-states g c h =
+pub returns-in_err-number_transitions-clause-states : goal.returns-in_err-number_transitions-clause-states
+returns-in_err-number_transitions-clause-states g c h =
     let s = c.args.graph.now in
     let states = c.explore.states.states in
-    let e = c.from_residual-in_err-number_edges.ensures in
-    let some : NumbersSome c.edges.new.out c.explore.keys c.number_edges.new.keys (c.args.limit + 1) = search rules in
-    IsExploring-overflows (g.G.KeyGraph.letters s) (g.G.KeyGraph.start s) (g.G.KeyGraph.after s) (g.G.KeyGraph.accepts s) c.explore.keys c.number_edges.new.keys states c.explore.gap (c.args.limit + 1)
+    let e = c.from_residual-in_err-number_transitions.ensures in
+    let some : NumbersSome c.transitions.new.out c.explore.keys c.number_transitions.new.keys (c.args.limit + 1) = search rules in
+    IsExploring-overflows (g.G.KeyGraph.letters s) (g.G.KeyGraph.start s) (g.G.KeyGraph.after s) (g.G.KeyGraph.accepts s) c.explore.keys c.number_transitions.new.keys states c.explore.gap (c.args.limit + 1)
     c.explore.invariant.exploring (omega (arith, c.len-in-explore-2.ensures))
-    (Overflows-written (g.G.KeyGraph.letters s) (g.G.KeyGraph.after s) c.explore.keys c.number_edges.new.keys (key_at c.explore.keys (length states)) c.key-key.result.now c.edges.new.out (c.args.limit + 1)
-    (c.key-key.ensures ∙ ap (key_at c.explore.keys) c.len-in-explore-2.ensures) c.in_ok-edges-2.ensures some)
+    (Overflows-written (g.G.KeyGraph.letters s) (g.G.KeyGraph.after s) c.explore.keys c.number_transitions.new.keys (key_at c.explore.keys (length states)) c.key-key.result.now c.transitions.new.out (c.args.limit + 1)
+    (c.key-key.ensures ∙ ap (key_at c.explore.keys) c.len-in-explore-2.ensures) c.in_ok-transitions-2.ensures some)
 
 pub add_state-requires-clause-in_range : goal.add_state-requires-clause-in_range
 add_state-requires-clause-in_range g c =
     let now = round g (goal.at.add_state-requires-clause-in_range g c).After-deref-in-explore in
-    subst (λ n. All (λ (edge : Edge). edge.letter < n) c.deref-in-explore.result.now) (c.requires.letters ∙ sym (ap product c.explore.invariant.sizes)) now.in_range
+    subst (λ n. All (λ (transition : Transition). transition.letter < n) c.deref-in-explore.result.now) (c.requires.letters ∙ sym (ap product c.explore.invariant.sizes)) now.in_range
 
 pub add_state-requires-clause-ascending : goal.add_state-requires-clause-ascending
 add_state-requires-clause-ascending g c = (round g (goal.at.add_state-requires-clause-ascending g c).After-deref-in-explore).ascending
@@ -84,8 +84,8 @@ returns-then-len-limit-clause-states g c h =
     let s = c.args.graph.now in
     let at = (goal.at.returns-then-len-limit-clause-states g c).After-deref-in-explore in
     let states = c.explore.states.states ++ state_in g at ∷ [] in
-    IsExploring-gap (g.G.KeyGraph.letters s) (g.G.KeyGraph.start s) (g.G.KeyGraph.after s) (g.G.KeyGraph.accepts s) c.number_edges.new.keys states c.args.limit
-    (subst (IsExploring (g.G.KeyGraph.letters s) (g.G.KeyGraph.start s) (g.G.KeyGraph.after s) (g.G.KeyGraph.accepts s) c.number_edges.new.keys states) c.if-gap.true (round g at).exploring) (omega arith)
+    IsExploring-gap (g.G.KeyGraph.letters s) (g.G.KeyGraph.start s) (g.G.KeyGraph.after s) (g.G.KeyGraph.accepts s) c.number_transitions.new.keys states c.args.limit
+    (subst (IsExploring (g.G.KeyGraph.letters s) (g.G.KeyGraph.start s) (g.G.KeyGraph.after s) (g.G.KeyGraph.accepts s) c.number_transitions.new.keys states) c.if-gap.true (round g at).exploring) (omega arith)
 
 pub explore-preserved : goal.explore-preserved
 explore-preserved g c =
@@ -96,17 +96,17 @@ explore-preserved g c =
     let now = round g at in
     let pushed : c.add_state.new.self.states ≡ states ++ state ∷ [] = ap (λ (d : Automaton). d.states) c.in_ok-add_state.ensures in
     record {
-      few = c.in_ok-number_edges.ensures.few;
+      few = c.in_ok-number_transitions.ensures.few;
       room = λ gap. elim c.else-gap.branch [
-        | else-gap-via-then-gap+else-len-limit w ↦ omega (arith, w.if-len-limit.false, w.len-then-gap.ensures.len, c.in_ok-number_edges.ensures.few)
+        | else-gap-via-then-gap+else-len-limit w ↦ omega (arith, w.if-len-limit.false, w.len-then-gap.ensures.len, c.in_ok-number_transitions.ensures.few)
         | else-gap-via-else-gap w ↦ absurd (cc (gap, w.if-gap.false))
       ];
-      valid = All-state_from (g.G.KeyGraph.is_key s) (g.G.KeyGraph.letters s) (g.G.KeyGraph.after s (key_at c.explore.keys (length states))) (g.G.KeyGraph.accepts s (key_at c.explore.keys (length states))) c.explore.keys c.number_edges.new.keys state
+      valid = All-state_from (g.G.KeyGraph.is_key s) (g.G.KeyGraph.letters s) (g.G.KeyGraph.after s (key_at c.explore.keys (length states))) (g.G.KeyGraph.accepts s (key_at c.explore.keys (length states))) c.explore.keys c.number_transitions.new.keys state
           (λ a small. g.met.G.KeyGraph.after_is_key s (key_at c.explore.keys (length states)) a c.requires.graph (c.explore.invariant.valid (length states) [] (omega (arith, c.len-in-explore-2.ensures))) small)
           now.from c.explore.invariant.valid;
       sizes = ap (λ (d : Automaton). d.sizes) c.in_ok-add_state.ensures ∙ c.explore.invariant.sizes;
-      explored = omega (arith, length_push states state, length-are_numbered now.from.key_edges state.edges c.explore.keys c.number_edges.new.keys now.from.numbered, c.len-in-explore-2.ensures, ap length pushed);
-      exploring = subst (λ ss. IsExploring (g.G.KeyGraph.letters s) (g.G.KeyGraph.start s) (g.G.KeyGraph.after s) (g.G.KeyGraph.accepts s) c.number_edges.new.keys ss c.if-len-letters.gap) (sym pushed) now.exploring;
+      explored = omega (arith, length_push states state, length-are_numbered now.from.key_transitions state.transitions c.explore.keys c.number_transitions.new.keys now.from.numbered, c.len-in-explore-2.ensures, ap length pushed);
+      exploring = subst (λ ss. IsExploring (g.G.KeyGraph.letters s) (g.G.KeyGraph.start s) (g.G.KeyGraph.after s) (g.G.KeyGraph.accepts s) c.number_transitions.new.keys ss c.if-len-letters.gap) (sym pushed) now.exploring;
     }
 
 pub finish-dfa-requires : goal.finish-dfa-requires

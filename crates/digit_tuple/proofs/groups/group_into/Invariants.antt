@@ -5,10 +5,10 @@ use Rattle.digit_tuple.proofs.groups.group_into.Given as goal
 
 abbrev pub invariant-loop-place : goal.invariant-loop-place
 invariant-loop-place l = record {
-  within : l.place ≤ length l.edges;
-  groups : AreGroups (take l.place l.edges) l.out;
-  parted : IsParted l.edges l.place;
+  within : l.place ≤ length l.transitions;
+  groups : AreGroups (take l.place l.transitions) l.out;
+  parted : IsParted l.transitions l.place;
 }
 
 abbrev pub decreases-loop-place : goal.decreases-loop-place
-decreases-loop-place l = length l.edges - l.place
+decreases-loop-place l = length l.transitions - l.place

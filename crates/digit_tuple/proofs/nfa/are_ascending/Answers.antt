@@ -6,4 +6,4 @@ use Rattle.digit_tuple.proofs.nfa.are_ascending.Goals as goal
 
 pub returns : goal.returns
 returns c =
-    (λ h. AllPairs-from_adjacent IsBefore IsBefore-trans c.args.edges.now (λ k d below. c.loop-place.invariant k d (omega arith)), λ h. refl)
+    (λ h. AllPairs-from_adjacent IsBefore IsBefore-trans c.args.transitions.now (λ k d below. c.loop-place.invariant k d (omega arith)), λ h. refl)

@@ -16,16 +16,16 @@ returns-clause-blocks c =
     let blocks = c.open_block.new.blocks in
     let opened = c.in_ok-open_block.ensures.opened in
     let all : c.len-last.result ≡ length blocks.items = omega (arith, c.len-last.ensures, blocks.ok) in
-    open-grown c.args.tracks.now blocks.items opened c.len-last.result all c.index_mut.result.now c.index_mut.ensures.value c.add_row.new.self c.args.edges.now
+    open-grown c.args.tracks.now blocks.items opened c.len-last.result all c.index_mut.result.now c.index_mut.ensures.value c.add_row.new.self c.args.transitions.now
     c.in_ok-add_row.ensures.sound c.in_ok-add_row.ensures.sizes
-    (c.in_ok-add_row.ensures.rows ∙ ap (λ es. rows_in c.index_mut.result.now ++ es ∷ []) (map-ahead_zero c.args.edges.now))
+    (c.in_ok-add_row.ensures.rows ∙ ap (λ es. rows_in c.index_mut.result.now ++ es ∷ []) (map-ahead_zero c.args.transitions.now))
 
 pub returns-clause-rows : goal.returns-clause-rows
 returns-clause-rows c =
     let blocks = c.open_block.new.blocks in
     let opened = c.in_ok-open_block.ensures.opened in
     let all : c.len-last.result ≡ length blocks.items = omega (arith, c.len-last.ensures, blocks.ok) in
-    open-rows c.args.tracks.now blocks.items opened c.len-last.result all c.index_mut.result.now c.index_mut.ensures.value c.add_row.new.self c.args.edges.now
+    open-rows c.args.tracks.now blocks.items opened c.len-last.result all c.index_mut.result.now c.index_mut.ensures.value c.add_row.new.self c.args.transitions.now
     c.in_ok-add_row.ensures.sound c.in_ok-add_row.ensures.sizes
-    (c.in_ok-add_row.ensures.rows ∙ ap (λ es. rows_in c.index_mut.result.now ++ es ∷ []) (map-ahead_zero c.args.edges.now))
-    ∙ ap (λ rs. rs ++ c.args.edges.now ∷ []) c.in_ok-open_block.ensures.rows
+    (c.in_ok-add_row.ensures.rows ∙ ap (λ es. rows_in c.index_mut.result.now ++ es ∷ []) (map-ahead_zero c.args.transitions.now))
+    ∙ ap (λ rs. rs ++ c.args.transitions.now ∷ []) c.in_ok-open_block.ensures.rows

@@ -4,12 +4,12 @@ use Rattle.std.proofs.lemmas.List.Sums.{sum_by-take-le}
 use Rattle.digit_tuple.specs.CellCounts.{cells_of}
 use Rattle.digit_tuple.specs.Decisions.{rows_in}
 use Rattle.digit_tuple.specs.declared.decisions.Decisions.{Decisions}
-use Rattle.digit_tuple.proofs.BlockCellLemmas.{few-cells, few-edges, block_cells-more, sum-blocks}
+use Rattle.digit_tuple.proofs.BlockCellLemmas.{few-cells, few-transitions, block_cells-more, sum-blocks}
 use Rattle.digit_tuple.proofs.sparse_rows.count_cells.Goals as goal
 
 pub block_cells-cells-requires-clause-few : goal.block_cells-cells-requires-clause-few
 block_cells-cells-requires-clause-few c =
-    omega (arith, few-edges c.args.tracks.now c.args.blocks.now c.loop-block.block-index c.block-item.result c.loop-block-test.true c.block-item.is, c.requires.few)
+    omega (arith, few-transitions c.args.tracks.now c.args.blocks.now c.loop-block.block-index c.block-item.result c.loop-block-test.true c.block-item.is, c.requires.few)
 
 pub overflow_add-cells : goal.overflow_add-cells
 overflow_add-cells c =

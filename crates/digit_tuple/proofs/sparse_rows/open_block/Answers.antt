@@ -4,7 +4,7 @@ use Rattle.std.proofs.lemmas.Bool.{false≢true}
 use Rattle.std.proofs.lemmas.List.{append-nil, flat_map_more}
 use Rattle.digit_tuple.specs.Decisions.{rows_in}
 use Rattle.digit_tuple.specs.SparseRows.{IsFullOver, AreRowBlocks}
-use Rattle.digit_tuple.specs.declared.edges.Edge.{Edge}
+use Rattle.digit_tuple.specs.declared.transitions.Transition.{Transition}
 use Rattle.digit_tuple.proofs.RowBlockLemmas.{HaveSameRows-full, HaveSameRows-rows}
 use Rattle.digit_tuple.proofs.sparse_rows.open_block.Goals as goal
 
@@ -31,7 +31,7 @@ returns-clause-rows c =
     let new = c.in_ok-on_one_track.field-0 in
     ap (flat_map rows_in) c.in_ok-push.ensures.items
     ∙ sym (flat_map_more rows_in [] shrunk new)
-    ∙ ap (λ (rs : List (List Edge)). flat_map rows_in shrunk ++ rs) c.in_ok-on_one_track.ensures.rows
+    ∙ ap (λ (rs : List (List Transition)). flat_map rows_in shrunk ++ rs) c.in_ok-on_one_track.ensures.rows
     ∙ append-nil (flat_map rows_in shrunk)
     ∙ HaveSameRows-rows parted shrunk c.shrink_last.ensures
     ∙ c.in_ok-part_last.ensures.rows

@@ -14,6 +14,6 @@ returns c =
     built c.in_ok-alphabet.alphabet c.in_ok-builder.builder c.add_state.new.self c.add_state-2.new.self c.set.new.self c.set-2.new.self made c.in_ok-first.first c.in_ok-after_1.after_1
     c.in_ok-builder.ensures c.in_ok-first.ensures.number c.in_ok-first.ensures.state c.in_ok-after_1.ensures.number c.in_ok-after_1.ensures.state
     c.in_ok-set.ensures.set c.in_ok-set-2.ensures.set c.in_ok-set-3.ensures.set in
-    IfOk-weaker c.finish.result (λ dfa. dfa ≡ made) (λ dfa. (way : Direction) → IsLanguageOf way fibonacci dfa)
-    (λ dfa is way. subst (IsLanguageOf way fibonacci) (sym is) (language_holds way made (both.1 ∙ c.in_ok-alphabet.ensures) both.0))
+    IfOk-weaker c.finish.result (λ dfa. dfa ≡ made) (λ dfa. (direction : Direction) → IsLanguageOf direction fibonacci dfa)
+    (λ dfa is direction. subst (IsLanguageOf direction fibonacci) (sym is) (language_holds direction made (both.1 ∙ c.in_ok-alphabet.ensures) both.0))
     c.finish.ensures

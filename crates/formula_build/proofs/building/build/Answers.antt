@@ -20,7 +20,7 @@ make_plans-requires-clause-ready c =
     let l = library_of r c.args.read.now in
     let library : IsLibrary l = record { relations = c.is_read.ensures.relations; words = c.is_read.ensures.words; systems = c.are_sealed.ensures } in
     let p = c.requires.planned in
-    subst (IsReady l) (sym p.plan.last_is) (plan_ready l (headers_in r) (formula_of r) library p.formed p.ways p.resolved (omega (arith, p.few)) c.requires.fits c.requires.known)
+    subst (IsReady l) (sym p.plan.last_is) (plan_ready l (headers_in r) (formula_of r) library p.formed p.directions p.resolved (omega (arith, p.few)) c.requires.fits c.requires.known)
 
 pub returns-clause-solution : goal.returns-clause-solution
 returns-clause-solution c =
@@ -28,7 +28,7 @@ returns-clause-solution c =
     let l = library_of r c.args.read.now in
     let library : IsLibrary l = record { relations = c.is_read.ensures.relations; words = c.is_read.ensures.words; systems = c.are_sealed.ensures } in
     let p = c.requires.planned in
-    made_solution l (headers_in r) (formula_of r) library p.formed p.ways p.resolved (omega (arith, p.few)) c.requires.fits c.requires.known c.in_ok-made.made c.in_ok-in_order.field-0
+    made_solution l (headers_in r) (formula_of r) library p.formed p.directions p.resolved (omega (arith, p.few)) c.requires.fits c.requires.known c.in_ok-made.made c.in_ok-in_order.field-0
     (subst (λ (q : Plan). Makes l q c.in_ok-made.made) p.plan.last_is c.in_ok-made.ensures.makes) c.in_ok-in_order.ensures
 
 pub returns-clause-tracks : goal.returns-clause-tracks
@@ -38,5 +38,5 @@ returns-clause-tracks c =
     let library : IsLibrary l = record { relations = c.is_read.ensures.relations; words = c.is_read.ensures.words; systems = c.are_sealed.ensures } in
     let p = c.requires.planned in
     subst (λ (vs : List Variable). IsOverVariables l vs c.in_ok-in_order.field-0) (sym p.variables)
-    (made_tracks l (headers_in r) (formula_of r) library p.formed p.ways p.resolved (omega (arith, p.few)) c.requires.fits c.requires.known c.in_ok-made.made c.in_ok-in_order.field-0
+    (made_tracks l (headers_in r) (formula_of r) library p.formed p.directions p.resolved (omega (arith, p.few)) c.requires.fits c.requires.known c.in_ok-made.made c.in_ok-in_order.field-0
     (subst (λ (q : Plan). Makes l q c.in_ok-made.made) p.plan.last_is c.in_ok-made.ensures.makes) c.in_ok-in_order.ensures)

@@ -8,7 +8,7 @@ use Rattle.formula_build.proofs.plan_making.make_plans.Given as goal
 -- the needed plans so far were made, with the lines of their steps
 abbrev pub invariant-loop-place : goal.invariant-loop-place
 invariant-loop-place l = record {
-  way : IsUnderWay l.fn.steps (known_value l.known) l.plans l.needed.items l.made.items l.steps;
+  direction : IsUnderWay l.fn.steps (known_value l.known) l.plans l.needed.items l.made.items l.steps;
   count : length l.made.items ≡ l.place;
   makings : AreMakingsOf l.plans l.makings;
   needed : AreNeeded l.plans l.makings l.last l.needed.items;

@@ -7,7 +7,7 @@ use Rattle.formula_parse.specs.Views.{formula_view}
 use Rattle.formula_resolve.specs.Headers.{Named}
 use Rattle.formula_resolve.specs.Occurrences.{unbound, occurrences}
 use Rattle.formula_resolve.specs.Scopes.{binders_of}
-use Rattle.formula_resolve.specs.Directions.{turn_in}
+use Rattle.formula_resolve.specs.Directions.{conflict_in}
 use Rattle.formula_resolve.proofs.resolution.walk_whole.Goals as goal
 
 none_bound : (m : Named ℕ) → m ≡ empty → binders_of m ≡ unbound
@@ -18,7 +18,7 @@ returns-clause-occurrences c =
     c.in_ok-walk_formula.ensures.found
     ∙ (λ i. c.new-2.ensures.items i ++ (occurrences c.args.headers.now (none_bound c.new.result c.new.ensures i) 1 (formula_view c.args.formula.now)).list)
 
-pub returns-clause-turn : goal.returns-clause-turn
-returns-clause-turn c =
-    c.in_ok-walk_formula.ensures.turn
-    ∙ ap (λ b. option_or None (turn_in c.args.headers.now b 1 (formula_view c.args.formula.now))) (none_bound c.new.result c.new.ensures)
+pub returns-clause-conflict : goal.returns-clause-conflict
+returns-clause-conflict c =
+    c.in_ok-walk_formula.ensures.conflict
+    ∙ ap (λ b. option_or None (conflict_in c.args.headers.now b 1 (formula_view c.args.formula.now))) (none_bound c.new.result c.new.ensures)

@@ -16,7 +16,7 @@ use Rattle.formula_resolve.proofs.walk.+walk_formula.Goals as goal
 
 -- the walk after a quantifier, with this scope
 abbrev left : Named ℕ → Walk → Walk
-left scope w = record { scope = scope; next = w.next; occurrences = w.occurrences; turn = w.turn }
+left scope w = record { scope = scope; next = w.next; occurrences = w.occurrences; conflict = w.conflict }
 
 pub loop-operand-preserved : goal.loop-operand-preserved
 loop-operand-preserved t c =
@@ -41,7 +41,7 @@ returns-in-Negated t c =
     (on_ok c.walk_formula.result
     (Walked c.args.headers.now (formula_view c.deref.result.now) c.args.walk.now c.walk_formula.new.walk)
     (Walked c.args.headers.now (trees.negated (formula_view c.deref.result.now)) c.args.walk.now c.walk_formula.new.walk)
-    (λ w. record { scope = w.scope; found = w.found; next = w.next; turn = w.turn }) c.walk_formula.ensures)
+    (λ w. record { scope = w.scope; found = w.found; next = w.next; conflict = w.conflict }) c.walk_formula.ensures)
 
 pub returns-in_ok-whole-in-Chain : goal.returns-in_ok-whole-in-Chain
 returns-in_ok-whole-in-Chain t c =
@@ -57,7 +57,7 @@ returns-in_ok-whole-in-Chain t c =
     (λ i. free_of (c.start-start-in-Chain.ensures.next i) (drop (c.start-start-in-Chain.ensures.len i) c.walk_formula-in-Chain.new.walk.occurrences.items))
     c.in_ok-whole-in-Chain.ensures))
     c.keep.ensures.scope c.keep.ensures.next c.keep.ensures.occurrences
-    (c.keep.ensures.turn ∙ ap (λ s. option_or c.walk_formula-in-Chain.new.walk.turn s) c.turn.ensures))
+    (c.keep.ensures.conflict ∙ ap (λ s. option_or c.walk_formula-in-Chain.new.walk.conflict s) c.conflict.ensures))
 
 pub returns-in_ok-walk_formula-in-Quantified : goal.returns-in_ok-walk_formula-in-Quantified
 returns-in_ok-walk_formula-in-Quantified t c =
@@ -70,7 +70,7 @@ returns-in_ok-walk_formula-in-Quantified t c =
     (λ told. walked_quantified c.args.headers.now (quantifier_view c.in-Quantified.field-0) (names_view c.in-Quantified.names.items) (formula_view c.deref-in-Quantified-2.result.now)
     c.args.walk.now c.enter.new.self c.walk_formula-in-Quantified.new.walk (left c.restore.new.self c.walk_formula-in-Quantified.new.walk)
     (c.in_ok-outside-in-Quantified.ensures.scope ∙ ap (λ ns. bound_by c.args.walk.now.next (names_view ns) (binders_of c.args.walk.now.scope)) c.deref-in-Quantified.ensures.value)
-    c.in_ok-outside-in-Quantified.ensures.next c.in_ok-outside-in-Quantified.ensures.occurrences c.in_ok-outside-in-Quantified.ensures.turn
+    c.in_ok-outside-in-Quantified.ensures.next c.in_ok-outside-in-Quantified.ensures.occurrences c.in_ok-outside-in-Quantified.ensures.conflict
     c.in_ok-walk_formula-in-Quantified.ensures
     (told (binders_of c.args.walk.now.scope)
     (c.deref-in-Quantified-4.ensures.value ∙ c.in_ok-outside-in-Quantified.ensures.outside
@@ -86,4 +86,4 @@ returns-in-Marked t c =
     (on_ok c.walk_formula-in-Marked.result
     (Walked c.args.headers.now (formula_view c.deref-in-Marked.result.now) c.args.walk.now c.walk_formula-in-Marked.new.walk)
     (Walked c.args.headers.now (trees.marked (names_view c.in-Marked.field-0.items) (formula_view c.deref-in-Marked.result.now)) c.args.walk.now c.walk_formula-in-Marked.new.walk)
-    (λ w. record { scope = w.scope; found = w.found; next = w.next; turn = w.turn }) c.walk_formula-in-Marked.ensures)
+    (λ w. record { scope = w.scope; found = w.found; next = w.next; conflict = w.conflict }) c.walk_formula-in-Marked.ensures)

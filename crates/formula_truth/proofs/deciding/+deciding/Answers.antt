@@ -11,7 +11,7 @@ use Rattle.formula_truth.proofs.deciding.+deciding.Goals.{tried-in-Exists, tried
 
 pub holds-loop-operand-preserved : goal.holds-loop-operand-preserved
 holds-loop-operand-preserved t c =
-    operand_more c.args.bound c.deref-operand-items.result.now c.loop-operand.operand-index c.operand-item.result (assigned c.args.given.now) c.loop-operand.front c.in_ok-is-in-Chain.is' c.after.result
+    operand_more c.args.bound c.deref-operand-items.result.now c.loop-operand.operand-index c.operand-item.result (assigned c.args.given.now) c.loop-operand.prefix c.in_ok-is-in-Chain.is' c.after.result
     (omega (arith, c.loop-operand-test.true)) c.operand-item.is c.loop-operand.invariant c.in_ok-is-in-Chain.ensures c.after.ensures
 
 pub holds-returns-in-Atom : goal.holds-returns-in-Atom
@@ -25,7 +25,7 @@ holds-returns-in_ok-is-in-Negated t c = negated_is c.args.bound (formula_view c.
 pub holds-returns-in_ok-is-in-Chain-2 : goal.holds-returns-in_ok-is-in-Chain-2
 holds-returns-in_ok-is-in-Chain-2 t c =
     chain_is c.args.bound (formula_view c.args.formula.now) (formula_view c.deref-in-Chain.result.now) c.in-Chain.operands.items c.deref-operand-items.result.now c.loop-operand.operand-index
-    (assigned c.args.given.now) c.loop-operand.front c.in_ok-is-in-Chain-2.is' c.after-in-Chain.result
+    (assigned c.args.given.now) c.loop-operand.prefix c.in_ok-is-in-Chain-2.is' c.after-in-Chain.result
     (ap formula_view c.in-Chain.is ∙ view_chain c.in-Chain.operands c.in-Chain.last ∙ ap (λ f. trees.chain (operands_view c.in-Chain.operands.items) (formula_view f)) (sym c.deref-in-Chain.ensures))
     c.deref-operand-items.ensures.value c.loop-operand-test.false c.loop-operand.invariant c.in_ok-is-in-Chain-2.ensures c.after-in-Chain.ensures
 

@@ -15,7 +15,7 @@ decreases-tried l = l.levels
 
 abbrev pub invariant-holds-loop-operand : goal.invariant-holds-loop-operand
 invariant-holds-loop-operand l =
-    (p : Bool) → ChainHolds nothing (bounded_among l.bound (operands_view (take l.operand-index l.operand-items))) (assigned l.given) (IsTrue p) ↔ AfterChain l.front (IsTrue p)
+    (p : Bool) → ChainHolds nothing (bounded_among l.bound (operands_view (take l.operand-index l.operand-items))) (assigned l.given) (IsTrue p) ↔ AfterChain l.prefix (IsTrue p)
 
 abbrev pub invariant-tried-loop-number : goal.invariant-tried-loop-number
 invariant-tried-loop-number l =

@@ -7,8 +7,8 @@ returns-then-plain-gt0 c = first_plain c.args.bytes.now c.len_before-plain.resul
 
 pub returns-then-digits-eq0 : goal.returns-then-digits-eq0
 returns-then-digits-eq0 c =
-    first_sign c.args.bytes.now c.after-ahead.result.now c.front_len-digits.result _ c.after-ahead.ensures (omega arith) c.requires c.front_len-digits.ensures.len c.if-digits-eq0.true refl
+    first_sign c.args.bytes.now c.after-ahead.result.now c.prefix_len-digits.result _ c.after-ahead.ensures (omega arith) c.requires c.prefix_len-digits.ensures.len c.if-digits-eq0.true refl
 
 pub returns : goal.returns
 returns c =
-    first_place c.args.bytes.now c.after-ahead.result.now c.front_len-digits.result _ _ c.after-ahead.ensures (omega arith) c.requires c.front_len-digits.ensures.len c.front_len-digits.ensures.within (omega arith) c.number_of.ensures refl
+    first_place c.args.bytes.now c.after-ahead.result.now c.prefix_len-digits.result _ _ c.after-ahead.ensures (omega arith) c.requires c.prefix_len-digits.ensures.len c.prefix_len-digits.ensures.within (omega arith) c.number_of.ensures refl

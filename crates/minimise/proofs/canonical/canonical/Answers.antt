@@ -9,15 +9,15 @@ canonical_classes-requires c = ap length (c.deref.ensures.value ∙ c.in_ok-outp
 pub returns-clause-language : goal.returns-clause-language
 returns-clause-language c =
     let d = c.args.d.now in
-    let least = c.in_ok-least.least in
-    let outputs = c.in_ok-least.field-0-1.items in
-    let same = subst (λ (os : List ℕ). SameClassFunction d os least outputs) (c.deref.ensures.value ∙ c.in_ok-outputs.ensures) c.in_ok-least.ensures.function in
-    SameLanguage-bits d least outputs c.in_ok-least.ensures.sizes same c.in_ok-least.ensures.canonical
+    let minimal = c.in_ok-minimal.minimal in
+    let outputs = c.in_ok-minimal.field-0-1.items in
+    let same = subst (λ (os : List ℕ). SameClassFunction d os minimal outputs) (c.deref.ensures.value ∙ c.in_ok-outputs.ensures) c.in_ok-minimal.ensures.function in
+    SameLanguage-bits d minimal outputs c.in_ok-minimal.ensures.sizes same c.in_ok-minimal.ensures.canonical
 
 pub returns-clause-canonical : goal.returns-clause-canonical
 returns-clause-canonical c =
     let d = c.args.d.now in
-    let least = c.in_ok-least.least in
-    let outputs = c.in_ok-least.field-0-1.items in
-    let same = subst (λ (os : List ℕ). SameClassFunction d os least outputs) (c.deref.ensures.value ∙ c.in_ok-outputs.ensures) c.in_ok-least.ensures.function in
-    IsCanonical-bits d least outputs c.in_ok-least.ensures.sizes same c.in_ok-least.ensures.canonical
+    let minimal = c.in_ok-minimal.minimal in
+    let outputs = c.in_ok-minimal.field-0-1.items in
+    let same = subst (λ (os : List ℕ). SameClassFunction d os minimal outputs) (c.deref.ensures.value ∙ c.in_ok-outputs.ensures) c.in_ok-minimal.ensures.function in
+    IsCanonical-bits d minimal outputs c.in_ok-minimal.ensures.sizes same c.in_ok-minimal.ensures.canonical

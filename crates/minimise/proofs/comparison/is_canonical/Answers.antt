@@ -8,7 +8,7 @@ use Rattle.minimise.proofs.comparison.is_canonical.Goals as goal
 pub returns : goal.returns
 returns c =
     let d = c.args.d.now in
-    let least = c.in_ok-least.least in (
-      (λ is. subst IsCanonical (same_automata least d c.in_ok-least.ensures.sizes (c.have_equal_states.ensures.0 is)) c.in_ok-least.ensures.canonical),
-      (λ is. c.have_equal_states.ensures.1 (ap (λ (x : Automaton). x.states) (sym (canonical_forms d least is c.in_ok-least.ensures.canonical (sym c.in_ok-least.ensures.sizes) c.in_ok-least.ensures.language)))),
+    let minimal = c.in_ok-minimal.minimal in (
+      (λ is. subst IsCanonical (same_automata minimal d c.in_ok-minimal.ensures.sizes (c.have_equal_states.ensures.0 is)) c.in_ok-minimal.ensures.canonical),
+      (λ is. c.have_equal_states.ensures.1 (ap (λ (x : Automaton). x.states) (sym (canonical_forms d minimal is c.in_ok-minimal.ensures.canonical (sym c.in_ok-minimal.ensures.sizes) c.in_ok-minimal.ensures.language)))),
     )

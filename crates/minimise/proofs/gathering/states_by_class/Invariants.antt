@@ -1,6 +1,6 @@
 use Rattle.std.proofs.Common.{◌≡◌, take}
-use Rattle.minimise.specs.Gathering.{edges_by_class}
+use Rattle.minimise.specs.Gathering.{transitions_by_class}
 use Rattle.minimise.proofs.gathering.states_by_class.Given as goal
 
 abbrev pub invariant-loop-state : goal.invariant-loop-state
-invariant-loop-state l = l.edges.items ≡ edges_by_class l.classes (take l.state-index l.set)
+invariant-loop-state l = l.transitions.items ≡ transitions_by_class l.classes (take l.state-index l.set)

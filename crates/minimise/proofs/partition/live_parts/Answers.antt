@@ -2,7 +2,7 @@ use Rattle.std.proofs.Common.{◌<◌, ◌-◌, ◌↔◌, ◌≢◌, List, ℕ,
 use Rattle.std.specs.List.{Contains}
 use Rattle.std.proofs.lemmas.List.{get_or_default}
 use Rattle.std.proofs.lemmas.List.Elements.{Contains-get_or}
-use Rattle.digit_tuple.specs.Keys.{edge_at, no_edge}
+use Rattle.digit_tuple.specs.Keys.{transition_at, no_transition}
 use Rattle.minimise.specs.Classes.{class_of}
 use Rattle.minimise.specs.Partition.{IsUnion}
 use Rattle.minimise.proofs.PartedLemmas.{AreLiveParts-gathered}
@@ -21,9 +21,9 @@ returns-clause-unions c place z within =
     let parts = c.states_by_class.new.out in
     let are = subst (λ (set : List ℕ). (q : ℕ) → Contains set q ↔ ((q < length classes) × (class_of classes q ≢ class_of classes (length classes - 1)))) (sym c.deref.ensures.value) c.in_ok-states.ensures in
     let union = IsUnion-live c.args.machine.now.dfa.now c.args.machine.now.outputs.now classes c.deref.result.now c.requires are in
-    let same = get_or_default parts place z no_edge within in
+    let same = get_or_default parts place z no_transition within in
     subst (λ part. IsUnion c.args.machine.now.dfa.now c.args.machine.now.outputs.now part.key) (sym same)
-    (IsUnion-class c.args.machine.now.dfa.now c.args.machine.now.outputs.now classes c.requires.coarse c.deref.result.now union (edge_at parts place).letter (edge_at parts place).key (c.in_ok-states_by_class.ensures.gathered place no_edge within))
+    (IsUnion-class c.args.machine.now.dfa.now c.args.machine.now.outputs.now classes c.requires.coarse c.deref.result.now union (transition_at parts place).letter (transition_at parts place).key (c.in_ok-states_by_class.ensures.gathered place no_transition within))
 
 pub returns-clause-parts : goal.returns-clause-parts
 returns-clause-parts c =

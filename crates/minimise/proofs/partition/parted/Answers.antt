@@ -22,7 +22,7 @@ part_by_letters-requires-clause-partition c =
     let p = c.part.partition in
     let m = c.args.machine.now in
     record {
-      turned = c.part.invariant.partition.turned;
+      reversed = c.part.invariant.partition.reversed;
       parted = AreParted-rest m.dfa.now m.outputs.now p.classes.items p.states.items p.places.items p.spans.items p.pending c.pop.new.self c.in-Some.class c.part.invariant.partition.parted c.in-Some.ensures.taken;
     }
 

@@ -2,8 +2,8 @@ use Rattle.std.proofs.Common.{◌≡◌, ℕ, ◌+◌, ◌-◌, ◌<◌, List, l
 use Rattle.std.proofs.lemmas.List.{get_or_default}
 use Rattle.digit_tuple.specs.Deterministic.{states_of}
 use Rattle.minimise.specs.Classes.{class_of}
-use Rattle.minimise.specs.EdgeLetters.{letter_at, listed}
-use Rattle.minimise.proofs.FlatEdgeLemmas.{HasPlace-read, start_read, AreAlike-flat}
+use Rattle.minimise.specs.TransitionLetters.{letter_at, listed}
+use Rattle.minimise.proofs.FlatTransitionLemmas.{HasPlace-read, start_read, AreAlike-flat}
 use Rattle.minimise.proofs.stability.lead_alike.Goals as goal
 
 -- what is read a few places after a start

@@ -1,6 +1,6 @@
 use Rattle.std.proofs.Common.{◌≡◌, ℕ, ◌+◌, ◌<◌}
 use Rattle.minimise.specs.Classes.{class_of}
-use Rattle.minimise.specs.EdgeLetters.{letter_at, listed}
+use Rattle.minimise.specs.TransitionLetters.{letter_at, listed}
 use Rattle.minimise.proofs.stability.lead_alike.Given as goal
 
 abbrev pub invariant-loop-place : goal.invariant-loop-place

@@ -15,7 +15,7 @@ use Rattle.num_system.proofs.relations.relations_without_limit.Goals as goal
 
 -- the relations are those of each system whose language the automaton accepts
 abbrev Tells : Direction → Automaton → OrderRelations → Type 0
-Tells way language r = (s : System) → IsSystem s → IsLanguageOf way s language → AreOrderRelationsOf way s r.equal r.less r.zero
+Tells direction language r = (s : System) → IsSystem s → IsLanguageOf direction s language → AreOrderRelationsOf direction s r.equal r.less r.zero
 
 pub without_limit-requires : goal.without_limit-requires
 without_limit-requires c letters =

@@ -20,5 +20,5 @@ returns-clause-next c =
     subst (λ (c : NamedAutomaton). IsProduct AndNot order between [] c) (under_names next (name_x ∷ name_y ∷ []) names ∙ ap (λ (d : Automaton). order_on d name_x name_y) (sym c.into_dfa.ensures.value)) here
 
 pub returns-clause-relation : goal.returns-clause-relation
-returns-clause-relation c way s order holds =
-    next_holds way s c.args.less.now c.args.between.now (order_on c.into_dfa.result name_x name_y) order c.requires.names holds (returns-clause-next c)
+returns-clause-relation c direction s order holds =
+    next_holds direction s c.args.less.now c.args.between.now (order_on c.into_dfa.result name_x name_y) order c.requires.names holds (returns-clause-next c)

@@ -7,7 +7,7 @@ use Rattle.num_system.proofs.successor_sums.sums_with_one.Goals as goal
 
 pub returns-clause-successor : goal.returns-clause-successor
 returns-clause-successor c s system adds one =
-    let way = c.args.direction in
-    let made : IsBothForSome way (sum_on c.args.adder.now) (on_u c.args.one.now) c.in_ok-next.next = rw (c.in_ok-sum.ensures, c.in_ok-number.ensures) at c.in_ok-next.ensures in
-    subst (λ (d : Automaton). IsSuccessorOf way s d) (sym c.into_dfa.ensures.value)
-    (sums_hold way s c.args.adder.now c.args.one.now c.in_ok-next.next system adds one made)
+    let direction = c.args.direction in
+    let made : IsBothForSome direction (sum_on c.args.adder.now) (on_u c.args.one.now) c.in_ok-next.next = rw (c.in_ok-sum.ensures, c.in_ok-number.ensures) at c.in_ok-next.ensures in
+    subst (λ (d : Automaton). IsSuccessorOf direction s d) (sym c.into_dfa.ensures.value)
+    (sums_hold direction s c.args.adder.now c.args.one.now c.in_ok-next.next system adds one made)

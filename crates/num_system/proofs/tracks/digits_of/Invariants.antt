@@ -1,6 +1,6 @@
 use Rattle.std.proofs.Common.{◌≡◌, map, take}
 use Rattle.std.specs.Rc.{rc_value}
-use Rattle.numeration.specs.Spelling.{sizes_of}
+use Rattle.numeration.specs.Representation.{sizes_of}
 use Rattle.num_system.specs.Tracks.{systems_of}
 use Rattle.num_system.proofs.tracks.digits_of.Given as goal
 

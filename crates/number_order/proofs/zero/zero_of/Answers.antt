@@ -15,5 +15,5 @@ returns-clause-zero c =
     let stays : StaysByZero made = subst StaysByZero (sym c.in_ok-finish.ensures) both.0 in
     let sizes : made.sizes ≡ c.args.language.now.sizes = ap (λ (d : Automaton). d.sizes) c.in_ok-finish.ensures ∙ both.1 ∙ c.in_ok-alphabet.ensures ∙ c.alphabet.ensures.sizes in
     IfOk-weaker c.canonical.result _ _
-    (λ zero h way s is tracks. relation_kept way (s ∷ []) IsZero made zero (zero_holds way s made is (sizes ∙ tracks) stays) h.0 h.1)
+    (λ zero h direction s is tracks. relation_kept direction (s ∷ []) IsZero made zero (zero_holds direction s made is (sizes ∙ tracks) stays) h.0 h.1)
     (both_ok c.canonical.result (λ zero. zero.sizes ≡ made.sizes) (λ zero. SameLanguage made zero) c.canonical.ensures.sizes c.canonical.ensures.language)

@@ -34,7 +34,7 @@ returns-in-Ok-clause-holds c =
     ap (map rc_value) (c.deref.ensures.value ∙ c.in_ok-languages.ensures.items)
     ∙ ap (λ (d : Automaton). d ∷ c.in_ok-second.second.value ∷ []) (c.in_ok-first.ensures.cases ∙ language)
     ∙ ap (λ (d : Automaton). s.language ∷ d ∷ []) (c.in_ok-second.ensures.cases ∙ language) in
-    let holds = subst (λ (d : Automaton). HoldsOf s.way (system_of s ∷ system_of s ∷ []) (HoldsOver (s ∷ s ∷ []) c.args.dfa.now) d) (sym c.in_ok-pairs.ensures) c.requires.closed in
+    let holds = subst (λ (d : Automaton). HoldsOf s.direction (system_of s ∷ system_of s ∷ []) (HoldsOver (s ∷ s ∷ []) c.args.dfa.now) d) (sym c.in_ok-pairs.ensures) c.requires.closed in
     let says = subst (λ (ls : List Automaton). (w : List ℕ) → IsWord (letters_of pairs.automaton) w → accepts_of other w ≡ in_complement pairs ls w) all c.in-Ok.ensures.language in
-    subst (λ (d : Automaton). HoldsOf s.way (system_of s ∷ system_of s ∷ []) (λ ns. ¬ HoldsOver (s ∷ s ∷ []) c.args.dfa.now ns) d) (sym c.into_dfa.ensures.value)
-    (complement_holds s.way (system_of s ∷ system_of s ∷ []) (s.language ∷ s.language ∷ []) (two_languages_of s sealed) pairs other c.in-Ok.ensures.sizes (HoldsOver (s ∷ s ∷ []) c.args.dfa.now) holds says)
+    subst (λ (d : Automaton). HoldsOf s.direction (system_of s ∷ system_of s ∷ []) (λ ns. ¬ HoldsOver (s ∷ s ∷ []) c.args.dfa.now ns) d) (sym c.into_dfa.ensures.value)
+    (complement_holds s.direction (system_of s ∷ system_of s ∷ []) (s.language ∷ s.language ∷ []) (two_languages_of s sealed) pairs other c.in-Ok.ensures.sizes (HoldsOver (s ∷ s ∷ []) c.args.dfa.now) holds says)

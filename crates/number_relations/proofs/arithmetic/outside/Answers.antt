@@ -12,7 +12,7 @@ over_one-requires-clause-closed c =
     let s = c.args.system.now.value in
     let others = c.in_ok-others.others in
     subst (λ (ss : List SystemValue). IsClosedOver ss others) (sym (repeated_two s c.args.under.now c.requires.pair))
-    (closed_from s.way (system_of s ∷ system_of s ∷ []) (λ ns. ¬ HoldsOver (s ∷ s ∷ []) c.args.dfa.now ns) others c.in_ok-others.ensures.holds)
+    (closed_from s.direction (system_of s ∷ system_of s ∷ []) (λ ns. ¬ HoldsOver (s ∷ s ∷ []) c.args.dfa.now ns) others c.in_ok-others.ensures.holds)
 
 pub returns : goal.returns
 returns c =

@@ -3,10 +3,10 @@ use Rattle.std.specs.Rc.{rc_value}
 use Rattle.std.proofs.lemmas.List.{take_all}
 use Rattle.std.proofs.lemmas.Result.{IfOk-weaker}
 use Rattle.num_system.specs.Sealed.{SystemValue}
-use Rattle.num_system.specs.Tracks.{HaveOneWay}
+use Rattle.num_system.specs.Tracks.{ShareDirection}
 use Rattle.number_relations.specs.Relations.{IsClosedOver}
 use Rattle.number_relations.specs.Placed.{IsPlaced}
-use Rattle.number_relations.proofs.PairLemmas.{over_one_placed, repeated, repeated_one_way}
+use Rattle.number_relations.proofs.PairLemmas.{over_one_placed, repeated, repeated_shared_direction}
 use Rattle.number_relations.proofs.arithmetic.over_one.Goals as goal
 
 pub placed-requires-clause-direction : goal.placed-requires-clause-direction
@@ -14,7 +14,7 @@ placed-requires-clause-direction c =
     let s = c.args.system.now.value in
     let under = c.args.under.now in
     let systems : map rc_value c.deref.result.now ≡ repeated s under = ap (map rc_value) c.deref.ensures.value ∙ c.loop-name.invariant ∙ ap (repeated s) (take_all c.loop-name._name-index under c.loop-name-test.false) in
-    subst HaveOneWay (sym systems) (repeated_one_way s under)
+    subst ShareDirection (sym systems) (repeated_shared_direction s under)
 
 pub placed-requires-clause-closed : goal.placed-requires-clause-closed
 placed-requires-clause-closed c =

@@ -16,10 +16,10 @@ returns-in_err-constant c =
     let new = c.constant_step.new.steps in
     let fault = c.in_err-constant.field-0.0 in
     let sealed : IsSealed system = subst IsSealed c.as_ref-sealed.ensures c.is_sealed.ensures in
-    let way = c.direction-direction.ensures.value ∙ ap (λ (v : SystemValue). v.way) c.as_ref-sealed.ensures in
+    let direction = c.direction-direction.ensures.value ∙ ap (λ (v : SystemValue). v.direction) c.as_ref-sealed.ensures in
     let language = constant_language system c.as_ref-sealed.result.now c.direction-direction.result c.as_ref.result.now sealed c.as_ref-sealed.ensures c.direction-direction.ensures.value (c.as_ref.ensures ∙ c.language.ensures.value) in
     handed_on (λ r. DoesRelationConstant old system c.args.number c.args.name.now r new) c.from_residual-in_err-constant.result fault c.from_residual-in_err-constant.ensures.1
-    (constant_refused old new system c.args.number c.args.name.now c.direction-direction.result way fault (c.in_err-constant.ensures.refused (system_of system) sealed.laws language) c.in_err-constant.ensures.kept)
+    (constant_refused old new system c.args.number c.args.name.now c.direction-direction.result direction fault (c.in_err-constant.ensures.refused (system_of system) sealed.laws language) c.in_err-constant.ensures.kept)
 
 pub of_canonical-requires-clause-canonical : goal.of_canonical-requires-clause-canonical
 of_canonical-requires-clause-canonical c =
@@ -42,13 +42,13 @@ from_parts-requires c =
     let old = c.args.steps.now in
     let new = c.constant_step.new.steps in
     let sealed : IsSealed system = subst IsSealed c.as_ref-sealed.ensures c.is_sealed.ensures in
-    let way = c.direction-direction.ensures.value ∙ ap (λ (v : SystemValue). v.way) c.as_ref-sealed.ensures in
+    let direction = c.direction-direction.ensures.value ∙ ap (λ (v : SystemValue). v.direction) c.as_ref-sealed.ensures in
     let language = constant_language system c.as_ref-sealed.result.now c.direction-direction.result c.as_ref.result.now sealed c.as_ref-sealed.ensures c.direction-direction.ensures.value (c.as_ref.ensures ∙ c.language.ensures.value) in
     let names = c.in_ok-names.names.items in
     let systems = map rc_value c.in_ok-systems.systems.items in
     let named : names ≡ name ∷ [] = c.in_ok-names.ensures.items ∙ ap (λ (n : List ℕ). n ∷ []) c.in_ok-copy.ensures in
     let same : systems ≡ system ∷ [] = ap (map rc_value) c.in_ok-systems.ensures.items ∙ ap (λ (s : SystemValue). s ∷ []) c.in_ok-clone.ensures.cases in
-    let done = constant_done old new system c.args.number name c.direction-direction.result way names systems c.in_ok-constant.constant named same (c.in_ok-constant.ensures.step (system_of system) sealed.laws language) in
+    let done = constant_done old new system c.args.number name c.direction-direction.result direction names systems c.in_ok-constant.constant named same (c.in_ok-constant.ensures.step (system_of system) sealed.laws language) in
     let made : RelationValue = record { names = names; systems = systems; automaton = c.in_ok-constant.constant } in
     subst (λ (t : NamedAutomaton). IsRelation (relation_over t systems)) (sym c.of_canonical.ensures)
     (constant_is system c.args.number name made sealed (constant_of old.limit system c.args.number name made done.line done.step))
@@ -60,11 +60,11 @@ returns c =
     let old = c.args.steps.now in
     let new = c.constant_step.new.steps in
     let sealed : IsSealed system = subst IsSealed c.as_ref-sealed.ensures c.is_sealed.ensures in
-    let way = c.direction-direction.ensures.value ∙ ap (λ (v : SystemValue). v.way) c.as_ref-sealed.ensures in
+    let direction = c.direction-direction.ensures.value ∙ ap (λ (v : SystemValue). v.direction) c.as_ref-sealed.ensures in
     let language = constant_language system c.as_ref-sealed.result.now c.direction-direction.result c.as_ref.result.now sealed c.as_ref-sealed.ensures c.direction-direction.ensures.value (c.as_ref.ensures ∙ c.language.ensures.value) in
     let names = c.in_ok-names.names.items in
     let systems = map rc_value c.in_ok-systems.systems.items in
     let named : names ≡ name ∷ [] = c.in_ok-names.ensures.items ∙ ap (λ (n : List ℕ). n ∷ []) c.in_ok-copy.ensures in
     let same : systems ≡ system ∷ [] = ap (map rc_value) c.in_ok-systems.ensures.items ∙ ap (λ (s : SystemValue). s ∷ []) c.in_ok-clone.ensures.cases in
     rw (c.from_parts.ensures, c.of_canonical.ensures)
-    (constant_done old new system c.args.number name c.direction-direction.result way names systems c.in_ok-constant.constant named same (c.in_ok-constant.ensures.step (system_of system) sealed.laws language))
+    (constant_done old new system c.args.number name c.direction-direction.result direction names systems c.in_ok-constant.constant named same (c.in_ok-constant.ensures.step (system_of system) sealed.laws language))

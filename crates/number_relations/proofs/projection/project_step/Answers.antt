@@ -1,7 +1,7 @@
 use Rattle.std.proofs.Common.{◌≡◌, map}
 use Rattle.std.specs.Rc.{rc_value}
 use Rattle.project_close.proofs.ProjectionLemmas.{names_without-there}
-use Rattle.num_system.specs.Tracks.{way_of}
+use Rattle.num_system.specs.Tracks.{direction_of}
 use Rattle.number_relations.specs.Relations.{relation_over}
 use Rattle.number_relations.specs.Projections.{staying_systems}
 use Rattle.number_relations.proofs.GrowthLemmas.{projection_of}
@@ -20,7 +20,7 @@ from_parts-requires c =
     let old = c.args.steps.now in
     let systems = map rc_value c.in_ok-systems.systems.items in
     let same : systems ≡ staying_systems a track = rw (c.deref.ensures.value, c.in_ok-names.ensures, c.names.ensures.value, c.names-2.ensures.value, c.systems.ensures.value) at c.in_ok-systems.ensures in
-    let way : c.direction_of-direction.result ≡ way_of a.systems = rw c.systems-2.ensures.value at c.direction_of-direction.ensures in
+    let direction : c.direction_of-direction.result ≡ direction_of a.systems = rw c.systems-2.ensures.value at c.direction_of-direction.ensures in
     let made = relation_over c.in_ok-projected.projected systems in
-    let done = project_done old c.project_step.new.steps track a c.direction_of-direction.result way systems same c.in_ok-projected.projected (rw c.tracked.ensures.value at c.in_ok-projected.ensures) in
+    let done = project_done old c.project_step.new.steps track a c.direction_of-direction.result direction systems same c.in_ok-projected.projected (rw c.tracked.ensures.value at c.in_ok-projected.ensures) in
     projection_is track a made c.names.ensures.relation (projection_of old.limit track a made done.line done.step)

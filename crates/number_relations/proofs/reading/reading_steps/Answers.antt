@@ -1,5 +1,5 @@
 use Rattle.digit_tuple.specs.Letters.{IsAlphabet}
-use Rattle.numeration.specs.Spelling.{sizes_of}
+use Rattle.numeration.specs.Representation.{sizes_of}
 use Rattle.std.proofs.Common.{◌≡◌, List, ℕ, map, Err, sym, ap, ◌∙◌, subst}
 use Rattle.std.specs.Rc.{rc_value}
 use Rattle.digit_tuple.specs.Deterministic.{Automaton}
@@ -11,7 +11,7 @@ use Rattle.automaton_steps.specs.Numbered.{numbered}
 use Rattle.automaton_steps.specs.PadSteps.{IsPadStep}
 use Rattle.automaton_steps.specs.ValidSteps.{IsValidStep, DoesValid}
 use Rattle.num_system.specs.Sealed.{SystemValue}
-use Rattle.num_system.specs.Tracks.{way_of, systems_of, languages_of}
+use Rattle.num_system.specs.Tracks.{direction_of, systems_of, languages_of}
 use Rattle.number_relations.specs.Relations.{IsRelation, relation_over}
 use Rattle.number_relations.specs.Readings.{DoesReading, IsReadDone}
 use Rattle.number_relations.proofs.ReadingLemmas.{reading_is}
@@ -40,7 +40,7 @@ returns-in_err-valid c =
     let mid = c.read_step.new.steps in
     let late = c.pad_step.new.steps in
     let are : map rc_value c.deref.result.now ≡ languages_of systems = ap (map rc_value) c.deref.ensures.value ∙ c.in_ok-languages.ensures in
-    let second : IsDone mid (IsPadStep mid.limit (way_of systems) read closed) late = subst (λ (w : Direction). IsDone mid (IsPadStep mid.limit w read closed) late) c.direction_of.ensures c.in_ok-closed.ensures in
+    let second : IsDone mid (IsPadStep mid.limit (direction_of systems) read closed) late = subst (λ (w : Direction). IsDone mid (IsPadStep mid.limit w read closed) late) c.direction_of.ensures c.in_ok-closed.ensures in
     let does : DoesValid late (languages_of systems) (numbered closed) (Err fault) c.valid_step.new.steps =
     subst (λ (a : NamedAutomaton). DoesValid late (languages_of systems) a (Err fault) c.valid_step.new.steps) c.in_ok-relation.ensures
     (subst (λ (ls : List Automaton). DoesValid late ls c.in_ok-relation.relation (Err fault) c.valid_step.new.steps) are c.in_err-valid.ensures) in
@@ -55,7 +55,7 @@ from_parts-requires c =
     let mid = c.read_step.new.steps in
     let late = c.pad_step.new.steps in
     let are : map rc_value c.deref.result.now ≡ languages_of systems = ap (map rc_value) c.deref.ensures.value ∙ c.in_ok-languages.ensures in
-    let second : IsDone mid (IsPadStep mid.limit (way_of systems) read closed) late = subst (λ (w : Direction). IsDone mid (IsPadStep mid.limit w read closed) late) c.direction_of.ensures c.in_ok-closed.ensures in
+    let second : IsDone mid (IsPadStep mid.limit (direction_of systems) read closed) late = subst (λ (w : Direction). IsDone mid (IsPadStep mid.limit w read closed) late) c.direction_of.ensures c.in_ok-closed.ensures in
     let third : IsDone late (IsValidStep late.limit (languages_of systems) (numbered closed) c.in_ok-valid.valid) c.valid_step.new.steps =
     subst (λ (a : NamedAutomaton). IsDone late (IsValidStep late.limit (languages_of systems) a c.in_ok-valid.valid) c.valid_step.new.steps) c.in_ok-relation.ensures
     (subst (λ (ls : List Automaton). IsDone late (IsValidStep late.limit ls c.in_ok-relation.relation c.in_ok-valid.valid) c.valid_step.new.steps) are c.in_ok-valid.ensures) in
@@ -71,7 +71,7 @@ returns c =
     let mid = c.read_step.new.steps in
     let late = c.pad_step.new.steps in
     let are : map rc_value c.deref.result.now ≡ languages_of systems = ap (map rc_value) c.deref.ensures.value ∙ c.in_ok-languages.ensures in
-    let second : IsDone mid (IsPadStep mid.limit (way_of systems) read closed) late = subst (λ (w : Direction). IsDone mid (IsPadStep mid.limit w read closed) late) c.direction_of.ensures c.in_ok-closed.ensures in
+    let second : IsDone mid (IsPadStep mid.limit (direction_of systems) read closed) late = subst (λ (w : Direction). IsDone mid (IsPadStep mid.limit w read closed) late) c.direction_of.ensures c.in_ok-closed.ensures in
     let third : IsDone late (IsValidStep late.limit (languages_of systems) (numbered closed) c.in_ok-valid.valid) c.valid_step.new.steps =
     subst (λ (a : NamedAutomaton). IsDone late (IsValidStep late.limit (languages_of systems) a c.in_ok-valid.valid) c.valid_step.new.steps) c.in_ok-relation.ensures
     (subst (λ (ls : List Automaton). IsDone late (IsValidStep late.limit ls c.in_ok-relation.relation c.in_ok-valid.valid) c.valid_step.new.steps) are c.in_ok-valid.ensures) in

@@ -21,7 +21,7 @@ pub returns-in_ok-last-in-Lsd-clause-ends : goal.returns-in_ok-last-in-Lsd-claus
 returns-in_ok-last-in-Lsd-clause-ends c places are =
     let d = c.args.d.now in
     let last = subst (AreAccepting d) (sym c.deref-in-Lsd.ensures.value) c.in_ok-last-in-Lsd.ensures in
-    subst (λ (way : Direction). IfOk c.reached.result (λ found. (q : ℕ) → (flag_at found.items q ≡ true) ↔ IsEnd way d places q)) (sym c.in-Lsd.is)
+    subst (λ (direction : Direction). IfOk c.reached.result (λ found. (q : ℕ) → (flag_at found.items q ≡ true) ↔ IsEnd direction d places q)) (sym c.in-Lsd.is)
     (IfOk-weaker c.reached.result _ _
     (λ found same q.
     let end = IsEnd-reached d places c.args.parts.now are c.in_ok-turned-in-Lsd.turned c.in_ok-turned-in-Lsd.ensures.reversal c.deref-in-Lsd.result.now last

@@ -5,7 +5,7 @@ use Rattle.digit_tuple.specs.Automaton as branching
 use Rattle.digit_tuple.specs.Automaton.{Branch, Branching, IsBranchTable}
 use Rattle.digit_tuple.specs.Deterministic.{states_of}
 use Rattle.digit_tuple.specs.Rows.{branch_in, branches_in}
-use Rattle.digit_tuple.specs.declared.edges.Edge.{Edge}
+use Rattle.digit_tuple.specs.declared.transitions.Transition.{Transition}
 use Rattle.project_close.specs.Image.{AreRelabelled, IsImage}
 use Rattle.project_close.proofs.ImageLemmas.{AreImageRows, AreImageRows-push, IsBranchTable-image, IsImage-rows}
 use Rattle.project_close.proofs.image.image.Goals as goal
@@ -17,11 +17,11 @@ loop-state-preserved c =
     let parts = c.args.parts.now in
     let rows = branches_in c.loop-state.rows.items in
     let state = c.loop-state.state in
-    let row : Branch = record { accepting = get_or flags state false; edges = c.in_ok-relabelled.field-0.items } in
+    let row : Branch = record { accepting = get_or flags state false; transitions = c.in_ok-relabelled.field-0.items } in
     let pushed : branches_in c.push.new.self.items ≡ rows ++ row ∷ [] = ap branches_in c.in_ok-push.ensures.items ∙ map-append branch_in c.loop-state.rows.items _ in
     subst (λ (bs : List Branch). AreImageRows d flags parts bs (state + 1)) (sym pushed)
     (AreImageRows-push d flags parts rows state row c.loop-state.invariant refl
-    (subst (λ (es : List Edge). AreRelabelled parts es c.in_ok-relabelled.field-0.items) (c.deref.ensures.value ∙ c.in_ok-edges_into.ensures.edges) c.in_ok-relabelled.ensures))
+    (subst (λ (es : List Transition). AreRelabelled parts es c.in_ok-relabelled.field-0.items) (c.deref.ensures.value ∙ c.in_ok-transitions_into.ensures.transitions) c.in_ok-relabelled.ensures))
 
 pub from_states-requires : goal.from_states-requires
 from_states-requires c =

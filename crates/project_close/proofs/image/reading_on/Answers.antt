@@ -28,10 +28,10 @@ pub returns : goal.returns
 returns c =
     let d = c.args.d.now in
     let places = c.args.places.now in
-    let way = c.args.direction in
+    let direction = c.args.direction in
     let n = c.in_ok-image.image in
     let parts : c.in_ok-parts.parts.items ≡ parts_of_letters d.sizes places = c.in_ok-parts.ensures ∙ ap (λ (ss : List ℕ). parts_of_letters ss places) c.alphabet.ensures.sizes in
-    let ends : (q : ℕ) → (flag_at c.deref-2.result.now q ≡ true) ↔ IsEnd way d places q =
-    subst (λ (fs : List Bool). (q : ℕ) → (flag_at fs q ≡ true) ↔ IsEnd way d places q) (sym c.deref-2.ensures.value) (c.in_ok-ends.ensures.ends places (c.deref.ensures.value ∙ parts)) in
-    reads_made d places way c.in_ok-copy.field-0 c.deref-3.result.now c.deref-2.result.now n c.in_ok-first.first.items (c.in_ok-copy.ensures ∙ c.requires.alphabet) (c.deref-3.ensures.value ∙ parts)
+    let ends : (q : ℕ) → (flag_at c.deref-2.result.now q ≡ true) ↔ IsEnd direction d places q =
+    subst (λ (fs : List Bool). (q : ℕ) → (flag_at fs q ≡ true) ↔ IsEnd direction d places q) (sym c.deref-2.ensures.value) (c.in_ok-ends.ensures.ends places (c.deref.ensures.value ∙ parts)) in
+    reads_made d places direction c.in_ok-copy.field-0 c.deref-3.result.now c.deref-2.result.now n c.in_ok-first.first.items (c.in_ok-copy.ensures ∙ c.requires.alphabet) (c.deref-3.ensures.value ∙ parts)
     c.in_ok-image.ensures.image c.in_ok-image.ensures.table ends c.in_ok-first.ensures

@@ -4,31 +4,31 @@ use Rattle.std.proofs.lemmas.List.Filters.{dedup_is}
 use Rattle.std.proofs.lemmas.List.Kept.{Contains-from_dedup}
 use Rattle.std.proofs.lemmas.List.Sorted.{Contains-permutation, IsPermutation-sym}
 use Rattle.std.proofs.lemmas.List.{take_all}
-use Rattle.digit_tuple.specs.declared.edges.Edge.{Edge}
+use Rattle.digit_tuple.specs.declared.transitions.Transition.{Transition}
 use Rattle.digit_tuple.specs.Automaton.{IsBefore}
-use Rattle.digit_tuple.proofs.EdgeLemmas.{AllPairs-dedup, Contains-dedup, edges_tell}
-use Rattle.project_close.specs.Image.{relabelled_edge}
+use Rattle.digit_tuple.proofs.TransitionLemmas.{AllPairs-dedup, Contains-dedup, transitions_tell}
+use Rattle.project_close.specs.Image.{relabelled_transition}
 use Rattle.project_close.proofs.ImageLemmas.{relabelled_members}
 use Rattle.project_close.proofs.image.relabelled.Goals as goal
 
-abbrev same : Edge → Edge → Bool
+abbrev same : Transition → Transition → Bool
 same e f = (e.letter == f.letter) && (e.target == f.target)
 
 pub returns : goal.returns
 returns c =
-    let edges = c.args.edges.now in
+    let transitions = c.args.transitions.now in
     let parts = c.args.parts.now in
-    let made = c.loop-edge.new.items in
+    let made = c.loop-transition.new.items in
     let sorted = c.sort.new.self.items in
     let left : c.dedup.new.self.items ≡ dedup same sorted = dedup_is same sorted c.dedup.new.self.items c.dedup.ensures.filtered in
-    let all : made ≡ map (relabelled_edge parts) edges = c.loop-edge.invariant ∙ ap (map (relabelled_edge parts)) (take_all c.loop-edge.edge-index edges (omega arith)) in
+    let all : made ≡ map (relabelled_transition parts) transitions = c.loop-transition.invariant ∙ ap (map (relabelled_transition parts)) (take_all c.loop-transition.transition-index transitions (omega arith)) in
     let moved = c.in_ok-sort.ensures.permutation in
     record {
-      ascending = subst (AllPairs IsBefore) (sym left) (AllPairs-dedup same edges_tell sorted c.in_ok-sort.ensures.sorted);
+      ascending = subst (AllPairs IsBefore) (sym left) (AllPairs-dedup same transitions_tell sorted c.in_ok-sort.ensures.sorted);
       members = λ e. (
-        (λ there. (relabelled_members parts edges e).0 (subst (λ (es : List Edge). Contains es e) all
-            (Contains-permutation sorted made e (IsPermutation-sym made sorted moved) (Contains-from_dedup same sorted e (subst (λ (es : List Edge). Contains es e) left there))))),
-        (λ from. subst (λ (es : List Edge). Contains es e) (sym left)
-            (Contains-dedup same edges_tell sorted e (Contains-permutation made sorted e moved (subst (λ (es : List Edge). Contains es e) (sym all) ((relabelled_members parts edges e).1 from))))),
+        (λ there. (relabelled_members parts transitions e).0 (subst (λ (es : List Transition). Contains es e) all
+            (Contains-permutation sorted made e (IsPermutation-sym made sorted moved) (Contains-from_dedup same sorted e (subst (λ (es : List Transition). Contains es e) left there))))),
+        (λ from. subst (λ (es : List Transition). Contains es e) (sym left)
+            (Contains-dedup same transitions_tell sorted e (Contains-permutation made sorted e moved (subst (λ (es : List Transition). Contains es e) (sym all) ((relabelled_members parts transitions e).1 from))))),
       );
     }

@@ -1,6 +1,6 @@
 use Rattle.std.proofs.Common.{◌≡◌, map, take}
-use Rattle.project_close.specs.Image.{relabelled_edge}
+use Rattle.project_close.specs.Image.{relabelled_transition}
 use Rattle.project_close.proofs.image.relabelled.Given as goal
 
-abbrev pub invariant-loop-edge : goal.invariant-loop-edge
-invariant-loop-edge l = l.new.items ≡ map (relabelled_edge l.parts) (take l.edge-index l.edges)
+abbrev pub invariant-loop-transition : goal.invariant-loop-transition
+invariant-loop-transition l = l.new.items ≡ map (relabelled_transition l.parts) (take l.transition-index l.transitions)

@@ -20,13 +20,13 @@ pub returns-clause-language : goal.returns-clause-language
 returns-clause-language c =
     let d = c.args.d.now in
     let places = c.args.places.now in
-    let way = c.args.direction in
+    let direction = c.args.direction in
     let n = c.in_ok-reading.reading.image in
     let first = c.in_ok-reading.reading.first.items in
     let reads = c.in_ok-reading.ensures in
     IfOk-weaker c.canonical_sets.result _ _
     (λ stepped same w over.
-    let one = reads_language d places way n first reads w in
+    let one = reads_language d places direction n first reads w in
     ((λ is. one.0 (sym (same w over) ∙ is)), (λ there. same w over ∙ one.1 there)))
     c.canonical_sets.ensures.language
 
@@ -34,20 +34,20 @@ pub returns-clause-width : goal.returns-clause-width
 returns-clause-width c =
     let d = c.args.d.now in
     let places = c.args.places.now in
-    let way = c.args.direction in
+    let direction = c.args.direction in
     let n = c.in_ok-reading.reading.image in
     let first = c.in_ok-reading.reading.first.items in
     let reads = c.in_ok-reading.ensures in
     IfOk-weaker c.canonical_sets.result _ _
-    (λ stepped width. reads_width d places way n first reads c.requires.canonical c.requires.live (product c.args.alphabet) (reads_letters d places way n first reads c.args.alphabet c.requires.alphabet) stepped.width width)
+    (λ stepped width. reads_width d places direction n first reads c.requires.canonical c.requires.live (product c.args.alphabet) (reads_letters d places direction n first reads c.args.alphabet c.requires.alphabet) stepped.width width)
     c.canonical_sets.ensures.width
 
 pub returns-clause-states : goal.returns-clause-states
 returns-clause-states c refused =
     let d = c.args.d.now in
     let places = c.args.places.now in
-    let way = c.args.direction in
+    let direction = c.args.direction in
     let n = c.in_ok-reading.reading.image in
     let first = c.in_ok-reading.reading.first.items in
     let reads = c.in_ok-reading.ensures in
-    reads_apart d places way n first reads c.requires.canonical c.requires.live (product c.args.alphabet) (reads_letters d places way n first reads c.args.alphabet c.requires.alphabet) (c.args.limit + 1) (c.canonical_sets.ensures.states refused)
+    reads_apart d places direction n first reads c.requires.canonical c.requires.live (product c.args.alphabet) (reads_letters d places direction n first reads c.args.alphabet c.requires.alphabet) (c.args.limit + 1) (c.canonical_sets.ensures.states refused)

@@ -12,7 +12,7 @@ use Rattle.project_close.proofs.same_branching.same_branching.Goals as goal
 pub loop-state-preserved : goal.loop-state-preserved
 loop-state-preserved c =
     ap branches_in c.in_ok-push.ensures.items
-    ∙ rows_more c.args.d.now c.loop-state.rows.items c.loop-state.state (record { accepting = c.accepting.result; edges = c.edges_into.new.row }) c.accepting.ensures.accepting c.in_ok-edges_into.ensures.edges c.loop-state.invariant
+    ∙ rows_more c.args.d.now c.loop-state.rows.items c.loop-state.state (record { accepting = c.accepting.result; transitions = c.transitions_into.new.row }) c.accepting.ensures.accepting c.in_ok-transitions_into.ensures.transitions c.loop-state.invariant
 
 pub from_states-requires : goal.from_states-requires
 from_states-requires c =

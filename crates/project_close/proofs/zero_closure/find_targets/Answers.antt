@@ -1,17 +1,17 @@
 use Rattle.std.proofs.Common.{get_or, subst}
 use Rattle.std.proofs.lemmas.List.{get_or_default}
-use Rattle.digit_tuple.specs.declared.edges.Edge.{Edge}
+use Rattle.digit_tuple.specs.declared.transitions.Transition.{Transition}
 use Rattle.project_close.specs.ZeroClosure.{AreFound}
-use Rattle.project_close.proofs.ZeroClosureLemmas.{AreFoundToo-edge}
+use Rattle.project_close.proofs.ZeroClosureLemmas.{AreFoundToo-transition}
 use Rattle.project_close.proofs.zero_closure.find_targets.Goals as goal
 
-pub loop-edge-preserved : goal.loop-edge-preserved
-loop-edge-preserved c =
-    let edges = c.args.edges.now in
-    let place = c.loop-edge.edge-index in
-    let z : Edge = record { letter = 0; target = 0 } in
-    let edge : Edge = get_or edges place z in
+pub loop-transition-preserved : goal.loop-transition-preserved
+loop-transition-preserved c =
+    let transitions = c.args.transitions.now in
+    let place = c.loop-transition.transition-index in
+    let z : Transition = record { letter = 0; target = 0 } in
+    let transition : Transition = get_or transitions place z in
     record {
-      found = subst (λ n. AreFound n c.find_target.new.flags c.find_target.new.found.items) c.loop-edge.invariant.found.size c.in_ok-find_target.ensures.found;
-      too = AreFoundToo-edge c.args.letters.now c.args.found.now.items c.loop-edge.found.items c.find_target.new.found.items edges place edge c.loop-edge-test.true (get_or_default edges place edge z c.loop-edge-test.true) c.loop-edge.invariant.too c.in_ok-find_target.ensures.too;
+      found = subst (λ n. AreFound n c.find_target.new.flags c.find_target.new.found.items) c.loop-transition.invariant.found.size c.in_ok-find_target.ensures.found;
+      too = AreFoundToo-transition c.args.letters.now c.args.found.now.items c.loop-transition.found.items c.find_target.new.found.items transitions place transition c.loop-transition-test.true (get_or_default transitions place transition z c.loop-transition-test.true) c.loop-transition.invariant.too c.in_ok-find_target.ensures.too;
     }

@@ -1,7 +1,7 @@
 use Rattle.std.proofs.Common.{◌≡◌, ◌+◌, ◌<◌, ◌≤◌, List, Bool, length, drop, sym, ap, ◌∙◌, subst, arith}
 use Rattle.std.proofs.lemmas.List.{get_or_default}
 use Rattle.digit_tuple.specs.Automaton.{states_of}
-use Rattle.digit_tuple.specs.declared.edges.Edge.{Edge}
+use Rattle.digit_tuple.specs.declared.transitions.Transition.{Transition}
 use Rattle.project_close.specs.ZeroClosure.{AreFound, AreFoundToo, IsTargetOf}
 use Rattle.project_close.proofs.ZeroClosureLemmas.{AreFound-few, IsSearch, IsSearch-begin, IsSearch-next, IsReached-flagged, written}
 use Rattle.project_close.proofs.zero_closure.reached.Goals as goal
@@ -36,7 +36,7 @@ loop-next-preserved c =
     (IsSearch-next n c.args.letters.now c.loop-next.flags.items new c.args.first.now found c.find_targets.new.found.items next c.index.result.now within
     (get_or_default found next 0 c.index.result.now within ∙ sym c.index.ensures) c.loop-next.invariant
     (subst (λ k. AreFound k new c.find_targets.new.found.items) count c.in_ok-find_targets.ensures.found)
-    (subst (λ (es : List Edge). AreFoundToo found c.find_targets.new.found.items (IsTargetOf c.args.letters.now es)) c.edges-edges.ensures.edges c.in_ok-find_targets.ensures.too))
+    (subst (λ (es : List Transition). AreFoundToo found c.find_targets.new.found.items (IsTargetOf c.args.letters.now es)) c.transitions-transitions.ensures.transitions c.in_ok-find_targets.ensures.too))
 
 pub returns-clause-reached : goal.returns-clause-reached
 returns-clause-reached c =

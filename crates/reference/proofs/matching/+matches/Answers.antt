@@ -3,7 +3,7 @@ use Rattle.std.proofs.lemmas.Bool.{eqb-true, eqb-false}
 use Rattle.std.proofs.lemmas.List.{take_rest}
 use Rattle.regex_build.specs.Expression.{star}
 use Rattle.reference.specs.Trees.{expression}
-use Rattle.reference.proofs.Cuts.{no_follow, no_star, star_cut, no_front, no_back, one_of_any, plus_empty, refuted, found, answers_yes, answers_no}
+use Rattle.reference.proofs.Cuts.{no_follow, no_star, star_cut, no_prefix, no_back, one_of_any, plus_empty, refuted, found, answers_yes, answers_no}
 use Rattle.reference.proofs.matching.+matches.Goals as goal
 use Rattle.reference.proofs.matching.+matches.Goals.{matches_follow-else-matches-via-then-matches+else-matches-2, matches_follow-else-matches-via-else-matches}
 use Rattle.reference.proofs.matching.+matches.Goals.{matches_star-else-matches-via-then-matches+else-matches_star, matches_star-else-matches-via-else-matches}
@@ -20,7 +20,7 @@ pub matches_follow-returns-else-matches : goal.matches_follow-returns-else-match
 matches_follow-returns-else-matches t c = answers_no (no_follow (expression c.args.first.now) (expression c.args.second.now) c.args.word.now (c.loop-cut.cut + 1) (omega arith)
     (elim c.else-matches.branch [
       | matches_follow-else-matches-via-then-matches+else-matches-2 w ↦ no_back (expression c.args.first.now) (expression c.args.second.now) c.args.word.now _ 0 c.loop-cut.cut (take_rest c.args.word.now c.loop-cut.cut) (refuted w.matches-then-matches.result w.if-matches-2.false w.matches-then-matches.ensures.1) c.loop-cut.invariant
-      | matches_follow-else-matches-via-else-matches w ↦ no_front (expression c.args.first.now) (expression c.args.second.now) c.args.word.now _ 0 c.loop-cut.cut refl (refuted c.matches.result w.if-matches.false c.matches.ensures.1) c.loop-cut.invariant
+      | matches_follow-else-matches-via-else-matches w ↦ no_prefix (expression c.args.first.now) (expression c.args.second.now) c.args.word.now _ 0 c.loop-cut.cut refl (refuted c.matches.result w.if-matches.false c.matches.ensures.1) c.loop-cut.invariant
     ]))
 
 pub matches_star-returns-then-matches_star : goal.matches_star-returns-then-matches_star
@@ -34,5 +34,5 @@ matches_star-returns-else-matches t c =
     answers_no (no_star (expression c.args.once.now) c.args.word.now (c.loop-cut.cut + 1) (omega arith) (omega arith)
     (elim c.else-matches.branch [
       | matches_star-else-matches-via-then-matches+else-matches_star w ↦ no_back (expression c.args.once.now) (star (expression c.args.once.now)) c.args.word.now _ 1 c.loop-cut.cut (take_rest c.args.word.now c.loop-cut.cut) (refuted w.matches_star.result w.if-matches_star.false w.matches_star.ensures.1) c.loop-cut.invariant
-      | matches_star-else-matches-via-else-matches w ↦ no_front (expression c.args.once.now) (star (expression c.args.once.now)) c.args.word.now _ 1 c.loop-cut.cut refl (refuted c.matches.result w.if-matches.false c.matches.ensures.1) c.loop-cut.invariant
+      | matches_star-else-matches-via-else-matches w ↦ no_prefix (expression c.args.once.now) (star (expression c.args.once.now)) c.args.word.now _ 1 c.loop-cut.cut refl (refuted c.matches.result w.if-matches.false c.matches.ensures.1) c.loop-cut.invariant
     ]))

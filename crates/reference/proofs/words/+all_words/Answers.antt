@@ -3,7 +3,7 @@ use Rattle.reference.proofs.WordSteps.{longer, longer_more, longer_words}
 use Rattle.reference.proofs.words.+all_words.Goals as goal
 
 pub loop-letter-preserved : goal.loop-letter-preserved
-loop-letter-preserved t c = cc (longer_more c.in_ok-shorter.shorter.items c.loop-letter.letter, c.in_ok-push_behind.ensures)
+loop-letter-preserved t c = cc (longer_more c.in_ok-shorter.shorter.items c.loop-letter.letter, c.in_ok-push_after.ensures)
 
 pub returns : goal.returns
 returns t c =

@@ -1,4 +1,4 @@
--- One list stands behind the other.
+-- One list comes after the other.
 use Rattle.regex_build.proofs.FragmentSteps.{both_appended, both_turned}
 use Rattle.regex_build.proofs.fragment.merged.Goals as goal
 

@@ -40,14 +40,14 @@ returns c =
     let R = λ (b : Bool). AreSettled (λ p q. Contains c.args.left.lasts.items p × Contains c.args.right.firsts.items q) b c.in_ok-between.between.items old one in
     follow_fragment c.args.left c.args.right
     (record { nullable = c.if-left.nullable; repeats = false; firsts = c.in_ok-merged_if.field-0; lasts = c.in_ok-merged_if-2.field-0; owed = c.in_ok-merged-2.field-0 })
-    c.in_ok-between.between.items c.in_ok-before.before.items c.in_ok-behind.behind.items old one (rows_in c.settled.new.next.items) (rows_in c.settled-2.new.next.items)
+    c.in_ok-between.between.items c.in_ok-before.before.items c.in_ok-after_token.after_token.items old one (rows_in c.settled.new.next.items) (rows_in c.settled-2.new.next.items)
     (record {
       nullable = null;
       repeats = refl;
       firsts = c.in_ok-merged_if.ensures;
       lasts = c.in_ok-merged_if-2.ensures;
-      owed = three_lists c.in_ok-merged-2.field-0.items c.in_ok-between.between.items c.in_ok-merged.field-0.items c.in_ok-before.before.items c.in_ok-behind.behind.items c.in_ok-merged-2.ensures c.in_ok-merged.ensures;
+      owed = three_lists c.in_ok-merged-2.field-0.items c.in_ok-between.between.items c.in_ok-merged.field-0.items c.in_ok-before.before.items c.in_ok-after_token.after_token.items c.in_ok-merged-2.ensures c.in_ok-merged.ensures;
       crossed = subst R null (subst Q c.deref-2.ensures.value (subst P c.deref.ensures.value c.in_ok-between.ensures));
       settles_left = c.in_ok-before.ensures;
-      settles_right = c.in_ok-behind.ensures;
+      settles_right = c.in_ok-after_token.ensures;
     })

@@ -1,4 +1,4 @@
--- The last two, one behind the other.
+-- The last two, one after the other.
 use Rattle.std.proofs.Common.{ℕ, refl, subst, sym, ◌∙◌}
 use Rattle.regex_build.specs.Fragments.{rows_in, HasRows}
 use Rattle.regex_build.proofs.LinkSteps.{length-rows_in}

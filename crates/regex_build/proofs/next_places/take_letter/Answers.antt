@@ -1,4 +1,4 @@
--- One more place, behind all others.
+-- One more place, after all others.
 use Rattle.std.proofs.Common.{◌≡◌, length, ◌∙◌, sym, arith}
 use Rattle.regex_build.specs.Fragments.{rows_in}
 use Rattle.regex_build.proofs.FinishSteps.{rows_in-push}

@@ -11,7 +11,7 @@ use Rattle.regex_build.specs.Reading.{state_view, IsNext, Ends}
 use Rattle.regex_build.proofs.ParseSteps.{byte_start, byte_next, byte_fault, byte_early, byte_end}
 use Rattle.regex_build.proofs.parsing.read.Goals as goal
 
--- no token stands from a byte on
+-- no token is from a byte on
 abbrev NoNext : Bool → List ℕ → ℕ → Type 0
 NoNext inside text at = spots_from lexing inside at 0 (drop at text) ≡ []
 

@@ -10,5 +10,5 @@ loop-place-preserved c =
     let there : place < length others = omega (arith, c.loop-place-test.true, c.if-names-others.false) in
     let here : get_or names place c.index-names-place.result ≡ get_or others place c.index-others-place.result =
     sym c.index-names-place.is ∙ (c.is_same.ensures.0 c.if-not-is_same.false ∙ c.index-others-place.is) in
-    let front = c.loop-place.invariant in
-    take_more names place c.index-names-place.result c.loop-place-test.true ∙ (λ k. front k ++ here k ∷ []) ∙ sym (take_more others place c.index-others-place.result there)
+    let prefix = c.loop-place.invariant in
+    take_more names place c.index-names-place.result c.loop-place-test.true ∙ (λ k. prefix k ++ here k ∷ []) ∙ sym (take_more others place c.index-others-place.result there)

@@ -34,7 +34,7 @@ returns-in_err-library c =
     let fault = c.in_err-library.field-0.0 in
     λ custom meant.
     rw (p.1, p.2) (unread_list c.args.steps.now custom read.tables.items (automata_of read)
-    (λ name spelling missing. listed_no_gap (automata_of read) read.tables.items possible.read_list.files possible.read_list.listed missing.systems c.args.steps.now name spelling missing.gap) fault
+    (λ name representation missing. listed_no_gap (automata_of read) read.tables.items possible.read_list.files possible.read_list.listed missing.systems c.args.steps.now name representation missing.gap) fault
     (stopped_here systems c.args.steps.now custom read.tables.items fault c.are_sealed.ensures meant (rw c.deref.ensures.value at c.in_err-library.ensures)))
 
 pub parts_of-requires-clause-named : goal.parts_of-requires-clause-named

@@ -2,9 +2,9 @@ use Rattle.std.proofs.Common.{◌++◌, List, Ok, Err, refl, sym, ap, ◌∙◌,
 use Rattle.std.proofs.lemmas.Result.{err_from_is_err_and}
 use Rattle.dfa_loading.specs.declared.loaded.Loaded.{Loaded}
 use Rattle.formula_build.proofs.ReadFormulas.{read_formed}
-use Rattle.formula_build.specs.Resolved.{AreWays}
+use Rattle.formula_build.specs.Resolved.{AreDirections}
 use Rattle.formula_build.specs.declared.resolving.Resolved.{Resolved}
-use Rattle.formula_build.specs.Solutions.{way_named}
+use Rattle.formula_build.specs.Solutions.{direction_named}
 use Rattle.formula_resolve.specs.Headers.{Headers}
 use Rattle.formula_resolve.specs.declared.variable.Variable.{Variable}
 use Rattle.system_files.specs.SystemFiles.{Custom}
@@ -20,7 +20,7 @@ use Rattle.session_cli.specs.TableReads.{library_with}
 use Rattle.session_cli.specs.TrackSystems as track_systems
 use Rattle.session_cli.specs.VariablesOver.{variables_over}
 use Rattle.session_cli.proofs.FormulaChains.{systems_unresolved, resolved_unbuilt, steps_made}
-use Rattle.session_cli.proofs.FormulaGround.{ground_ways, ground_readable, ground_fits, ground_known, ground_means}
+use Rattle.session_cli.proofs.FormulaGround.{ground_directions, ground_readable, ground_fits, ground_known, ground_means}
 use Rattle.session_cli.proofs.FormulaPlanning.{text_made, text_refused, verdict_is}
 use Rattle.session_cli.proofs.FormulaReady.{stopped_here, set_up, fits_here, known_here, solution_here, tracks_here, variables_here, steps_here, resolves_here}
 use Rattle.session_cli.proofs.FormulaRefusals.{unresolved, unbuilt, unread}
@@ -30,9 +30,9 @@ use Rattle.session_cli.proofs.formula.built.Goals as goal
 pub resolve-requires-clause-formed : goal.resolve-requires-clause-formed
 resolve-requires-clause-formed c = read_formed c.requires.read.text (tree_of c.args.read.now) c.requires.read.reads
 
-pub resolve-requires-clause-ways : goal.resolve-requires-clause-ways
-resolve-requires-clause-ways c =
-    subst (λ (h : Headers). AreWays h way_named) (sym c.requires.headers) (ground_ways (tree_of c.args.read.now) c.args.read.now.tables.items c.requires.read.files c.requires.read.listed)
+pub resolve-requires-clause-directions : goal.resolve-requires-clause-directions
+resolve-requires-clause-directions c =
+    subst (λ (h : Headers). AreDirections h direction_named) (sym c.requires.headers) (ground_directions (tree_of c.args.read.now) c.args.read.now.tables.items c.requires.read.files c.requires.read.listed)
 
 pub returns-in_err-resolved : goal.returns-in_err-resolved
 returns-in_err-resolved c =
@@ -173,7 +173,7 @@ returns c =
     let found = variables_here r read reads f tables systems up c.in_ok-resolved.ensures.planned in
     let l = library_with reads systems in
     let text = subst (λ (vs : List Variable). IsTextOf vs a c.in_ok-stored.stored.items) c.deref-2.ensures.value c.in_ok-stored.ensures in
-    let printed = c.in_ok-push_verdict.ensures ∙ ap (λ front. front ++ verdict_line c.verdict.result) c.in_ok-printed.ensures in
+    let printed = c.in_ok-push_verdict.ensures ∙ ap (λ prefix. prefix ++ verdict_line c.verdict.result) c.in_ok-printed.ensures in
     λ custom meant ledger files place stores same listed.
     let here = subst (λ (k : Custom). AreMeant k systems) (sym same) meant in
     let means = ground_means f tables files listed systems c.are_sealed.ensures custom meant told c.requires.systems reads c.args.steps c.read_tables.new.steps done.1 ledger stores same in

@@ -5,7 +5,7 @@ use Rattle.session_cli.proofs.MappedLemmas.{combining_stopped, image_made, one_s
 use Rattle.session_cli.proofs.imaging.mapped.Goals as goal
 
 pub letter_parts-requires : goal.letter_parts-requires
-letter_parts-requires c = usable c.args.morphism.now c.args.word.now c.args.target.system.now c.args.target.length c.in_ok-setting.setting c.requires.track c.requires.mapped c.in_ok-setting.ensures c.requires.way
+letter_parts-requires c = usable c.args.morphism.now c.args.word.now c.args.target.system.now c.args.target.length c.in_ok-setting.setting c.requires.track c.requires.mapped c.in_ok-setting.ensures c.requires.direction
 
 pub returns-in-Ok-clause-image : goal.returns-in-Ok-clause-image
 returns-in-Ok-clause-image c =

@@ -3,14 +3,14 @@ use Rattle.std.proofs.lemmas.Int.{to_z-of_z}
 use mir.Val.{SFits}
 use Rattle.formula_parse.specs.Views.{formula_view}
 use Rattle.formula_resolve.specs.Headers.{Headers}
-use Rattle.formula_build.specs.Resolved.{AreWays}
+use Rattle.formula_build.specs.Resolved.{AreDirections}
 use Rattle.formula_build.specs.ResolvedViews.{formula_of, library_of}
-use Rattle.formula_build.specs.Solutions.{IsFormed, IsSolution, way_named}
+use Rattle.formula_build.specs.Solutions.{IsFormed, IsSolution, direction_named}
 use Rattle.formula_build.specs.VariableTracks.{IsOverVariables}
 use Rattle.formula_build.specs.declared.resolving.Resolved.{Resolved}
 use Rattle.word_images.specs.ImageFormula.{image_formula}
 use Rattle.session_cli.specs.LetterParts.{IsLetterRelation}
-use Rattle.session_cli.proofs.NamedWords.{ways}
+use Rattle.session_cli.proofs.NamedWords.{directions}
 use Rattle.session_cli.proofs.LetterRelations.{fits_here, if_ok_both, known_here, not_refused, relation_here}
 use Rattle.session_cli.proofs.LetterResolution.{formed}
 use Rattle.session_cli.proofs.letter_parts.letter_relation.Goals as goal
@@ -23,8 +23,8 @@ resolve-requires-clause-formed c =
     let is = c.in_ok-formula.ensures ∙ ap (λ (b : ℤ). image_formula s k b) (to_z-of_z w32 c.args.letter fits) in
     subst IsFormed (sym is) (formed s k c.args.letter c.requires.few)
 
-pub resolve-requires-clause-ways : goal.resolve-requires-clause-ways
-resolve-requires-clause-ways c = subst (λ (h : Headers). AreWays h way_named) (sym c.requires.setting.headers) (ways c.args.formulas.system.now c.args.formulas.length)
+pub resolve-requires-clause-directions : goal.resolve-requires-clause-directions
+resolve-requires-clause-directions c = subst (λ (h : Headers). AreDirections h direction_named) (sym c.requires.setting.headers) (directions c.args.formulas.system.now c.args.formulas.length)
 
 pub build-requires-clause-fits : goal.build-requires-clause-fits
 build-requires-clause-fits c =

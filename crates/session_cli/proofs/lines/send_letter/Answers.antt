@@ -1,7 +1,7 @@
 use Rattle.std.proofs.Common.{◌++◌, codes}
 use Rattle.std.proofs.lemmas.Result.{err_from_is_err_and}
 use Rattle.wal_outside.proofs.SendingSteps.{sends_then, sends_cut}
-use Rattle.session_cli.specs.SpellingTexts.{digits_text}
+use Rattle.session_cli.specs.RepresentationTexts.{digits_text}
 use Rattle.session_cli.proofs.lines.send_letter.Goals as goal
 
 pub returns-in_err-send : goal.returns-in_err-send

@@ -1,6 +1,6 @@
 use Rattle.std.proofs.lemmas.Result.{err_from_is_err_and}
 use Rattle.wal_outside.proofs.SendingSteps.{none_sent}
-use Rattle.session_cli.proofs.SpellingSends.{letter_sent, letter_stopped}
+use Rattle.session_cli.proofs.RepresentationSends.{letter_sent, letter_stopped}
 use Rattle.session_cli.proofs.lines.send_letters.Goals as goal
 
 pub loop-letter-init : goal.loop-letter-init

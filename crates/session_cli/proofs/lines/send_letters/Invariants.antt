@@ -1,7 +1,7 @@
 use Rattle.std.proofs.Common.{take, map}
 use Rattle.std.specs.List.{flat_map}
 use Rattle.wal_outside.specs.Sending.{HasSent}
-use Rattle.session_cli.specs.SpellingTexts.{letter_text}
+use Rattle.session_cli.specs.RepresentationTexts.{letter_text}
 use Rattle.session_cli.proofs.lines.send_letters.Given as goal
 
 -- the letters in front were sent

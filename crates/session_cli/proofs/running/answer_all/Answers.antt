@@ -48,7 +48,7 @@ items-preserved-in-Ok-Command g c =
     } in
     record {
       between = between_next c.args.session.now.limit from to then c.items.cutter c.cut.new.self (Ok (cuts.Command c.in-Ok-Command.text c.in-Ok-Command.shown c.in-Ok-Command.line)) old mid new held told now c.items.tally c.answer_command-answered.new.tally begun c.items.invariant.between cut kept
-          (λ script place behind stands item. goes_on c.args.session.now.limit script old mid new held told now place behind c.items.tally c.answer_command-answered.new.tally c.in-Ok-Command.text.items c.in-Ok-Command.shown c.in-Ok-Command.line stands item.0 answered);
+          (λ script place suffix stands item. goes_on c.args.session.now.limit script old mid new held told now place suffix c.items.tally c.answer_command-answered.new.tally c.in-Ok-Command.text.items c.in-Ok-Command.shown c.in-Ok-Command.line stands item.0 answered);
       session = c.answer_command-answered.ensures.session ∙ c.items.invariant.session;
     }
 
@@ -75,7 +75,7 @@ returns-in-Err g c =
       adds = c.answer_command-answered.ensures.counts;
     } in
     between_ends c.args.session.now.limit from to then c.items.cutter c.cut.new.self (Ok (cuts.Command c.in-Ok-Command.text c.in-Ok-Command.shown c.in-Ok-Command.line)) old mid new held told now c.items.tally c.stop_status.result begun c.items.invariant.between cut kept
-    (λ gave more place behind stands item source. inr (inl (stops c.args.session.now.limit _ from then old mid new held told now place behind c.items.tally c.answer_command-answered.new.tally c.in-Ok-Command.text.items c.in-Ok-Command.shown c.in-Ok-Command.line c.in-Err.fault c.stop_status.result stands item.0 answered source c.stop_status.ensures)))
+    (λ gave more place suffix stands item source. inr (inl (stops c.args.session.now.limit _ from then old mid new held told now place suffix c.items.tally c.answer_command-answered.new.tally c.in-Ok-Command.text.items c.in-Ok-Command.shown c.in-Ok-Command.line c.in-Err.fault c.stop_status.result stands item.0 answered source c.stop_status.ensures)))
 
 pub returns-in-Ok-End : goal.returns-in-Ok-End
 returns-in-Ok-End g c =
@@ -112,8 +112,8 @@ items-preserved g c =
     let kept : then.faults ≡ to.faults = rw c.in-Err-Long.field-0-is at c.in-Err-Long.ensures.faults in
     record {
       between = between_next c.args.session.now.limit from to then c.items.cutter c.cut.new.self (Err (cut_faults.Long c.in-Err-Long.line)) old mid mid held told now c.items.tally c.hand_over_fault.new.tally begun c.items.invariant.between cut kept
-          (λ script place behind stands (text, ended, next, long). refuses c.args.session.now.limit script old mid held told now place behind c.items.tally c.hand_over_fault.new.tally (record { text = text; line = c.in-Err-Long.line; ended = ended }) (faults.Long 65536) stands next
-          (λ ledger. long_step c.args.session.now.limit ended ledger mid place text c.in-Err-Long.line behind next long) c.in-Ok-hand_over_fault.ensures.sent c.in-Ok-hand_over_fault.ensures.counts);
+          (λ script place suffix stands (text, ended, next, long). refuses c.args.session.now.limit script old mid held told now place suffix c.items.tally c.hand_over_fault.new.tally (record { text = text; line = c.in-Err-Long.line; ended = ended }) (faults.Long 65536) stands next
+          (λ ledger. long_step c.args.session.now.limit ended ledger mid place text c.in-Err-Long.line suffix next long) c.in-Ok-hand_over_fault.ensures.sent c.in-Ok-hand_over_fault.ensures.counts);
       session = c.items.invariant.session;
     }
 
@@ -131,8 +131,8 @@ returns-in-Err-hand_over_fault g c =
     let begun : c.items.cutter.over ≡ false = begun_of c.items.cutter.over _ c.in-Err-Long.ensures.again (λ is. cc) in
     let kept : then.faults ≡ to.faults = rw c.in-Err-Long.field-0-is at c.in-Err-Long.ensures.faults in
     between_ends c.args.session.now.limit from to then c.items.cutter c.cut.new.self (Err (cut_faults.Long c.in-Err-Long.line)) old mid mid held told now c.items.tally c.stop_status-in-Err-hand_over_fault.result begun c.items.invariant.between cut kept
-    (λ gave more place behind stands (text, ended, next, long) source. inr (inl (refuses_stop c.args.session.now.limit _ from then old mid held told now place behind c.items.tally (record { text = text; line = c.in-Err-Long.line; ended = ended }) (faults.Long 65536) c.in-Err-hand_over_fault.fault c.stop_status-in-Err-hand_over_fault.result stands next
-    (λ ledger. long_step c.args.session.now.limit ended ledger mid place text c.in-Err-Long.line behind next long) c.in-Err-hand_over_fault.ensures.sent source c.stop_status-in-Err-hand_over_fault.ensures)))
+    (λ gave more place suffix stands (text, ended, next, long) source. inr (inl (refuses_stop c.args.session.now.limit _ from then old mid held told now place suffix c.items.tally (record { text = text; line = c.in-Err-Long.line; ended = ended }) (faults.Long 65536) c.in-Err-hand_over_fault.fault c.stop_status-in-Err-hand_over_fault.result stands next
+    (λ ledger. long_step c.args.session.now.limit ended ledger mid place text c.in-Err-Long.line suffix next long) c.in-Err-hand_over_fault.ensures.sent source c.stop_status-in-Err-hand_over_fault.ensures)))
 
 pub returns-in-Err-Syntax : goal.returns-in-Err-Syntax
 returns-in-Err-Syntax g c =

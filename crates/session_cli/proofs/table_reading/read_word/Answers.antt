@@ -11,4 +11,4 @@ read_word_steps-requires c =
     let systems = c.args.systems.now in
     let under = subst (λ xs. AreSystemsUnder systems (header_view c.header.result.now) (map rc_value xs)) (sym c.deref.ensures.value) c.in_ok-tracks.ensures in
     let may = may_read_word systems c.args.table.now c.requires.word.0 (map rc_value c.deref.result.now) c.requires.word.1 c.requires.table (subst (λ h. AreSystemsUnder systems h (map rc_value c.deref.result.now)) c.header.ensures under) in
-    record { states = may.states; word = may.word; tracks = sym (length-map c.deref.result.now rc_value) ∙ may.count; direction = may.one_way }
+    record { states = may.states; word = may.word; tracks = sym (length-map c.deref.result.now rc_value) ∙ may.count; direction = may.shared_direction }

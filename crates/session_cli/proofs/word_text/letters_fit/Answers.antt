@@ -13,8 +13,8 @@ loop-letter-preserved c =
     let i = c.loop-letter.letter-index in
     let x = get_or items i (pos 0) in
     let fits : SFits w32 x = search rules in
-    let front : take (i + 1) items ≡ take i items ++ x ∷ [] = take_more items i (pos 0) (omega arith) in
-    subst (All (λ letter. FitsSigned w32 letter)) (sym front) (All-push (λ letter. FitsSigned w32 letter) (take i items) x c.loop-letter.invariant fits)
+    let prefix : take (i + 1) items ≡ take i items ++ x ∷ [] = take_more items i (pos 0) (omega arith) in
+    subst (All (λ letter. FitsSigned w32 letter)) (sym prefix) (All-push (λ letter. FitsSigned w32 letter) (take i items) x c.loop-letter.invariant fits)
 
 pub returns : goal.returns
 returns c =

@@ -9,21 +9,21 @@ use Rattle.system_files.proofs.taking.take_language.Goals as goal
 
 pub returns-in_err-place-clause-loads : goal.returns-in_err-place-clause-loads
 returns-in_err-place-clause-loads g c =
-    let way = c.args.user.now.direction in
+    let direction = c.args.user.now.direction in
     let part = c.args.user.now.part.now in
     let old : StoreView = g.T.Store.view c.args.store.now in
     let new : StoreView = g.T.Store.view c.take.new.store in
-    handed_on (IsTakenLanguage way part) (λ custom fault. FailsFiles custom way part fault) c.args.texts.now c.take.new.texts old new c.in_err-place.field-0.0 c.from_residual.result c.from_residual.ensures.1
-    (takes_no_language way part c.args.texts.now c.take.new.texts old new c.in_err-place.field-0.0 c.in_err-place.ensures.loads)
+    handed_on (IsTakenLanguage direction part) (λ custom fault. FailsFiles custom direction part fault) c.args.texts.now c.take.new.texts old new c.in_err-place.field-0.0 c.from_residual.result c.from_residual.ensures.1
+    (takes_no_language direction part c.args.texts.now c.take.new.texts old new c.in_err-place.field-0.0 c.in_err-place.ensures.loads)
 
 pub returns-in_err-language-clause-loads : goal.returns-in_err-language-clause-loads
 returns-in_err-language-clause-loads g c =
-    let way = c.args.user.now.direction in
+    let direction = c.args.user.now.direction in
     let part = c.args.user.now.part.now in
     let old : StoreView = g.T.Store.view c.args.store.now in
     let new : StoreView = g.T.Store.view c.take.new.store in
-    handed_on (IsTakenLanguage way part) (λ custom fault. FailsFiles custom way part fault) c.args.texts.now c.take.new.texts old new c.in_err-language.field-0.0 c.from_residual-in_err-language.result c.from_residual-in_err-language.ensures.1
-    (lists_none way part c.args.texts.now c.take.new.texts old new c.in_ok-place.field-0 (found_view c.at-found.result.now) c.at-found.ensures c.in_ok-place.ensures.loads c.in_err-language.field-0.0 c.in_err-language.ensures)
+    handed_on (IsTakenLanguage direction part) (λ custom fault. FailsFiles custom direction part fault) c.args.texts.now c.take.new.texts old new c.in_err-language.field-0.0 c.from_residual-in_err-language.result c.from_residual-in_err-language.ensures.1
+    (lists_none direction part c.args.texts.now c.take.new.texts old new c.in_ok-place.field-0 (found_view c.at-found.result.now) c.at-found.ensures c.in_ok-place.ensures.loads c.in_err-language.field-0.0 c.in_err-language.ensures)
 
 pub returns-clause-loads : goal.returns-clause-loads
 returns-clause-loads g c =

@@ -2,7 +2,7 @@ use Rattle.std.proofs.Common.{length, take, ◌-◌, ◌≡◌, ◌≤◌}
 use Rattle.wal_outside.specs.Sending.{HasSent}
 use Rattle.wal_outside.proofs.sending.send.Given as goal
 
--- what stands before `at` was sent, and nothing was called while there was none
+-- what comes before `at` was sent, and nothing was called while there was none
 abbrev pub invariant-pieces : goal.invariant-pieces
 invariant-pieces g l = record {
   sent : HasSent (g.K.Sink.view l.initial.out) (take l.at l.piece) (g.K.Sink.view l.out);

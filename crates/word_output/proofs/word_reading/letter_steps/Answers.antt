@@ -5,8 +5,8 @@ use Rattle.digit_tuple.specs.StepResults.{IsDone}
 use Rattle.digit_tuple.specs.declared.direction.Direction.{Direction}
 use Rattle.dfa_reading.specs.Branching.{sizes_in}
 use Rattle.product_op.specs.Validity.{AreLanguages}
-use Rattle.numeration.specs.Spelling.{sizes_of}
-use Rattle.num_system.specs.Tracks.{systems_of, way_of}
+use Rattle.numeration.specs.Representation.{sizes_of}
+use Rattle.num_system.specs.Tracks.{systems_of, direction_of}
 use Rattle.num_system.proofs.SealedLemmas.{languages_fit}
 use Rattle.word_output.specs.LetterPaddings.{IsLetterPadStep}
 use Rattle.word_output.specs.LetterReadings.{IsLetterReadStep}
@@ -39,7 +39,7 @@ returns c =
     let same : sizes_in listed.header digits ≡ sizes_of (systems_of systems) = word_sizes listed c.requires.word digits ∙ c.deref.ensures.value ∙ c.in_ok-digits.ensures in
     let first : IsDone old (IsLetterReadStep old.limit (sizes_of (systems_of systems)) listed read) mid =
     subst (λ (s : List ℕ). IsDone old (IsLetterReadStep old.limit s listed read) mid) same c.in_ok-read.ensures in
-    let second : IsDone mid (IsLetterPadStep mid.limit (way_of systems) read padded) late =
+    let second : IsDone mid (IsLetterPadStep mid.limit (direction_of systems) read padded) late =
     subst (λ (w : Direction). IsDone mid (IsLetterPadStep mid.limit w read padded) late) c.direction_of.ensures c.in_ok-padded.ensures in
     last_step old systems listed mid read first late padded second new c.valid_letters.result
     (subst (λ (ls : List Automaton). DoesValidLetters late ls padded c.valid_letters.result new) c.requires.languages c.valid_letters.ensures)

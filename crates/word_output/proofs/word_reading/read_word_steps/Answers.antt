@@ -4,7 +4,7 @@ use Rattle.std.proofs.lemmas.List.{length-map}
 use Rattle.std.proofs.lemmas.Option.{MatchOption-at_none}
 use Rattle.digit_tuple.specs.Deterministic.{Automaton}
 use Rattle.product_op.specs.Validity.{AreLanguages}
-use Rattle.numeration.specs.Spelling.{sizes_of}
+use Rattle.numeration.specs.Representation.{sizes_of}
 use Rattle.num_system.specs.Sealed.{SystemValue}
 use Rattle.num_system.specs.Tracks.{languages_of, systems_of}
 use Rattle.num_system.proofs.SealedLemmas.{languages_fit}

@@ -7,6 +7,6 @@ use Rattle.base_k.proofs.base_k.BaseKNumSystem.language.Goals as goal
 pub returns : goal.returns
 returns c =
     let s = c.args.self.now in
-    IfOk-weaker c.language_in.result (λ dfa. (way : Direction) → IsLanguageOf way (base s.base) dfa) (λ dfa. IsLanguageOf s.direction (base s.base) dfa)
+    IfOk-weaker c.language_in.result (λ dfa. (direction : Direction) → IsLanguageOf direction (base s.base) dfa) (λ dfa. IsLanguageOf s.direction (base s.base) dfa)
     (λ dfa each. each s.direction)
     c.language_in.ensures

@@ -4,7 +4,7 @@ use Rattle.std.specs.declared.alloc.Global.{Global}
 use Rattle.std.specs.List.{All, range_with_len}
 use Rattle.std.proofs.lemmas.List.{length_push}
 use Rattle.std.proofs.lemmas.List.Elements.{All-filter, All-push, All-same, All-weaker}
-use Rattle.digit_tuple.specs.Automaton.{accepting_of, edges_of, letters_of, states_of}
+use Rattle.digit_tuple.specs.Automaton.{accepting_of, transitions_of, letters_of, states_of}
 use Rattle.determinise.specs.declared.bit_words.BitWord.{BitWord}
 use Rattle.determinise.specs.SubsetLaws.{All-range}
 use Rattle.determinise.specs.Bits.{row_at, rows_in}
@@ -23,15 +23,15 @@ loop-state-preserved c =
     let row = c.in_ok-row_of.field-0 in
     let old = c.loop-state.rows.items in
     let width : c.words_for-width.result ≡ w = c.words_for-width.ensures ∙ ap words_of c.states.ensures.value in
-    let made : row.items ≡ map (word_of w) (edges_of n k) = c.in_ok-row_of.ensures ∙ ap (λ v. map (word_of v) c.edges.result.now) width ∙ ap (map (word_of w)) c.edges.ensures.edges in
+    let made : row.items ≡ map (word_of w) (transitions_of n k) = c.in_ok-row_of.ensures ∙ ap (λ v. map (word_of v) c.transitions.result.now) width ∙ ap (map (word_of w)) c.transitions.ensures.transitions in
     let inside : All (λ (word : BitWord). word.place < letters_of n * w) row.items =
-    All-same (λ (word : BitWord). word.place < letters_of n * w) row.items (map (word_of w) c.edges.result.now) (made ∙ ap (map (word_of w)) (sym c.edges.ensures.edges))
-    (words_within (letters_of n) (states_of n) w c.edges.result.now (wide_enough (states_of n)) c.edges.ensures.row.in_range) in
+    All-same (λ (word : BitWord). word.place < letters_of n * w) row.items (map (word_of w) c.transitions.result.now) (made ∙ ap (map (word_of w)) (sym c.transitions.ensures.transitions))
+    (words_within (letters_of n) (states_of n) w c.transitions.result.now (wide_enough (states_of n)) c.transitions.ensures.row.in_range) in
     let pushed : c.push.new.self.items ≡ old ++ row ∷ [] = c.in_ok-push.ensures.items in
     record {
       count = ap length pushed ∙ omega (arith, length_push old row, c.loop-state.invariant.count);
-      rows = subst (λ (rows : List (Vec BitWord Global)). (q : ℕ) → q < k + 1 → row_at (rows_in rows) q ≡ map (word_of w) (edges_of n q)) (sym pushed)
-          (rows_push old row (λ q. map (word_of w) (edges_of n q)) k c.loop-state.invariant.count c.loop-state.invariant.rows made);
+      rows = subst (λ (rows : List (Vec BitWord Global)). (q : ℕ) → q < k + 1 → row_at (rows_in rows) q ≡ map (word_of w) (transitions_of n q)) (sym pushed)
+          (rows_push old row (λ q. map (word_of w) (transitions_of n q)) k c.loop-state.invariant.count c.loop-state.invariant.rows made);
       within = All-same (λ (r : Vec BitWord Global). All (λ word. word.place < letters_of n * w) r.items) c.push.new.self.items (old ++ row ∷ []) pushed
           (All-push (λ (r : Vec BitWord Global). All (λ word. word.place < letters_of n * w) r.items) old row c.loop-state.invariant.within inside);
     }

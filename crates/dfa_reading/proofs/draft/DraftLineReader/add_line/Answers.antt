@@ -10,5 +10,5 @@ kept (Ok true) at draft next line h is = λ added. line_read-kept at draft next 
 kept (Ok false) at draft next line h is = λ added. absurd (true≢false (sym added))
 kept (Err fault) at draft next line h is = tt
 
-pub returns-clause-front : goal.returns-clause-front
-returns-clause-front c = kept c.add_line.result c.args.at (draft_view c.args.self.now) (draft_view c.add_line.new.self) c.args.line.now c.add_line.ensures c.requires
+pub returns-clause-prefix : goal.returns-clause-prefix
+returns-clause-prefix c = kept c.add_line.result c.args.at (draft_view c.args.self.now) (draft_view c.add_line.new.self) c.args.line.now c.add_line.ensures c.requires

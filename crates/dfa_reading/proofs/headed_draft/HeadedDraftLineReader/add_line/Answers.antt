@@ -28,14 +28,14 @@ returns-then-headed-clause-added c =
     ap (λ (b : Bool). cond b (Some (draft_view c.add_line.new.self)) None) c.if-headed.true
     ∙ headed_added (may_head c.args.self.now.part) c.args.at (draft_view c.args.self.now.draft) (draft_view c.add_line.new.self) c.args.line.now true (read_line c) (still c)
 
-pub returns-then-headed-clause-front : goal.returns-then-headed-clause-front
-returns-then-headed-clause-front c added = record {
+pub returns-then-headed-clause-prefix : goal.returns-then-headed-clause-prefix
+returns-then-headed-clause-prefix c added = record {
   draft_is = line_read-kept c.args.at (draft_view c.args.self.now.draft) (draft_view c.add_line.new.self) c.args.line.now (read_line c) c.requires.draft_is;
   headed = still c;
 }
 
-pub returns-else-headed-clause-front : goal.returns-else-headed-clause-front
-returns-else-headed-clause-front c added = record {
+pub returns-else-headed-clause-prefix : goal.returns-else-headed-clause-prefix
+returns-else-headed-clause-prefix c added = record {
   draft_is = line_read-kept c.args.at (draft_view c.args.self.now.draft) (draft_view c.add_line.new.self) c.args.line.now
       (sym c.in_ok-add_line.ensures ∙ ap (λ (d : Bool). cond d (Some (draft_view c.add_line.new.self)) None) c.if-not-branch.false) c.requires.draft_is;
   headed = sym c.heads.ensures ∙ added;

@@ -21,8 +21,8 @@ returns-clause-added c =
     let word : is_word next ≡ b = line_added (draft_view old.draft) (transitions_in old.last.list.items) old.last.tables.items c.requires c.args.at next c.args.line.now c.len-states.result c.len-lines.result b read states lines systems c.in_ok-note_line.ensures.agrees in
     ap (λ (d : DraftRead). cond b (Some (draft_view d)) None) c.in_ok-note_line.ensures.draft ∙ add_word_line-is c.args.at (draft_view old.draft) next c.args.line.now b read word
 
-pub returns-clause-front : goal.returns-clause-front
-returns-clause-front c all_agree =
+pub returns-clause-prefix : goal.returns-clause-prefix
+returns-clause-prefix c all_agree =
     let old = c.args.self.now in
     let next = draft_view c.add_line.new.self in
     let b = c.in_ok-note_line.field-0 in

@@ -2,7 +2,7 @@ use Rattle.std.proofs.Common.{◌≡◌, ◌-◌, ℕ, List, [], drop, length, l
 use Rattle.std.proofs.lemmas.List.{take_all}
 use Rattle.std.specs.List.{sum_by, AllByRecursion}
 use Rattle.digit_tuple.specs.Letters.{product}
-use Rattle.digit_tuple.specs.Decisions.{rows_in, sizes_in, AreDigitsBelow, HasEdge, IsSound}
+use Rattle.digit_tuple.specs.Decisions.{rows_in, sizes_in, AreDigitsBelow, HasTransition, IsSound}
 use Rattle.digit_tuple.specs.declared.decisions.Decisions.{Decisions}
 use Rattle.digit_tuple.proofs.SparseRowLemmas.{first_weight}
 use Rattle.digit_tuple.proofs.decisions.Decisions.+bare.Goals as goal
@@ -19,7 +19,7 @@ returns-in_ok-new-in-Some-clause-sound t c =
         weight = weight ∙ ap product (sym sizes);
         count = ap (λ (xs : List (List ℕ)). sum_by length xs) digits ∙ sym (ap length none);
         digits = subst (AllByRecursion (AreDigitsBelow c.in-Some.size.now)) (sym digits) tt;
-        filled = subst (AllByRecursion HasEdge) (sym none) tt;
+        filled = subst (AllByRecursion HasTransition) (sym none) tt;
       },
       subst IsSound (sym boxed) c.in_ok-below-in-Some.ensures.sound,
     )

@@ -2,10 +2,10 @@ use Rattle.std.proofs.Common.{◌≡◌, ◌+◌, ◌*◌, ◌<◌, ℕ, List, [
 use Rattle.std.proofs.lemmas.List.{take_all}
 use Rattle.std.specs.Result.{OnOk}
 use Rattle.digit_tuple.specs.Letters.{product}
-use Rattle.digit_tuple.specs.declared.edges.Edge.{Edge}
+use Rattle.digit_tuple.specs.declared.transitions.Transition.{Transition}
 use Rattle.digit_tuple.specs.declared.decisions.Decisions.{Decisions}
-use Rattle.digit_tuple.specs.Decisions.{rows_in, sizes_in, joined, joined_rows, only_edge, behind, IsSound, IsTrack}
-use Rattle.digit_tuple.proofs.DecisionReads.{IsRowOn-sound, joined-next, behind-fits}
+use Rattle.digit_tuple.specs.Decisions.{rows_in, sizes_in, joined, joined_rows, only_transition, after_digit, IsSound, IsTrack}
+use Rattle.digit_tuple.proofs.DecisionReads.{IsRowOn-sound, joined-next, after_digit-fits}
 use Rattle.digit_tuple.proofs.decisions.Decisions.+row_into.Goals as goal
 
 pub last_row_into-requires-clause-track : goal.last_row_into-requires-clause-track
@@ -29,9 +29,9 @@ last_row_into-requires-clause-base t c =
 pub returns-in-Some : goal.returns-in-Some
 returns-in-Some t c =
     let track = c.in-OnTrack.track in
-    let same : map only_edge c.in-Some.targets.now ≡ rows_in c.in-OnTrack.below.value = sym c.in-Some.ensures.targets.0 ∙ ap rows_in c.deref.ensures in
-    subst (λ (row : List Edge). OnOk c.last_row_into.result (c.last_row_into.new.row.items ≡ c.args.row.now.items ++ map (behind c.args.base) row))
-    (ap (λ (rows : List (List Edge)). get_or (joined_rows track.weight track.digits rows) c.args.place []) same ∙ ap (λ (d : Decisions). get_or (rows_in d) c.args.place []) (sym c.in-OnTrack.is))
+    let same : map only_transition c.in-Some.targets.now ≡ rows_in c.in-OnTrack.below.value = sym c.in-Some.ensures.targets.0 ∙ ap rows_in c.deref.ensures in
+    subst (λ (row : List Transition). OnOk c.last_row_into.result (c.last_row_into.new.row.items ≡ c.args.row.now.items ++ map (after_digit c.args.base) row))
+    (ap (λ (rows : List (List Transition)). get_or (joined_rows track.weight track.digits rows) c.args.place []) same ∙ ap (λ (d : Decisions). get_or (rows_in d) c.args.place []) (sym c.in-OnTrack.is))
     c.last_row_into.ensures
 
 pub start-start-requires : goal.start-start-requires
@@ -59,7 +59,7 @@ row_into-requires t c = (
         (
           subst (λ (d : Decisions). c.start-start.result + k < length (rows_in d)) same inside,
           subst (λ n. c.args.base + n * track.weight + product (sizes_in c.deref-in-loop-count.result.now) < 4294967296) (sym c.from.ensures)
-              (subst (λ (d : Decisions). c.args.base + get_or ds k 0 * track.weight + product (sizes_in d) < 4294967296) same (behind-fits c.args.base track.size track.weight (product (sizes_in below)) (get_or ds k 0) on.track_is.weight small whole)),
+              (subst (λ (d : Decisions). c.args.base + get_or ds k 0 * track.weight + product (sizes_in d) < 4294967296) same (after_digit-fits c.args.base track.size track.weight (product (sizes_in below)) (get_or ds k 0) on.track_is.weight small whole)),
         ),
       ),
 )
@@ -73,13 +73,13 @@ loop-count-preserved t c =
     let ds = c.list-digit-items.result.now in
     let start = c.start-start.result in
     let inside : start + k < length (rows_in below) = omega (arith, on.at.fits, c.start-start.ensures.value, ap length c.list-digit-items.ensures, c.loop-count-test.true) in
-    let before : List Edge = map (behind c.args.base) (joined track.weight (take k ds) (drop start (rows_in below))) in
+    let before : List Transition = map (after_digit c.args.base) (joined track.weight (take k ds) (drop start (rows_in below))) in
     c.in_ok-row_into-in-OnTrack.ensures
-    ∙ ap (λ n. c.loop-count.row.items ++ map (behind (c.args.base + n * track.weight)) (get_or (rows_in c.deref-in-loop-count.result.now) (start + k) [])) c.from.ensures
-    ∙ ap (λ (d : Decisions). c.loop-count.row.items ++ map (behind (c.args.base + get_or ds k 0 * track.weight)) (get_or (rows_in d) (start + k) [])) c.deref-in-loop-count.ensures
-    ∙ ap (λ (es : List Edge). es ++ map (behind (c.args.base + get_or ds k 0 * track.weight)) (get_or (rows_in below) (start + k) [])) c.loop-count.invariant
-    ∙ append_assoc c.args.row.now.items before (map (behind (c.args.base + get_or ds k 0 * track.weight)) (get_or (rows_in below) (start + k) []))
-    ∙ ap (λ (es : List Edge). c.args.row.now.items ++ es) (sym (joined-next c.args.base track.weight ds (rows_in below) start k c.loop-count-test.true inside))
+    ∙ ap (λ n. c.loop-count.row.items ++ map (after_digit (c.args.base + n * track.weight)) (get_or (rows_in c.deref-in-loop-count.result.now) (start + k) [])) c.from.ensures
+    ∙ ap (λ (d : Decisions). c.loop-count.row.items ++ map (after_digit (c.args.base + get_or ds k 0 * track.weight)) (get_or (rows_in d) (start + k) [])) c.deref-in-loop-count.ensures
+    ∙ ap (λ (es : List Transition). es ++ map (after_digit (c.args.base + get_or ds k 0 * track.weight)) (get_or (rows_in below) (start + k) [])) c.loop-count.invariant
+    ∙ append_assoc c.args.row.now.items before (map (after_digit (c.args.base + get_or ds k 0 * track.weight)) (get_or (rows_in below) (start + k) []))
+    ∙ ap (λ (es : List Transition). c.args.row.now.items ++ es) (sym (joined-next c.args.base track.weight ds (rows_in below) start k c.loop-count-test.true inside))
 
 pub returns-after-loop-count : goal.returns-after-loop-count
 returns-after-loop-count t c =
@@ -89,7 +89,7 @@ returns-after-loop-count t c =
     let ds = c.list-digit-items.result.now in
     let all : take c.loop-count.count ds ≡ ds = take_all c.loop-count.count ds c.loop-count-test.false in
     c.loop-count.invariant
-    ∙ ap (λ (ns : List ℕ). c.args.row.now.items ++ map (behind c.args.base) (joined track.weight ns (drop c.start-start.result (rows_in below)))) (all ∙ c.list-digit-items.ensures)
-    ∙ ap (λ n. c.args.row.now.items ++ map (behind c.args.base) (joined track.weight (get_or track.digits c.args.place []) (drop n (rows_in below)))) c.start-start.ensures.value
-    ∙ ap (λ (es : List Edge). c.args.row.now.items ++ map (behind c.args.base) es) (sym on.at.row)
-    ∙ ap (λ (d : Decisions). c.args.row.now.items ++ map (behind c.args.base) (get_or (rows_in d) c.args.place [])) (sym c.in-OnTrack.is)
+    ∙ ap (λ (ns : List ℕ). c.args.row.now.items ++ map (after_digit c.args.base) (joined track.weight ns (drop c.start-start.result (rows_in below)))) (all ∙ c.list-digit-items.ensures)
+    ∙ ap (λ n. c.args.row.now.items ++ map (after_digit c.args.base) (joined track.weight (get_or track.digits c.args.place []) (drop n (rows_in below)))) c.start-start.ensures.value
+    ∙ ap (λ (es : List Transition). c.args.row.now.items ++ map (after_digit c.args.base) es) (sym on.at.row)
+    ∙ ap (λ (d : Decisions). c.args.row.now.items ++ map (after_digit c.args.base) (get_or (rows_in d) c.args.place [])) (sym c.in-OnTrack.is)

@@ -1,5 +1,5 @@
 use Rattle.std.proofs.Common.{sym, ◌∙◌, arith}
-use Rattle.digit_tuple.proofs.KeptLemmas.{kept-count, kept-edges}
+use Rattle.digit_tuple.proofs.KeptLemmas.{kept-count, kept-transitions}
 use Rattle.digit_tuple.proofs.dfa.Dfa.is_bare.Goals as goal
 
 pub is_bare-requires : goal.is_bare-requires
@@ -7,5 +7,5 @@ is_bare-requires c = omega (arith, c.requires, kept-count c.self.inside.flags.it
 
 pub returns : goal.returns
 returns c =
-    let same = kept-edges c.self.inside.flags.items c.self.inside.table c.args.self.now c.self.invariant.0 c.self.view_is c.args.state in
+    let same = kept-transitions c.self.inside.flags.items c.self.inside.table c.args.self.now c.self.invariant.0 c.self.view_is c.args.state in
     (λ yes. sym same ∙ c.is_bare.ensures.0 yes, λ bare. c.is_bare.ensures.1 (same ∙ bare))

@@ -2,7 +2,7 @@ use Rattle.std.proofs.Common.{◌≡◌, sym, ap, ◌∙◌, arith}
 use Rattle.std.specs.Cmp.{booleans_Decides}
 use Rattle.digit_tuple.specs.Deterministic.{State, state_of, accepting_of}
 use Rattle.digit_tuple.proofs.StateLemmas.{same_state}
-use Rattle.digit_tuple.proofs.KeptLemmas.{kept-count, kept-edges, kept-ascending}
+use Rattle.digit_tuple.proofs.KeptLemmas.{kept-count, kept-transitions, kept-ascending}
 use Rattle.digit_tuple.proofs.dfa.Dfa.is_same_state.Goals as goal
 
 pub is_same_row-requires-clause-place : goal.is_same_row-requires-clause-place
@@ -25,8 +25,8 @@ returns-then-accepting c =
     let b = c.args.other.now in
     let q = c.args.state in
     let accepting : accepting_of a q ≡ accepting_of b q = sym c.accepting.ensures.accepting ∙ (booleans_Decides c.accepting.result c.accepting-2.result).0 c.if-accepting.true ∙ c.accepting-2.ensures.accepting in
-    let one = kept-edges c.self.inside.flags.items c.self.inside.table a c.self.invariant.0 c.self.view_is q in
-    let two = kept-edges c.other.inside.flags.items c.other.inside.table b c.other.invariant.0 c.other.view_is q in (
+    let one = kept-transitions c.self.inside.flags.items c.self.inside.table a c.self.invariant.0 c.self.view_is q in
+    let two = kept-transitions c.other.inside.flags.items c.other.inside.table b c.other.invariant.0 c.other.view_is q in (
       (λ is. same_state (state_of a q) (state_of b q) accepting (sym one ∙ c.is_same_row.ensures.0 is ∙ two)),
-      (λ same. c.is_same_row.ensures.1 (one ∙ ap (λ (s : State). s.edges) same ∙ sym two)),
+      (λ same. c.is_same_row.ensures.1 (one ∙ ap (λ (s : State). s.transitions) same ∙ sym two)),
     )

@@ -4,14 +4,14 @@ use Rattle.digit_tuple.specs.NumberLists.{AreStarts, lists_at}
 use Rattle.digit_tuple.proofs.NumberListLemmas.{length-lists_of, lists_of-read_same, lists_of-read}
 use Rattle.digit_tuple.proofs.number_lists.NumberLists.list.Goals as goal
 
--- the numbers behind the width
-behind : (numbers items : List ℕ) (width : ℕ) → numbers ≡ items → take (length numbers - width) (drop width numbers) ≡ drop width items
-behind numbers items width is = take_rest numbers width ∙ ap (drop width) is
+-- the numbers after the width
+after_digit : (numbers items : List ℕ) (width : ℕ) → numbers ≡ items → take (length numbers - width) (drop width numbers) ≡ drop width items
+after_digit numbers items width is = take_rest numbers width ∙ ap (drop width) is
 
 pub list_at-requires-clause-starts : goal.list_at-requires-clause-starts
 list_at-requires-clause-starts c =
     let l = c.self.inside in
-    subst (λ (ns : List ℕ). AreStarts l.starts (length ns)) (sym (behind c.deref-else-place-self.result.now l.numbers.items l.width c.deref-else-place-self.ensures.value)) c.self.invariant.places
+    subst (λ (ns : List ℕ). AreStarts l.starts (length ns)) (sym (after_digit c.deref-else-place-self.result.now l.numbers.items l.width c.deref-else-place-self.ensures.value)) c.self.invariant.places
 
 pub list_at-requires-clause-place : goal.list_at-requires-clause-place
 list_at-requires-clause-place c =
@@ -29,6 +29,6 @@ pub returns-else-place-self : goal.returns-else-place-self
 returns-else-place-self c =
     let l = c.self.inside in
     c.list_at.ensures
-    ∙ ap (λ (ns : List ℕ). get_or (lists_at l.starts ns) (c.args.place - l.same) []) (behind c.deref-else-place-self.result.now l.numbers.items l.width c.deref-else-place-self.ensures.value)
+    ∙ ap (λ (ns : List ℕ). get_or (lists_at l.starts ns) (c.args.place - l.same) []) (after_digit c.deref-else-place-self.result.now l.numbers.items l.width c.deref-else-place-self.ensures.value)
     ∙ sym (lists_of-read l.same l.width l.starts l.numbers.items c.args.place c.if-place-self.false)
     ∙ ap (λ (ls : List (List ℕ)). get_or ls c.args.place []) c.self.view_is

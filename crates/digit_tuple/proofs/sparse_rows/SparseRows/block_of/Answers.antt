@@ -7,7 +7,7 @@ use Rattle.digit_tuple.proofs.BlockLemmas.{IsInBlock, in_block}
 use Rattle.digit_tuple.proofs.JoinedReads.{all_at}
 use Rattle.digit_tuple.proofs.sparse_rows.SparseRows.block_of.Goals as goal
 
--- where a row of a table stands in the blocks
+-- where a row of a table is in the blocks
 found : (sizes : List ℕ) (blocks : List Decisions) (table : Rows) (place : ℕ) → (let t : Rows = record { sizes = sizes; rows = flat_map rows_in blocks } in t) ≡ table → AreRowBlocks sizes blocks → place < length table.rows → IsInBlock rows_in blocks (place / block_rows) (place % block_rows) place
 found sizes blocks table place same are within = in_block rows_in blocks block_rows place are.rows (omega arith) (subst (λ (t : Rows). place < length t.rows) (sym same) within)
 

@@ -5,4 +5,4 @@ use Rattle.fib_system.specs.Fibonacci.{fibonacci}
 use Rattle.fib_system.proofs.fib.FibNumSystem.language.Goals as goal
 
 pub returns : goal.returns
-returns c = IfOk-weaker c.language_of.result (λ dfa. (way : Direction) → IsLanguageOf way fibonacci dfa) (λ dfa. IsLanguageOf c.args.self.now.direction fibonacci dfa) (λ dfa each. each c.args.self.now.direction) c.language_of.ensures
+returns c = IfOk-weaker c.language_of.result (λ dfa. (direction : Direction) → IsLanguageOf direction fibonacci dfa) (λ dfa. IsLanguageOf c.args.self.now.direction fibonacci dfa) (λ dfa each. each c.args.self.now.direction) c.language_of.ensures

@@ -1,21 +1,21 @@
 use Rattle.std.proofs.Common.{◌+◌, ◌<◌, ◌≤◌, ◌⊎◌, inl, inr, ◌∷◌, [], length, get_or, sym, ap, ◌∙◌, arith}
 use Rattle.std.proofs.lemmas.Bool.{cases_lt}
-use Rattle.digit_tuple.specs.declared.edges.Edge.{Edge}
-use Rattle.digit_tuple.specs.Deterministic.{edges_of}
+use Rattle.digit_tuple.specs.declared.transitions.Transition.{Transition}
+use Rattle.digit_tuple.specs.Deterministic.{transitions_of}
 use Rattle.minimise.specs.Classes.{class_of, dead_class}
-use Rattle.minimise.specs.ClassEdges.{class_edges}
-use Rattle.minimise.specs.EdgeLetters.{listed}
-use Rattle.minimise.specs.Hashes.{hash_edges}
-use Rattle.minimise.proofs.FlatEdgeLemmas.{HasPlace-between, edge_by_place}
-use Rattle.minimise.proofs.HashLemmas.{hash_edges-begin, hash_edges-end, hash_edges-more}
+use Rattle.minimise.specs.ClassTransitions.{class_transitions}
+use Rattle.minimise.specs.TransitionLetters.{listed}
+use Rattle.minimise.specs.Hashes.{hash_transitions}
+use Rattle.minimise.proofs.FlatTransitionLemmas.{HasPlace-between, transition_by_place}
+use Rattle.minimise.proofs.HashLemmas.{hash_transitions-begin, hash_transitions-end, hash_transitions-more}
 use Rattle.minimise.proofs.hashing.RoundPart.mix_full.Goals as goal
 
 pub loop-letter-init : goal.loop-letter-init
 loop-letter-init c =
     let self = c.args.self.now in
-    let z : Edge = record { letter = 0; target = 0 } in
-    hash_edges-begin self.span.first self.span.end c.args.start self.hashes.now (dead_class self.dfa.now self.hashes.now) (edges_of self.dfa.now c.args.state) z
-    (λ k inside. ap (λ (e : Edge). e.letter) (edge_by_place self.dfa.now self.starts.now (listed self.letters.now) self.targets.now c.requires.flat c.states-states.ensures.table c.requires.full c.args.state k z c.requires.state inside))
+    let z : Transition = record { letter = 0; target = 0 } in
+    hash_transitions-begin self.span.first self.span.end c.args.start self.hashes.now (dead_class self.dfa.now self.hashes.now) (transitions_of self.dfa.now c.args.state) z
+    (λ k inside. ap (λ (e : Transition). e.letter) (transition_by_place self.dfa.now self.starts.now (listed self.letters.now) self.targets.now c.requires.flat c.states-states.ensures.table c.requires.full c.args.state k z c.requires.state inside))
 
 pub mix_target-hash-requires-clause-target : goal.mix_target-hash-requires-clause-target
 mix_target-hash-requires-clause-target c =
@@ -29,28 +29,28 @@ loop-letter-preserved c =
     let self = c.args.self.now in
     let q = c.args.state in
     let k = c.loop-letter.letter in
-    let es = edges_of self.dfa.now q in
-    let z : Edge = record { letter = 0; target = 0 } in
+    let es = transitions_of self.dfa.now q in
+    let z : Transition = record { letter = 0; target = 0 } in
     let dead = dead_class self.dfa.now self.hashes.now in
     let inside : k < length es = omega (arith, c.loop-letter-test.true, c.min-letter-end.ensures, c.requires.flat.ends q c.requires.state) in
     c.mix_target-hash.ensures
-    ∙ ap (λ (e : Edge). hash_edges self.span.first self.span.end c.loop-letter.hash (class_edges self.hashes.now dead (e ∷ [])))
-    (sym (edge_by_place self.dfa.now self.starts.now (listed self.letters.now) self.targets.now c.requires.flat c.states-states.ensures.table c.requires.full q k z c.requires.state inside))
-    ∙ ap (λ h. hash_edges self.span.first self.span.end h (class_edges self.hashes.now dead (get_or es k z ∷ []))) c.loop-letter.invariant
-    ∙ hash_edges-more self.span.first self.span.end c.args.start self.hashes.now dead es k z inside
+    ∙ ap (λ (e : Transition). hash_transitions self.span.first self.span.end c.loop-letter.hash (class_transitions self.hashes.now dead (e ∷ [])))
+    (sym (transition_by_place self.dfa.now self.starts.now (listed self.letters.now) self.targets.now c.requires.flat c.states-states.ensures.table c.requires.full q k z c.requires.state inside))
+    ∙ ap (λ h. hash_transitions self.span.first self.span.end h (class_transitions self.hashes.now dead (get_or es k z ∷ []))) c.loop-letter.invariant
+    ∙ hash_transitions-more self.span.first self.span.end c.args.start self.hashes.now dead es k z inside
 
 pub returns : goal.returns
 returns c =
     let self = c.args.self.now in
     let q = c.args.state in
     let n = c.loop-letter.letter in
-    let es = edges_of self.dfa.now q in
-    let z : Edge = record { letter = 0; target = 0 } in
+    let es = transitions_of self.dfa.now q in
+    let z : Transition = record { letter = 0; target = 0 } in
     let past : (length es < n + 1) ⊎ (n + 1 ≤ length es) = cases_lt (length es) (n + 1) in
     let done : (length es ≤ n) ⊎ (self.span.end ≤ n) = elim past [
       | inl all ↦ inl (omega (arith, all))
       | inr more ↦ inr (omega (arith, more, c.loop-letter-test.false, c.min-letter-end.ensures, c.requires.flat.ends q c.requires.state))
     ] in
     c.loop-letter.invariant
-    ∙ hash_edges-end self.span.first self.span.end c.args.start self.hashes.now (dead_class self.dfa.now self.hashes.now) es z
-    (λ k inside. ap (λ (e : Edge). e.letter) (edge_by_place self.dfa.now self.starts.now (listed self.letters.now) self.targets.now c.requires.flat c.states-states.ensures.table c.requires.full q k z c.requires.state inside)) n done
+    ∙ hash_transitions-end self.span.first self.span.end c.args.start self.hashes.now (dead_class self.dfa.now self.hashes.now) es z
+    (λ k inside. ap (λ (e : Transition). e.letter) (transition_by_place self.dfa.now self.starts.now (listed self.letters.now) self.targets.now c.requires.flat c.states-states.ensures.table c.requires.full q k z c.requires.state inside)) n done

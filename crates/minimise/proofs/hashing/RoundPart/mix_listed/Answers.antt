@@ -1,14 +1,14 @@
 use Rattle.std.proofs.Common.{◌≡◌, ℕ, ◌+◌, ◌-◌, ◌<◌, ◌≤◌, ◌⊎◌, inl, inr, ◌∷◌, [], length, get_or, take, sym, ap, ◌∙◌, arith}
 use Rattle.std.proofs.lemmas.Bool.{cases_lt}
-use Rattle.digit_tuple.specs.declared.edges.Edge.{Edge}
-use Rattle.digit_tuple.specs.Deterministic.{edges_of}
+use Rattle.digit_tuple.specs.declared.transitions.Transition.{Transition}
+use Rattle.digit_tuple.specs.Deterministic.{transitions_of}
 use Rattle.digit_tuple.proofs.DfaLemmas.{row_at}
 use Rattle.minimise.specs.Classes.{class_of, dead_class}
-use Rattle.minimise.specs.ClassEdges.{class_edges}
-use Rattle.minimise.specs.EdgeLetters.{listed}
-use Rattle.minimise.specs.Hashes.{hash_edges}
-use Rattle.minimise.proofs.FlatEdgeLemmas.{HasPlace-between}
-use Rattle.minimise.proofs.HashLemmas.{before_first, hash_edges-more, hash_edges-rest, hash_edges-skip}
+use Rattle.minimise.specs.ClassTransitions.{class_transitions}
+use Rattle.minimise.specs.TransitionLetters.{listed}
+use Rattle.minimise.specs.Hashes.{hash_transitions}
+use Rattle.minimise.proofs.FlatTransitionLemmas.{HasPlace-between}
+use Rattle.minimise.proofs.HashLemmas.{before_first, hash_transitions-more, hash_transitions-rest, hash_transitions-skip}
 use Rattle.minimise.proofs.hashing.RoundPart.mix_listed.Goals as goal
 use Rattle.minimise.proofs.hashing.RoundPart.mix_listed.Goals.{then-letter-self-2, else-letter-self-2}
 
@@ -19,16 +19,16 @@ returns-then-letter-self c =
     let place = c.loop-place.place in
     let there = HasPlace-between self.dfa.now self.starts.now (listed self.letters.now) self.targets.now c.requires.flat c.states-states.ensures.table q place c.requires.state
     c.loop-place.auto.place c.loop-place-test.true in
-    let es = edges_of self.dfa.now q in
+    let es = transitions_of self.dfa.now q in
     let k = place - class_of self.starts.now q in
-    let z : Edge = record { letter = 0; target = 0 } in
-    let here : self.span.end ≤ (get_or es k z).letter = omega (arith, c.if-letter-self.true, c.letter-letter.ensures ∙ sym (ap (λ (e : Edge). e.letter) (there.edge z))) in
+    let z : Transition = record { letter = 0; target = 0 } in
+    let here : self.span.end ≤ (get_or es k z).letter = omega (arith, c.if-letter-self.true, c.letter-letter.ensures ∙ sym (ap (λ (e : Transition). e.letter) (there.transition z))) in
     let later : (i : ℕ) → k ≤ i → i < length es → (k < i) ⊎ (i ≤ k) → self.span.end ≤ (get_or es i z).letter = λ i after inside cases. elim cases [
       | inl less ↦ omega (arith, here, (row_at self.dfa.now q c.states-states.ensures.table c.requires.state).ascending k i z less inside)
       | inr most ↦ let same : k ≡ i = omega (arith, after, most) in omega (arith, here, ap (λ n. (get_or es n z).letter) same)
     ] in
     c.loop-place.invariant
-    ∙ hash_edges-rest self.span.first self.span.end c.args.start self.hashes.now (dead_class self.dfa.now self.hashes.now) es k z (λ i after inside. later i after inside (cases_lt k i))
+    ∙ hash_transitions-rest self.span.first self.span.end c.args.start self.hashes.now (dead_class self.dfa.now self.hashes.now) es k z (λ i after inside. later i after inside (cases_lt k i))
 
 pub mix_target-hash-requires-clause-target : goal.mix_target-hash-requires-clause-target
 mix_target-hash-requires-clause-target c =
@@ -44,20 +44,20 @@ loop-place-preserved c =
     let place = c.loop-place.place in
     let there = HasPlace-between self.dfa.now self.starts.now (listed self.letters.now) self.targets.now c.requires.flat c.states-states.ensures.table q place c.requires.state
     c.loop-place.auto.place c.loop-place-test.true in
-    let es = edges_of self.dfa.now q in
+    let es = transitions_of self.dfa.now q in
     let k = place - class_of self.starts.now q in
-    let z : Edge = record { letter = 0; target = 0 } in
+    let z : Transition = record { letter = 0; target = 0 } in
     let dead = dead_class self.dfa.now self.hashes.now in
-    let letter : c.letter-letter.result ≡ (get_or es k z).letter = c.letter-letter.ensures ∙ sym (ap (λ (e : Edge). e.letter) (there.edge z)) in
+    let letter : c.letter-letter.result ≡ (get_or es k z).letter = c.letter-letter.ensures ∙ sym (ap (λ (e : Transition). e.letter) (there.transition z)) in
     let next : k + 1 ≡ place + 1 - class_of self.starts.now q = omega (arith, c.loop-place.auto.place) in
     elim c.if-letter-self-2.branch [
       | then-letter-self-2 w ↦ w.hash-is ∙ w.mix_target-hash.ensures
-          ∙ ap (λ l. let e : Edge = record { letter = l; target = class_of self.targets.now place } in hash_edges self.span.first self.span.end c.loop-place.hash (class_edges self.hashes.now dead (e ∷ []))) c.letter-letter.ensures
-          ∙ ap (λ (e : Edge). hash_edges self.span.first self.span.end c.loop-place.hash (class_edges self.hashes.now dead (e ∷ []))) (sym (there.edge z))
-          ∙ ap (λ h. hash_edges self.span.first self.span.end h (class_edges self.hashes.now dead (get_or es k z ∷ []))) c.loop-place.invariant
-          ∙ hash_edges-more self.span.first self.span.end c.args.start self.hashes.now dead es k z there.inside
-          ∙ ap (λ n. hash_edges self.span.first self.span.end c.args.start (class_edges self.hashes.now dead (take n es))) next
+          ∙ ap (λ l. let e : Transition = record { letter = l; target = class_of self.targets.now place } in hash_transitions self.span.first self.span.end c.loop-place.hash (class_transitions self.hashes.now dead (e ∷ []))) c.letter-letter.ensures
+          ∙ ap (λ (e : Transition). hash_transitions self.span.first self.span.end c.loop-place.hash (class_transitions self.hashes.now dead (e ∷ []))) (sym (there.transition z))
+          ∙ ap (λ h. hash_transitions self.span.first self.span.end h (class_transitions self.hashes.now dead (get_or es k z ∷ []))) c.loop-place.invariant
+          ∙ hash_transitions-more self.span.first self.span.end c.args.start self.hashes.now dead es k z there.inside
+          ∙ ap (λ n. hash_transitions self.span.first self.span.end c.args.start (class_transitions self.hashes.now dead (take n es))) next
       | else-letter-self-2 w ↦ w.hash-is ∙ c.loop-place.invariant
-          ∙ hash_edges-skip self.span.first self.span.end c.args.start self.hashes.now dead es k z there.inside (before_first self.span.first self.span.end c.args.start self.hashes.now dead es (get_or es k z).letter (omega (arith, w.if-letter-self-2.false, letter)))
-          ∙ ap (λ n. hash_edges self.span.first self.span.end c.args.start (class_edges self.hashes.now dead (take n es))) next
+          ∙ hash_transitions-skip self.span.first self.span.end c.args.start self.hashes.now dead es k z there.inside (before_first self.span.first self.span.end c.args.start self.hashes.now dead es (get_or es k z).letter (omega (arith, w.if-letter-self-2.false, letter)))
+          ∙ ap (λ n. hash_transitions self.span.first self.span.end c.args.start (class_transitions self.hashes.now dead (take n es))) next
     ]

@@ -12,8 +12,8 @@ returns-clause-partition c =
     let classes : c.in_ok-vec.field-0.items ≡ replicate (states_of d + 1) 0 = c.in_ok-vec.ensures.items_if_clones_equal (λ y is. is) ∙ ap (λ (n : ℕ). replicate (n + 1) 0) count in
     let states : c.in_ok-numbered_states.field-0.items ≡ range_with_len 0 (states_of d) = c.in_ok-numbered_states.ensures ∙ ap (range_with_len 0) count in
     let places : c.in_ok-numbered_states-2.field-0.items ≡ range_with_len 0 (states_of d) = c.in_ok-numbered_states-2.ensures ∙ ap (range_with_len 0) count in
-    let one = AreParted-one d outputs (record { start = 0; end = c.states-states.result; edges = 0 }) c.states-states.ensures.table refl count in
+    let one = AreParted-one d outputs (record { start = 0; end = c.states-states.result; transitions = 0 }) c.states-states.ensures.table refl count in
     record {
-      turned = c.in_ok-turned.ensures;
+      reversed = c.in_ok-reversed.ensures;
       parted = simp (classes, states, places, c.in_ok-vec-2.ensures.items, c.in_ok-new.ensures) one;
     }

@@ -1,23 +1,23 @@
 use Rattle.std.proofs.Common.{◌<◌, List, ℕ, length, sym, subst, arith}
-use Rattle.digit_tuple.specs.Keys.{edge_at, no_edge}
-use Rattle.minimise.specs.Gathering.{HaveLetters, IsGathered, edges_by_class}
+use Rattle.digit_tuple.specs.Keys.{transition_at, no_transition}
+use Rattle.minimise.specs.Gathering.{HaveLetters, IsGathered, transitions_by_class}
 use Rattle.minimise.specs.Partition.{IsSplit, IsUnion}
 use Rattle.minimise.proofs.PartedLemmas.{AreApart-parts, ArePartedTo-more, ArePartedTo-none, HasGrown-more, HasGrown-none}
 use Rattle.minimise.proofs.PartitionLemmas.{IsUnion-class, class_below}
 use Rattle.minimise.proofs.partition.Partition.part.Goals as goal
 
-gathered : (c : goal.After-key) → IsGathered (edges_by_class c.args.self.now.classes.items c.args.set.now) (edge_at c.states_by_class.new.out c.loop-place.place).letter (edge_at c.states_by_class.new.out c.loop-place.place).key
+gathered : (c : goal.After-key) → IsGathered (transitions_by_class c.args.self.now.classes.items c.args.set.now) (transition_at c.states_by_class.new.out c.loop-place.place).letter (transition_at c.states_by_class.new.out c.loop-place.place).key
 gathered c =
     let parts = c.states_by_class.new.out in
     let place = c.loop-place.place in
     let within : place < length parts = omega (arith, c.len-place-end.ensures) in
-    subst (λ (classes : List ℕ). IsGathered (edges_by_class classes c.args.set.now) (edge_at parts place).letter (edge_at parts place).key) c.deref.ensures.value (c.in_ok-states_by_class.ensures.gathered place no_edge within)
+    subst (λ (classes : List ℕ). IsGathered (transitions_by_class classes c.args.set.now) (transition_at parts place).letter (transition_at parts place).key) c.deref.ensures.value (c.in_ok-states_by_class.ensures.gathered place no_transition within)
 
 pub split-requires-clause-states : goal.split-requires-clause-states
 split-requires-clause-states c =
     let d = c.args.machine.now.dfa.now in
     let outputs = c.args.machine.now.outputs.now in
-    let part = edge_at c.states_by_class.new.out c.loop-place.place in
+    let part = transition_at c.states_by_class.new.out c.loop-place.place in
     subst (IsUnion d outputs) (sym c.key.ensures) (IsUnion-class d outputs c.args.self.now.classes.items c.requires.partition.parted.coarse c.args.set.now c.requires.set part.letter part.key (gathered c))
 
 pub split-requires-clause-class : goal.split-requires-clause-class
@@ -25,7 +25,7 @@ split-requires-clause-class c =
     let d = c.args.machine.now.dfa.now in
     let outputs = c.args.machine.now.outputs.now in
     let p = c.args.self.now in
-    let part = edge_at c.states_by_class.new.out c.loop-place.place in
+    let part = transition_at c.states_by_class.new.out c.loop-place.place in
     let low = class_below d outputs p.classes.items c.requires.partition.parted.coarse c.args.set.now c.requires.set part.letter part.key (gathered c) (length p.spans.items) c.requires.partition.parted.below in
     omega (arith, low, c.letter.ensures, c.loop-place.invariant.grown.classes)
 
@@ -46,9 +46,9 @@ loop-place-preserved c =
     let mid = c.loop-place.self in
     let new = c.split.new.self in
     let within : place < length parts = omega (arith, c.loop-place-test.true, c.len-place-end.ensures) in
-    let gathers = subst (λ (classes : List ℕ). IsGathered (edges_by_class classes set) (edge_at parts place).letter (edge_at parts place).key) c.deref.ensures.value (c.in_ok-states_by_class.ensures.gathered place no_edge within) in
-    let split : IsSplit mid new (edge_at parts place).letter (edge_at parts place).key =
-    subst (λ (letter : ℕ). IsSplit mid new letter (edge_at parts place).key) c.letter.ensures (subst (IsSplit mid new c.letter.result) c.key.ensures c.in_ok-split.ensures.split) in
+    let gathers = subst (λ (classes : List ℕ). IsGathered (transitions_by_class classes set) (transition_at parts place).letter (transition_at parts place).key) c.deref.ensures.value (c.in_ok-states_by_class.ensures.gathered place no_transition within) in
+    let split : IsSplit mid new (transition_at parts place).letter (transition_at parts place).key =
+    subst (λ (letter : ℕ). IsSplit mid new letter (transition_at parts place).key) c.letter.ensures (subst (IsSplit mid new c.letter.result) c.key.ensures c.in_ok-split.ensures.split) in
     record {
       partition = c.in_ok-split.ensures.partition;
       grown = HasGrown-more old mid new c.loop-place.invariant.grown c.in_ok-split.ensures.grown;
@@ -61,6 +61,6 @@ returns-clause-apart c =
     let old = c.args.self.now in
     let set = c.args.set.now in
     let parts = c.states_by_class.new.out in
-    let letters = subst (λ (classes : List ℕ). HaveLetters parts (edges_by_class classes set)) c.deref.ensures.value c.in_ok-states_by_class.ensures.letters in
+    let letters = subst (λ (classes : List ℕ). HaveLetters parts (transitions_by_class classes set)) c.deref.ensures.value c.in_ok-states_by_class.ensures.letters in
     AreApart-parts m.dfa.now m.outputs.now old.classes.items c.requires.partition.parted.coarse set c.requires.set parts c.loop-place.self.classes.items c.loop-place.place (omega (arith, c.loop-place-test.false, c.len-place-end.ensures)) letters
     c.loop-place.invariant.parted

@@ -1,5 +1,5 @@
 use Rattle.std.proofs.Common.{◌<◌, length, refl, sym, subst, arith}
-use Rattle.digit_tuple.specs.Keys.{edge_at, no_edge}
+use Rattle.digit_tuple.specs.Keys.{transition_at, no_transition}
 use Rattle.minimise.specs.Partition.{IsSplit, IsUnion}
 use Rattle.minimise.proofs.PartedLemmas.{AreTakenOut-more, AreTakenOut-none, parted_before}
 use Rattle.minimise.proofs.SettledLemmas.{class_made}
@@ -19,7 +19,7 @@ loop-place-init c =
 pub split-requires-clause-states : goal.split-requires-clause-states
 split-requires-clause-states c =
     let within : c.loop-place.place < length c.args.parts.now = omega (arith, c.loop-place-test.true, c.len-place-end.ensures) in
-    subst (IsUnion c.args.machine.now.dfa.now c.args.machine.now.outputs.now) (sym c.key.ensures) (c.requires.parts c.loop-place.place no_edge within)
+    subst (IsUnion c.args.machine.now.dfa.now c.args.machine.now.outputs.now) (sym c.key.ensures) (c.requires.parts c.loop-place.place no_transition within)
 
 pub loop-place-preserved : goal.loop-place-preserved
 loop-place-preserved c =
@@ -28,7 +28,7 @@ loop-place-preserved c =
     let place = c.loop-place.place in
     let mid = c.loop-place.self in
     let new = c.split.new.self in
-    let split : IsSplit mid new 0 (edge_at parts place).key = subst (IsSplit mid new 0) c.key.ensures c.in_ok-split.ensures.split in
+    let split : IsSplit mid new 0 (transition_at parts place).key = subst (IsSplit mid new 0) c.key.ensures c.in_ok-split.ensures.split in
     record {
       partition = c.in_ok-split.ensures.partition;
       pending = split.waiting refl c.loop-place.invariant.pending;

@@ -2,7 +2,7 @@ use Rattle.std.proofs.Common.{◌≡◌, ◌↔◌, ◌+◌, ◌<◌, ◌≤◌,
 use Rattle.std.specs.List.{Contains, slice_range}
 use Rattle.std.proofs.lemmas.Bool.{cases_lt}
 use Rattle.std.proofs.lemmas.List.{get_or_default}
-use Rattle.digit_tuple.specs.Keys.{KeyEdge, edge_at, no_edge}
+use Rattle.digit_tuple.specs.Keys.{KeyTransition, transition_at, no_transition}
 use Rattle.minimise.specs.declared.partition.ClassSpan.{ClassSpan}
 use Rattle.minimise.specs.declared.partition.Partition.{Partition}
 use Rattle.minimise.specs.Classes.{class_of}
@@ -27,8 +27,8 @@ part-requires-clause-set c =
     let union = subst (IsUnion m.dfa.now m.outputs.now) (sym set)
     (IsUnion-span m.dfa.now m.outputs.now p.classes.items p.states.items p.places.items p.spans.items p.pending c.requires.partition.parted class c.requires.class c.requires.live) in
     subst (IsUnion m.dfa.now m.outputs.now) (sym c.key.ensures)
-    (IsUnion-sources m.dfa.now m.outputs.now c.requires.outputs c.requires.partition.parted.table p.turned c.requires.partition.turned (slice_range c.deref.result.now c.index-span.result.now.start c.index-span.result.now.end) union
-    (edge_at sources place).letter (edge_at sources place).key (c.in_ok-sources_by_letter.ensures.gathered place no_edge within))
+    (IsUnion-sources m.dfa.now m.outputs.now c.requires.outputs c.requires.partition.parted.table p.reversed c.requires.partition.reversed (slice_range c.deref.result.now c.index-span.result.now.start c.index-span.result.now.end) union
+    (transition_at sources place).letter (transition_at sources place).key (c.in_ok-sources_by_letter.ensures.gathered place no_transition within))
 
 pub loop-place-init : goal.loop-place-init
 loop-place-init c = record {
@@ -38,15 +38,15 @@ loop-place-init c = record {
 }
 
 -- the sets for the letters up to one stay apart
-apart_more : (mid new : Partition) (sources : List KeyEdge) (count : ℕ) → HasGrown mid new → ((place : ℕ) → place < count → AreApart mid.classes.items (edge_at sources place).key) → AreApart new.classes.items (edge_at sources count).key
-    → (place : ℕ) → place < count + 1 → AreApart new.classes.items (edge_at sources place).key
+apart_more : (mid new : Partition) (sources : List KeyTransition) (count : ℕ) → HasGrown mid new → ((place : ℕ) → place < count → AreApart mid.classes.items (transition_at sources place).key) → AreApart new.classes.items (transition_at sources count).key
+    → (place : ℕ) → place < count + 1 → AreApart new.classes.items (transition_at sources place).key
 apart_more mid new sources count grown so_far here place less = by (cases_lt place count)
   where
-    by : (place < count) ⊎ (count ≤ place) → AreApart new.classes.items (edge_at sources place).key
-    by (inl before) = AreApart-grown mid new (edge_at sources place).key grown (so_far place before)
+    by : (place < count) ⊎ (count ≤ place) → AreApart new.classes.items (transition_at sources place).key
+    by (inl before) = AreApart-grown mid new (transition_at sources place).key grown (so_far place before)
     by (inr past) =
         let is : count ≡ place = omega arith in
-        subst (λ (k : ℕ). AreApart new.classes.items (edge_at sources k).key) is here
+        subst (λ (k : ℕ). AreApart new.classes.items (transition_at sources k).key) is here
 
 pub loop-place-preserved : goal.loop-place-preserved
 loop-place-preserved c =
@@ -72,6 +72,6 @@ returns-clause-settled c =
     (IsUnion-span m.dfa.now m.outputs.now p.classes.items p.states.items p.places.items p.spans.items p.pending c.requires.partition.parted class c.requires.class c.requires.live) in
     let has = subst (λ (xs : List ℕ). (q : ℕ) → Contains xs q ↔ (class_of p.classes.items q ≡ class)) (sym set)
     (span_has m.dfa.now m.outputs.now p.classes.items p.states.items p.places.items p.spans.items p.pending c.requires.partition.parted class c.requires.live c.requires.class) in
-    IsSettled-parted m.dfa.now m.outputs.now c.requires.outputs c.requires.partition.parted.table p.turned c.requires.partition.turned (slice_range c.deref.result.now c.index-span.result.now.start c.index-span.result.now.end) union class p
+    IsSettled-parted m.dfa.now m.outputs.now c.requires.outputs c.requires.partition.parted.table p.reversed c.requires.partition.reversed (slice_range c.deref.result.now c.index-span.result.now.start c.index-span.result.now.end) union class p
     c.loop-place.self has sources c.in_ok-sources_by_letter.ensures.gathered c.in_ok-sources_by_letter.ensures.letters c.loop-place.invariant.grown
     (λ place within. c.loop-place.invariant.apart place (omega (arith, within, c.loop-place-test.false, c.len-place-end.ensures))) (p.pending ++ class ∷ []) refl c.requires.settled

@@ -1,5 +1,5 @@
 use Rattle.std.proofs.Common.{ℕ, ◌<◌}
-use Rattle.digit_tuple.specs.Keys.{edge_at}
+use Rattle.digit_tuple.specs.Keys.{transition_at}
 use Rattle.minimise.specs.Partition.{HasGrown, IsPartition}
 use Rattle.minimise.specs.Settled.{AreApart}
 use Rattle.minimise.proofs.partition.Partition.part_by_letters.Given as goal
@@ -8,5 +8,5 @@ abbrev pub invariant-loop-place : goal.invariant-loop-place
 invariant-loop-place l = record {
   partition : IsPartition l.machine l.self;
   grown : HasGrown l.fn.self l.self;
-  apart : (place : ℕ) → place < l.place → AreApart l.self.classes.items (edge_at l.sources place).key;
+  apart : (place : ℕ) → place < l.place → AreApart l.self.classes.items (transition_at l.sources place).key;
 }

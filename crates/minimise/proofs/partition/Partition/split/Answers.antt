@@ -104,7 +104,7 @@ moved_here c = record {
 
 pub returns-then-middle-end-clause-partition : goal.returns-then-middle-end-clause-partition
 returns-then-middle-end-clause-partition c = record {
-  turned = c.requires.partition.turned;
+  reversed = c.requires.partition.reversed;
   parted = parted c.args.machine.now c.args.self.now c.args.class c.args.states.now c.index.result.now c.move_to_end-middle.new.states.items c.move_to_end-middle.new.places.items c.move_to_end-middle.result (moved_here c);
 }
 
@@ -225,7 +225,7 @@ returns-clause-partition c =
     let part = which_last c in
     on_ok_weaker c.push.result
     (λ pushed. record {
-      turned = c.requires.partition.turned;
+      reversed = c.requires.partition.reversed;
       parted = AreParted-cut m.dfa.now m.outputs.now p.classes.items new.states.items new.places.items p.spans.items p.pending (parted c.args.machine.now c.args.self.now c.args.class c.args.states.now c.index.result.now c.move_to_end-middle.new.states.items c.move_to_end-middle.new.places.items c.move_to_end-middle.result v) c.args.class c.requires.class p.states.items c.args.states.now c.move_to_end-middle.result (moved c.args.machine.now c.args.self.now c.args.class c.args.states.now c.index.result.now c.move_to_end-middle.new.states.items c.move_to_end-middle.new.places.items c.move_to_end-middle.result v) c.requires.states c.give.new.classes.items c.cut.new.spans.items (given c) (few c.args.machine.now c.args.self.now c.args.class c.args.states.now c.index.result.now c.move_to_end-middle.new.states.items c.move_to_end-middle.new.places.items c.move_to_end-middle.result v some rest) c.in_ok-rest.ensures some rest c.if-leave.push c.push.new.self
           (live p.pending (length p.spans.items) c.args.class c.if-leave.push c.requires.class part) (omega (arith, c.in_ok-rest.ensures.width, among p.pending (length p.spans.items) c.args.class c.if-leave.push c.requires.class part)) pushed;
     })

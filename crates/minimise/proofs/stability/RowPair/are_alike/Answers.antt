@@ -1,6 +1,6 @@
 use Rattle.std.proofs.Common.{sym, ◌∙◌}
 use Rattle.digit_tuple.proofs.StateLemmas.{rows_tell}
-use Rattle.minimise.proofs.ClassEdgeLemmas.{alike_from_rows, rows_from_alike}
+use Rattle.minimise.proofs.ClassTransitionLemmas.{alike_from_rows, rows_from_alike}
 use Rattle.minimise.proofs.stability.RowPair.are_alike.Goals as goal
 
 pub returns : goal.returns

@@ -18,9 +18,9 @@ loop-name-preserved c =
     let name = c.name-item.result in
     let mid = c.loop-name.systems in
     let more = c.add.new.systems in
-    let front : take (i + 1) names ≡ take i names ++ name ∷ [] = take_more names i name c.loop-name-test.true ∙ ap (λ n. take i names ++ n ∷ []) (sym c.name-item.is) in (
+    let prefix : take (i + 1) names ≡ take i names ++ name ∷ [] = take_more names i name c.loop-name-test.true ∙ ap (λ n. take i names ++ n ∷ []) (sym c.name-item.is) in (
       extends_both c.args.systems.now mid more c.loop-name.invariant.0 c.in_ok-add.ensures.extends,
-      subst (AllByRecursion (HasBuiltIn more)) (sym front) (all_have more (take i names) name (all_stay mid more (take i names) c.in_ok-add.ensures.extends c.loop-name.invariant.1) c.in_ok-add.ensures.there),
+      subst (AllByRecursion (HasBuiltIn more)) (sym prefix) (all_have more (take i names) name (all_stay mid more (take i names) c.in_ok-add.ensures.extends c.loop-name.invariant.1) c.in_ok-add.ensures.there),
     )
 
 pub returns : goal.returns

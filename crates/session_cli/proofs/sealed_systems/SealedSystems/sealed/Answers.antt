@@ -8,7 +8,7 @@ use Rattle.session_cli.proofs.sealed_systems.SealedSystems.sealed.Goals as goal
 
 pub returns-in-Some : goal.returns-in-Some
 returns-in-Some c =
-    subst (λ (s : SystemValue). IsBuiltInSystem c.args.name.now s.way (system_of s)) (sym c.in_ok-clone.ensures.cases)
+    subst (λ (s : SystemValue). IsBuiltInSystem c.args.name.now s.direction (system_of s)) (sym c.in_ok-clone.ensures.cases)
     (built_in_found c.self.inside.systems c.args.name.now c.in-Some.system.now.value c.self.invariant c.in-Some.ensures.found)
 
 pub seal_built_in-requires : goal.seal_built_in-requires
@@ -27,4 +27,4 @@ returns-in_ok-add-in-Some-system_named c =
     let name = c.args.name.now in
     let s = c.in_ok-sealed-in-Some-system_named.sealed in
     let is = sealed_built_in c.in-Some-system_named.system name s c.in-Some-system_named.ensures c.in_ok-sealed-in-Some-system_named.ensures.system c.in_ok-sealed-in-Some-system_named.ensures.direction in
-    subst (λ (t : SystemValue). IsBuiltInSystem name t.way (system_of t)) (sym c.in_ok-shared-in-Some-system_named.ensures.ok) is
+    subst (λ (t : SystemValue). IsBuiltInSystem name t.direction (system_of t)) (sym c.in_ok-shared-in-Some-system_named.ensures.ok) is

@@ -1,7 +1,7 @@
 use Rattle.std.proofs.Common.{◌≡◌, ◌∙◌, ◌<◌, length, get_or, ap, sym, subst, arith}
 use Rattle.std.specs.List.{All}
 use Rattle.std.proofs.lemmas.List.{get_or_default, length-map}
-use Rattle.session_cli.specs.TrackSystems.{way_of, IsIn, IsFirstApart}
+use Rattle.session_cli.specs.TrackSystems.{direction_of, IsIn, IsFirstApart}
 use Rattle.session_cli.specs.declared.track_system.TrackSystem.{TrackSystem}
 use Rattle.session_cli.proofs.KnownSteps.{are_theirs, parted}
 use Rattle.session_cli.proofs.track_systems.TrackSystems.of_names.Goals as goal
@@ -17,7 +17,7 @@ returns-in_ok-copy-in-Some-2 c =
     let first : c.in_ok-copy-in-Some.field-0 ≡ get_or names 0 c.in_ok-copy-in-Some.field-0 = subst (λ n. n ≡ get_or names 0 n) (sym c.in_ok-copy-in-Some.ensures) c.index-names-0.is in
     let other : c.in_ok-copy-in-Some-2.field-0 ≡ get_or names c.in-Some.place c.in_ok-copy-in-Some-2.field-0 = subst (λ n. n ≡ get_or names c.in-Some.place n) (sym c.in_ok-copy-in-Some-2.ensures) c.index-names-place.is in
     λ custom meant. parted custom names items d c.in-Some.place c.in_ok-copy-in-Some.field-0 c.in_ok-copy-in-Some-2.field-0 (are_theirs custom users items meant of.are) of.names_are
-    (λ x. ap way_of (get_or_default items 0 x c.index.result.now some ∙ sym c.index.ensures) ∙ sym c.direction-direction.ensures)
+    (λ x. ap direction_of (get_or_default items 0 x c.index.result.now some ∙ sym c.index.ensures) ∙ sym c.direction-direction.ensures)
     (subst (λ xs. IsFirstApart d xs c.in-Some.place) c.deref.ensures.value c.in-Some.ensures) first other
 
 pub returns-in-None : goal.returns-in-None

@@ -23,10 +23,10 @@ loop-system-preserved c =
     let s = c.system-item.result in
     let within : i < length items = omega (arith, c.loop-system-test.true, ap length c.deref-system-items.ensures.value) in
     let is : s ≡ get_or items i s = c.system-item.is ∙ ap (λ xs. get_or xs i s) c.deref-system-items.ensures.value in
-    let front : take (i + 1) items ≡ take i items ++ s ∷ [] = take_more items i s within ∙ ap (λ x. take i items ++ x ∷ []) (sym is) in
+    let prefix : take (i + 1) items ≡ take i items ++ s ∷ [] = take_more items i s within ∙ ap (λ x. take i items ++ x ∷ []) (sym is) in
     c.in_ok-push.ensures.ok
     ∙ ap (λ n. c.loop-system.tracks ++ (let t : SystemTrack = record { name = c.in_ok-copy.field-0; digits = n } in t) ∷ []) c.digits.ensures
     ∙ ap (λ ts. ts ++ (let t : SystemTrack = record { name = c.in_ok-copy.field-0; digits = (system_of s).digits } in t) ∷ []) c.loop-system.invariant
     ∙ ap (λ n. header_tracks (named_in (take i items)) ++ (let t : SystemTrack = record { name = n; digits = (system_of s).digits } in t) ∷ []) c.in_ok-copy.ensures
     ∙ sym (tracks_push (take i items) s)
-    ∙ ap (λ xs. header_tracks (named_in xs)) (sym front)
+    ∙ ap (λ xs. header_tracks (named_in xs)) (sym prefix)

@@ -5,11 +5,11 @@ use Rattle.std.proofs.lemmas.Option.{slice_get_within}
 use Rattle.std.proofs.lemmas.Slice.Eq.{bytes_eq-Decides}
 use Rattle.system_files.specs.SystemTexts.{FoundText}
 use Rattle.system_files.specs.TextViews.{finding_view, found_view, texts_in}
-use Rattle.system_files.proofs.FoundLemmas.{kept_at, none_in_front}
+use Rattle.system_files.proofs.FoundLemmas.{kept_at, none_in_prefix}
 use Rattle.system_files.proofs.texts.SystemTexts.place_of.Goals as goal
 
 pub loop-place-init : goal.loop-place-init
-loop-place-init c = record { texts = ap texts_in c.deref-found-items.ensures.value ∙ c.self.view_is; front = λ k one less there. absurd (omega (arith, less)) }
+loop-place-init c = record { texts = ap texts_in c.deref-found-items.ensures.value ∙ c.self.view_is; prefix = λ k one less there. absurd (omega (arith, less)) }
 
 pub returns-then-eq : goal.returns-then-eq
 returns-then-eq c =
@@ -25,7 +25,7 @@ returns-then-eq c =
 pub loop-place-preserved : goal.loop-place-preserved
 loop-place-preserved c = record {
   texts = c.loop-place.invariant.texts;
-  front = none_in_front c.deref-found-items.result.now c.loop-place.place c.found-item.result c.args.name.now c.loop-place.invariant.front c.loop-place-test.true c.found-item.is
+  prefix = none_in_prefix c.deref-found-items.result.now c.loop-place.place c.found-item.result c.args.name.now c.loop-place.invariant.prefix c.loop-place-test.true c.found-item.is
       (λ named.
       let same : bytes_eq c.as_bytes.result.now c.as_bytes-in-loop-place.result.now ≡ true = (bytes_eq-Decides c.as_bytes.result.now c.as_bytes-in-loop-place.result.now).1 (c.as_bytes.ensures ∙ named ∙ sym c.as_bytes-in-loop-place.ensures) in
       true≢false (sym same ∙ sym c.eq.ensures ∙ c.if-eq.false));
@@ -36,4 +36,4 @@ returns c = λ place one there.
     let found = c.deref-found-items.result.now in
     let kept : slice_get (texts_in found) place ≡ Some one = ap (λ (l : List FoundText). slice_get l place) c.loop-place.invariant.texts ∙ there in
     let within = slice_get_within (texts_in found) place one kept in
-    c.loop-place.invariant.front place one (omega (arith, within, length-map found found_view, c.loop-place-test.false)) kept
+    c.loop-place.invariant.prefix place one (omega (arith, within, length-map found found_view, c.loop-place-test.false)) kept

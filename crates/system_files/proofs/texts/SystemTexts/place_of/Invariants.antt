@@ -8,5 +8,5 @@ use Rattle.system_files.proofs.texts.SystemTexts.place_of.Given as goal
 abbrev pub invariant-loop-place : goal.invariant-loop-place
 invariant-loop-place l = record {
   texts : texts_in l.found-items ≡ l.self;
-  front : (k : ℕ) (one : FoundText) → k < l.place → slice_get (texts_in l.found-items) k ≡ Some one → one.name ≢ l.name;
+  prefix : (k : ℕ) (one : FoundText) → k < l.place → slice_get (texts_in l.found-items) k ≡ Some one → one.name ≢ l.name;
 }

@@ -1,6 +1,0 @@
-use Rattle.digit_tuple.specs.Keys.{AreKeyEdges}
-use Rattle.fib_system.specs.Additions.{key_after}
-use Rattle.fib_system.proofs.additions.AdditionsKeyGraph.edges.Given as goal
-
-abbrev pub invariant-loop-letter : goal.invariant-loop-letter
-invariant-loop-letter l = AreKeyEdges l.letter (key_after l.key) l.out

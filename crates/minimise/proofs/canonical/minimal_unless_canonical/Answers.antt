@@ -1,0 +1,30 @@
+use Rattle.std.proofs.Common.{List, ℕ, ◌∙◌, subst}
+use Rattle.digit_tuple.specs.Deterministic.{IsTable, letters_of}
+use Rattle.minimise.specs.ClassFunctions.{SameClassFunction}
+use Rattle.minimise.specs.CoarseClasses.{AreResidualClasses}
+use Rattle.minimise.specs.Leaders.{AreAlone}
+use Rattle.minimise.proofs.BitLemmas.{SameLanguage-bits, IsCanonical-bits}
+use Rattle.minimise.proofs.MinimalLemmas.{IsCanonical-alone}
+use Rattle.minimise.proofs.canonical.minimal_unless_canonical.Goals as goal
+
+pub returns-then-branch-clause-canonical : goal.returns-then-branch-clause-canonical
+returns-then-branch-clause-canonical c =
+    let table : IsTable (letters_of c.args.d.now) c.args.d.now.states = c.states-states.ensures.table in
+    let are = subst (λ (os : List ℕ). AreResidualClasses c.args.d.now os c.in_ok-classes.classes.items) (c.deref.ensures.value ∙ c.in_ok-outputs.ensures) c.in_ok-classes.ensures in
+    IsCanonical-alone c.args.d.now c.in_ok-classes.classes.items c.requires.0 table c.requires.1 are (subst AreAlone c.deref-2.ensures.value (c.in_ok-are_alone.ensures.0 c.if-branch.true))
+
+pub returns-clause-language : goal.returns-clause-language
+returns-clause-language c =
+    let d = c.args.d.now in
+    let minimal = c.in_ok-minimal.minimal in
+    let outputs = c.in_ok-minimal.field-0-1.items in
+    let same = subst (λ (os : List ℕ). SameClassFunction d os minimal outputs) (c.deref.ensures.value ∙ c.in_ok-outputs.ensures) c.in_ok-minimal.ensures.function in
+    SameLanguage-bits d minimal outputs c.in_ok-minimal.ensures.sizes same c.in_ok-minimal.ensures.canonical
+
+pub returns-clause-minimal : goal.returns-clause-minimal
+returns-clause-minimal c =
+    let d = c.args.d.now in
+    let minimal = c.in_ok-minimal.minimal in
+    let outputs = c.in_ok-minimal.field-0-1.items in
+    let same = subst (λ (os : List ℕ). SameClassFunction d os minimal outputs) (c.deref.ensures.value ∙ c.in_ok-outputs.ensures) c.in_ok-minimal.ensures.function in
+    IsCanonical-bits d minimal outputs c.in_ok-minimal.ensures.sizes same c.in_ok-minimal.ensures.canonical

@@ -1,6 +1,0 @@
-use Rattle.std.proofs.Common.{◌≡◌, ◌++◌, take}
-use Rattle.reference.specs.Words.{behind_letter}
-use Rattle.reference.proofs.words.push_behind.Given as goal
-
-abbrev pub invariant-loop-word : goal.invariant-loop-word
-invariant-loop-word l = l.words.items ≡ l.initial.words.items ++ behind_letter (take l.word-index l.shorter) l.letter
