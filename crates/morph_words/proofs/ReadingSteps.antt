@@ -1,9 +1,8 @@
 -- The rules of a text, read lexeme by lexeme.
-use Rattle.std.proofs.Common.{◌≡◌, ℕ, ◌≤◌, List, ◌∷◌, length, drop, Ok, Err, subst}
+use Rattle.std.proofs.Common.{◌≡◌, ℕ, ◌≤◌, List, length, drop, Ok, Err, subst}
 use Rattle.morph_words.specs.declared.fault.RulesFault.{RulesFault}
 use Rattle.morph_words.specs.declared.fault.RulesFault.TheVariants.{Syntax, Number, Memory}
-use Rattle.morph_words.specs.declared.lexeme.Lexeme.{Lexeme}
-use Rattle.text_grammar.specs.Spots.{Spot, spots_from}
+use Rattle.text_grammar.specs.Spots.{spots_from}
 use Rattle.morph_words.specs.Lexemes.{lexing}
 use Rattle.morph_words.specs.Rules.{Rules, IsMorphism}
 use Rattle.morph_words.specs.Faults.{Parses}
@@ -16,8 +15,6 @@ use Rattle.morph_words.proofs.MorphismShape.{spells_morphisms}
 pub record IsLeft (text : List ℕ) (stage : Stage) (at : ℕ) : Type 0 where
   pub same : run (length text) stage (spots_from lexing tt at 0 (drop at text)) ≡ rules_at text
   pub within : at ≤ length text
-
-module _ (text : List ℕ) (stage : Stage) (at : ℕ) (s : Spot Lexeme) (left : IsLeft text stage at) (rest : spots_from lexing tt at 0 (drop at text) ≡ s ∷ spots_from lexing tt s.after 0 (drop s.after text)) where
 
 -- what was read is what parsing gives
 pub parsed_ok : (text : List ℕ) (rules : Rules) → rules_at text ≡ Ok rules → Parses text (Ok rules)

@@ -15,10 +15,10 @@ returns-in_err-stage-clause-read c =
     let p = err_from_is_err_and c.from_residual.result c.from_residual.ensures.1 in
     rw (p.1, p.2)
     (Fails-handed_on _ (placed 0 (step AtWord c.split_at.result.0.now)) (reg_at c.args.text.now)
-    (λ e h. reg_refused c.args.text.now e (rw (← c.prefix_len.ensures.len, ← c.split_at.ensures.prefix) h)) c.in_err-stage.ensures)
+    (λ e h. reg_refused c.args.text.now e (rw (← c.prefix_len.ensures.len, ← c.split_at.ensures.front) h)) c.in_err-stage.ensures)
 
 pub parts-init : goal.parts-init
-parts-init c = left_first c.args.text.now _ _ _ c.prefix_len.result _ _ _ c.prefix_len.ensures.len c.split_at.ensures.prefix c.split_at.ensures.back c.rest_of-rest.ensures.whole c.rest_of-rest.ensures.blank c.rest_of-rest.ensures.bytes c.in_ok-stage.ensures
+parts-init c = left_first c.args.text.now _ _ _ c.prefix_len.result _ _ _ c.prefix_len.ensures.len c.split_at.ensures.front c.split_at.ensures.back c.rest_of-rest.ensures.whole c.rest_of-rest.ensures.blank c.rest_of-rest.ensures.bytes c.in_ok-stage.ensures
 
 pub step-requires-in-parts : goal.step-requires-in-parts
 step-requires-in-parts c = few_open c.args.text.now (stage_view c.parts.stage) _ _ _ c.requires c.parts.invariant
