@@ -33,7 +33,7 @@ module _ (custom : Custom) (name : List ℕ) (other : ¬ IsBuiltInName name) (ol
 
   module _ (new : StepLog) (read_direction : Direction) (files : SystemFiles) (has : HasFiles custom name read_direction files) where
     refused : (refusal : AdmitFault) → AdmitsFiles read_direction files old (Err refusal) new → RefusesName custom name old (fault_of name refusal) new
-    refused refusal does = inr (inr (record { read_direction = read_direction; files = files; has_files = has; refusal = refusal; admits = does; fault_is = refl }))
+    refused refusal does = inr (inr (record { direction = read_direction; files = files; has_files = has; refusal = refusal; admits = does; fault_is = refl }))
 
     fails : (refusal : AdmitFault) → AdmitsFiles read_direction files old (Err refusal) new → FailsName custom name old new (fault_of name refusal)
     fails (admits.NotAdmitted law) does = inr (other, refused (admits.NotAdmitted law) does)
@@ -50,7 +50,7 @@ module _ (custom : Custom) (name : List ℕ) (other : ¬ IsBuiltInName name) (ol
     pub is_named : (user : UserSystem) (s : SystemValue) → AdmitsFiles read_direction files old (Ok user) new → IsSystemIn read_direction files user → IsSealed s → system_of s ≡ user_system user → s.direction ≡ user.direction
         → IsNamedSystem custom name old new s
     is_named user s does is sealed system direction = record {
-      admits = inr (other, (user, record { read_direction = read_direction; files = files; has_files = has; admits = does }));
+      admits = inr (other, (user, record { direction = read_direction; files = files; has_files = has; admits = does }));
       sealed = sealed;
       means = subst IsMeant (sym (direction ∙ is.direction)) (record { part = has.part; is_name = has.is_name; files = files; found = has.found; defined = subst (IsDefinedBy read_direction files) (sym system) is.defined });
     }
