@@ -23,7 +23,7 @@ fn counts(alloc: Global, line: &str) -> Result<String, RowFault> {
     let dfa = listed(alloc, line)?;
     let transitions = dfa.transitions();
     let cells = dfa.cells();
-    Ok(format!(in alloc; "{edges} {cells}")?)
+    Ok(format!(in alloc; "{transitions} {cells}")?)
 }
 
 #[test]
