@@ -1,13 +1,14 @@
 -- The valid part of the closure of a file's automaton holds of the file's relation.
 use Rattle.std.proofs.Common.{◌≡◌, ℕ, Bool, List, reverse, Result, Ok, Err, IfOk, refl, sym, ap, ◌∙◌, subst}
 use Rattle.std.proofs.lemmas.List.{reverse-reverse}
-use Rattle.digit_tuple.specs.Automaton.{Branching, Accepts}
+use Rattle.digit_tuple.specs.Automaton.{Branching}
 use Rattle.digit_tuple.specs.Automaton as branching
 use Rattle.digit_tuple.specs.Deterministic.{Automaton, letters_of, accepts_of}
 use Rattle.digit_tuple.specs.Letters.{IsWord, product}
 use Rattle.digit_tuple.specs.Paddings.{in_order, without_zeros, strip}
 use Rattle.digit_tuple.specs.Steps.{StepLog}
 use Rattle.digit_tuple.specs.declared.step_fault.StepFault.{StepFault}
+use Rattle.digit_tuple.specs.declared.step_fault.StepFault.TheVariants.{Memory}
 use Rattle.digit_tuple.specs.declared.direction.Direction.{Direction}
 use Rattle.digit_tuple.specs.declared.direction.Direction.TheVariants.{Msd, Lsd}
 use Rattle.digit_tuple.proofs.PaddingLemmas.{IsWord-in_order}
@@ -22,8 +23,9 @@ use Rattle.num_system.specs.Representations.{HasRepresentation, IgnoresZeros}
 use Rattle.num_system.proofs.SuccessorLemmas.{holds_same}
 use Rattle.num_system.proofs.ValidityLinks.{valid_part_represents}
 use Rattle.project_close.specs.Padding.{IsPadded}
+use Rattle.automaton_steps.specs.Makings.{Making, DoesStep}
 use Rattle.automaton_steps.specs.PadSteps.{IsClosure}
-use Rattle.automaton_steps.specs.ValidSteps.{IsValidPart, DoesValid}
+use Rattle.automaton_steps.specs.ValiditySteps.{IsValidPart, valid_step}
 use Rattle.adder_check.specs.LanguageSteps.{IsOfFile}
 use Rattle.adder_check.specs.AdderRelation.{HoldsInFile, three_of, adder_names}
 
@@ -91,6 +93,10 @@ module _ (direction : Direction) (s : System) (system : IsSystem s) (listed : Br
       (valid_part_represents direction (three_of s) languages are (record { names = adder_names; automaton = closed }) part.automaton valid.sizes valid.language systems (closure.sizes ∙ is.sizes ∙ sizes) ignores)
 
 -- the step valid on an automaton under these names makes such a part
-pub valid_made : (old new : StepLog) (languages : List Automaton) (a b : NamedAutomaton) (r : Result NamedAutomaton StepFault) → a ≡ b → DoesValid old languages a r new → IfOk r (IsValidPart languages b)
-valid_made old new languages a b (Ok part) same done = subst (λ (n : NamedAutomaton). IsValidPart languages n part) same done.step.valid_part
+pub valid_made : (old new : StepLog) (languages : List Automaton) (a b : NamedAutomaton) (r : Result NamedAutomaton StepFault) → a ≡ b → DoesStep (valid_step languages a) old r new → IfOk r (IsValidPart languages b)
+valid_made old new languages a b (Ok part) same done = subst (λ (n : NamedAutomaton). IsValidPart languages n part) same done.step.made_is
 valid_made old new languages a b (Err e) same done = tt
+
+-- a step before which memory runs out
+pub runs_out : {Made : Type 0} (making : Making Made) (old : StepLog) (r : Result Made StepFault) → r ≡ Err Memory → DoesStep making old r old
+runs_out {Made = Made} making old r is = subst (λ (x : Result Made StepFault). DoesStep making old x old) (sym is) (tt, refl)

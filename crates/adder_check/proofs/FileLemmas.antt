@@ -6,15 +6,16 @@ use Rattle.digit_tuple.specs.Letters.{IsWord, product}
 use Rattle.digit_tuple.specs.Steps.{StepLog}
 use Rattle.digit_tuple.specs.declared.step_fault.StepFault.{StepFault}
 use Rattle.digit_tuple.proofs.PaddingLemmas.{IsWord-reverse}
+use Rattle.automaton_steps.specs.Makings.{DoesStep}
 use Rattle.automaton_steps.specs.ReadSteps.{IsRead}
-use Rattle.automaton_steps.specs.ReverseSteps.{IsReversed, DoesReverse}
+use Rattle.automaton_steps.specs.ReverseSteps.{IsReversed, reverse_step}
 use Rattle.adder_check.specs.LanguageSteps.{IsOfFile}
 
-pub reversed_file : (listed : Branching) (read : Automaton) (old new : StepLog) (r : Result Automaton StepFault) → IsRead listed read → DoesReverse old read r new → IfOk r (IsOfFile listed true)
+pub reversed_file : (listed : Branching) (read : Automaton) (old new : StepLog) (r : Result Automaton StepFault) → IsRead listed read → DoesStep (reverse_step read) old r new → IfOk r (IsOfFile listed true)
 reversed_file listed read old new (Ok d) is done = record { sizes = turned.sizes ∙ is.sizes; canonical = turned.canonical; language = language }
   where
     turned : IsReversed read d
-    turned = done.step.reversed_is
+    turned = done.step.made_is
 
     language : (w : List ℕ) → IsWord (letters_of listed) w → IsTrue (accepts_of d w) ↔ Accepts listed (reverse w)
     language w over =

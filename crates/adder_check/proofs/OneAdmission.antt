@@ -10,6 +10,8 @@ use Rattle.minimise.specs.Canonical.{IsCanonical}
 use Rattle.minimise.specs.Tracked.{NamedAutomaton}
 use Rattle.numeration.specs.Relations.{IsAdderOf}
 use Rattle.numeration.specs.Systems.{IsSystem}
+use Rattle.automaton_steps.specs.OneAnswers.{HasOneAnswer}
+use Rattle.automaton_steps.proofs.ThenAnswers.{equal_value, no_fault, then_one}
 use Rattle.adder_check.specs.declared.admit_fault.AdmitFault.{AdmitFault}
 use Rattle.adder_check.specs.declared.admit_fault.AdmitFault.TheVariants as faults
 use Rattle.adder_check.specs.declared.admit_fault.Law.TheVariants as laws
@@ -20,23 +22,23 @@ use Rattle.adder_check.specs.Faults.{Lifted}
 use Rattle.adder_check.specs.LanguageLaws.{KeepsZeros, IsEndless, language_in, system_in, system_of}
 use Rattle.adder_check.specs.LanguageSteps.{DoesFile, DoesReversal, IsFirstLanguageFault}
 use Rattle.adder_check.specs.NextSums.{DoesNextSums}
-use Rattle.adder_check.specs.OneAnswer.{HasOneAnswer, AdmissionHasOneAnswer}
+use Rattle.adder_check.specs.OneAnswer.{AdmissionHasOneAnswer}
 use Rattle.adder_check.specs.SuccessorPlan.{DoesSuccessor}
 use Rattle.adder_check.specs.ZeroSums.{DoesZeroLaw}
 use Rattle.adder_check.proofs.FileSystems.{own_language, own_size}
-use Rattle.adder_check.proofs.OneAnswers.{ok_not_err, from_ok, then_one, lifted_one, where_one, through_one}
+use Rattle.adder_check.proofs.OneAnswers.{then_one_where, lifted_one, where_one, through_one}
 use Rattle.adder_check.proofs.OneSteps.{file_one, adder_one, successor_one, next_sums_one, zero_law_one}
 use Rattle.adder_check.proofs.SystemLemmas.{laws_tell_system}
 use mathlib.Core.HLevel.{is_prop→PathP}
 
 -- what the steps of a file make
 file_made : (listed : Branching) (reversed : Bool) (old new : StepLog) (d : Automaton) → DoesFile listed reversed old (Ok d) new → (d.sizes ≡ listed.sizes) × IsCanonical d
-file_made listed reversed old new d (inr (f, does, none)) = absurd (ok_not_err d f none)
+file_made listed reversed old new d (inr (f, does, none)) = absurd (no_fault d f none)
 file_made listed reversed old new d (inl (read, mid, does, turns)) = by reversed turns
   where
     by : (reversed : Bool) → DoesReversal reversed read mid (Ok d) new → (d.sizes ≡ listed.sizes) × IsCanonical d
-    by true turn = (turn.step.reversed_is.sizes ∙ does.step.read_is.sizes, turn.step.reversed_is.canonical)
-    by false turn = subst (λ (e : Automaton). (e.sizes ≡ listed.sizes) × IsCanonical e) (sym (from_ok d read turn.0)) (does.step.read_is.sizes, does.step.read_is.canonical)
+    by true turn = (turn.step.made_is.sizes ∙ does.step.made_is.sizes, turn.step.made_is.canonical)
+    by false turn = subst (λ (e : Automaton). (e.sizes ≡ listed.sizes) × IsCanonical e) (sym (equal_value d read turn.0)) (does.step.made_is.sizes, does.step.made_is.canonical)
 
 module _ (direction : Direction) (d : Automaton) where
   abbrev keeps : Type 0
@@ -88,25 +90,25 @@ module _ (direction : Direction) (d : Automaton) where
   one_fault faults.Memory f wrong also = inl refl
 
   keeps_one : HasOneAnswer faults.Memory (KeepsLanguage direction d)
-  keeps_one old (Ok a) (Ok b) m n does also = inr (inr (ap (λ x. Ok x) (does.1.0 ∙ sym also.1.0), does.0 ∙ sym also.0))
-  keeps_one old (Ok a) (Err f) m n does also = inr (inl (ap (λ x. Err x) (only_memory f does.1.1 does.1.2 also.1)))
-  keeps_one old (Err e) (Ok b) m n does also = inl (ap (λ x. Err x) (only_memory e also.1.1 also.1.2 does.1))
-  keeps_one old (Err e) (Err f) m n does also = elim (one_fault e f does.1 also.1) [
-    | inl ran_out ↦ inl (ap (λ x. Err x) ran_out)
+  keeps_one old m n (Ok a) (Ok b) does also = inl (ap (λ x. Ok x) (does.1.0 ∙ sym also.1.0), does.0 ∙ sym also.0)
+  keeps_one old m n (Ok a) (Err f) does also = inr (inr (ap (λ x. Err x) (only_memory f does.1.1 does.1.2 also.1)))
+  keeps_one old m n (Err e) (Ok b) does also = inr (inl (ap (λ x. Err x) (only_memory e also.1.1 also.1.2 does.1)))
+  keeps_one old m n (Err e) (Err f) does also = elim (one_fault e f does.1 also.1) [
+    | inl ran_out ↦ inr (inl (ap (λ x. Err x) ran_out))
     | inr rest ↦ elim rest [
-      | inl ran_out ↦ inr (inl (ap (λ x. Err x) ran_out))
-      | inr same ↦ inr (inr (ap (λ x. Err x) same, does.0 ∙ sym also.0))
+      | inl ran_out ↦ inr (inr (ap (λ x. Err x) ran_out))
+      | inr same ↦ inl (ap (λ x. Err x) same, does.0 ∙ sym also.0)
     ]
   ]
 
 language_one : (direction : Direction) (listed : Branching) (reversed : Bool) → HasOneAnswer faults.Memory (DoesLanguage direction listed reversed)
 language_one direction listed reversed =
-    then_one faults.Memory (Lifted (DoesFile listed reversed)) (KeepsLanguage direction) (lifted_one (DoesFile listed reversed) (file_one listed reversed)) (λ d old mid does. keeps_one direction d)
+    then_one faults.Memory (Lifted (DoesFile listed reversed)) (KeepsLanguage direction) (lifted_one (DoesFile listed reversed) (file_one listed reversed)) (keeps_one direction)
 
 -- the language is that of a numeration system
 language_made : (direction : Direction) (listed : Branching) (reversed : Bool) (digits : ℕ) → listed.sizes ≡ digits ∷ [] → (old new : StepLog) (d : Automaton) → DoesLanguage direction listed reversed old (Ok d) new
     → IsSystem (system_of direction d) × (d.sizes ≡ digits ∷ [])
-language_made direction listed reversed digits one old new d (inr (f, does, none)) = absurd (ok_not_err d f none)
+language_made direction listed reversed digits one old new d (inr (f, does, none)) = absurd (no_fault d f none)
 language_made direction listed reversed digits one old new d (inl (made, mid, does, kept)) =
     subst (λ (e : Automaton). IsSystem (system_of direction e) × (e.sizes ≡ digits ∷ [])) (sym kept.1.0)
     ((laws_tell_system direction (get_or made.sizes 0 0) made (own_size made.sizes digits sizes) is.1.table).0 (kept.1.1, kept.1.2), sizes)
@@ -120,8 +122,8 @@ language_made direction listed reversed digits one old new d (inl (made, mid, do
 laws_one : (direction : Direction) (d next : Automaton) (adder : NamedAutomaton) → IsSystem (system_of direction d) → HasOneAnswer faults.Memory (DoesLaws direction d next adder)
 laws_one direction d next adder system =
     then_one faults.Memory (Lifted (DoesZeroLaw direction d adder)) _ (lifted_one (DoesZeroLaw direction d adder) (zero_law_one direction d adder system))
-    (λ zero_law old mid does. where_one zero_law laws.ZeroLaw _ (then_one faults.Memory (Lifted (DoesNextSums direction adder.automaton next)) _ (lifted_one (DoesNextSums direction adder.automaton next) (next_sums_one direction adder.automaton next))
-    (λ next_law old mid does. where_one next_law laws.SuccessorLaw IsThrough through_one)))
+    (λ zero_law. where_one zero_law laws.ZeroLaw _ (then_one faults.Memory (Lifted (DoesNextSums direction adder.automaton next)) _
+    (lifted_one (DoesNextSums direction adder.automaton next) (next_sums_one direction adder.automaton next)) (λ next_law. where_one next_law laws.SuccessorLaw IsThrough through_one)))
 
 -- users' systems of the same automata are one
 same_user : (u v : UserSystem) → u.direction ≡ v.direction → u.language ≡ v.language → u.adder ≡ v.adder → u ≡ v
@@ -139,16 +141,15 @@ same_user u v direction language adder = λ i. record {
     digits = ap (λ (ns : List ℕ). get_or ns 0 0) (sym u.sizes ∙ ap (λ (d : Automaton). d.sizes) language ∙ v.sizes)
 
 made_one : (direction : Direction) (d : Automaton) (adder : NamedAutomaton) → HasOneAnswer faults.Memory (IsMade direction d adder)
-made_one direction d adder old (Ok u) (Ok v) m n does also =
-    inr (inr (ap (λ x. Ok x) (same_user u v (does.1.0 ∙ sym also.1.0) (does.1.1 ∙ sym also.1.1) (does.1.2 ∙ sym also.1.2)), does.0 ∙ sym also.0))
-made_one direction d adder old (Ok u) (Err f) m n does also = absurd also.1
-made_one direction d adder old (Err e) s m n does also = absurd does.1
+made_one direction d adder old m n (Ok u) (Ok v) does also =
+    inl (ap (λ x. Ok x) (same_user u v (does.1.0 ∙ sym also.1.0) (does.1.1 ∙ sym also.1.1) (does.1.2 ∙ sym also.1.2)), does.0 ∙ sym also.0)
+made_one direction d adder old m n (Ok u) (Err f) does also = absurd also.1
+made_one direction d adder old m n (Err e) s does also = absurd does.1
 
 pub admission_one : AdmissionHasOneAnswer
 admission_one direction language adder reversed digits one =
-    then_one faults.Memory (DoesLanguage direction language reversed) _ (language_one direction language reversed)
-    (λ d old mid does.
-    let made = language_made direction language reversed digits one old mid d does in
-    then_one faults.Memory (Lifted (DoesSuccessor direction d)) _ (lifted_one (DoesSuccessor direction d) (successor_one direction d (system_of direction d) made.0 (own_language direction d digits made.1)))
-    (λ next old mid does. then_one faults.Memory (Lifted (DoesAdder direction adder reversed (d ∷ d ∷ d ∷ []))) _ (lifted_one (DoesAdder direction adder reversed (d ∷ d ∷ d ∷ [])) (adder_one direction adder reversed (d ∷ d ∷ d ∷ [])))
-    (λ sums old mid does. then_one faults.Memory (DoesLaws direction d next sums) _ (laws_one direction d next sums made.0) (λ done old mid does. made_one direction d sums))))
+    then_one_where faults.Memory (DoesLanguage direction language reversed) _ (λ d. IsSystem (system_of direction d) × (d.sizes ≡ digits ∷ [])) (language_one direction language reversed)
+    (λ d old mid does. language_made direction language reversed digits one old mid d does)
+    (λ d made. then_one faults.Memory (Lifted (DoesSuccessor direction d)) _ (lifted_one (DoesSuccessor direction d) (successor_one direction d (system_of direction d) made.0 (own_language direction d digits made.1)))
+    (λ next. then_one faults.Memory (Lifted (DoesAdder direction adder reversed (d ∷ d ∷ d ∷ []))) _ (lifted_one (DoesAdder direction adder reversed (d ∷ d ∷ d ∷ [])) (adder_one direction adder reversed (d ∷ d ∷ d ∷ [])))
+    (λ sums. then_one faults.Memory (DoesLaws direction d next sums) _ (laws_one direction d next sums made.0) (λ done. made_one direction d sums))))

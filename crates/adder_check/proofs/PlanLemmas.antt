@@ -7,13 +7,14 @@ use Rattle.digit_tuple.specs.declared.direction.Direction.{Direction}
 use Rattle.digit_tuple.specs.declared.step_fault.StepFault.{StepFault}
 use Rattle.minimise.specs.Canonical.{IsCanonical}
 use Rattle.minimise.specs.Tracked.{NamedAutomaton}
-use Rattle.automaton_steps.specs.ProjectSteps.{DoesProject}
+use Rattle.automaton_steps.specs.Makings.{DoesStep}
+use Rattle.automaton_steps.specs.ProjectSteps.{project_step}
 use Rattle.number_order.specs.Orders.{pair_sizes}
 use Rattle.num_system.specs.Operations.{IsProjection}
 use Rattle.num_system.specs.SuccessorSteps.{IsChain, name_u, name_x, name_y}
 use Rattle.num_system.proofs.StepLemmas.{staying_sizes_are}
 use Rattle.num_system.proofs.SuccessorLemmas.{chain_sizes_are}
-use Rattle.adder_check.specs.SuccessorPlan.{DoesNext}
+use Rattle.adder_check.specs.SuccessorPlan.{next_step}
 
 -- an automaton on pairs has two tracks of one size
 pub two_of : (language less : Automaton) → length language.sizes ≡ 1 → less.sizes ≡ pair_sizes language → (d : ℕ) × (less.sizes ≡ d ∷ d ∷ [])
@@ -25,9 +26,9 @@ two_of language less one is = let pair = by language.sizes one in (pair.0, is �
     by (d ∷ e ∷ ns) more = absurd (omega (arith, more))
 
 -- a projection step makes a projection
-pub projected : (old new : StepLog) (direction : Direction) (track : List ℕ) (a : NamedAutomaton) (r : Result NamedAutomaton StepFault) → DoesProject old direction track a r new → IfOk r (IsProjection direction a track)
+pub projected : (old new : StepLog) (direction : Direction) (track : List ℕ) (a : NamedAutomaton) (r : Result NamedAutomaton StepFault) → DoesStep (project_step direction track a) old r new → IfOk r (IsProjection direction a track)
 projected old new direction track a (Ok c) done =
-    let made = done.step.projection in record { names = made.names; sizes = made.sizes; canonical = made.canonical; language = made.language }
+    let made = done.step.made_is in record { names = made.names; sizes = made.sizes; canonical = made.canonical; language = made.language }
 projected old new direction track a (Err e) done = tt
 
 module _ (direction : Direction) (less : Automaton) (chain between : NamedAutomaton) (d : ℕ) (sizes : less.sizes ≡ d ∷ d ∷ []) (is : IsChain less chain) (made : IsProjection direction chain name_u between) where
@@ -38,6 +39,6 @@ module _ (direction : Direction) (less : Automaton) (chain between : NamedAutoma
   between_sizes = made.sizes ∙ staying_sizes_are chain d is.names (is.sizes ∙ chain_sizes_are less d sizes) ∙ sym sizes
 
 -- the last step of the successor makes a canonical automaton
-pub next_canonical : (old new : StepLog) (less : Automaton) (between : NamedAutomaton) (r : Result Automaton StepFault) → DoesNext less between old r new → IfOk r IsCanonical
-next_canonical old new less between (Ok next) done = done.step.join.canonical
+pub next_canonical : (old new : StepLog) (less : Automaton) (between : NamedAutomaton) (r : Result Automaton StepFault) → DoesStep (next_step less between) old r new → IfOk r IsCanonical
+next_canonical old new less between (Ok next) done = done.step.made_is.canonical
 next_canonical old new less between (Err e) done = tt

@@ -4,6 +4,7 @@ use Rattle.digit_tuple.specs.Automaton.{Branching, Accepts, letters_of}
 use Rattle.digit_tuple.specs.Deterministic.{Automaton}
 use Rattle.digit_tuple.specs.Letters.{IsWord}
 use Rattle.digit_tuple.specs.Paddings.{in_order}
+use Rattle.digit_tuple.specs.StepResults.{Then}
 use Rattle.digit_tuple.specs.Steps.{StepLog}
 use Rattle.digit_tuple.specs.declared.direction.Direction.{Direction}
 use Rattle.digit_tuple.specs.declared.step_fault.StepFault.{StepFault}
@@ -11,9 +12,9 @@ use Rattle.minimise.specs.Tracked.{NamedAutomaton}
 use Rattle.numeration.specs.Systems.{System}
 use Rattle.numeration.specs.Representation.{Represents}
 use Rattle.num_system.specs.SuccessorSteps.{name_x, name_y}
-use Rattle.automaton_steps.specs.PadSteps.{DoesPad}
-use Rattle.automaton_steps.specs.ValidSteps.{DoesValid}
-use Rattle.adder_check.specs.Faults.{Then}
+use Rattle.automaton_steps.specs.Makings.{DoesStep}
+use Rattle.automaton_steps.specs.PadSteps.{pad_step}
+use Rattle.automaton_steps.specs.ValiditySteps.{valid_step}
 use Rattle.adder_check.specs.LanguageSteps.{in_file, DoesFile}
 
 -- the names of the adder's tracks, x, y and z
@@ -37,5 +38,5 @@ adds_in_file direction s listed reversed x y z = HoldsInFile direction s listed 
 -- the steps read, reverse where words are of the other direction, pad and valid
 abbrev pub DoesAdder : Direction → Branching → Bool → List Automaton → StepLog → Result NamedAutomaton StepFault → StepLog → Type 0
 DoesAdder direction listed reversed languages =
-    Then (DoesFile listed reversed) (λ read. Then (λ old result new. DoesPad old direction read result new)
-    (λ closed old result new. DoesValid old languages (record { names = adder_names; automaton = closed }) result new))
+    Then (DoesFile listed reversed) (λ read. Then (DoesStep (pad_step direction read))
+    (λ closed. DoesStep (valid_step languages (record { names = adder_names; automaton = closed }))))

@@ -4,6 +4,7 @@ use Rattle.digit_tuple.specs.Automaton.{Branching, Accepts, letters_of}
 use Rattle.digit_tuple.specs.Deterministic.{Automaton}
 use Rattle.digit_tuple.specs.Letters.{IsWord}
 use Rattle.digit_tuple.specs.Paddings.{in_order}
+use Rattle.digit_tuple.specs.StepResults.{Then}
 use Rattle.digit_tuple.specs.Steps.{StepLog}
 use Rattle.digit_tuple.specs.declared.direction.Direction.{Direction}
 use Rattle.minimise.specs.Tracked.{NamedAutomaton}
@@ -16,7 +17,7 @@ use Rattle.adder_check.specs.declared.admit_fault.Law.TheVariants as laws
 use Rattle.adder_check.specs.declared.user_system.UserSystem.{UserSystem}
 use Rattle.adder_check.specs.AdderLaws.{ZeroLaw, SuccessorLaw, IsAddition}
 use Rattle.adder_check.specs.AdderRelation.{DoesAdder, adds_in_file}
-use Rattle.adder_check.specs.Faults.{Then, Lifted}
+use Rattle.adder_check.specs.Faults.{Lifted}
 use Rattle.adder_check.specs.LanguageLaws.{KeepsZeros, IsEndless, language_in, system_in}
 use Rattle.adder_check.specs.LanguageSteps.{DoesFile, IsFirstLanguageFault, in_file}
 use Rattle.adder_check.specs.NextSums.{DoesNextSums}

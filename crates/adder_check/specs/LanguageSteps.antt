@@ -1,18 +1,19 @@
 -- The automaton of a file, and the laws of a language.
-use Rattle.std.specs.Prelude.{◌≡◌, ◌↔◌, ℕ, Bool, true, false, List, reverse, IsTrue, Result, Ok, MatchResult, ⊤}
+use Rattle.std.specs.Prelude.{◌≡◌, ◌↔◌, ℕ, Bool, true, false, List, reverse, IsTrue, Result, MatchResult, ⊤}
 use Rattle.digit_tuple.specs.Automaton.{Branching, Accepts, letters_of}
 use Rattle.digit_tuple.specs.Deterministic.{Automaton, accepts_of}
 use Rattle.digit_tuple.specs.Letters.{IsWord}
+use Rattle.digit_tuple.specs.StepResults.{Then}
 use Rattle.digit_tuple.specs.Steps.{StepLog}
 use Rattle.digit_tuple.specs.declared.direction.Direction.{Direction}
 use Rattle.digit_tuple.specs.declared.step_fault.StepFault.{StepFault}
 use Rattle.minimise.specs.Canonical.{IsCanonical}
-use Rattle.automaton_steps.specs.ReadSteps.{DoesRead}
-use Rattle.automaton_steps.specs.ReverseSteps.{DoesReverse}
+use Rattle.automaton_steps.specs.Makings.{DoesStep, Gives}
+use Rattle.automaton_steps.specs.ReadSteps.{read_step}
+use Rattle.automaton_steps.specs.ReverseSteps.{reverse_step}
 use Rattle.adder_check.specs.declared.admit_fault.AdmitFault.{AdmitFault}
 use Rattle.adder_check.specs.declared.admit_fault.AdmitFault.TheVariants as faults
 use Rattle.adder_check.specs.declared.admit_fault.Law.TheVariants as laws
-use Rattle.adder_check.specs.Faults.{Then}
 use Rattle.adder_check.specs.LanguageLaws.{KeepsZeros, IsEndless, language_in}
 
 -- the word as the file has it, whose words may be of the other direction
@@ -28,12 +29,12 @@ pub record IsOfFile (listed : Branching) (reversed : Bool) (d : Automaton) : Typ
 
 -- the step reverse, where words are of the other direction
 abbrev pub DoesReversal : Bool → Automaton → StepLog → Result Automaton StepFault → StepLog → Type 0
-DoesReversal true read old result new = DoesReverse old read result new
-DoesReversal false read old result new = (result ≡ Ok read) × (new ≡ old)
+DoesReversal true read = DoesStep (reverse_step read)
+DoesReversal false read = Gives read
 
 -- the step read, and that one after it
 abbrev pub DoesFile : Branching → Bool → StepLog → Result Automaton StepFault → StepLog → Type 0
-DoesFile listed reversed = Then (λ old result new. DoesRead old listed result new) (DoesReversal reversed)
+DoesFile listed reversed = Then (DoesStep (read_step listed)) (DoesReversal reversed)
 
 -- the first law of a language that does not hold
 abbrev pub IsFirstLanguageFault : Direction → Automaton → AdmitFault → Type 0

@@ -4,6 +4,7 @@ pub mod AdderLaws
 pub mod Links
 pub mod Counts
 pub mod Faults
+pub mod BothForSome
 pub mod LanguageSteps
 pub mod SuccessorPlan
 pub mod AdderRelation

@@ -1,16 +1,15 @@
 -- The sums of numbers with numbers one more, and the numbers one more than sums, by four steps.
 use Rattle.std.specs.Prelude.{◌≡◌, ℕ, suc, Bool, List, [], ◌∷◌, IsTrue, Result}
 use Rattle.digit_tuple.specs.Deterministic.{Automaton}
+use Rattle.digit_tuple.specs.StepResults.{Then}
 use Rattle.digit_tuple.specs.Steps.{StepLog}
 use Rattle.digit_tuple.specs.declared.direction.Direction.{Direction}
 use Rattle.digit_tuple.specs.declared.step_fault.StepFault.{StepFault}
 use Rattle.minimise.specs.Tracked.{NamedAutomaton}
-use Rattle.product_op.specs.declared.op.Op.TheVariants.{And}
 use Rattle.num_system.specs.SuccessorSteps.{name_x, name_y, order_on}
-use Rattle.automaton_steps.specs.JoinSteps.{DoesJoin}
-use Rattle.automaton_steps.specs.ProjectSteps.{DoesProject}
 use Rattle.adder_check.specs.AdderRelation.{name_z}
-use Rattle.adder_check.specs.Faults.{Then, TellsSame}
+use Rattle.adder_check.specs.BothForSome.{DoesBothForSome}
+use Rattle.adder_check.specs.Faults.{TellsSame}
 
 -- the names of tracks, v and w
 abbrev pub name_v : List ℕ
@@ -23,19 +22,13 @@ name_w = 119 ∷ []
 abbrev pub sum_on : Automaton → List ℕ → List ℕ → List ℕ → NamedAutomaton
 sum_on adder first second third = record { names = first ∷ second ∷ third ∷ []; automaton = adder }
 
--- the product of `v is one more than y` with `z is a sum of x and v`, and its projection
-abbrev pub DoesSumsWithNext : Direction → Automaton → Automaton → StepLog → Result NamedAutomaton StepFault → StepLog → Type 0
-DoesSumsWithNext direction adder next =
-    Then (λ old result new. DoesJoin old And [] (order_on next name_y name_v) (sum_on adder name_x name_v name_z) result new) (λ joined old result new. DoesProject old direction name_v joined result new)
-
--- the product of `w is a sum of x and y` with `z is one more than w`, and its projection
-abbrev pub DoesNextOfSums : Direction → Automaton → Automaton → StepLog → Result NamedAutomaton StepFault → StepLog → Type 0
-DoesNextOfSums direction adder next =
-    Then (λ old result new. DoesJoin old And [] (sum_on adder name_x name_y name_w) (order_on next name_w name_z) result new) (λ joined old result new. DoesProject old direction name_w joined result new)
-
--- the four steps, and whether they make one language
+-- what `v is one more than y` and `z is a sum of x and v` say together for some v, `w is a sum of x and y` and `z is one more than w` for some w,
+-- and whether the two have one language
 abbrev pub DoesNextSums : Direction → Automaton → Automaton → StepLog → Result Bool StepFault → StepLog → Type 0
-DoesNextSums direction adder next = Then (DoesSumsWithNext direction adder next) (λ with_next. Then (DoesNextOfSums direction adder next) (λ of_sums. TellsSame with_next.automaton of_sums.automaton))
+DoesNextSums direction adder next =
+    Then (DoesBothForSome direction name_v (order_on next name_y name_v) (sum_on adder name_x name_v name_z)) (λ with_next.
+    Then (DoesBothForSome direction name_w (sum_on adder name_x name_y name_w) (order_on next name_w name_z)) (λ of_sums.
+    TellsSame with_next.automaton of_sums.automaton))
 
 -- the third number is a sum of the first with one more than the second
 abbrev pub IsSumWithNext : (List ℕ → Bool) → List ℕ → Type 0

@@ -1,28 +1,23 @@
 -- The sums of numbers with 0, by two steps.
 use Rattle.std.specs.Prelude.{◌≡◌, ◌⊎◌, ℕ, Bool, List, [], ◌∷◌, IsTrue, Result, Err}
 use Rattle.digit_tuple.specs.Deterministic.{Automaton}
+use Rattle.digit_tuple.specs.StepResults.{Then}
 use Rattle.digit_tuple.specs.Steps.{StepLog}
 use Rattle.digit_tuple.specs.declared.direction.Direction.{Direction}
 use Rattle.digit_tuple.specs.declared.step_fault.StepFault.{StepFault}
 use Rattle.digit_tuple.specs.declared.step_fault.StepFault.TheVariants as steps
 use Rattle.minimise.specs.Canonical.{IsCanonical}
 use Rattle.minimise.specs.Tracked.{NamedAutomaton}
-use Rattle.product_op.specs.declared.op.Op.TheVariants.{And}
 use Rattle.numeration.specs.Relations.{IsZeroOf, IsEqualityOf}
 use Rattle.numeration.specs.Systems.{System}
 use Rattle.num_system.specs.SuccessorSteps.{name_y}
-use Rattle.automaton_steps.specs.JoinSteps.{DoesJoin}
-use Rattle.automaton_steps.specs.ProjectSteps.{DoesProject}
-use Rattle.adder_check.specs.Faults.{Then, TellsSame}
+use Rattle.adder_check.specs.BothForSome.{DoesBothForSome}
+use Rattle.adder_check.specs.Faults.{TellsSame}
 use Rattle.adder_check.specs.LanguageLaws.{system_of}
 
 -- the automaton on the one track y
 abbrev pub on_y : Automaton → NamedAutomaton
 on_y zero = record { names = name_y ∷ []; automaton = zero }
-
--- the product of the adder with 0 on y, and its projection
-abbrev pub DoesZeroSums : Direction → NamedAutomaton → Automaton → StepLog → Result NamedAutomaton StepFault → StepLog → Type 0
-DoesZeroSums direction adder zero = Then (λ old result new. DoesJoin old And [] adder (on_y zero) result new) (λ joined old result new. DoesProject old direction name_y joined result new)
 
 -- the canonical automata of 0 and of equal numbers
 pub record AreZeroAndEquality (direction : Direction) (s : System) (zero equal : Automaton) : Type 0 where
@@ -31,11 +26,12 @@ pub record AreZeroAndEquality (direction : Direction) (s : System) (zero equal :
   pub equal_is : IsEqualityOf direction s equal
   pub equal_canonical : IsCanonical equal
 
--- memory ran out before a step, or the steps of the sums with 0 are done, and whether they are the equal numbers
+-- memory ran out before a step, or the steps of what the adder and 0 on y say together for some y are done, and whether these are the equal numbers
 abbrev pub DoesZeroLaw : Direction → Automaton → NamedAutomaton → StepLog → Result Bool StepFault → StepLog → Type 0
 DoesZeroLaw direction d adder old result new =
     ((result ≡ Err steps.Memory) × (new ≡ old))
-    ⊎ ((zero : Automaton) × (equal : Automaton) × AreZeroAndEquality direction (system_of direction d) zero equal × Then (DoesZeroSums direction adder zero) (λ sums. TellsSame sums.automaton equal) old result new)
+    ⊎ ((zero : Automaton) × (equal : Automaton) × AreZeroAndEquality direction (system_of direction d) zero equal
+    × Then (DoesBothForSome direction name_y adder (on_y zero)) (λ sums. TellsSame sums.automaton equal) old result new)
 
 -- the second number is a sum of the first with 0
 abbrev pub IsZeroSum : (List ℕ → Bool) → List ℕ → Type 0

@@ -10,7 +10,8 @@ ghost use Rattle.num_system.specs.Successor.{IsSuccessorOf};
 ghost use Rattle.num_system.specs.SuccessorSteps.{name_x, name_y, order_on};
 ghost use Rattle.adder_check.specs.AdderLaws.{SuccessorLaw};
 ghost use Rattle.adder_check.specs.AdderRelation.{name_z, three_of};
-ghost use Rattle.adder_check.specs.NextSums.{DoesNextSums, DoesSumsWithNext, DoesNextOfSums, IsSumWithNext, IsNextOfSum, name_v, name_w, sum_on as sum_under};
+ghost use Rattle.adder_check.specs.BothForSome.{DoesBothForSome};
+ghost use Rattle.adder_check.specs.NextSums.{DoesNextSums, IsSumWithNext, IsNextOfSum, name_v, name_w, sum_on as sum_under};
 
 use automaton_steps::join_step::{Joining, join_step};
 use automaton_steps::project_step::project_step;
@@ -63,7 +64,7 @@ fn sums_with_next(
     requires adder { IsCanonical adder.now }
     requires next { IsCanonical next.now }
     requires tracks { (digits : ℕ) × (adder.now.sizes ≡ digits ∷ digits ∷ digits ∷ []) × (next.now.sizes ≡ digits ∷ digits ∷ []) }
-    ensures steps { DoesSumsWithNext direction adder.now next.now steps.old result steps.new }
+    ensures steps { DoesBothForSome direction name_v (order_on next.now name_y name_v) (sum_under adder.now name_x name_v name_z) steps.old result steps.new }
     ensures sizes { IfOk result (λ sums. sums.automaton.sizes ≡ adder.now.sizes) }
     ensures sums { IfOk result (λ sums. (s : System) (test : List ℕ → Bool) → IsSystem s → HoldsOf direction (three_of s) (Passes test) adder.now → IsSuccessorOf direction s next.now → HoldsOf direction (three_of s) (IsSumWithNext test) sums.automaton) }
 {
@@ -90,7 +91,7 @@ fn next_of_sums(
     requires adder { IsCanonical adder.now }
     requires next { IsCanonical next.now }
     requires tracks { (digits : ℕ) × (adder.now.sizes ≡ digits ∷ digits ∷ digits ∷ []) × (next.now.sizes ≡ digits ∷ digits ∷ []) }
-    ensures steps { DoesNextOfSums direction adder.now next.now steps.old result steps.new }
+    ensures steps { DoesBothForSome direction name_w (sum_under adder.now name_x name_y name_w) (order_on next.now name_w name_z) steps.old result steps.new }
     ensures sizes { IfOk result (λ sums. sums.automaton.sizes ≡ adder.now.sizes) }
     ensures sums { IfOk result (λ sums. (s : System) (test : List ℕ → Bool) → IsSystem s → HoldsOf direction (three_of s) (Passes test) adder.now → IsSuccessorOf direction s next.now → HoldsOf direction (three_of s) (IsNextOfSum test) sums.automaton) }
 {

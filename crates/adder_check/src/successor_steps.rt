@@ -9,7 +9,9 @@ ghost use Rattle.numeration.specs.Systems.{System, IsSystem};
 ghost use Rattle.num_system.specs.Operations.{IsProjection};
 ghost use Rattle.num_system.specs.Successor.{IsInside, HasInside, IsSuccessorOf};
 ghost use Rattle.num_system.specs.SuccessorSteps.{IsChain, name_u, name_x, name_y};
-ghost use Rattle.adder_check.specs.SuccessorPlan.{DoesChain, DoesBetween, DoesNext, DoesSuccessor};
+ghost use Rattle.automaton_steps.specs.Makings.{DoesStep};
+ghost use Rattle.automaton_steps.specs.ProjectSteps.{project_step as the_projection};
+ghost use Rattle.adder_check.specs.SuccessorPlan.{chain_step as the_chain, next_step as the_next, DoesSuccessor};
 
 use automaton_steps::order_step::order_step;
 use automaton_steps::project_step::project_step;
@@ -53,7 +55,7 @@ pub fn successor_steps(
 fn chain_step(alloc: Global, less: &Dfa, steps: &mut Steps) -> Result<Tracked, StepFault>
     requires canonical { IsCanonical less.now }
     requires tracks { (digits : ℕ) × (less.now.sizes ≡ digits ∷ digits ∷ []) }
-    ensures steps { DoesChain less.now steps.old result steps.new }
+    ensures steps { DoesStep (the_chain less.now) steps.old result steps.new }
     ensures chain { IfOk result (IsChain less.now) }
     ensures relation { IfOk result (λ chain. (direction : Direction) (s : System) → IsSystem s → IsOrderOf direction s less.now → HoldsOf direction (s ∷ s ∷ s ∷ []) IsInside chain.automaton) }
 {
@@ -76,7 +78,7 @@ fn between_step(
     steps: &mut Steps,
 ) -> Result<Tracked, StepFault>
     requires names { chain.now.names ≡ name_u ∷ name_x ∷ name_y ∷ [] }
-    ensures steps { DoesBetween direction chain.now steps.old result steps.new }
+    ensures steps { DoesStep (the_projection direction name_u chain.now) steps.old result steps.new }
     ensures between { IfOk result (IsProjection direction chain.now name_u) }
 {
     let u = Name::new(alloc, "u")?;
@@ -95,7 +97,7 @@ fn next_step(
     requires names { between.now.names ≡ name_x ∷ name_y ∷ [] }
     requires sizes { between.now.automaton.sizes ≡ less.now.sizes }
     requires fits { IsAlphabet less.now.sizes }
-    ensures steps { DoesNext less.now between.now steps.old result steps.new }
+    ensures steps { DoesStep (the_next less.now between.now) steps.old result steps.new }
     ensures relation { IfOk result (λ next. (direction : Direction) (s : System) → IsOrderOf direction s less.now → HoldsOf direction (s ∷ s ∷ []) HasInside between.now.automaton → IsSuccessorOf direction s next) }
 {
     match next_of(alloc, less, between, steps.limit()) {

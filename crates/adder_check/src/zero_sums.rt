@@ -8,9 +8,11 @@ ghost use Rattle.numeration.specs.Systems.{System, IsSystem};
 ghost use Rattle.number_order.specs.Orders.{pair_sizes};
 ghost use Rattle.digit_tuple.specs.declared.direction.Direction.{Direction};
 ghost use Rattle.num_system.specs.Links.{Passes};
+ghost use Rattle.num_system.specs.SuccessorSteps.{name_y};
 ghost use Rattle.adder_check.specs.AdderLaws.{ZeroLaw};
 ghost use Rattle.adder_check.specs.AdderRelation.{adder_names, three_of};
-ghost use Rattle.adder_check.specs.ZeroSums.{DoesZeroSums, IsZeroSum, on_y as on_track_y};
+ghost use Rattle.adder_check.specs.BothForSome.{DoesBothForSome};
+ghost use Rattle.adder_check.specs.ZeroSums.{IsZeroSum, on_y as on_track_y};
 
 use automaton_steps::join_step::{Joining, join_step};
 use automaton_steps::project_step::project_step;
@@ -41,7 +43,7 @@ pub fn zero_sums(
     requires names { adder.now.names ≡ adder_names }
     requires tracks { (digits : ℕ) × (adder.now.automaton.sizes ≡ digits ∷ digits ∷ digits ∷ []) × (zero.now.sizes ≡ digits ∷ []) }
     requires canonical { IsCanonical zero.now }
-    ensures steps { DoesZeroSums direction adder.now zero.now steps.old result steps.new }
+    ensures steps { DoesBothForSome direction name_y adder.now (on_track_y zero.now) steps.old result steps.new }
     ensures sizes { IfOk result (λ sums. sums.automaton.sizes ≡ pair_sizes zero.now) }
     ensures sums { IfOk result (λ sums. (s : System) (test : List ℕ → Bool) → IsSystem s → HoldsOf direction (three_of s) (Passes test) adder.now.automaton → IsZeroOf direction s zero.now → HoldsOf direction (s ∷ s ∷ []) (IsZeroSum test) sums.automaton) }
 {

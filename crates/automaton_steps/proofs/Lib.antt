@@ -1,9 +1,10 @@
-pub mod TruthLemmas
 pub mod StepSizes
 pub mod ReadSizes
 pub mod ReverseSizes
-pub mod OneLines
 pub mod OneResults
-pub mod OneOutcomes
+pub mod StepAnswers
+pub mod ThenAnswers
+pub mod AnswerCases
+pub mod OneAnswers
 pub mod TrackNumbers
 pub mod DirectionLemmas

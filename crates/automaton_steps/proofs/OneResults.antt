@@ -1,11 +1,12 @@
 -- A step has one result: canonical automata over the same tracks with one language are equal.
-use Rattle.std.proofs.Common.{◌≡◌, ◌↔◌, ℕ, List, [], ◌∷◌, IsTrue, sym, ◌∙◌, subst}
+use Rattle.std.proofs.Common.{◌≡◌, ◌↔◌, ℕ, Bool, List, [], ◌∷◌, IsTrue, sym, ◌∙◌, subst}
 use Rattle.digit_tuple.specs.Automaton.{Branching, Accepts}
 use Rattle.digit_tuple.specs.Deterministic.{Automaton, accepts_of}
 use Rattle.digit_tuple.specs.Letters.{IsWord, product}
 use Rattle.digit_tuple.specs.declared.direction.Direction.{Direction}
 use Rattle.minimise.specs.Canonical.{IsCanonical}
 use Rattle.minimise.specs.Tracked.{NamedAutomaton}
+use Rattle.digit_tuple.proofs.TruthLemmas.{same_tests}
 use Rattle.minimise.proofs.CanonicalLemmas.{canonical_forms}
 use Rattle.digit_tuple.specs.Paddings.{in_order}
 use Rattle.numeration.specs.Relations.{IsLanguageOf, IsOrderOf, IsLess}
@@ -18,12 +19,10 @@ use Rattle.project_close.specs.StayingTracks.{staying_places}
 use Rattle.automaton_steps.specs.ReadSteps.{IsRead}
 use Rattle.automaton_steps.specs.ReverseSteps.{IsReversed}
 use Rattle.automaton_steps.specs.PadSteps.{IsClosure}
-use Rattle.automaton_steps.specs.ValidSteps.{IsValidPart}
+use Rattle.automaton_steps.specs.ValiditySteps.{IsOnTracksOf}
 use Rattle.automaton_steps.specs.JoinSteps.{IsJoin}
-use Rattle.automaton_steps.specs.ComplementSteps.{IsComplement}
 use Rattle.automaton_steps.specs.ProjectSteps.{IsProjection}
 use Rattle.automaton_steps.specs.OrderSteps.{IsOrder}
-use Rattle.automaton_steps.proofs.TruthLemmas.{same_truth}
 
 -- both are canonical over these sizes, and accept the same words
 one_automaton : (sizes : List ℕ) (d e : Automaton) → IsCanonical d → IsCanonical e → d.sizes ≡ sizes → e.sizes ≡ sizes → ((w : List ℕ) → IsWord (product sizes) w → accepts_of d w ≡ accepts_of e w) → d ≡ e
@@ -34,7 +33,7 @@ one_named : (a b : NamedAutomaton) → a.names ≡ b.names → a.automaton ≡ b
 one_named a b names automaton = λ i. record { names = names i; automaton = automaton i }
 
 by_fact : (v w : Automaton) (P : Type 0) (word : List ℕ) → (IsTrue (accepts_of v word) ↔ P) → (IsTrue (accepts_of w word) ↔ P) → accepts_of v word ≡ accepts_of w word
-by_fact v w P word one other = same_truth (accepts_of v word) (accepts_of w word) (λ is. other.1 (one.0 is)) (λ is. one.1 (other.0 is))
+by_fact v w P word one other = same_tests (accepts_of v word) (accepts_of w word) (λ is. other.1 (one.0 is), λ is. one.1 (other.0 is))
 
 pub one_read : (n : Branching) (d e : Automaton) → IsRead n d → IsRead n e → d ≡ e
 one_read n d e one other = one_automaton n.sizes d e one.canonical other.canonical one.sizes other.sizes (λ w over. by_fact d e (Accepts n w) w (one.language w over) (other.language w over))
@@ -46,12 +45,8 @@ pub one_closure : (direction : Direction) (a d e : Automaton) → IsClosure dire
 one_closure direction a d e one other =
     one_automaton a.sizes d e one.canonical other.canonical one.sizes other.sizes (λ w over. by_fact d e (IsPadded direction a w) w (one.language w over) (other.language w over))
 
-pub one_valid_part : (languages : List Automaton) (a b c : NamedAutomaton) → IsValidPart languages a b → IsValidPart languages a c → b ≡ c
-one_valid_part languages a b c one other = one_named b c (one.names ∙ sym other.names)
-    (one_automaton a.automaton.sizes b.automaton c.automaton one.canonical other.canonical one.sizes other.sizes (λ w over. one.language w over ∙ sym (other.language w over)))
-
-pub one_complement : (languages : List Automaton) (a b c : NamedAutomaton) → IsComplement languages a b → IsComplement languages a c → b ≡ c
-one_complement languages a b c one other = one_named b c (one.names ∙ sym other.names)
+pub one_on_tracks : (a : NamedAutomaton) (is_in : List ℕ → Bool) (b c : NamedAutomaton) → IsOnTracksOf a is_in b → IsOnTracksOf a is_in c → b ≡ c
+one_on_tracks a is_in b c one other = one_named b c (one.names ∙ sym other.names)
     (one_automaton a.automaton.sizes b.automaton c.automaton one.canonical other.canonical one.sizes other.sizes (λ w over. one.language w over ∙ sym (other.language w over)))
 
 pub one_join : (op : Op) (languages : List Automaton) (a b c e : NamedAutomaton) → IsJoin op languages a b c → IsJoin op languages a b e → c ≡ e

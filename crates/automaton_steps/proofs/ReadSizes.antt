@@ -5,6 +5,7 @@ use Rattle.digit_tuple.specs.Deterministic.{Automaton, accepts_of}
 use Rattle.digit_tuple.specs.Letters.{IsWord, product}
 use Rattle.digit_tuple.specs.Width.{IsEquivalence}
 use Rattle.digit_tuple.proofs.PathLemmas.{Path-append, Path-split}
+use Rattle.digit_tuple.proofs.TruthLemmas.{same_tests}
 use Rattle.digit_tuple.proofs.WidthLemmas.{IsEquivalence-facts}
 use Rattle.digit_tuple.proofs.WordLemmas.{IsWord-append}
 use Rattle.determinise.specs.Subsets.{Alike}
@@ -12,7 +13,6 @@ use Rattle.minimise.specs.Canonical.{IsCanonical}
 use Rattle.minimise.specs.Residuals.{SameLanguage}
 use Rattle.automaton_steps.specs.ReadSteps.{IsRead}
 use Rattle.automaton_steps.proofs.StepSizes.{AreKept}
-use Rattle.automaton_steps.proofs.TruthLemmas.{same_truth}
 
 module _ (n : Branching) where
   turned : (w v : List ℕ) → Alike n w v → Alike n v w
@@ -30,7 +30,7 @@ module _ (n : Branching) where
   read_kept d read w v u one other more alike =
       let first = read.language (w ++ u) (IsWord-append (letters_of n) w u one more) in
       let second = read.language (v ++ u) (IsWord-append (letters_of n) v u other more) in
-      same_truth (accepts_of d (w ++ u)) (accepts_of d (v ++ u)) (λ is. second.1 (accepts_too w v u alike (first.0 is))) (λ is. first.1 (accepts_too v w u (turned w v alike) (second.0 is)))
+      same_tests (accepts_of d (w ++ u)) (accepts_of d (v ++ u)) (λ is. second.1 (accepts_too w v u alike (first.0 is)), λ is. first.1 (accepts_too v w u (turned w v alike) (second.0 is)))
 
 -- the canonical automaton of the automaton of sets
 pub IsRead-canonical : (n : Branching) (d e : Automaton) → d.sizes ≡ n.sizes → ((w : List ℕ) → IsWord (letters_of n) w → IsTrue (accepts_of d w) ↔ Accepts n w)

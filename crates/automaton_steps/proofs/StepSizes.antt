@@ -1,13 +1,13 @@
 -- A step makes no more states than its width, where words that are alike are accepted alike before each word.
 use Rattle.std.proofs.Common.{◌≡◌, ℕ, ◌≤◌, List, ◌++◌, refl, sym, subst, arith}
 use Rattle.digit_tuple.specs.Deterministic.{Automaton, letters_of, states_of, accepts_of}
-use Rattle.digit_tuple.specs.Letters.{IsWord}
+use Rattle.digit_tuple.specs.Letters.{product, IsAlphabet, IsWord}
+use Rattle.digit_tuple.specs.StepResults.{IsLineOf}
+use Rattle.digit_tuple.specs.Steps.{Step}
 use Rattle.digit_tuple.specs.Width.{HasApart, HasWidth, IsEquivalence}
-use Rattle.digit_tuple.specs.declared.kind.Kind.{Kind}
 use Rattle.digit_tuple.proofs.WidthLemmas.{HasApart-within}
 use Rattle.minimise.specs.Canonical.{IsCanonical}
 use Rattle.minimise.proofs.ApartLemmas.{canonical_apart}
-use Rattle.automaton_steps.specs.StepLines.{IsStepLine}
 
 -- words that are alike are accepted alike before each word
 abbrev pub AreKept : (List ℕ → List ℕ → Type 0) → ℕ → Automaton → Type 0
@@ -19,8 +19,15 @@ module _ (alike : List ℕ → List ℕ → Type 0) (letters : ℕ) (made : Auto
       let apart : HasApart alike (letters_of made) (states_of made) = canonical_apart made canonical alike (subst (λ n. AreKept alike n made) (sym over) kept) in
       HasApart-within alike letters equivalence (states_of made) width (subst (λ n. HasApart alike n (states_of made)) over apart) counted
 
-  -- the line of the step
-  pub step_line : (limit width size : ℕ) (kind : Kind) → HasWidth alike letters width → width ≤ limit → size ≡ states_of made
-      → IsStepLine limit kind alike letters (states_of made) (record { kind = kind; width = width; size = size })
-  step_line limit width size kind counted within is =
-      record { kind_is = refl; width = counted; size_is = is; small = omega (arith, size_within width counted, is); within = within }
+-- the line of a step that makes this automaton
+pub line_of : (step : Step) (made : Automaton) → IsAlphabet step.sizes → IsCanonical made → letters_of made ≡ product step.sizes → IsEquivalence step.alike
+    → AreKept step.alike (product step.sizes) made → (limit width size : ℕ) → HasWidth step.alike (product step.sizes) width → width ≤ limit → size ≡ states_of made
+    → IsLineOf limit step (states_of made) (record { kind = step.kind; width = width; size = size })
+line_of step made alphabet canonical over equivalence kept limit width size counted within is = record {
+  alphabet = alphabet;
+  kind_is = refl;
+  width = counted;
+  size_is = is;
+  small = omega (arith, size_within step.alike (product step.sizes) made canonical over equivalence kept width counted, is);
+  within = within;
+}

@@ -1,11 +1,9 @@
 -- Numbers as names of tracks.
-use Rattle.std.proofs.Common.{◌≡◌, ℕ, ◌<◌, ◌^◌, List, length, get_or, decimal, sym, ap, ◌∙◌, arith}
+use Rattle.std.proofs.Common.{◌≡◌, ℕ, ◌<◌, ◌^◌, List, length, get_or, decimal, sym, ◌∙◌, arith}
 use Rattle.std.proofs.lemmas.Fmt.{decimal_injective}
 use Rattle.std.proofs.lemmas.List.FromFn.{length-map-range_with_len, get_or-map-range_with_len}
-use Rattle.digit_tuple.specs.Deterministic.{Automaton}
 use Rattle.digit_tuple.specs.Names.{AreDistinct}
-use Rattle.minimise.specs.Tracked.{NamedAutomaton}
-use Rattle.automaton_steps.specs.Numbered.{track_numbers, numbered}
+use Rattle.automaton_steps.specs.Numbered.{track_numbers}
 
 pub length-track_numbers : (count : ℕ) → length (track_numbers count) ≡ count
 length-track_numbers count = length-map-range_with_len decimal 0 count
@@ -18,9 +16,3 @@ numbers_distinct count small i j d before within same =
     let two : get_or (track_numbers count) j d ≡ decimal j = get_or-map-range_with_len decimal 0 count j j d inside (omega arith) in
     let equal : i ≡ j = decimal_injective i j (omega arith) (omega arith) (sym one ∙ same ∙ two) in
     omega (arith, equal, before)
-
--- an automaton on tracks as many as those of a numbered one, with the same names, is numbered
-pub numbered_too : (a : NamedAutomaton) (d : Automaton) → a.names ≡ (numbered d).names → a.automaton.sizes ≡ d.sizes → a ≡ numbered a.automaton
-numbered_too a d names sizes =
-    let same : a.names ≡ track_numbers (length a.automaton.sizes) = names ∙ ap (λ (s : List ℕ). track_numbers (length s)) (sym sizes) in
-    λ i. record { names = same i; automaton = a.automaton }

@@ -1,11 +1,11 @@
 -- Definitions that the contracts cite, in reading order.
-pub mod StepLines
+pub mod Makings
+pub mod OneAnswers
 pub mod ReadSteps
 pub mod ReverseSteps
 pub mod PadSteps
-pub mod ValidSteps
+pub mod ValiditySteps
 pub mod JoinSteps
-pub mod ComplementSteps
 pub mod ProjectSteps
 pub mod OrderSteps
 pub mod Numbered

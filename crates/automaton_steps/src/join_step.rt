@@ -5,7 +5,8 @@ ghost use Rattle.std.specs.Rc.{rc_value};
 ghost use Rattle.product_op.specs.Connectives.{among_valid};
 ghost use Rattle.product_op.specs.Tracks.{AgreeOnShared, joint_sizes};
 ghost use Rattle.product_op.specs.Validity.{AreLanguages};
-ghost use Rattle.automaton_steps.specs.JoinSteps.{DoesJoin};
+ghost use Rattle.automaton_steps.specs.JoinSteps.{join_step as the_step};
+ghost use Rattle.automaton_steps.specs.Makings.{DoesStep};
 
 use digit_tuple::dfa::Dfa;
 use digit_tuple::faults::OpFault;
@@ -43,7 +44,7 @@ pub fn join_step(
 ) -> Result<Tracked, StepFault>
     requires agree { AgreeOnShared a.now b.now }
     requires languages { IsTrue (among_valid joining.op) → AreLanguages (joint_sizes a.now b.now) (map rc_value joining.languages.now) }
-    ensures { DoesJoin steps.old joining.entry.op (map rc_value joining.entry.languages.now) a.now b.now result steps.new }
+    ensures { DoesStep (the_step joining.entry.op (map rc_value joining.entry.languages.now) a.now b.now) steps.old result steps.new }
 {
     let Joining { op, languages } = joining;
     match product(alloc, a, b, op, languages, steps.limit()) {

@@ -2,7 +2,8 @@
 
 ghost use Rattle.std.specs.Prelude.{◌≡◌, length};
 ghost use Rattle.minimise.specs.Canonical.{IsCanonical};
-ghost use Rattle.automaton_steps.specs.OrderSteps.{DoesOrder};
+ghost use Rattle.automaton_steps.specs.Makings.{DoesStep};
+ghost use Rattle.automaton_steps.specs.OrderSteps.{order_step as the_step};
 
 use digit_tuple::dfa::Dfa;
 use digit_tuple::direction::Direction;
@@ -29,7 +30,7 @@ pub fn order_step(
 ) -> Result<Dfa, StepFault>
     requires track { length language.now.sizes ≡ 1 }
     requires canonical { IsCanonical language.now }
-    ensures { DoesOrder steps.old direction language.now result steps.new }
+    ensures { DoesStep (the_step direction language.now) steps.old result steps.new }
 {
     match order_of(alloc, language, direction, steps.limit()) {
         Ok(Stepped { result, width }) => {

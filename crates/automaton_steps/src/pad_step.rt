@@ -1,7 +1,8 @@
 //! The step `pad`.
 
 ghost use Rattle.minimise.specs.Canonical.{IsCanonical};
-ghost use Rattle.automaton_steps.specs.PadSteps.{DoesPad};
+ghost use Rattle.automaton_steps.specs.Makings.{DoesStep};
+ghost use Rattle.automaton_steps.specs.PadSteps.{pad_step as the_step};
 
 use digit_tuple::dfa::Dfa;
 use digit_tuple::direction::Direction;
@@ -25,8 +26,9 @@ pub fn pad_step(
     steps: &mut Steps,
 ) -> Result<Dfa, StepFault>
     requires canonical { IsCanonical argument.now }
-    ensures { DoesPad steps.old direction argument.now result steps.new }
+    ensures { DoesStep (the_step direction argument.now) steps.old result steps.new }
 {
+    let _ = argument.alphabet().tracks();
     match pad(alloc, argument, direction, steps.limit()) {
         Ok(Stepped { result, width }) => {
             steps.done(Kind::Pad, width, result.states())?;

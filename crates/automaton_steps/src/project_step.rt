@@ -1,7 +1,8 @@
 //! The step `project`.
 
 ghost use Rattle.std.specs.List.{Contains};
-ghost use Rattle.automaton_steps.specs.ProjectSteps.{DoesProject};
+ghost use Rattle.automaton_steps.specs.Makings.{DoesStep};
+ghost use Rattle.automaton_steps.specs.ProjectSteps.{project_step as the_step};
 
 use digit_tuple::direction::Direction;
 use digit_tuple::faults::OpFault;
@@ -29,7 +30,7 @@ pub fn project_step(
     steps: &mut Steps,
 ) -> Result<Tracked, StepFault>
     requires there { Contains argument.now.names track.now }
-    ensures { DoesProject steps.old direction track.now argument.now result steps.new }
+    ensures { DoesStep (the_step direction track.now argument.now) steps.old result steps.new }
 {
     match project(alloc, argument, track, direction, steps.limit()) {
         Ok(Stepped { result, width }) => {

@@ -1,6 +1,7 @@
 //! The step `read`.
 
-ghost use Rattle.automaton_steps.specs.ReadSteps.{DoesRead};
+ghost use Rattle.automaton_steps.specs.Makings.{DoesStep};
+ghost use Rattle.automaton_steps.specs.ReadSteps.{read_step as the_step};
 
 use determinise::subset_construction::determinise;
 use digit_tuple::dfa::Dfa;
@@ -20,8 +21,9 @@ use std::alloc::Global;
 /// # Errors
 /// `States` if and only if the width passes the limit. The steps are as before then, also where memory is wanting.
 pub fn read_step(alloc: Global, listed: &Nfa, steps: &mut Steps) -> Result<Dfa, StepFault>
-    ensures { DoesRead steps.old listed.now result steps.new }
+    ensures { DoesStep (the_step listed.now) steps.old result steps.new }
 {
+    let _ = listed.alphabet().tracks();
     match determinise(alloc, listed, steps.limit()) {
         Ok(Stepped { result, width }) => {
             let read = canonical(alloc, &result)?;

@@ -1,6 +1,7 @@
 //! The step `reverse`.
 
-ghost use Rattle.automaton_steps.specs.ReverseSteps.{DoesReverse};
+ghost use Rattle.automaton_steps.specs.Makings.{DoesStep};
+ghost use Rattle.automaton_steps.specs.ReverseSteps.{reverse_step as the_step};
 
 use determinise::reversal::reverse;
 use digit_tuple::dfa::Dfa;
@@ -19,8 +20,9 @@ use std::alloc::Global;
 /// # Errors
 /// `States` if and only if the width passes the limit. The steps are as before then, also where memory is wanting.
 pub fn reverse_step(alloc: Global, argument: &Dfa, steps: &mut Steps) -> Result<Dfa, StepFault>
-    ensures { DoesReverse steps.old argument.now result steps.new }
+    ensures { DoesStep (the_step argument.now) steps.old result steps.new }
 {
+    let _ = argument.alphabet().tracks();
     match reverse(alloc, argument, steps.limit()) {
         Ok(Stepped { result, width }) => {
             let reversed = canonical(alloc, &result)?;

@@ -3,7 +3,8 @@
 ghost use Rattle.std.specs.Prelude.{map};
 ghost use Rattle.std.specs.Rc.{rc_value};
 ghost use Rattle.product_op.specs.Validity.{AreLanguages};
-ghost use Rattle.automaton_steps.specs.ValidSteps.{DoesValid};
+ghost use Rattle.automaton_steps.specs.Makings.{DoesStep};
+ghost use Rattle.automaton_steps.specs.ValiditySteps.{valid_step as the_step};
 
 use digit_tuple::dfa::Dfa;
 use digit_tuple::faults::OpFault;
@@ -29,8 +30,9 @@ pub fn valid_step(
     steps: &mut Steps,
 ) -> Result<Tracked, StepFault>
     requires languages { AreLanguages argument.now.automaton.sizes (map rc_value languages.now) }
-    ensures { DoesValid steps.old (map rc_value languages.now) argument.now result steps.new }
+    ensures { DoesStep (the_step (map rc_value languages.now) argument.now) steps.old result steps.new }
 {
+    let _ = argument.dfa().alphabet().tracks();
     match valid_part(alloc, argument, languages, steps.limit()) {
         Ok(Stepped { result, width }) => {
             steps.done(Kind::Valid, width, result.dfa().states())?;

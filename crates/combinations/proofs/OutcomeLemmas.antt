@@ -1,34 +1,30 @@
 -- Relations make one word, or have one fault.
-use Rattle.std.proofs.Common.{◌≡◌, ◌≢◌, ℕ, ◌<◌, ℤ, List, length, Some, ◌⊎◌, inl, inr, refl, sym, ap, ◌∙◌, subst, arith}
+use Rattle.std.proofs.Common.{◌≡◌, ℕ, ◌<◌, ℤ, List, length, Some, Ok, Err, ◌⊎◌, inl, inr, refl, sym, ap, ◌∙◌, subst, arith}
 use Rattle.std.proofs.lemmas.Bool.{cases_order}
 use Rattle.std.proofs.lemmas.List.{length-map}
-use Rattle.digit_tuple.specs.Deterministic.{states_of}
 use Rattle.digit_tuple.specs.Letters.{IsWord, product}
 use Rattle.digit_tuple.specs.Paddings.{in_order}
-use Rattle.digit_tuple.specs.Steps.{StepLog, with_line}
+use Rattle.digit_tuple.specs.Steps.{StepLog}
 use Rattle.digit_tuple.specs.Width.{IsEquivalence}
-use Rattle.digit_tuple.specs.declared.kind.Kind.TheVariants as kinds
-use Rattle.digit_tuple.specs.declared.step_fault.StepFault.TheVariants as faults
-use Rattle.digit_tuple.proofs.WidthLemmas.{IsOneWidth-equivalence}
+use Rattle.digit_tuple.specs.declared.step_fault.StepFault.TheVariants.{Memory}
 use Rattle.numeration.specs.Representation.{letters_in, sizes_of}
 use Rattle.num_system.specs.Sealed.{SystemValue, system_of}
 use Rattle.num_system.specs.Tracks.{systems_of, direction_of}
 use Rattle.num_system.proofs.HoldLemmas.{represented_count}
-use Rattle.num_system.proofs.StepLemmas.{not_too_large}
 use Rattle.automaton_steps.specs.Laws.{HasOneOutcome}
-use Rattle.automaton_steps.proofs.OneLines.{not_beside, one_line}
+use Rattle.automaton_steps.specs.OneAnswers.{AreOneAnswer}
+use Rattle.automaton_steps.proofs.AnswerCases.{memory_alone, one_value, raised_one}
+use Rattle.automaton_steps.proofs.StepAnswers.{step_one}
 use Rattle.word_output.specs.LetterFunctions.{letter_after}
 use Rattle.word_output.specs.Words.{RepresentsPlace, WordValue}
 use Rattle.word_output.proofs.LetterEquality.{letter_functions}
 use Rattle.word_output.proofs.OptionLemmas.{same_option}
-use Rattle.word_output.proofs.OutcomeLemmas.{not_refused, one_refusal}
 use Rattle.word_output.proofs.PlaceLaws.{letter_of_place, place_of_letter}
 use Rattle.combinations.specs.Parts.{PartValue}
-use Rattle.combinations.specs.Shapes.{HasNoTrack, HaveOneShape, IsFirstOther}
+use Rattle.combinations.specs.Shapes.{HasNoTrack, HaveOneShape, IsFirstOther, IsShapeFault}
 use Rattle.combinations.specs.Combined.{IsCombination}
-use Rattle.combinations.specs.CombineSteps.{CombineAlike, CombineExceeds, CombineExceedsLetters, IsCombineDone, IsCombineRefused, IsCombineStep}
+use Rattle.combinations.specs.CombineSteps.{CombineAlike, combine_step}
 use Rattle.combinations.specs.Laws.{CombinationsHaveOneOutcome}
-use Rattle.combinations.specs.declared.combine_fault.CombineFault.{CombineFault}
 use Rattle.combinations.specs.declared.combine_fault.CombineFault.TheVariants.{Shape, Step}
 
 -- words that are alike to the step: this is an equivalence
@@ -69,21 +65,8 @@ module _ (parts : List PartValue) (systems : List SystemValue) where
           let here : IsWord (letters_in (systems_of systems)) w = subst (λ (ss : List ℕ). IsWord (product ss) w) (sizes word one) over in
           same_option (letter_after word.function w) (letter_after other.function w) (λ letter. (carried word other one two w here letter, carried other word two one w here letter)))
 
-  -- the step has one outcome
-  step_outcome : (limit : ℕ) → HasOneOutcome WordValue (IsCombineStep limit parts systems) (CombineExceedsLetters systems) (CombineExceeds limit parts systems)
-  step_outcome limit =
-      let letters : ℕ = letters_in (systems_of systems) in
-      let sizes : List ℕ = sizes_of (systems_of systems) in
-      let width = IsOneWidth-equivalence (CombineAlike parts systems) letters (combine_alike parts systems) in
-      record {
-        result = λ word other line next one two. one_word word other one.combination two.combination;
-        line = λ word other line next one two.
-            one_line (CombineAlike parts systems) letters width limit (states_of word.function.automaton) (states_of other.function.automaton) kinds.Combine line next one.line_is two.line_is
-            (ap (λ (v : WordValue). states_of v.function.automaton) (one_word word other one.combination two.combination));
-        no_letters = λ word line one. not_too_large sizes one.alphabet;
-        no_states = λ word line one above. not_beside (CombineAlike parts systems) letters width limit (states_of word.function.automaton) kinds.Combine line one.line_is above.exceeds;
-        one_limit = λ large above. not_too_large sizes above.alphabet large;
-      }
+  step_outcome : HasOneOutcome (combine_step parts systems)
+  step_outcome = step_one (combine_step parts systems) (combine_alike parts systems) one_word
 
   -- the places of a shape's fault are one pair
   one_other : (place other : ℕ) → IsFirstOther parts place → IsFirstOther parts other → place ≡ other
@@ -105,32 +88,17 @@ module _ (parts : List PartValue) (systems : List SystemValue) where
   not_one_shape other shape (inl none) = omega (arith, none.0.1, (shape 0 none.0.0).0)
   not_one_shape other shape (inr differs) = differs.other (shape other differs.within).1
 
-  module _ (old : StepLog) where
-    one_fault : (fault other : CombineFault) (new next : StepLog) → IsCombineRefused old parts systems fault new → IsCombineRefused old parts systems other next → fault ≢ Step faults.Memory → other ≢ Step faults.Memory → fault ≡ other
-    one_fault (Shape i j) (Shape k l) new next one two apart away = ap (λ (n : ℕ). Shape n j) (one.0.0 ∙ sym two.0.0) ∙ ap (Shape k) (one_second j l one.0.1 two.0.1)
-    one_fault (Shape i j) (Step fault) new next one two apart away = absurd (not_one_shape j two.shape one.0.1)
-    one_fault (Step fault) (Shape k l) new next one two apart away = absurd (not_one_shape l one.shape two.0.1)
-    one_fault (Step fault) (Step other) new next one two apart away =
-        ap Step (one_refusal WordValue (IsCombineStep old.limit parts systems) (CombineExceedsLetters systems) (CombineExceeds old.limit parts systems) (step_outcome old.limit) old fault other
-        (λ is. apart (ap Step is)) (λ is. away (ap Step is)) one.refused.by_limit two.refused.by_limit)
-
-    not_both : (word : WordValue) (fault : CombineFault) (new next : StepLog) → IsCombineDone old parts systems word new → IsCombineRefused old parts systems fault next → fault ≡ Step faults.Memory
-    not_both word (Shape i j) new next done refused = absurd (not_one_shape j done.shape refused.0.1)
-    not_both word (Step faults.Memory) new next done refused = refl
-    not_both word (Step (faults.Letters step)) new next done refused =
-        absurd (not_refused WordValue (IsCombineStep old.limit parts systems) (CombineExceedsLetters systems) (CombineExceeds old.limit parts systems) (step_outcome old.limit) old (faults.Letters step) word done.done.line
-        (λ is. cc) done.done.step refused.refused.by_limit)
-    not_both word (Step (faults.States step)) new next done refused =
-        absurd (not_refused WordValue (IsCombineStep old.limit parts systems) (CombineExceedsLetters systems) (CombineExceeds old.limit parts systems) (step_outcome old.limit) old (faults.States step) word done.done.line
-        (λ is. cc) done.done.step refused.refused.by_limit)
+  same_shape_fault : (new next : StepLog) (i j k l : ℕ) → IsShapeFault parts i j → IsShapeFault parts k l → new ≡ next → AreOneAnswer {Made = WordValue} (Step Memory) (Err (Shape i j)) (Err (Shape k l)) new next
+  same_shape_fault new next i j k l one two same = inl (ap Err (ap (λ (n : ℕ). Shape n j) (one.0 ∙ sym two.0) ∙ ap (Shape k) (one_second j l one.1 two.1)), same)
 
 pub one_outcome : CombinationsHaveOneOutcome
-one_outcome old parts systems = record {
-  words = λ word other new next one two.
-      let outcome = step_outcome parts systems old.limit in (
-        outcome.result word other one.done.line two.done.line one.done.step two.done.step,
-        one.done.new_is ∙ ap (with_line old) (outcome.line word other one.done.line two.done.line one.done.step two.done.step) ∙ sym two.done.new_is,
-      );
-  faults = one_fault parts systems old;
-  apart = not_both parts systems old;
-}
+one_outcome parts systems old new next (Ok word) (Ok other) a b =
+    let same = one_value Memory new next word other (step_outcome parts systems old new next (Ok word) (Ok other) a.1 b.1) in inl (ap Ok same.0, same.1)
+one_outcome parts systems old new next (Ok word) (Err (Step fault)) a b = inr (inr (ap Err (ap Step (memory_alone Memory new next word fault (step_outcome parts systems old new next (Ok word) (Err fault) a.1 b.1)))))
+one_outcome parts systems old new next (Ok word) (Err (Shape k l)) a b = absurd (not_one_shape parts systems l a.0 b.0.1)
+one_outcome parts systems old new next (Err (Step fault)) (Ok word) a b = inr (inl (ap Err (ap Step (memory_alone Memory next new word fault (step_outcome parts systems old next new (Ok word) (Err fault) b.1 a.1)))))
+one_outcome parts systems old new next (Err (Step fault)) (Err (Step other)) a b = raised_one Step Memory new next fault other (step_outcome parts systems old new next (Err fault) (Err other) a.1 b.1)
+one_outcome parts systems old new next (Err (Step fault)) (Err (Shape k l)) a b = absurd (not_one_shape parts systems l a.0 b.0.1)
+one_outcome parts systems old new next (Err (Shape i j)) (Ok word) a b = absurd (not_one_shape parts systems j b.0 a.0.1)
+one_outcome parts systems old new next (Err (Shape i j)) (Err (Step fault)) a b = absurd (not_one_shape parts systems j b.0 a.0.1)
+one_outcome parts systems old new next (Err (Shape i j)) (Err (Shape k l)) a b = same_shape_fault parts systems new next i j k l a.0 b.0 (a.1 ∙ sym b.1)

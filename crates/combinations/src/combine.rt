@@ -1,17 +1,17 @@
 //! Words of several relations.
 
-ghost use Rattle.std.specs.Prelude.{◌≡◌, ◌+◌, ◌≤◌, ◌↔◌, ℕ, map, List, IfErr, IfOk, OnOk};
+ghost use Rattle.std.specs.Prelude.{◌≡◌, ◌+◌, ◌≤◌, ◌↔◌, ℕ, map, List, IfOk, OnOk};
 ghost use Rattle.std.specs.Rc.{rc_value};
 ghost use Rattle.std.specs.Result.{IsErrOf};
 ghost use Rattle.digit_tuple.specs.Deterministic.{states_of};
-ghost use Rattle.digit_tuple.specs.Letters.{IsAlphabet};
-ghost use Rattle.digit_tuple.specs.StepResults.{IsDone};
+ghost use Rattle.digit_tuple.specs.Letters.{IsAlphabet, IsTooLarge};
+ghost use Rattle.digit_tuple.specs.StepResults.{ExceedsWidth};
 ghost use Rattle.digit_tuple.specs.Width.{HasWidth};
 ghost use Rattle.numeration.specs.Representation.{letters_in, sizes_of};
 ghost use Rattle.num_system.specs.Tracks.{systems_of};
-ghost use Rattle.automaton_steps.specs.StepLines.{IsRefused};
+ghost use Rattle.automaton_steps.specs.Makings.{DoesStep};
 ghost use Rattle.combinations.specs.Combined.{AreSystemsFor, IsCombination};
-ghost use Rattle.combinations.specs.CombineSteps.{CombineAlike, CombineExceeds, CombineExceedsLetters, IsCombineDone, IsCombineRefused, IsCombineStep};
+ghost use Rattle.combinations.specs.CombineSteps.{CombineAlike, DoesCombine, combine_step as the_step};
 ghost use Rattle.combinations.specs.Shapes.{HaveOneShape};
 
 use crate::combine_fault::CombineFault;
@@ -52,8 +52,7 @@ pub fn combine(
     steps: &mut Steps,
 ) -> Result<Word, CombineFault>
     requires { AreSystemsFor parts.now (map rc_value systems.now) }
-    ensures done { IfOk result (λ word. IsCombineDone steps.old parts.now (map rc_value systems.now) word steps.new) }
-    ensures refused { IfErr result (λ fault. IsCombineRefused steps.old parts.now (map rc_value systems.now) fault steps.new) }
+    ensures { DoesCombine parts.now (map rc_value systems.now) steps.old result steps.new }
 {
     match shape_fault(parts) {
         Some((first, other)) => Err(CombineFault::Shape(first, other)),
@@ -70,8 +69,7 @@ fn combine_step(
 ) -> Result<Word, StepFault>
     requires systems { AreSystemsFor parts.now (map rc_value systems.now) }
     requires shape { HaveOneShape parts.now }
-    ensures done { IfOk result (λ word. IsDone steps.old (IsCombineStep steps.old.limit parts.now (map rc_value systems.now) word) steps.new) }
-    ensures refused { IfErr result (λ fault. IsRefused steps.old (CombineExceedsLetters (map rc_value systems.now)) (CombineExceeds steps.old.limit parts.now (map rc_value systems.now)) steps.new fault) }
+    ensures { DoesStep (the_step parts.now (map rc_value systems.now)) steps.old result steps.new }
 {
     let kept = shared(alloc, systems)?;
     match combined(alloc, parts, systems, steps.limit()) {
@@ -99,8 +97,8 @@ fn combined(
     ensures width { IfOk result (λ stepped. HasWidth (CombineAlike parts.now (map rc_value systems.now)) (letters_in (systems_of (map rc_value systems.now))) stepped.width) }
     ensures size { IfOk result (λ stepped. states_of stepped.result.automaton ≤ stepped.width) }
     ensures within { IfOk result (λ stepped. stepped.width ≤ limit) }
-    ensures letters { IsErrOf result OpFault.Letters → CombineExceedsLetters (map rc_value systems.now) }
-    ensures states { IsErrOf result OpFault.States → CombineExceeds limit parts.now (map rc_value systems.now) }
+    ensures letters { IsErrOf result OpFault.Letters → IsTooLarge (sizes_of (systems_of (map rc_value systems.now))) }
+    ensures states { IsErrOf result OpFault.States → ExceedsWidth limit (the_step parts.now (map rc_value systems.now)).step }
 {
     are_sealed(systems);
     are_relations(parts);

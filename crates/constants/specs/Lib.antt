@@ -5,5 +5,4 @@ pub mod Choices
 pub mod Places
 pub mod Constants
 pub mod ConstantWidth
-pub mod ConstantSteps
 pub mod WordPaths

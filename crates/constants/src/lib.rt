@@ -16,8 +16,5 @@ mod word_automaton;
 /// The automaton of one number.
 pub mod constant;
 
-/// The step that makes it.
-pub mod constant_step;
-
 /// Laws of single numbers.
 pub mod laws;

@@ -1,19 +1,23 @@
 -- The steps of a table make the relation that holds of the numbers of which the table does.
-use Rattle.std.proofs.Common.{◌≡◌, ◌↔◌, ℕ, Bool, List, [], ◌∷◌, length, refl, sym, ap, ◌∙◌, subst, IsTrue, arith}
+use Rattle.std.proofs.Common.{◌≡◌, ◌↔◌, inl, inr, ℕ, ◌+◌, Bool, List, [], ◌∷◌, length, Ok, refl, sym, ap, ◌∙◌, subst, IsTrue, arith}
 use Rattle.std.specs.List.{AllByRecursion}
 use Rattle.std.proofs.lemmas.List.{length-map}
+use Rattle.digit_tuple.specs.Automaton.{Branching}
 use Rattle.digit_tuple.specs.Paddings.{in_order}
-use Rattle.digit_tuple.specs.declared.steps.StepLine.{StepLine}
+use Rattle.digit_tuple.specs.Steps.{StepLog}
+use Rattle.digit_tuple.specs.declared.step_fault.StepFault.TheVariants.{Letters, Memory}
+use Rattle.automaton_steps.proofs.ThenAnswers.{equal_value, no_fault}
 use Rattle.dfa_reading.specs.Headers.{Header, Truth, Systems, Sets}
 use Rattle.dfa_reading.specs.Listed.{Listed}
 use Rattle.num_system.specs.Sealed.{SystemValue, system_of, IsSealed}
-use Rattle.numeration.specs.Representation.{sizes_of}
 use Rattle.number_relations.specs.Comparisons.{IsTruth}
-use Rattle.num_system.specs.Tracks.{systems_of, direction_of}
+use Rattle.number_relations.specs.Readings.{DoesReading}
+use Rattle.num_system.specs.Tracks.{ShareDirection, systems_of, direction_of}
 use Rattle.number_relations.specs.Relations.{IsRelation, RelationHolds, RelationValue}
 use Rattle.num_system.proofs.HoldLemmas.{represented_count}
-use Rattle.number_relations.proofs.ReadingLemmas.{reading_holds, reading_is}
-use Rattle.definitions.specs.TableSteps.{AreForTracks, AreStepsBelow, AreSystemTableSteps, HoldsBelowOver}
+use Rattle.number_relations.proofs.ReadingLemmas.{reading_over, readings, readings_are}
+use Rattle.definitions.specs.Files.{HasListedWord}
+use Rattle.definitions.specs.TableSteps.{AreForTracks, DoesTableOf, HoldsBelowOver, IsTableOver}
 use Rattle.definitions.specs.TableLaws.{TablesHold}
 use Rattle.definitions.proofs.TableWords.{listed_words}
 
@@ -37,30 +41,29 @@ truth_holds value r is ns = (there, back)
     back : IsTrue value × (ns ≡ []) → RelationHolds r ns
     back says = subst (RelationHolds r) (sym says.1) ((is.holds_of (λ name. 0)).1 says.0)
 
-module _ (limit : ℕ) (systems : List SystemValue) (listed : Listed) (r : RelationValue) (lines : List StepLine) (sealed : AllByRecursion IsSealed systems) where
+module _ (systems : List SystemValue) (listed : Listed) (old new : StepLog) (r : RelationValue) (sealed : AllByRecursion IsSealed systems) where
   -- a table over systems holds of as many numbers
-  table_holds_over : (names : List (List ℕ)) → AreForTracks (Systems names) systems → AreSystemTableSteps limit systems listed r lines → (ns : List ℕ)
-      → RelationHolds r ns ↔ HoldsBelowOver (Systems names) systems listed ns
-  table_holds_over names tracks steps ns =
-      let words = listed_words (direction_of systems) (systems_of systems) listed steps.branching steps.over.is_branching ns in
-      let sizes : steps.branching.sizes ≡ sizes_of (systems_of systems) = steps.over.is_branching.sizes_are in
-      let holds = reading_holds limit systems steps.branching r lines sealed tracks.1 sizes steps.steps ns in (
-        λ relation. words.0 ((holds (relation_count r ns relation ∙ ap length steps.steps.systems_are)).0 relation),
+  over_holds : (n : Branching) → ShareDirection systems → IsTableOver systems listed n → DoesReading systems n old (Ok r) new → (ns : List ℕ) → RelationHolds r ns ↔ HasListedWord (direction_of systems) (systems_of systems) listed ns
+  over_holds n direction over reads ns =
+      let words = listed_words (direction_of systems) (systems_of systems) listed n over.is_branching ns in
+      let holds = readings systems n old new r ns sealed direction over.is_branching.sizes_are reads in (
+        λ relation. words.0 ((holds (relation_count r ns relation ∙ ap length (reading_over systems n old new r reads))).0 relation),
         λ has. (holds (represented_count (systems_of systems) (in_order (direction_of systems) has.word) ns has.represents ∙ length-map systems system_of)).1 (words.1 has),
       )
 
-  below_is : (header : Header) → AreForTracks header systems → AreStepsBelow header limit systems listed r lines → IsRelation r × (r.systems ≡ systems)
-  below_is (Truth value) tracks steps = (steps.0.relation, steps.0.systems_are ∙ sym tracks)
-  below_is (Systems names) tracks steps =
-      (reading_is limit systems steps.branching r lines sealed tracks.1 steps.over.is_branching.sizes_are steps.steps, steps.steps.systems_are)
-  below_is (Sets sets) tracks steps = absurd tracks
-
-  below_holds : (header : Header) → AreForTracks header systems → AreStepsBelow header limit systems listed r lines → (ns : List ℕ) → RelationHolds r ns ↔ HoldsBelowOver header systems listed ns
-  below_holds (Truth value) tracks steps ns = truth_holds value r steps.0 ns
-  below_holds (Systems names) tracks steps ns = table_holds_over names tracks steps ns
-  below_holds (Sets sets) tracks steps ns = absurd tracks
+  table_of : (header : Header) → AreForTracks header systems → DoesTableOf header systems listed old (Ok r) new
+      → IsRelation r × (r.systems ≡ systems) × ((ns : List ℕ) → RelationHolds r ns ↔ HoldsBelowOver header systems listed ns)
+  table_of (Truth value) tracks (inl out) = absurd (no_fault r Memory out)
+  table_of (Truth value) tracks (inr (s, is, given)) =
+      let made : IsTruth value r = subst (IsTruth value) (sym (equal_value r s given.0)) is in
+      (made.relation, made.systems_are ∙ sym tracks, truth_holds value r made)
+  table_of (Systems names) tracks (inl large) = absurd (no_fault r (Letters (length old.lines + 1)) large.refused)
+  table_of (Systems names) tracks (inr (inl out)) = absurd (no_fault r Memory out)
+  table_of (Systems names) tracks (inr (inr (n, over, reads))) =
+      (readings_are systems n old new r sealed tracks.1 over.is_branching.sizes_are reads, reading_over systems n old new r reads, over_holds n tracks.1 over reads)
+  table_of (Sets sets) tracks steps = absurd tracks
 
 pub table_holds : TablesHold
-table_holds limit systems listed r lines are steps =
-    let is = below_is limit systems listed r lines are.sealed listed.header are.tracks steps in
-    record { relation = is.0; systems_are = is.1; holds = below_holds limit systems listed r lines are.sealed listed.header are.tracks steps }
+table_holds systems listed old new r are steps =
+    let is = table_of systems listed old new r are.sealed listed.header are.tracks steps in
+    record { relation = is.0; systems_are = is.1; holds = is.2 }

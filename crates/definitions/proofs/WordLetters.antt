@@ -59,10 +59,10 @@ module _ (custom : Custom) (names : List (List ℕ)) (systems : List SystemValue
 
 -- so a word that is read has the letters of the file
 pub file_letters : WordsHaveListedLetters → WordsHaveFileLetters
-file_letters have custom text listed names limit v lines reads header mean is steps ns letter = (there, back)
+file_letters have custom text listed names old new v reads header mean is steps ns letter = (there, back)
   where
     both : HasLetter v ns letter ↔ HasListedLetterAt (direction_of v.systems) (tracks.systems_of v.systems) listed ns letter
-    both = have limit listed v lines (word_files_list_words text listed reads) is steps ns letter
+    both = have old new listed v (word_files_list_words text listed reads) is steps ns letter
 
     there : HasLetter v ns letter → FileLetter custom text ns letter
     there h = (listed, reads, subst (λ (below : Header). HasLetterBelow custom below listed ns letter) (sym header) (under_names custom names v.systems mean listed ns letter (both.0 h)))

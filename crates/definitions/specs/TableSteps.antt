@@ -1,19 +1,18 @@
 -- The steps that make the relation of what a file lists.
-use Rattle.std.specs.Prelude.{◌≡◌, ◌⊎◌, ℕ, ◌<◌, true, List, [], length, Result, MatchResult, IsTrue}
+use Rattle.std.specs.Prelude.{◌≡◌, ◌⊎◌, ℕ, ◌+◌, ◌<◌, true, List, [], length, Result, Err, IsTrue}
 use Rattle.digit_tuple.specs.Automaton.{Branching, IsBranchTable, letters_of}
 use Rattle.digit_tuple.specs.Letters.{IsAlphabet, IsTooLarge}
-use Rattle.digit_tuple.specs.StepResults.{IsRefusedBy}
-use Rattle.digit_tuple.specs.Steps.{StepLog, with_lines}
+use Rattle.digit_tuple.specs.Steps.{StepLog}
 use Rattle.digit_tuple.specs.declared.step_fault.StepFault.{StepFault}
-use Rattle.digit_tuple.specs.declared.step_fault.StepFault.TheVariants as faults
-use Rattle.digit_tuple.specs.declared.steps.StepLine.{StepLine}
+use Rattle.digit_tuple.specs.declared.step_fault.StepFault.TheVariants.{Letters}
+use Rattle.automaton_steps.specs.Makings.{Gives, WithSome}
 use Rattle.dfa_reading.specs.Branching.{IsBranching}
 use Rattle.dfa_reading.specs.Headers.{Header, Truth, Systems, Sets, has_states}
 use Rattle.dfa_reading.specs.Listed.{Listed}
 use Rattle.num_system.specs.Sealed.{SystemValue}
 use Rattle.numeration.specs.Representation.{sizes_of}
 use Rattle.number_relations.specs.Comparisons.{IsTruth}
-use Rattle.number_relations.specs.Readings.{AreReadingSteps, PassesReading}
+use Rattle.number_relations.specs.Readings.{DoesReading}
 use Rattle.num_system.specs.Tracks.{ShareDirection, systems_of, direction_of}
 use Rattle.number_relations.specs.Relations.{RelationValue}
 use Rattle.definitions.specs.Files.{HasListedWord}
@@ -34,45 +33,20 @@ pub record IsTableOver (systems : List SystemValue) (listed : Listed) (branching
   pub table : IsBranchTable (letters_of branching) branching.states
   pub alphabet : IsAlphabet (sizes_of (systems_of systems))
 
--- the steps read, pad and valid make this relation
-pub record AreSystemTableSteps (limit : ℕ) (systems : List SystemValue) (listed : Listed) (r : RelationValue) (lines : List StepLine) : Type 0 where
-  pub branching : Branching
-  pub over : IsTableOver systems listed branching
-  pub steps : AreReadingSteps limit systems branching r lines
+-- the first step over the systems has too many tracks or letters
+pub record HasTooManyLetters (systems : List SystemValue) (old : StepLog) (result : Result RelationValue StepFault) (new : StepLog) : Type 0 where
+  pub large : IsTooLarge (sizes_of (systems_of systems))
+  pub refused : result ≡ Err (Letters (length old.lines + 1))
+  pub same : new ≡ old
 
--- the relation of a table, with the lines of its steps: a truth value takes none
-abbrev pub AreStepsBelow : Header → ℕ → List SystemValue → Listed → RelationValue → List StepLine → Type 0
-AreStepsBelow (Truth value) limit systems listed r lines = IsTruth value r × (lines ≡ [])
-AreStepsBelow (Systems names) limit systems listed r lines = AreSystemTableSteps limit systems listed r lines
-AreStepsBelow (Sets sets) limit systems listed r lines = ⊥
+-- the steps of a table by its header: a truth value takes none, and over systems its branching automaton is read, padded and kept to the valid words
+abbrev pub DoesTableOf : Header → List SystemValue → Listed → StepLog → Result RelationValue StepFault → StepLog → Type 0
+DoesTableOf (Truth value) systems listed old result new = WithSome (IsTruth value) Gives old result new
+DoesTableOf (Systems names) systems listed old result new = HasTooManyLetters systems old result new ⊎ WithSome (IsTableOver systems listed) (DoesReading systems) old result new
+DoesTableOf (Sets sets) systems listed old result new = ⊥
 
-abbrev pub AreTableSteps : ℕ → List SystemValue → Listed → RelationValue → List StepLine → Type 0
-AreTableSteps limit systems listed r lines = AreStepsBelow listed.header limit systems listed r lines
-
--- the table has too many tracks or letters for its first step; or one of its steps is the first to pass the limit
-abbrev pub PassesSystems : StepLog → List SystemValue → Listed → StepFault → Type 0
-PassesSystems old systems listed fault =
-    IsRefusedBy old (IsTooLarge (sizes_of (systems_of systems))) ⊥ fault
-    ⊎ ((branching : Branching) × IsTableOver systems listed branching × PassesReading old systems branching fault)
-
--- a truth value takes no step
-abbrev pub PassesBelow : Header → StepLog → List SystemValue → Listed → StepFault → Type 0
-PassesBelow (Truth value) old systems listed fault = ⊥
-PassesBelow (Systems names) old systems listed fault = PassesSystems old systems listed fault
-PassesBelow (Sets sets) old systems listed fault = ⊥
-
-abbrev pub PassesTable : StepLog → List SystemValue → Listed → StepFault → Type 0
-PassesTable old systems listed fault = PassesBelow listed.header old systems listed fault
-
--- all steps were done after the others
-pub record IsTableDone (old : StepLog) (systems : List SystemValue) (listed : Listed) (r : RelationValue) (new : StepLog) : Type 0 where
-  pub lines : List StepLine
-  pub steps : AreTableSteps old.limit systems listed r lines
-  pub new_is : new ≡ with_lines old lines
-
--- they are done, or the first that passes a limit is refused, or memory runs out
-abbrev pub DoesTable : StepLog → List SystemValue → Listed → Result RelationValue StepFault → StepLog → Type 0
-DoesTable old systems listed result new = MatchResult result (λ r. IsTableDone old systems listed r new) (λ fault. (fault ≡ faults.Memory) ⊎ PassesTable old systems listed fault)
+abbrev pub DoesTable : List SystemValue → Listed → StepLog → Result RelationValue StepFault → StepLog → Type 0
+DoesTable systems listed = DoesTableOf listed.header systems listed
 
 -- what is listed holds of the numbers over these systems
 abbrev pub HoldsBelowOver : Header → List SystemValue → Listed → List ℕ → Type 0

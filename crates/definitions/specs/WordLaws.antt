@@ -1,6 +1,6 @@
 -- What holds of words that are read of files.
 use Rattle.std.specs.Prelude.{◌≡◌, ◌↔◌, ℕ, ◌<◌, ℤ, List, length, Ok}
-use Rattle.digit_tuple.specs.declared.steps.StepLine.{StepLine}
+use Rattle.digit_tuple.specs.Steps.{StepLog}
 use Rattle.dfa_reading.specs.Headers.{Systems}
 use Rattle.dfa_reading.specs.Listed.{Listed}
 use Rattle.dfa_reading.specs.WordFiles.{word_of, IsWordListed}
@@ -8,7 +8,7 @@ use Rattle.num_system.specs.Sealed.{SystemValue}
 use Rattle.num_system.specs.Tracks as tracks
 use Rattle.num_system.specs.Tracks.{direction_of}
 use Rattle.word_output.specs.Words.{WordValue, IsWordValue, HasLetter}
-use Rattle.word_output.specs.WordReadings.{AreWordSteps}
+use Rattle.word_output.specs.WordReadings.{DoesWordSteps}
 use Rattle.definitions.specs.Tracks.{NamedSystem, names_of, systems_of}
 use Rattle.system_files.specs.SystemFiles.{Custom}
 use Rattle.definitions.specs.Named.{AreNamed}
@@ -31,5 +31,5 @@ pub record NamesMean (custom : Custom) (names : List (List ℕ)) (systems : List
 
 -- a word that is read of a file, over the systems that the names of its header mean, has at each place the letter of the file
 abbrev pub WordsHaveFileLetters : Type 0
-WordsHaveFileLetters = (custom : Custom) (text : List ℕ) (listed : Listed) (names : List (List ℕ)) (limit : ℕ) (v : WordValue) (lines : List StepLine) → word_of text ≡ Ok listed → listed.header ≡ Systems names
-    → NamesMean custom names v.systems → IsWordValue v → AreWordSteps limit v.systems listed v.function lines → (ns : List ℕ) (letter : ℤ) → HasLetter v ns letter ↔ FileLetter custom text ns letter
+WordsHaveFileLetters = (custom : Custom) (text : List ℕ) (listed : Listed) (names : List (List ℕ)) (old new : StepLog) (v : WordValue) → word_of text ≡ Ok listed → listed.header ≡ Systems names
+    → NamesMean custom names v.systems → IsWordValue v → DoesWordSteps v.systems listed old (Ok v.function) new → (ns : List ℕ) (letter : ℤ) → HasLetter v ns letter ↔ FileLetter custom text ns letter

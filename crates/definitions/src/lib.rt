@@ -21,5 +21,5 @@ pub use laws::{
     bindings_matter_by_meaning, custom_texts_are_files, files_bind_as_their_ledger, one_text,
     texts_mean_their_trees, word_texts_mean_their_trees,
 };
-pub use table::{files_are_tables, table_relation, tables_have_one_outcome, tables_hold};
+pub use table::{files_are_tables, table_relation, tables_have_one_answer, tables_hold};
 pub use words::{files_are_words, words_have_file_letters};

@@ -7,7 +7,7 @@ ghost use Rattle.digit_tuple.specs.StepResults.{IsRefusedBy};
 ghost use Rattle.numeration.specs.Representation.{sizes_of};
 ghost use Rattle.num_system.specs.Tracks.{systems_of};
 ghost use Rattle.definitions.specs.TableSteps.{IsTable, AreForTracks, IsTableOver, DoesTable};
-ghost use Rattle.definitions.specs.TableLaws.{TablesHold, TablesHaveOneOutcome, FilesAreTables};
+ghost use Rattle.definitions.specs.TableLaws.{TablesHold, TablesHaveOneAnswer, FilesAreTables};
 
 use dfa_reading::{FileHeader, Listed};
 use digit_tuple::faults::OpFault;
@@ -37,7 +37,7 @@ pub fn table_relation(
 ) -> Result<Relation, StepFault>
     requires table { IsTable listed.now }
     requires systems { AreForTracks listed.now.header (map rc_value systems.now) }
-    ensures { DoesTable steps.old (map rc_value systems.now) listed.now result steps.new }
+    ensures { DoesTable (map rc_value systems.now) listed.now steps.old result steps.new }
 {
     match listed.header() {
         FileHeader::Truth(holds) => Ok(Relation::truth(alloc, *holds)?),
@@ -74,9 +74,9 @@ pub fn tables_hold()
     ensures { TablesHold }
 {}
 
-/// The steps of a table have one outcome, unless memory runs out. It does nothing.
-pub fn tables_have_one_outcome()
-    ensures { TablesHaveOneOutcome }
+/// The steps of a table have one answer, unless memory runs out. It does nothing.
+pub fn tables_have_one_answer()
+    ensures { TablesHaveOneAnswer }
 {}
 
 /// What a file lists is a table. It does nothing.

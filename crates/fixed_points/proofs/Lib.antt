@@ -2,7 +2,6 @@ pub mod ListLemmas
 pub mod PowerLemmas
 pub mod LeastLemmas
 pub mod ReachedLemmas
-pub mod OccurrenceLemmas
 pub mod KindLemmas
 pub mod WordLemmas
 pub mod OnePromotion

@@ -1,29 +1,34 @@
 -- The promotion of a morphism has one outcome.
-use Rattle.std.proofs.Common.{◌≡◌, ◌≢◌, ℕ, ◌+◌, ◌*◌, List, [], ◌∷◌, length, ℤ, Some, refl, sym, ap, ◌∙◌, subst, arith}
+use Rattle.std.proofs.Common.{◌≡◌, ℕ, ◌*◌, List, [], ◌∷◌, length, ℤ, Some, inl, inr, Result, Ok, Err, sym, ap, ◌∙◌, subst, arith}
 use Rattle.std.specs.List.{AllByRecursion}
-use Rattle.digit_tuple.specs.Deterministic.{letters_of, states_of}
+use Rattle.digit_tuple.specs.Deterministic.{letters_of}
 use Rattle.digit_tuple.specs.Letters.{IsWord, product}
-use Rattle.digit_tuple.specs.StepResults.{IsDone}
-use Rattle.digit_tuple.specs.Steps.{StepLog, with_line}
-use Rattle.digit_tuple.specs.declared.step_fault.StepFault.TheVariants.{Letters, Memory, States}
+use Rattle.digit_tuple.specs.Steps.{StepLog}
+use Rattle.digit_tuple.specs.declared.step_fault.StepFault.{StepFault}
+use Rattle.digit_tuple.specs.declared.step_fault.StepFault.TheVariants.{Memory}
+use Rattle.digit_tuple.proofs.WidthLemmas.{IsEquivalence-facts}
 use Rattle.numeration.specs.Representation.{sizes_of}
 use Rattle.numeration.specs.Systems.{System}
 use Rattle.base_k.specs.Positional.{RankIsPositional, base, value}
 use Rattle.num_system.specs.Sealed.{IsSealed, SystemValue, system_of}
 use Rattle.num_system.specs.Tracks.{systems_of, direction_of}
 use Rattle.num_system.proofs.OneSystem.{one_sealed}
+use Rattle.automaton_steps.specs.Makings.{DoesStep}
+use Rattle.automaton_steps.specs.OneAnswers.{AreOneAnswer}
+use Rattle.automaton_steps.proofs.AnswerCases.{memory_alone, one_value, raised_one}
+use Rattle.automaton_steps.proofs.StepAnswers.{step_one}
 use Rattle.word_output.specs.LetterFunctions.{letter_after}
 use Rattle.word_output.specs.Words.{HasLetter, WordValue}
 use Rattle.word_output.proofs.LetterEquality.{letter_functions}
 use Rattle.word_output.proofs.OptionLemmas.{some_value}
 use Rattle.morph_words.specs.Rules.{Rules}
-use Rattle.fixed_points.specs.Laws.{PromotionsHaveOneOutcome}
+use Rattle.morph_words.specs.FixedPoint.{IsLetterAt}
 use Rattle.morph_words.specs.MorphismKinds.{HasFixedPoint}
-use Rattle.fixed_points.specs.Promotion.{IsFixedWord, IsPromoteRefused, IsPromoteStep}
+use Rattle.fixed_points.specs.Laws.{PromotionsHaveOneOutcome}
+use Rattle.fixed_points.specs.Promotion.{DoesPromote, IsFixedWord, promote_step}
 use Rattle.fixed_points.specs.declared.promote_fault.PromoteFault.{PromoteFault}
 use Rattle.fixed_points.specs.declared.promote_fault.PromoteFault.TheVariants.{Morphism, Step}
 use Rattle.fixed_points.proofs.KindLemmas.{apart, one_base, one_kind}
-use Rattle.fixed_points.proofs.OccurrenceLemmas.{one_number, within_all}
 use Rattle.fixed_points.proofs.PowerLemmas.{one_letter}
 use Rattle.fixed_points.proofs.WordLemmas.{value_represented}
 
@@ -64,34 +69,32 @@ module _ (positional : RankIsPositional) (rules : Rules) (k : ℕ) (has : HasFix
       let functions : v.function ≡ u.function = letter_functions v.function u.function first.word_is.function second.word_is.function (sizes_are v first ∙ sym (sizes_are u second)) same_letters in
       λ i. record { systems = systems i; function = functions i }
 
-module _ (positional : RankIsPositional) (old : StepLog) (rules : Rules) where
-  words : (v u : WordValue) (new next : StepLog) → IsDone old (IsPromoteStep old.limit rules v) new → IsDone old (IsPromoteStep old.limit rules u) next → (v ≡ u) × (new ≡ next)
-  words v u new next one two =
-      let bases : two.step.k ≡ one.step.k = one_base rules two.step.k one.step.k two.step.has one.step.has in
-      let same : v ≡ u = one_word positional rules one.step.k one.step.has v u one.step.fixed_word (subst (λ k. IsFixedWord rules k u) bases two.step.fixed_word) in
-      let kinds : one.line.kind ≡ two.line.kind = one.step.line_is.kind_is ∙ sym two.step.line_is.kind_is in
-      let widths : one.line.width ≡ two.line.width = one_number rules one.line.width two.line.width one.step.line_is.width two.step.line_is.width in
-      let sizes : one.line.size ≡ two.line.size = one.step.line_is.size_is ∙ ap (λ (w : WordValue). states_of w.function.automaton) same ∙ sym two.step.line_is.size_is in
-      let lines : one.line ≡ two.line = λ i. record { kind = kinds i; width = widths i; size = sizes i } in
-      (same, one.new_is ∙ ap (with_line old) lines ∙ sym two.new_is)
+module _ (positional : RankIsPositional) (rules : Rules) where
+  -- the step has one answer, and a morphism one base
+  one_step : (old new next : StepLog) (result other : Result WordValue StepFault) (k j : ℕ) → HasFixedPoint rules k → HasFixedPoint rules j
+      → DoesStep (promote_step rules k) old result new → DoesStep (promote_step rules j) old other next → AreOneAnswer Memory result other new next
+  one_step old new next result other k j has also a b =
+      step_one (promote_step rules k) (IsEquivalence-facts (λ w letter. IsLetterAt rules (value k w) letter)) (one_word positional rules k has) old new next result other a
+      (subst (λ i. DoesStep (promote_step rules i) old other next) (one_base rules j k also has) b)
 
-  faults : (fault other : PromoteFault) → IsPromoteRefused old rules fault → IsPromoteRefused old rules other → fault ≢ Step Memory → other ≢ Step Memory → fault ≡ other
-  faults (Morphism a) (Morphism b) one two not not' = ap Morphism (one_kind rules a b one two)
-  faults (Morphism a) (Step (Letters n)) one two not not' = absurd two.1
-  faults (Morphism a) (Step (States n)) one two not not' = absurd (apart rules two.1.k a two.1.has one)
-  faults (Morphism a) (Step Memory) one two not not' = absurd (not' refl)
-  faults (Step (Letters n)) other one two not not' = absurd one.1
-  faults (Step (States n)) (Morphism b) one two not not' = absurd (apart rules one.1.k b one.1.has two)
-  faults (Step (States n)) (Step (Letters m)) one two not not' = absurd two.1
-  faults (Step (States n)) (Step (States m)) one two not not' = ap (λ i. Step (States i)) (one.0 ∙ sym two.0)
-  faults (Step (States n)) (Step Memory) one two not not' = absurd (not' refl)
-  faults (Step Memory) other one two not not' = absurd (not refl)
+  -- beside a word there is no fault but that of memory
+  only_memory : (old new next : StepLog) (v : WordValue) (fault : PromoteFault) → DoesPromote rules old (Ok v) new → DoesPromote rules old (Err fault) next → fault ≡ Step Memory
+  only_memory old new next v (Morphism kind) (k, has, a) b = absurd (apart rules k kind has b.0)
+  only_memory old new next v (Step fault) (k, has, a) (inl b) = ap Step b.0
+  only_memory old new next v (Step fault) (k, has, a) (inr (j, also, b)) = ap Step (memory_alone Memory new next v fault (one_step old new next (Ok v) (Err fault) k j has also a b))
 
-  done_apart : (v : WordValue) (new : StepLog) (fault : PromoteFault) → IsDone old (IsPromoteStep old.limit rules v) new → IsPromoteRefused old rules fault → fault ≡ Step Memory
-  done_apart v new (Morphism a) done refused = absurd (apart rules done.step.k a done.step.has refused)
-  done_apart v new (Step (Letters n)) done refused = absurd refused.1
-  done_apart v new (Step (States n)) done refused = absurd (omega (arith, within_all rules (old.limit + 1) done.line.width done.step.line_is.width refused.1.exceeds, done.step.line_is.within))
-  done_apart v new (Step Memory) done refused = refl
+  one_fault : (old new next : StepLog) (fault other : PromoteFault) → DoesPromote rules old (Err fault) new → DoesPromote rules old (Err other) next → AreOneAnswer {Made = WordValue} (Step Memory) (Err fault) (Err other) new next
+  one_fault old new next (Morphism kind) (Morphism other) a b = inl (ap Err (ap Morphism (one_kind rules kind other a.0 b.0)), a.1 ∙ sym b.1)
+  one_fault old new next (Morphism kind) (Step fault) a (inl b) = inr (inr (ap Err (ap Step b.0)))
+  one_fault old new next (Morphism kind) (Step fault) a (inr (j, also, b)) = absurd (apart rules j kind also a.0)
+  one_fault old new next (Step fault) other (inl a) b = inr (inl (ap Err (ap Step a.0)))
+  one_fault old new next (Step fault) (Morphism kind) (inr (k, has, a)) b = absurd (apart rules k kind has b.0)
+  one_fault old new next (Step fault) (Step other) (inr (k, has, a)) (inl b) = inr (inr (ap Err (ap Step b.0)))
+  one_fault old new next (Step fault) (Step other) (inr (k, has, a)) (inr (j, also, b)) = raised_one Step Memory new next fault other (one_step old new next (Err fault) (Err other) k j has also a b)
 
 pub one_promotions : RankIsPositional → PromotionsHaveOneOutcome
-one_promotions positional old rules = record { words = words positional old rules; faults = faults positional old rules; apart = done_apart positional old rules }
+one_promotions positional rules old new next (Ok v) (Ok u) a b =
+    let same = one_value Memory new next v u (one_step positional rules old new next (Ok v) (Ok u) a.0 b.0 a.1 b.1 a.2 b.2) in inl (ap Ok same.0, same.1)
+one_promotions positional rules old new next (Ok v) (Err fault) a b = inr (inr (ap Err (only_memory positional rules old new next v fault a b)))
+one_promotions positional rules old new next (Err fault) (Ok v) a b = inr (inl (ap Err (only_memory positional rules old next new v fault b a)))
+one_promotions positional rules old new next (Err fault) (Err other) a b = one_fault positional rules old new next fault other a b

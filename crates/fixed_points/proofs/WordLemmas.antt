@@ -6,7 +6,7 @@ use Rattle.std.proofs.Math.Nat.{div-one}
 use Rattle.std.proofs.lemmas.Option.{same_Some}
 use Rattle.digit_tuple.specs.Deterministic.{Automaton, states_of}
 use Rattle.digit_tuple.specs.Explored.{IsExplored}
-use Rattle.digit_tuple.specs.Letters.{IsWord}
+use Rattle.digit_tuple.specs.Letters.{IsAlphabet, IsWord}
 use Rattle.digit_tuple.specs.Paddings.{in_order}
 use Rattle.digit_tuple.specs.declared.direction.Direction.{Direction}
 use Rattle.digit_tuple.specs.declared.direction.Direction.TheVariants.{Msd}
@@ -133,3 +133,7 @@ letter_reached rules k graph accepts keys d explored initial w over =
     letter_led-explored k (key_of (pos 0)) (key_after rules) accepts keys d explored initial (λ key. Some (letter_of key)) w over
     ∙ ap (λ (o : Option (List ℕ)). option_and_then (λ key. Some (letter_of key)) o) (run_is rules k graph w over)
     ∙ ap Some (graph.told (reached rules (pos 0) w) (ruled rules k graph w over))
+
+-- a base is not too large for an alphabet
+pub one_alphabet : (k : ℕ) → k ≤ 40 → IsAlphabet (k ∷ [])
+one_alphabet k most = record { tracks = omega arith; letters = omega (arith, most) }

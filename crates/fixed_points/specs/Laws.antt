@@ -1,17 +1,13 @@
 -- Laws of fixed points.
-use Rattle.std.specs.Prelude.{◌≡◌, ◌≢◌, ◌+◌, ◌*◌, ◌<◌, ◌≤◌, ◌⊎◌, ℕ, ℤ, Some, slice_get}
-use Rattle.digit_tuple.specs.StepResults.{IsDone}
-use Rattle.digit_tuple.specs.Steps.{StepLog}
+use Rattle.std.specs.Prelude.{◌≡◌, ◌+◌, ◌*◌, ◌<◌, ◌⊎◌, ℕ, ℤ, Some, slice_get}
 use Rattle.digit_tuple.specs.declared.step_fault.StepFault.TheVariants.{Memory}
+use Rattle.automaton_steps.specs.OneAnswers.{HasOneAnswer}
 use Rattle.morph_words.specs.Rules.{Rules, IsMorphism}
-use Rattle.word_output.specs.Words.{WordValue}
 use Rattle.morph_words.specs.FixedPoint.{IsLetterAt}
 use Rattle.morph_words.specs.MorphismKinds.{HasFixedPoint, IsRefusedAs}
-use Rattle.fixed_points.specs.Occurrences.{SomeOccur, SoManyOccur}
-use Rattle.fixed_points.specs.Promotion.{IsPromoteRefused, IsPromoteStep}
+use Rattle.fixed_points.specs.Promotion.{DoesPromote}
 use Rattle.morph_words.specs.declared.morphism_kind.MorphismKind.{MorphismKind}
 use Rattle.morph_words.specs.Images.{image}
-use Rattle.fixed_points.specs.declared.promote_fault.PromoteFault.{PromoteFault}
 use Rattle.fixed_points.specs.declared.promote_fault.PromoteFault.TheVariants.{Step}
 
 -- a fixed point has a letter at each place
@@ -39,15 +35,6 @@ pub record HasOneKind (rules : Rules) : Type 0 where
 abbrev pub MorphismsHaveOneKind : Type 0
 MorphismsHaveOneKind = (rules : Rules) → HasOneKind rules
 
--- one number of letters occurs, and no more letters than that do
-abbrev pub OneNumberOccurs : Type 0
-OneNumberOccurs = (rules : Rules) (j k : ℕ) → SoManyOccur rules k → SomeOccur rules j → j ≤ k
-
--- one word is made by the same step; or the morphism is refused by one fault, unless memory runs out; and not both
-pub record HasOnePromotion (old : StepLog) (rules : Rules) : Type 0 where
-  pub words : (v u : WordValue) (new next : StepLog) → IsDone old (IsPromoteStep old.limit rules v) new → IsDone old (IsPromoteStep old.limit rules u) next → (v ≡ u) × (new ≡ next)
-  pub faults : (fault other : PromoteFault) → IsPromoteRefused old rules fault → IsPromoteRefused old rules other → fault ≢ Step Memory → other ≢ Step Memory → fault ≡ other
-  pub apart : (v : WordValue) (new : StepLog) (fault : PromoteFault) → IsDone old (IsPromoteStep old.limit rules v) new → IsPromoteRefused old rules fault → fault ≡ Step Memory
-
+-- a morphism has one promotion, or is refused by one fault
 abbrev pub PromotionsHaveOneOutcome : Type 0
-PromotionsHaveOneOutcome = (old : StepLog) (rules : Rules) → HasOnePromotion old rules
+PromotionsHaveOneOutcome = (rules : Rules) → HasOneAnswer (Step Memory) (DoesPromote rules)

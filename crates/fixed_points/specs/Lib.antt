@@ -1,5 +1,4 @@
 pub mod LetterGraph
-pub mod Occurrences
 pub mod LeastLetters
 pub mod LetterGraphLaws
 pub mod Promotion

@@ -4,11 +4,13 @@ ghost use Rattle.std.specs.Prelude.{◌≡◌, ◌+◌, ◌<◌, ◌≤◌, ◌�
 ghost use Rattle.std.specs.List.{All};
 ghost use Rattle.std.specs.Result.{IsErrOf};
 ghost use Rattle.digit_tuple.specs.Deterministic.{states_of};
-ghost use Rattle.digit_tuple.specs.Letters.{IsWord};
+ghost use Rattle.digit_tuple.specs.Letters.{IsWord, product};
+ghost use Rattle.digit_tuple.specs.StepResults.{ExceedsWidth};
+ghost use Rattle.digit_tuple.specs.Width.{HasWidth};
 ghost use Rattle.word_output.specs.LetterFunctions.{IsLetterFunction, letter_after};
 ghost use Rattle.fixed_points.specs.LetterGraph.{letters_at, reached};
 ghost use Rattle.morph_words.specs.MorphismKinds.{HasFixedPoint};
-ghost use Rattle.fixed_points.specs.Occurrences.{SoManyOccur, SomeOccur};
+ghost use Rattle.fixed_points.specs.Promotion.{SamePlaceLetter, promote_step};
 
 use crate::letter_graph::{LetterGraph, letter_of};
 use base_k::laws::rank_is_positional;
@@ -36,22 +38,22 @@ pub(crate) fn fixed_letters(
     ensures sizes { IfOk result (λ stepped. stepped.result.automaton.sizes ≡ base ∷ []) }
     ensures function { IfOk result (λ stepped. IsLetterFunction stepped.result) }
     ensures letters { IfOk result (λ stepped. (w : List ℕ) → IsWord base w → letter_after stepped.result w ≡ Some (reached morphism.now (pos 0) w)) }
-    ensures width { IfOk result (λ stepped. SoManyOccur morphism.now stepped.width) }
+    ensures width { IfOk result (λ stepped. HasWidth (SamePlaceLetter morphism.now base) (product (base ∷ [])) stepped.width) }
     ensures size { IfOk result (λ stepped. states_of stepped.result.automaton ≤ stepped.width) }
     ensures within { IfOk result (λ stepped. stepped.width ≤ limit) }
-    ensures states { IsErrOf result OpFault.States → SomeOccur morphism.now (limit + 1) }
+    ensures states { IsErrOf result OpFault.States → ExceedsWidth limit (promote_step morphism.now base).step }
 {
     rank_is_positional();
     let _image = morphism.image(0);
     let graph = LetterGraph { morphism, base };
     let alphabet = Alphabet::fitting(alloc, &[base])?;
-    let Stepped { result, width: _ } = explore_keys(alloc, &graph, alphabet, limit)?;
+    let Stepped { result, width } = explore_keys(alloc, &graph, alphabet, limit)?;
     let Explored { dfa, keys } = result;
     let letters = letters_at(alloc, &keys)?;
     let function = LetterFunction::of_states(alloc, &dfa, &letters)?;
     Ok(Stepped {
         result: function,
-        width: dfa.states(),
+        width,
     })
 }
 

@@ -1,6 +1,6 @@
 //! Laws of fixed points, each a call that does nothing.
 
-ghost use Rattle.fixed_points.specs.Laws.{FixedPointsAreFixed, FixedPointsHaveLetters, FixedPointsHaveOneLetter, MorphismsArePromotedOrRefused, MorphismsHaveOneKind, OneNumberOccurs, PromotionsHaveOneOutcome};
+ghost use Rattle.fixed_points.specs.Laws.{FixedPointsAreFixed, FixedPointsHaveLetters, FixedPointsHaveOneLetter, MorphismsArePromotedOrRefused, MorphismsHaveOneKind, PromotionsHaveOneOutcome};
 
 use base_k::laws::rank_is_positional;
 
@@ -21,11 +21,6 @@ pub fn fixed_points_are_fixed()
 pub fn morphisms_have_one_kind()
     ensures some { MorphismsArePromotedOrRefused }
     ensures one { MorphismsHaveOneKind }
-{}
-
-/// One number of letters occurs, and no more letters than that do.
-pub fn one_number_occurs()
-    ensures { OneNumberOccurs }
 {}
 
 /// The promotion of a morphism has one outcome, unless memory runs out.

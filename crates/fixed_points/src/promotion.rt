@@ -26,7 +26,7 @@ use word_output::word::Word;
 /// 0 does not begin with 0; the kind is the first that applies. Else `States` if and only if the width passes the
 /// limit. The steps are as before where there is no word, also where memory is wanting.
 pub fn promote(alloc: Global, morphism: &Morphism, steps: &mut Steps) -> Result<Word, PromoteFault>
-    ensures { DoesPromote steps.old morphism.now result steps.new }
+    ensures { DoesPromote morphism.now steps.old result steps.new }
 {
     rank_is_positional();
     let letters = morphism.letters(alloc)?;

@@ -2,18 +2,15 @@
 use Rattle.std.proofs.Common.{◌≡◌, ℕ, Bool, true, false, List, [], ◌∷◌, ◌++◌, Some, Result, Ok, Err, inl, inr, refl, sym, ap, subst, if◌then◌else◌}
 use Rattle.std.specs.Str.{bytes_eq}
 use Rattle.std.proofs.lemmas.Option.{none-some}
-use Rattle.digit_tuple.specs.StepResults.{IsRefusedBy}
 use Rattle.digit_tuple.specs.Steps.{StepLog}
 use Rattle.digit_tuple.specs.declared.step_fault.StepFault.{StepFault}
-use Rattle.digit_tuple.specs.declared.step_fault.StepFault.TheVariants as faults
-use Rattle.digit_tuple.specs.declared.steps.StepLine.{StepLine}
 use Rattle.num_system.specs.Sealed.{SystemValue}
 use Rattle.number_relations.specs.Relations.{RelationValue}
 use Rattle.word_output.specs.Words.{WordValue}
 use Rattle.formula_plan.specs.Plans.{Plan, Made, compared, added, number, called, lettered, renamed, constant, joined, paired, complement, projected}
 use Rattle.formula_build.specs.Libraries.{LibraryValue, NamedSystem, NamedRelation, NamedWord, IsLibrary, AreSealed, IsSystemIn, IsRelationIn, IsWordIn, system_named, relation_named, word_named}
 use Rattle.formula_build.specs.Makings.{Makes}
-use Rattle.formula_build.specs.Building.{IsStep, PassesLetters, PassesStates, AreSteps}
+use Rattle.formula_build.specs.Building.{Builds, DoesLastStep, DoesSteps}
 use Rattle.formula_build.specs.Solutions.{BuildsFormula}
 use Rattle.formula_build.specs.OneBuilding.{Agree}
 
@@ -77,58 +74,24 @@ module _ (l n : LibraryValue) (within : IsWithin l n) where
   makes_within (complement p) c (a, is, makes) = (a, makes_within p a is, makes)
   makes_within (projected t p) c (a, is, makes) = (a, makes_within p a is, makes)
 
-  step_within : (limit : ℕ) (p : Plan) (c : RelationValue) (line : StepLine) → IsStep limit l p c line → IsStep limit n p c line
-  step_within limit (constant y k t) c line (system, is, step) = (system, within.systems y system is, step)
-  step_within limit (joined j p q) c line (a, b, is, also, step) = (a, b, makes_within p a is, makes_within q b also, step)
-  step_within limit (paired x ts r y us) c line (v, w, is, also, step) = (v, w, within.words x v is, within.words y w also, step)
-  step_within limit (complement p) c line (a, is, step) = (a, makes_within p a is, step)
-  step_within limit (projected t p) c line (a, is, step) = (a, makes_within p a is, step)
-  step_within limit _ c line step = absurd step
+  steps_within : (p : Plan) (old new : StepLog) (result : Result RelationValue StepFault) → DoesLastStep l p old result new → DoesLastStep n p old result new
+  steps_within (constant y k t) old new result (system, is, does) = (system, within.systems y system is, does)
+  steps_within (joined j p q) old new result (a, b, is, also, does) = (a, b, makes_within p a is, makes_within q b also, does)
+  steps_within (paired x ts r y us) old new result (v, w, is, also, does) = (v, w, within.words x v is, within.words y w also, does)
+  steps_within (complement p) old new result (a, is, does) = (a, makes_within p a is, does)
+  steps_within (projected t p) old new result (a, is, does) = (a, makes_within p a is, does)
+  steps_within _ old new result does = absurd does
 
-  letters_within : (p : Plan) → PassesLetters l p → PassesLetters n p
-  letters_within (joined j p q) (a, b, is, also, passes) = (a, b, makes_within p a is, makes_within q b also, passes)
-  letters_within (paired x ts r y us) (v, w, is, also, passes) = (v, w, within.words x v is, within.words y w also, passes)
-  letters_within (projected t p) (a, is, passes) = (a, makes_within p a is, passes)
-  letters_within _ passes = absurd passes
+  all_within : (ps : List Plan) (last : Plan) (old new : StepLog) (result : Result RelationValue StepFault) → DoesSteps l ps last old result new → DoesSteps n ps last old result new
+  all_within [] last old new result (inl out) = inl out
+  all_within [] last old new result (inr (c, makes, given)) = inr (c, makes_within last c makes, given)
+  all_within (p ∷ ps) last old new result (inl (made, mid, first, rest)) = inl (made, mid, steps_within p old mid (Ok made) first, all_within ps last mid new result rest)
+  all_within (p ∷ ps) last old new result (inr (fault, refused, is)) = inr (fault, steps_within p old new (Err fault) refused, is)
 
-  states_within : (limit : ℕ) (p : Plan) → PassesStates limit l p → PassesStates limit n p
-  states_within limit (constant y k t) (system, is, passes) = (system, within.systems y system is, passes)
-  states_within limit (joined j p q) (a, b, is, also, passes) = (a, b, makes_within p a is, makes_within q b also, passes)
-  states_within limit (paired x ts r y us) (v, w, is, also, passes) = (v, w, within.words x v is, within.words y w also, passes)
-  states_within limit (complement p) (a, is, passes) = (a, makes_within p a is, passes)
-  states_within limit (projected t p) (a, is, passes) = (a, makes_within p a is, passes)
-  states_within limit _ passes = absurd passes
+  built_within : (ps : List Plan) (last : Plan) (old new : StepLog) (result : Result RelationValue StepFault) → Builds l ps last old result new → Builds n ps last old result new
+  built_within ps last old new result (inl out) = inl out
+  built_within ps last old new result (inr does) = inr (all_within ps last old new result does)
 
-  steps_within : (limit : ℕ) (ps : List Plan) (lines : List StepLine) → AreSteps limit l ps lines → AreSteps limit n ps lines
-  steps_within limit [] [] done = done
-  steps_within limit [] (line ∷ lines) done = absurd done
-  steps_within limit (p ∷ ps) [] done = absurd done
-  steps_within limit (p ∷ ps) (line ∷ lines) ((c, step), done) = ((c, step_within limit p c line step), steps_within limit ps lines done)
-
-  refused_within : (new : StepLog) (limit : ℕ) (p : Plan) (fault : StepFault) → IsRefusedBy new (PassesLetters l p) (PassesStates limit l p) fault → IsRefusedBy new (PassesLetters n p) (PassesStates limit n p) fault
-  refused_within new limit p (faults.Letters k) (here, passes) = (here, letters_within p passes)
-  refused_within new limit p (faults.States k) (here, passes) = (here, states_within limit p passes)
-  refused_within new limit p faults.Memory refused = refused
-
-  pub builds_within : (old new : StepLog) (p : Made) (r : Result RelationValue StepFault) → BuildsFormula old l p r new → BuildsFormula old n p r new
-  builds_within old new p (Ok r) is = record {
-    made = is.made;
-    built = record {
-      lines = is.built.lines;
-      done = steps_within old.limit p.steps is.built.lines is.built.done;
-      new_is = is.built.new_is;
-      makes = makes_within p.last is.made is.built.makes;
-    };
-    ordered = is.ordered;
-  }
-  builds_within old new p (Err fault) (inl memory) = inl memory
-  builds_within old new p (Err fault) (inr is) = inr (record {
-    prefix = is.prefix;
-    here = is.here;
-    rest = is.rest;
-    steps_are = is.steps_are;
-    lines = is.lines;
-    done = steps_within old.limit is.prefix is.lines is.done;
-    new_is = is.new_is;
-    refused = refused_within new old.limit is.here fault is.refused;
-  })
+  pub builds_within : (old new : StepLog) (p : Made) (result : Result RelationValue StepFault) → BuildsFormula l p old result new → BuildsFormula n p old result new
+  builds_within old new p result (inl (made, mid, built, ordered)) = inl (made, mid, built_within p.steps p.last old mid (Ok made) built, ordered)
+  builds_within old new p result (inr (fault, stopped, is)) = inr (fault, built_within p.steps p.last old new (Err fault) stopped, is)

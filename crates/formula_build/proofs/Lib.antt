@@ -13,6 +13,7 @@ pub mod TrackSystemLemmas
 pub mod PartReady
 pub mod NeededLemmas
 pub mod MakingLemmas
+pub mod BuiltLemmas
 pub mod BuildingLemmas
 pub mod PartLemmas
 pub mod GrowthLemmas
@@ -32,5 +33,5 @@ pub mod OccurringLemmas
 pub mod SolutionLemmas
 pub mod VariableTrackLemmas
 pub mod LargerLibrary
-pub mod StepOutcomeLemmas
+pub mod StepAnswerLemmas
 pub mod OneBuildingLemmas

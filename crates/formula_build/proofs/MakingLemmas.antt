@@ -1,14 +1,14 @@
 -- One relation is made of earlier ones as its plan says it.
-use Rattle.std.proofs.Common.{◌≡◌, ℕ, Bool, true, false, List, map, length, Ok, Err, inl, inr, ◌⊎◌, refl, sym, ◌∙◌, subst}
+use Rattle.std.proofs.Common.{◌≡◌, ℕ, Bool, true, false, List, map, length, Result, Ok, Err, MatchResult, sym, ◌∙◌, subst}
+use Rattle.std.specs.Prelude.{⊤}
+use Rattle.std.proofs.lemmas.Bool.{false≢true}
 use Rattle.std.proofs.lemmas.List.{length-map}
 use Rattle.std.proofs.lemmas.Simd.{map-map}
-use Rattle.digit_tuple.specs.StepResults.{IsDone}
 use Rattle.digit_tuple.specs.Steps.{StepLog}
 use Rattle.digit_tuple.specs.declared.step_fault.StepFault.{StepFault}
 use Rattle.digit_tuple.specs.declared.step_fault.StepFault.TheVariants as faults
-use Rattle.digit_tuple.specs.declared.steps.StepLine.{StepLine}
-use Rattle.automaton_steps.specs.StepLines.{IsRefused}
-use Rattle.formula_parse.specs.Views.{connective_view, relation_view}
+use Rattle.automaton_steps.specs.Makings.{DoesStep}
+use Rattle.formula_parse.specs.Views.{relation_view}
 use Rattle.formula_plan.specs.Plans.{Plan, is_step}
 use Rattle.formula_plan.specs.Makings.{track_view, plan_at, plan_by, IsOf, IsMakingAt}
 use Rattle.formula_plan.specs.declared.track.Track.{Track}
@@ -17,22 +17,15 @@ use Rattle.formula_plan.specs.declared.making.Making.TheVariants.{Compared, Adde
 use Rattle.number_relations.specs.Relations.{RelationValue}
 use Rattle.num_system.specs.Tracks.{AgreeUnder}
 use Rattle.number_relations.specs.Placed.{IsPlaced}
-use Rattle.number_relations.specs.Constants.{RelationConstantExceeds}
-use Rattle.number_relations.specs.Joins.{RelationJoinExceedsLetters, RelationJoinExceeds}
-use Rattle.number_relations.specs.Complements.{RelationComplementExceeds}
-use Rattle.number_relations.specs.Projections.{RelationProjectExceedsLetters, RelationProjectExceeds}
-use Rattle.number_relations.proofs.GrowthLemmas.{join_of, projection_of}
-use Rattle.number_relations.proofs.StepsDone.{complement_of, constant_of}
 use Rattle.word_output.specs.Words.{WordValue}
 use Rattle.formula_build.specs.TrackNames.{track_name}
 use Rattle.formula_build.specs.Libraries.{LibraryValue}
 use Rattle.formula_build.specs.PlacedWords.{PlacedWord}
 use Rattle.formula_build.specs.LetterRelations.{IsLetterRelation}
-use Rattle.formula_build.specs.PairRelations.{MayPairWords, IsRelationPairStep, RelationPairExceedsLetters, RelationPairExceeds}
-use Rattle.formula_build.specs.Makings.{Makes, IsReady, comparison_of, op_of, placed_on}
-use Rattle.formula_build.specs.Building.{IsStep, PassesLetters, PassesStates}
+use Rattle.formula_build.specs.PairRelations.{MayPairWords, IsRelationPair, relation_pair_step}
+use Rattle.formula_build.specs.Makings.{Makes, IsReady, comparison_of, placed_on}
+use Rattle.formula_build.specs.Building.{DoesLastStep}
 use Rattle.formula_build.specs.MadeOf.{name_of, placed_at, relation_at, AreMade, MayMake, DoesMaking, AreMarked}
-use Rattle.formula_build.proofs.PairRelationLemmas.{pair_of}
 
 names_are : (ts : List Track) → map track_name (map track_view ts) ≡ map name_of ts
 names_are ts = map-map track_name track_view ts
@@ -67,93 +60,56 @@ may_by l plans marks rs (Projected t p) made are below ready = (below, ready.1 (
 pub may_make : (l : LibraryValue) (plans : List Plan) (marks : List Bool) (rs : List RelationValue) (m : Making) → AreMade l plans marks rs → AreMarked marks m → IsMakingAt plans (length rs) m → IsReady l (plan_at plans (length rs)) → MayMake l rs m
 may_make l plans marks rs m made are is ready = may_by l plans marks rs m made are is.of_earlier (subst (IsReady l) (sym is.makes) ready)
 
--- a step was done, or none
-abbrev pub IsTaken : Bool → StepLog → (StepLine → Type 0) → StepLog → Type 0
-IsTaken true old Step new = IsDone old Step new
-IsTaken false old Step new = new ≡ old
-
 module _ (old new : StepLog) (l : LibraryValue) (plans : List Plan) (marks : List Bool) (rs : List RelationValue) (made : AreMade l plans marks rs) where
-  -- the relation is that of the plan, made by its step
-  pub made_by : (m : Making) (c : RelationValue) → AreMarked marks m → IsOf (length rs) m → DoesMaking old l rs m (Ok c) new
-      → Makes l (plan_by plans m) c × IsTaken (is_step (plan_by plans m)) old (IsStep old.limit l (plan_by plans m) c) new
-  made_by (Compared y r s t) c are below does = (does.1, does.0)
-  made_by (Added y s t u) c are below does = (does.1, does.0)
-  made_by (Number y t) c are below does = (does.1, does.0)
-  made_by (Called n ts) c are below (same, (r, is, placed)) = ((r, is, subst (λ (under : List (List ℕ)). IsPlaced r.automaton r.systems under c) (sym (names_are ts.items)) placed), same)
+  -- the relation is that of the plan
+  pub made_by : (m : Making) (c : RelationValue) → AreMarked marks m → IsOf (length rs) m → DoesMaking old l rs m (Ok c) new → Makes l (plan_by plans m) c
+  made_by (Compared y r s t) c are below does = does.1
+  made_by (Added y s t u) c are below does = does.1
+  made_by (Number y t) c are below does = does.1
+  made_by (Called n ts) c are below (same, (r, is, placed)) = (r, is, subst (λ (under : List (List ℕ)). IsPlaced r.automaton r.systems under c) (sym (names_are ts.items)) placed)
   made_by (Lettered n ts r b) c are below (same, (w, is, lettered)) =
-      ((w, is, subst (λ (p : PlacedWord). IsLetterRelation (comparison_of (relation_view r)) b p c) (sym (placed_are w ts.items)) lettered), same)
-  made_by (Renamed s t p) c are below does = ((relation_at rs p, made p below are, does.1), does.0)
-  made_by (Constant y k t) c are below (system, is, done) = (
-    (system, is, constant_of old.limit system k (name_of t) c done.line done.step),
-    record { line = done.line; step = (system, is, done.step); new_is = done.new_is },
-  )
-  made_by (Joined j p q) c are below done =
-      let a = relation_at rs p in
-      let b = relation_at rs q in (
-        (a, b, made p below.0 are.0, made q below.1 are.1, join_of old.limit (op_of (connective_view j)) a b c done.line done.step),
-        record { line = done.line; step = (a, b, made p below.0 are.0, made q below.1 are.1, done.step); new_is = done.new_is },
-      )
+      (w, is, subst (λ (p : PlacedWord). IsLetterRelation (comparison_of (relation_view r)) b p c) (sym (placed_are w ts.items)) lettered)
+  made_by (Renamed s t p) c are below does = (relation_at rs p, made p below are, does.1)
+  made_by (Constant y k t) c are below (system, is, done) = (system, is, done.step.made_is)
+  made_by (Joined j p q) c are below done = (relation_at rs p, relation_at rs q, made p below.0 are.0, made q below.1 are.1, done.step.made_is)
   made_by (Paired n ts r m us) c are below (v, w, is, also, done) =
-      let comparison = comparison_of (relation_view r) in
-      let step : IsRelationPairStep old.limit comparison (placed_on v (map track_view ts.items)) (placed_on w (map track_view us.items)) c done.line =
-      on_tracks (λ a b. IsRelationPairStep old.limit comparison a b c done.line) v w ts.items us.items done.step in (
-        (v, w, is, also, pair_of old.limit comparison (placed_on v (map track_view ts.items)) (placed_on w (map track_view us.items)) c done.line step),
-        record { line = done.line; step = (v, w, is, also, step); new_is = done.new_is },
-      )
-  made_by (Complement p) c are below done =
-      let a = relation_at rs p in (
-        (a, made p below are, complement_of old.limit a c done.line done.step),
-        record { line = done.line; step = (a, made p below are, done.step); new_is = done.new_is },
-      )
-  made_by (Projected t p) c are below done =
-      let a = relation_at rs p in (
-        (a, made p below are, projection_of old.limit (name_of t) a c done.line done.step),
-        record { line = done.line; step = (a, made p below are, done.step); new_is = done.new_is },
-      )
+      (v, w, is, also, on_tracks (λ a b. IsRelationPair (comparison_of (relation_view r)) a b c) v w ts.items us.items done.step.made_is)
+  made_by (Complement p) c are below done = (relation_at rs p, made p below are, done.step.made_is)
+  made_by (Projected t p) c are below done = (relation_at rs p, made p below are, done.step.made_is)
 
-  refused_by : (L M S T : Type 0) (fault : StepFault) → (L → M) → (S → T) → IsRefused old L S new fault → IsRefused old M T new fault
-  refused_by L M S T (faults.Letters k) up over refused = record { by_limit = (refused.by_limit.0, up refused.by_limit.1); same = refused.same }
-  refused_by L M S T (faults.States k) up over refused = record { by_limit = (refused.by_limit.0, over refused.by_limit.1); same = refused.same }
-  refused_by L M S T faults.Memory up over refused = record { by_limit = tt; same = refused.same }
+  -- what is no step leaves the steps as they are
+  pub bare_by : (m : Making) (result : Result RelationValue StepFault) → DoesMaking old l rs m result new → is_step (plan_by plans m) ≡ false
+      → (new ≡ old) × MatchResult result (λ c. ⊤) (λ fault. fault ≡ faults.Memory)
+  bare_by (Compared y r s t) (Ok c) does is = (does.0, tt)
+  bare_by (Added y s t u) (Ok c) does is = (does.0, tt)
+  bare_by (Number y t) (Ok c) does is = (does.0, tt)
+  bare_by (Called n ts) (Ok c) does is = (does.0, tt)
+  bare_by (Lettered n ts r b) (Ok c) does is = (does.0, tt)
+  bare_by (Renamed s t p) (Ok c) does is = (does.0, tt)
+  bare_by (Compared y r s t) (Err fault) does is = does
+  bare_by (Added y s t u) (Err fault) does is = does
+  bare_by (Number y t) (Err fault) does is = does
+  bare_by (Called n ts) (Err fault) does is = does
+  bare_by (Lettered n ts r b) (Err fault) does is = does
+  bare_by (Renamed s t p) (Err fault) does is = does
+  bare_by (Constant y k t) result does is = absurd (false≢true (sym is))
+  bare_by (Joined j p q) result does is = absurd (false≢true (sym is))
+  bare_by (Paired n ts r m us) result does is = absurd (false≢true (sym is))
+  bare_by (Complement p) result does is = absurd (false≢true (sym is))
+  bare_by (Projected t p) result does is = absurd (false≢true (sym is))
 
-  -- or its step passes a limit, or memory ran out
-  pub stopped_by : (m : Making) (fault : StepFault) → AreMarked marks m → IsOf (length rs) m → DoesMaking old l rs m (Err fault) new
-      → (fault ≡ faults.Memory) ⊎ ((is_step (plan_by plans m) ≡ true) × IsRefused old (PassesLetters l (plan_by plans m)) (PassesStates old.limit l (plan_by plans m)) new fault)
-  stopped_by (Compared y r s t) fault are below does = inl does.1
-  stopped_by (Added y s t u) fault are below does = inl does.1
-  stopped_by (Number y t) fault are below does = inl does.1
-  stopped_by (Called n ts) fault are below does = inl does.1
-  stopped_by (Lettered n ts r b) fault are below does = inl does.1
-  stopped_by (Renamed s t p) fault are below does = inl does.1
-  stopped_by (Constant y k t) fault are below (system, is, refused) =
-      let p = plan_by plans (Constant y k t) in
-      inr (refl, refused_by ⊥ (PassesLetters l p) (RelationConstantExceeds old.limit system k) (PassesStates old.limit l p) fault (λ none. none) (λ passes. (system, is, passes)) refused)
-  stopped_by (Joined j p q) fault are below refused =
-      let a = relation_at rs p in
-      let b = relation_at rs q in
-      let plan = plan_by plans (Joined j p q) in
-      inr (
-        refl,
-        refused_by (RelationJoinExceedsLetters a b) (PassesLetters l plan) (RelationJoinExceeds old.limit (op_of (connective_view j)) a b) (PassesStates old.limit l plan) fault
-            (λ passes. (a, b, made p below.0 are.0, made q below.1 are.1, passes)) (λ passes. (a, b, made p below.0 are.0, made q below.1 are.1, passes)) refused,
-      )
-  stopped_by (Paired n ts r m us) fault are below (v, w, is, also, refused) =
-      let plan = plan_by plans (Paired n ts r m us) in
-      inr (
-        refl,
-        refused_by (RelationPairExceedsLetters (placed_at v ts.items) (placed_at w us.items)) (PassesLetters l plan) (RelationPairExceeds old.limit (placed_at v ts.items) (placed_at w us.items))
-            (PassesStates old.limit l plan) fault (λ passes. (v, w, is, also, on_tracks RelationPairExceedsLetters v w ts.items us.items passes))
-            (λ passes. (v, w, is, also, on_tracks (RelationPairExceeds old.limit) v w ts.items us.items passes)) refused,
-      )
-  stopped_by (Complement p) fault are below refused =
-      let a = relation_at rs p in
-      let plan = plan_by plans (Complement p) in
-      inr (refl, refused_by ⊥ (PassesLetters l plan) (RelationComplementExceeds old.limit a) (PassesStates old.limit l plan) fault (λ none. none) (λ passes. (a, made p below are, passes)) refused)
-  stopped_by (Projected t p) fault are below refused =
-      let a = relation_at rs p in
-      let plan = plan_by plans (Projected t p) in
-      inr (
-        refl,
-        refused_by (RelationProjectExceedsLetters (name_of t) a) (PassesLetters l plan) (RelationProjectExceeds old.limit (name_of t) a) (PassesStates old.limit l plan) fault
-            (λ passes. (a, made p below are, passes)) (λ passes. (a, made p below are, passes)) refused,
-      )
+  -- a step is the last of its plan
+  pub step_by : (m : Making) (result : Result RelationValue StepFault) → AreMarked marks m → IsOf (length rs) m → DoesMaking old l rs m result new → is_step (plan_by plans m) ≡ true
+      → DoesLastStep l (plan_by plans m) old result new
+  step_by (Constant y k t) result are below does is = does
+  step_by (Joined j p q) result are below does is = (relation_at rs p, relation_at rs q, made p below.0 are.0, made q below.1 are.1, does)
+  step_by (Paired n ts r m us) result are below (v, w, is_v, is_w, does) is =
+      (v, w, is_v, is_w, on_tracks (λ a b. DoesStep (relation_pair_step (comparison_of (relation_view r)) a b) old result new) v w ts.items us.items does)
+  step_by (Complement p) result are below does is = (relation_at rs p, made p below are, does)
+  step_by (Projected t p) result are below does is = (relation_at rs p, made p below are, does)
+  step_by (Compared y r s t) result are below does is = absurd (false≢true is)
+  step_by (Added y s t u) result are below does is = absurd (false≢true is)
+  step_by (Number y t) result are below does is = absurd (false≢true is)
+  step_by (Called n ts) result are below does is = absurd (false≢true is)
+  step_by (Lettered n ts r b) result are below does is = absurd (false≢true is)
+  step_by (Renamed s t p) result are below does is = absurd (false≢true is)

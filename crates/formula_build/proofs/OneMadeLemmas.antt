@@ -4,7 +4,8 @@ use Rattle.std.specs.List.{AllByRecursion}
 use Rattle.std.specs.Str.{bytes_eq}
 use Rattle.std.proofs.lemmas.Option.{none-some, same_Some}
 use Rattle.digit_tuple.specs.Deterministic.{Automaton}
-use Rattle.automaton_steps.proofs.OneResults.{one_complement, one_join, one_projection}
+use Rattle.automaton_steps.proofs.OneResults.{one_join, one_on_tracks, one_projection}
+use Rattle.product_op.specs.Products.{in_complement}
 use Rattle.num_system.specs.Sealed.{SystemValue, IsSealed}
 use Rattle.num_system.specs.Tracks.{direction_of, languages_of}
 use Rattle.number_relations.specs.Relations.{RelationValue, RelationHolds, named_of}
@@ -112,7 +113,7 @@ made_once l (paired n ts r m us) c d library (v, w, is_v, is_w, first) (x, y, is
     (subst (λ (z : WordValue). IsRelationPair (comparison_of r) (placed_on x ts) (placed_on z us) d) right second))
 made_once l (complement p) c d library (a, is, first) (b, also, second) =
     let again = subst (λ (w : RelationValue). IsRelationComplement w d) (made_once l p b a library also is) second in
-    same_relation c d (one_complement (languages_of a.systems) (named_of a) (named_of c) (named_of d) first.complement again.complement) (first.systems ∙ sym again.systems)
+    same_relation c d (one_on_tracks (named_of a) (in_complement (named_of a) (languages_of a.systems)) (named_of c) (named_of d) first.complement again.complement) (first.systems ∙ sym again.systems)
 made_once l (projected t p) c d library (a, is, first) (b, also, second) =
     let again = subst (λ (w : RelationValue). IsRelationProjection (track_name t) w d) (made_once l p b a library also is) second in
     same_relation c d (one_projection (direction_of a.systems) (track_name t) (named_of a) (named_of c) (named_of d) first.projection again.projection) (first.systems ∙ sym again.systems)

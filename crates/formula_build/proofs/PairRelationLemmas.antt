@@ -5,8 +5,8 @@ use Rattle.std.proofs.lemmas.List.{get_or-map, length-append, length-map, map-ap
 use Rattle.std.proofs.lemmas.List.Elements.{All-append, All-weaker, Contains-append_left, Contains-append_right}
 use Rattle.std.proofs.lemmas.Simd.{map-map}
 use Rattle.automaton_steps.specs.Laws.{HasOneOutcome}
+use Rattle.automaton_steps.proofs.StepAnswers.{step_one}
 use Rattle.digit_tuple.specs.Names.{AreDistinct, AreJoint, joint_names, place_of}
-use Rattle.digit_tuple.specs.declared.steps.StepLine.{StepLine}
 use Rattle.digit_tuple.proofs.JointNames.{AreJoint-joint_names}
 use Rattle.product_op.proofs.SizeLemmas.{AreDistinct-ordered}
 use Rattle.numeration.specs.Relations.{HoldsOf}
@@ -22,11 +22,11 @@ use Rattle.number_relations.proofs.StepOutcomes.{same_relation}
 use Rattle.word_output.specs.LetterSets.{ComparesLetters}
 use Rattle.word_output.specs.WordPairs.{MayPair}
 use Rattle.word_output.specs.Words.{WordValue, IsWordValue, HasLetter}
-use Rattle.formula_build.specs.PairRelations.{both_under, both_systems, MayPairWords, pair_systems, IsRelationPair, IsRelationPairStep, RelationPairExceedsLetters, RelationPairExceeds}
+use Rattle.formula_build.specs.PairRelations.{both_under, both_systems, MayPairWords, pair_systems, IsRelationPair, relation_pair_step}
 use Rattle.formula_build.specs.PlacedWords.{PlacedWord, placed_letters}
 use Rattle.formula_build.proofs.AllLemmas.{all_both}
 use Rattle.word_output.proofs.PairPlaces.{pairs}
-use Rattle.word_output.proofs.StepOutcomes.{one_pair, pair_outcome}
+use Rattle.word_output.proofs.StepOutcomes.{one_pair, pair_alike}
 
 -- the direction of both is that of the first
 direction_first : (xs ys : List SystemValue) → 0 < length xs → direction_of (xs ++ ys) ≡ direction_of xs
@@ -173,24 +173,11 @@ may_pair a b is_a is_b may = record {
         ∙ get_or-map digits_of (both_systems a b) i absent_system 0
         (omega (arith, within, length-append a.under b.under, length-append a.word.systems b.word.systems, may.first_count, may.second_count))
 
--- what a step makes
-pub pair_of : (limit : ℕ) (comparison : Comparison) (a b : PlacedWord) (c : RelationValue) (line : StepLine) → IsRelationPairStep limit comparison a b c line → IsRelationPair comparison a b c
-pair_of limit comparison a b c line made = record { systems = made.systems; pair = made.step.pair }
-
 -- a pair makes one relation
 pub one_relation_pair : (comparison : Comparison) (a b : PlacedWord) (c d : RelationValue) → IsRelationPair comparison a b c → IsRelationPair comparison a b d → c ≡ d
 one_relation_pair comparison a b c d first second =
     same_relation c d (one_pair comparison (placed_letters a) (placed_letters b) (named_of c) (named_of d) first.pair second.pair) (first.systems ∙ sym second.systems)
 
--- and its step has one outcome
-pub pair_one : (limit : ℕ) (comparison : Comparison) (a b : PlacedWord)
-    → HasOneOutcome RelationValue (IsRelationPairStep limit comparison a b) (RelationPairExceedsLetters a b) (RelationPairExceeds limit a b)
-pair_one limit comparison a b =
-    let one = pair_outcome limit comparison (placed_letters a) (placed_letters b) in
-    record {
-      result = λ c d line next first second. same_relation c d (one.result (named_of c) (named_of d) line next first.step second.step) (first.systems ∙ sym second.systems);
-      line = λ c d line next first second. one.line (named_of c) (named_of d) line next first.step second.step;
-      no_letters = λ c line made. one.no_letters (named_of c) line made.step;
-      no_states = λ c line made. one.no_states (named_of c) line made.step;
-      one_limit = one.one_limit;
-    }
+-- and its step has one answer
+pub pair_one : (comparison : Comparison) (a b : PlacedWord) → HasOneOutcome (relation_pair_step comparison a b)
+pair_one comparison a b = step_one (relation_pair_step comparison a b) (pair_alike (placed_letters a) (placed_letters b)) (one_relation_pair comparison a b)

@@ -4,6 +4,7 @@ use Rattle.std.specs.List.{Contains}
 use Rattle.digit_tuple.specs.Steps.{StepLog}
 use Rattle.digit_tuple.specs.declared.step_fault.StepFault.{StepFault}
 use Rattle.digit_tuple.specs.declared.step_fault.StepFault.TheVariants as faults
+use Rattle.automaton_steps.specs.Makings.{DoesStep}
 use Rattle.formula_parse.specs.Views.{relation_view, connective_view}
 use Rattle.formula_plan.specs.Makings.{track_view, plan_at}
 use Rattle.formula_plan.specs.Plans.{Plan, is_step}
@@ -15,16 +16,16 @@ use Rattle.num_system.specs.Tracks.{no_automaton, AgreeUnder}
 use Rattle.number_relations.specs.Relations.{RelationValue, system_named}
 use Rattle.number_relations.specs.Placed.{IsPlaced, IsRenamed}
 use Rattle.number_relations.specs.Comparisons.{IsComparison, IsSumRelation, IsAnyNumber}
-use Rattle.number_relations.specs.Constants.{DoesRelationConstant}
-use Rattle.number_relations.specs.Joins.{DoesRelationJoin}
-use Rattle.number_relations.specs.Complements.{DoesRelationComplement}
-use Rattle.number_relations.specs.Projections.{DoesRelationProject}
+use Rattle.number_relations.specs.Constants.{relation_constant_step}
+use Rattle.number_relations.specs.Joins.{relation_join_step}
+use Rattle.number_relations.specs.Complements.{relation_complement_step}
+use Rattle.number_relations.specs.Projections.{relation_project_step}
 use Rattle.formula_build.specs.TrackNames.{track_name}
 use Rattle.word_output.specs.Words.{WordValue}
 use Rattle.formula_build.specs.Libraries.{LibraryValue, IsRelationIn, IsWordIn, IsSystemIn}
 use Rattle.formula_build.specs.PlacedWords.{PlacedWord}
 use Rattle.formula_build.specs.LetterRelations.{IsLetterRelation}
-use Rattle.formula_build.specs.PairRelations.{MayPairWords, DoesRelationPair}
+use Rattle.formula_build.specs.PairRelations.{MayPairWords, relation_pair_step}
 use Rattle.formula_build.specs.Parts.{IsPart}
 use Rattle.formula_build.specs.Makings.{Makes, MayJoin, comparison_of, op_of}
 
@@ -68,12 +69,12 @@ DoesMaking old l rs (Called n ts) result new = IsMadeBare old (λ c. (r : Relati
 DoesMaking old l rs (Lettered n ts r b) result new =
     IsMadeBare old (λ c. (w : WordValue) × IsWordIn l n w × IsLetterRelation (comparison_of (relation_view r)) b (placed_at w ts.items) c) result new
 DoesMaking old l rs (Renamed s t p) result new = IsMadeBare old (IsRenamed (relation_at rs p) (name_of s) (name_of t)) result new
-DoesMaking old l rs (Constant y c t) result new = (system : SystemValue) × IsSystemIn l y system × DoesRelationConstant old system c (name_of t) result new
-DoesMaking old l rs (Joined j p q) result new = DoesRelationJoin old (op_of (connective_view j)) (relation_at rs p) (relation_at rs q) result new
+DoesMaking old l rs (Constant y c t) result new = (system : SystemValue) × IsSystemIn l y system × DoesStep (relation_constant_step system c (name_of t)) old result new
+DoesMaking old l rs (Joined j p q) result new = DoesStep (relation_join_step (op_of (connective_view j)) (relation_at rs p) (relation_at rs q)) old result new
 DoesMaking old l rs (Paired n ts r m us) result new =
-    (v : WordValue) × (w : WordValue) × IsWordIn l n v × IsWordIn l m w × DoesRelationPair old (comparison_of (relation_view r)) (placed_at v ts.items) (placed_at w us.items) result new
-DoesMaking old l rs (Complement p) result new = DoesRelationComplement old (relation_at rs p) result new
-DoesMaking old l rs (Projected t p) result new = DoesRelationProject old (name_of t) (relation_at rs p) result new
+    (v : WordValue) × (w : WordValue) × IsWordIn l n v × IsWordIn l m w × DoesStep (relation_pair_step (comparison_of (relation_view r)) (placed_at v ts.items) (placed_at w us.items)) old result new
+DoesMaking old l rs (Complement p) result new = DoesStep (relation_complement_step (relation_at rs p)) old result new
+DoesMaking old l rs (Projected t p) result new = DoesStep (relation_project_step (name_of t) (relation_at rs p)) old result new
 
 -- whether it is made by a step
 abbrev pub is_step_making : Making → Bool

@@ -1,8 +1,9 @@
 -- Libraries that agree, and the law that formulas are built alike with them.
-use Rattle.std.specs.Prelude.{◌≡◌, ◌≢◌, Result, Err}
+use Rattle.std.specs.Prelude.{◌≡◌, Result}
 use Rattle.digit_tuple.specs.Steps.{StepLog}
 use Rattle.digit_tuple.specs.declared.step_fault.StepFault.{StepFault}
-use Rattle.digit_tuple.specs.declared.step_fault.StepFault.TheVariants as faults
+use Rattle.digit_tuple.specs.declared.step_fault.StepFault.TheVariants.{Memory}
+use Rattle.automaton_steps.specs.OneAnswers.{AreOneAnswer}
 use Rattle.formula_parse.specs.Tokens.{Name}
 use Rattle.formula_plan.specs.Plans.{Made}
 use Rattle.num_system.specs.Sealed.{SystemValue}
@@ -16,7 +17,7 @@ pub record Agree (l m : LibraryValue) : Type 0 where
   pub words : l.words ≡ m.words
   pub systems : (y : Name) (s t : SystemValue) → IsSystemIn l y s → IsSystemIn m y t → s ≡ t
 
--- the steps of a plan have one outcome, apart from out of memory: one relation and the same lines, or one refusal
+-- the steps of a plan have one answer: one relation and the same lines, or one refusal
 abbrev pub OneBuilding : Type 0
-OneBuilding = (l m : LibraryValue) (old new now : StepLog) (p : Made) (r s : Result RelationValue StepFault) → IsLibrary l → IsLibrary m → Agree l m
-    → BuildsFormula old l p r new → BuildsFormula old m p s now → r ≢ Err faults.Memory → s ≢ Err faults.Memory → (r ≡ s) × (new ≡ now)
+OneBuilding = (l m : LibraryValue) (old new next : StepLog) (p : Made) (result other : Result RelationValue StepFault) → IsLibrary l → IsLibrary m → Agree l m
+    → BuildsFormula l p old result new → BuildsFormula m p old other next → AreOneAnswer Memory result other new next

@@ -1,12 +1,13 @@
 -- Formulas that are resolved, and the relations that are their solutions.
-use Rattle.std.specs.Prelude.{◌≡◌, ◌↔◌, ◌⊎◌, ℕ, List, map, None, Result, MatchResult, if◌then◌else◌}
+use Rattle.std.specs.Prelude.{◌≡◌, ◌↔◌, ℕ, List, map, None, Result, if◌then◌else◌}
 use Rattle.std.specs.List.{AllPairs}
 use Rattle.digit_tuple.specs.Names.{IsBytesBefore}
+use Rattle.digit_tuple.specs.StepResults.{Then}
 use Rattle.digit_tuple.specs.Steps.{StepLog}
 use Rattle.digit_tuple.specs.declared.direction.Direction.{Direction}
 use Rattle.digit_tuple.specs.declared.direction.Direction.TheVariants.{Msd, Lsd}
 use Rattle.digit_tuple.specs.declared.step_fault.StepFault.{StepFault}
-use Rattle.digit_tuple.specs.declared.step_fault.StepFault.TheVariants as faults
+use Rattle.automaton_steps.specs.Makings.{Gives, WithSome}
 use Rattle.formula_parse.specs.Tokens.{Name}
 use Rattle.formula_parse.specs.Trees.{Formula}
 use Rattle.formula_truth.specs.Truth.{Holds}
@@ -22,7 +23,7 @@ use Rattle.formula_plan.specs.Linear.{IsLinearFormula}
 use Rattle.number_relations.specs.Relations.{RelationValue, IsRelation, RelationHolds}
 use Rattle.number_relations.specs.Placed.{IsOrdered}
 use Rattle.formula_build.specs.Libraries.{LibraryValue, meanings_of}
-use Rattle.formula_build.specs.Building.{IsBuilt, IsStopped}
+use Rattle.formula_build.specs.Building.{Builds}
 use Rattle.formula_build.specs.Resolved.{plan_headers}
 use Rattle.formula_build.specs.VariableNames.{AreNamedIn}
 
@@ -50,12 +51,6 @@ pub record IsSolution (l : LibraryValue) (f : Formula) (r : RelationValue) : Typ
   pub ordered : AllPairs IsBytesBefore r.names
   pub holds : (number_of : List ℕ → ℕ) → RelationHolds r (map number_of r.names) ↔ Holds (meanings_of l) f number_of
 
--- all steps of the plan were done after the others, and what is made at last is this relation, but for the order of the tracks
-pub record IsFormulaBuilt (old : StepLog) (l : LibraryValue) (m : Made) (r : RelationValue) (new : StepLog) : Type 0 where
-  pub made : RelationValue
-  pub built : IsBuilt old l m.steps m.last made new
-  pub ordered : IsOrdered made r
-
--- the steps of the plan are done, or stopped at the first that passes a limit, or memory runs out
-abbrev pub BuildsFormula : StepLog → LibraryValue → Made → Result RelationValue StepFault → StepLog → Type 0
-BuildsFormula old l m result new = MatchResult result (λ r. IsFormulaBuilt old l m r new) (λ fault. (fault ≡ faults.Memory) ⊎ IsStopped old l m.steps new fault)
+-- the steps of the plan are done, and what is made at last is put in order, or they stop at the first that passes a limit, or memory runs out
+abbrev pub BuildsFormula : LibraryValue → Made → StepLog → Result RelationValue StepFault → StepLog → Type 0
+BuildsFormula l m = Then (Builds l m.steps m.last) (λ made. WithSome (IsOrdered made) Gives)

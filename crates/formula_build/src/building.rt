@@ -35,7 +35,7 @@ pub fn build(
     requires planned { IsPlanned resolved.now }
     requires fits { Fits (library_of resolved.now read.now) (plan_headers (headers_in resolved.now)) direction_named }
     requires known { AreKnownIn (library_of resolved.now read.now) (formula_of resolved.now) }
-    ensures steps { BuildsFormula steps.old (library_of resolved.now read.now) (formula_plan (headers_in resolved.now) (formula_of resolved.now)) result steps.new }
+    ensures steps { BuildsFormula (library_of resolved.now read.now) (formula_plan (headers_in resolved.now) (formula_of resolved.now)) steps.old result steps.new }
     ensures tracks { IfOk result (IsOverVariables (library_of resolved.now read.now) resolved.now.variables.items) }
     ensures solution { IfOk result (IsSolution (library_of resolved.now read.now) (formula_of resolved.now)) }
 {

@@ -9,8 +9,9 @@ ghost use Rattle.number_relations.specs.Relations.{RelationValue, system_named};
 ghost use Rattle.num_system.specs.Tracks.{AgreeUnder};
 ghost use Rattle.number_relations.specs.Placed.{IsPlaced, IsRenamed};
 ghost use Rattle.number_relations.specs.Comparisons.{IsAnyNumber, IsComparison, IsSumRelation};
-ghost use Rattle.number_relations.specs.Constants.{DoesRelationConstant};
-ghost use Rattle.number_relations.specs.Projections.{DoesRelationProject};
+ghost use Rattle.automaton_steps.specs.Makings.{DoesStep};
+ghost use Rattle.number_relations.specs.Constants.{relation_constant_step};
+ghost use Rattle.number_relations.specs.Projections.{relation_project_step};
 ghost use Rattle.word_output.specs.Words.{WordValue};
 ghost use Rattle.formula_build.specs.Libraries.{IsSystemIn, IsRelationIn, IsWordIn};
 ghost use Rattle.formula_build.specs.KnownViews.{known_value};
@@ -215,7 +216,7 @@ fn constant(
     track: &Track,
     steps: &mut Steps,
 ) -> Result<Relation, StepFault>
-    ensures { DoesRelationConstant steps.old system.now.value value (name_of track.now) result steps.new }
+    ensures { DoesStep (relation_constant_step system.now.value value (name_of track.now)) steps.old result steps.new }
 {
     let name = track_name(alloc, track)?;
     constant_step(alloc, system, value, &name, steps)
@@ -229,7 +230,7 @@ fn projected(
     steps: &mut Steps,
 ) -> Result<Relation, StepFault>
     requires { Contains relation.now.names (name_of track.now) }
-    ensures { DoesRelationProject steps.old (name_of track.now) relation.now result steps.new }
+    ensures { DoesStep (relation_project_step (name_of track.now) relation.now) steps.old result steps.new }
 {
     let name = track_name(alloc, track)?;
     project_step(alloc, relation, &name, steps)

@@ -33,7 +33,7 @@ pub(crate) fn make_plans(
     requires place { last < length plans.now }
     requires parts { AreParts (filter is_step plans.now) (plan_at plans.now last) }
     requires ready { IsReady (known_value known) (plan_at plans.now last) }
-    ensures { Builds steps.old (known_value known.entry) (filter is_step plans.now) (plan_at plans.now last) result steps.new }
+    ensures { Builds (known_value known.entry) (filter is_step plans.now) (plan_at plans.now last) steps.old result steps.new }
 {
     let makings = plans.makings();
     let needed = needed_plans(alloc, makings, last)?;

@@ -2,9 +2,10 @@
 
 ghost use Rattle.std.specs.Prelude.{◌≡◌, map, length, IfOk};
 ghost use Rattle.std.specs.Rc.{rc_value};
+ghost use Rattle.automaton_steps.specs.Makings.{DoesStep};
 ghost use Rattle.num_system.specs.Tracks.{AgreeUnder};
 ghost use Rattle.formula_build.specs.LetterRelations.{IsLetterRelation};
-ghost use Rattle.formula_build.specs.PairRelations.{MayPairWords, DoesRelationPair, pair_systems as pair_systems_of};
+ghost use Rattle.formula_build.specs.PairRelations.{MayPairWords, relation_pair_step, pair_systems as pair_systems_of};
 ghost use Rattle.formula_build.specs.MadeOf.{name_of, placed_at};
 
 use crate::track_names::track_names;
@@ -57,7 +58,7 @@ pub(crate) fn paired(
     steps: &mut Steps,
 ) -> Result<Relation, StepFault>
     requires { MayPairWords (placed_at first.word.now first.tracks.now) (placed_at second.word.now second.tracks.now) }
-    ensures { DoesRelationPair steps.old comparison (placed_at first.entry.word.now first.entry.tracks.now) (placed_at second.entry.word.now second.entry.tracks.now) result steps.new }
+    ensures { DoesStep (relation_pair_step comparison (placed_at first.entry.word.now first.entry.tracks.now) (placed_at second.entry.word.now second.entry.tracks.now)) steps.old result steps.new }
 {
     let under = track_names(alloc, first.tracks)?;
     let others = track_names(alloc, second.tracks)?;

@@ -15,7 +15,6 @@ use automaton_steps::project_step::project_step;
 use automaton_steps::read_step::read_step;
 use automaton_steps::reverse_step::reverse_step;
 use automaton_steps::valid_step::valid_step;
-use constants::constant_step::constant_step;
 use digit_tuple::dfa::Dfa;
 use digit_tuple::direction::Direction;
 use digit_tuple::name::Name;
@@ -23,6 +22,7 @@ use digit_tuple::names::find_name;
 use digit_tuple::step_fault::StepFault;
 use digit_tuple::steps::Steps;
 use minimise::tracked::Tracked;
+use number_relations::constant::constant_step;
 use product_op::joint_tracks::agree_on_shared;
 use product_op::languages::are_languages;
 use product_op::op::Op;
@@ -145,10 +145,11 @@ fn number_in(
     number: u64,
     steps: &mut Steps,
 ) -> Result<String, RowFault> {
-    let system = sealed(alloc, 2, direction, 1000)?;
-    let language = system.language();
-    let made = constant_step(alloc, language, system.direction(), number, steps);
-    made_table(alloc, made)
+    let system = Rc::new(alloc, sealed(alloc, 2, direction, 1000)?)?;
+    match constant_step(alloc, &system, number, &Name::new(alloc, "x")?, steps) {
+        Ok(relation) => table_of(alloc, relation.dfa()),
+        Err(fault) => Err(RowFault::Step(fault)),
+    }
 }
 
 // The product of the two, of which the valid words are all those of their digits.

@@ -3,18 +3,16 @@ use Rattle.std.proofs.Common.{◌≡◌, ◌≢◌, ℕ, ◌+◌, ◌*◌, List,
 use Rattle.std.specs.List.{AllByRecursion, Contains}
 use Rattle.std.proofs.lemmas.List.Elements.{All-contains}
 use Rattle.digit_tuple.specs.Names.{joint_names, names_without}
-use Rattle.digit_tuple.specs.declared.steps.StepLine.{StepLine}
 use Rattle.digit_tuple.proofs.JointNames.{AreJoint-joint_names}
 use Rattle.digit_tuple.proofs.MemberLemmas.{Contains-cases, Contains-head, Contains-none, Contains-tail}
-use Rattle.product_op.specs.declared.op.Op.{Op}
 use Rattle.product_op.specs.declared.op.Op.TheVariants.{And}
 use Rattle.project_close.proofs.ProjectionLemmas.{names_without-there}
 use Rattle.num_system.specs.Sealed.{SystemValue}
 use Rattle.number_relations.specs.Relations.{RelationValue, IsRelation, RelationHolds}
 use Rattle.number_relations.specs.Placed.{each_once}
 use Rattle.number_relations.specs.Comparisons.{IsSumRelation}
-use Rattle.number_relations.specs.Joins.{AgreeOnSystems, HaveOneDirection, IsRelationJoin, IsRelationJoinStep}
-use Rattle.number_relations.specs.Projections.{IsRelationProjection, IsRelationProjectStep}
+use Rattle.number_relations.specs.Joins.{AgreeOnSystems, HaveOneDirection, IsRelationJoin}
+use Rattle.number_relations.specs.Projections.{IsRelationProjection}
 use Rattle.number_relations.specs.Multiples.{IsMultiple}
 use Rattle.number_relations.proofs.JoinLemmas.{join_is}
 use Rattle.number_relations.proofs.JointSystems.{joint_all}
@@ -22,13 +20,6 @@ use Rattle.number_relations.proofs.NamedSteps.{changed, changed_other, changed_t
 use Rattle.number_relations.proofs.OverOne.{agree_over, direction_over, over_among, over_named, over_systems}
 use Rattle.number_relations.proofs.PlacedLemmas.{all_under}
 use Rattle.number_relations.proofs.ProjectLemmas.{projection_is}
-
--- what a step makes
-pub join_of : (limit : ℕ) (op : Op) (a b c : RelationValue) (line : StepLine) → IsRelationJoinStep limit op a b c line → IsRelationJoin op a b c
-join_of limit op a b c line made = record { systems = made.systems; join = made.step.join }
-
-pub projection_of : (limit : ℕ) (track : List ℕ) (a c : RelationValue) (line : StepLine) → IsRelationProjectStep limit track a c line → IsRelationProjection track a c
-projection_of limit track a c line made = record { systems = made.systems; projection = made.step.projection }
 
 -- twice so many times a number, and once more
 doubled : (k c n m : ℕ) → c ≡ k + k → m ≡ k * n → m + m ≡ c * n

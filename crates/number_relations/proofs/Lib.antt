@@ -14,12 +14,13 @@ pub mod JoinLemmas
 pub mod ComplementLemmas
 pub mod ProjectLemmas
 pub mod ConstantRelations
+pub mod ConstantSteps
 pub mod StepOutcomes
 pub mod StepsDone
+pub mod SomeMade
 pub mod NamedSteps
 pub mod OverOne
 pub mod GrowthLemmas
 pub mod MultipleLemmas
 pub mod MultiplesDone
 pub mod ReadingLemmas
-pub mod ReadingsDone

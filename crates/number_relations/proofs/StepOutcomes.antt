@@ -1,91 +1,79 @@
 -- Each step on relations has one outcome.
-use Rattle.std.proofs.Common.{◌≡◌, ℕ, List, [], ◌∷◌, sym, ap, ◌∙◌, subst}
-use Rattle.digit_tuple.specs.Deterministic.{Automaton, accepts_of, states_of}
+use Rattle.std.proofs.Common.{◌≡◌, ℕ, List, sym, ◌∙◌, subst}
+use Rattle.digit_tuple.specs.Deterministic.{Automaton, accepts_of}
 use Rattle.digit_tuple.specs.Letters.{IsWord, product}
-use Rattle.digit_tuple.specs.declared.kind.Kind.TheVariants as kinds
-use Rattle.digit_tuple.specs.declared.steps.StepLine.{StepLine}
-use Rattle.digit_tuple.proofs.WidthLemmas.{IsOneWidth-equivalence}
-use Rattle.minimise.proofs.CanonicalLemmas.{canonical_forms}
-use Rattle.numeration.specs.Representation.{sizes_of}
+use Rattle.digit_tuple.specs.StepResults.{Then}
+use Rattle.digit_tuple.specs.declared.direction.Direction.{Direction}
+use Rattle.digit_tuple.specs.declared.step_fault.StepFault.TheVariants.{Memory}
 use Rattle.digit_tuple.proofs.TruthLemmas.{same_tests}
-use Rattle.num_system.specs.Sealed.{SystemValue, system_of}
-use Rattle.constants.specs.Constants.{ConstantAlike}
-use Rattle.constants.specs.ConstantSteps.{IsConstantStep}
+use Rattle.minimise.specs.Canonical.{IsCanonical}
+use Rattle.minimise.proofs.CanonicalLemmas.{canonical_forms}
+use Rattle.product_op.proofs.WidthLaws.{IsEquivalence-product, IsEquivalence-validity}
+use Rattle.project_close.specs.StayingTracks.{staying_places}
+use Rattle.project_close.proofs.WidthLaws.{IsEquivalence-projection}
+use Rattle.numeration.specs.Systems.{System}
+use Rattle.automaton_steps.specs.Makings.{DoesStep}
+use Rattle.automaton_steps.specs.Numbered.{numbered}
+use Rattle.automaton_steps.specs.PadSteps.{pad_step}
+use Rattle.automaton_steps.specs.ReadSteps.{read_step}
+use Rattle.automaton_steps.proofs.OneAnswers.{pad_one, read_one}
+use Rattle.automaton_steps.proofs.OneResults.{one_join, one_on_tracks, one_projection}
+use Rattle.automaton_steps.proofs.StepAnswers.{step_one}
+use Rattle.automaton_steps.proofs.ThenAnswers.{then_one}
+use Rattle.constants.specs.Constants.{IsConstantOf}
 use Rattle.constants.proofs.ConstantWidthLemmas.{IsEquivalence-constant}
-use Rattle.automaton_steps.specs.StepLines.{IsStepLine}
-use Rattle.automaton_steps.proofs.OneLines.{one_line, not_beside}
-use Rattle.automaton_steps.proofs.OneOutcomes.{complement_outcome, join_outcome, project_outcome}
-use Rattle.number_relations.specs.Relations.{RelationValue, named_of, relation_over}
+use Rattle.num_system.specs.Sealed.{system_of}
 use Rattle.num_system.specs.Tracks.{languages_of, direction_of}
-use Rattle.number_relations.specs.Joins.{joint_systems}
-use Rattle.number_relations.specs.StepLaws.{RelationComplementHasOneOutcome, RelationConstantHasOneOutcome, RelationJoinHasOneOutcome, RelationProjectHasOneOutcome}
+use Rattle.number_relations.specs.Relations.{RelationValue, named_of, relation_over}
+use Rattle.number_relations.specs.Joins.{joint_systems, relation_join_step}
+use Rattle.number_relations.specs.Complements.{relation_complement_step}
+use Rattle.number_relations.specs.Projections.{relation_project_step}
+use Rattle.number_relations.specs.Constants.{relation_constant_step}
+use Rattle.number_relations.specs.Readings.{reading_valid_step}
+use Rattle.number_relations.specs.StepLaws.{ReadingHasOneAnswer, RelationComplementHasOneOutcome, RelationConstantHasOneOutcome, RelationJoinHasOneOutcome, RelationProjectHasOneOutcome}
 
 -- relations with one named automaton and the same systems are equal
 pub same_relation : (r s : RelationValue) → named_of r ≡ named_of s → r.systems ≡ s.systems → r ≡ s
 same_relation r s named systems = λ i. relation_over (named i) (systems i)
 
 pub join_one : RelationJoinHasOneOutcome
-join_one limit op a b =
-    let one = join_outcome limit op (languages_of (joint_systems a b)) (named_of a) (named_of b) in
-    record {
-      result = λ c d line next first second. same_relation c d (one.result (named_of c) (named_of d) line next first.step second.step) (first.systems ∙ sym second.systems);
-      line = λ c d line next first second. one.line (named_of c) (named_of d) line next first.step second.step;
-      no_letters = λ c line made. one.no_letters (named_of c) line made.step;
-      no_states = λ c line made. one.no_states (named_of c) line made.step;
-      one_limit = one.one_limit;
-    }
+join_one op a b =
+    let languages = languages_of (joint_systems a b) in
+    step_one (relation_join_step op a b) (IsEquivalence-product op (named_of a) (named_of b) languages)
+    (λ c d first second. same_relation c d (one_join op languages (named_of a) (named_of b) (named_of c) (named_of d) first.join second.join) (first.systems ∙ sym second.systems))
 
 pub complement_one : RelationComplementHasOneOutcome
-complement_one limit a =
-    let one = complement_outcome limit (languages_of a.systems) (named_of a) in
-    record {
-      result = λ c d line next first second. same_relation c d (one.result (named_of c) (named_of d) line next first.step second.step) (first.systems ∙ sym second.systems);
-      line = λ c d line next first second. one.line (named_of c) (named_of d) line next first.step second.step;
-      no_letters = λ c line made. one.no_letters (named_of c) line made.step;
-      no_states = λ c line made. one.no_states (named_of c) line made.step;
-      one_limit = one.one_limit;
-    }
+complement_one a =
+    step_one (relation_complement_step a) (IsEquivalence-validity (named_of a) (languages_of a.systems))
+    (λ c d first second. same_relation c d (one_on_tracks (named_of a) _ (named_of c) (named_of d) first.complement second.complement) (first.systems ∙ sym second.systems))
 
 pub project_one : RelationProjectHasOneOutcome
-project_one limit track a =
-    let one = project_outcome limit (direction_of a.systems) track (named_of a) in
-    record {
-      result = λ c d line next first second. same_relation c d (one.result (named_of c) (named_of d) line next first.step second.step) (first.systems ∙ sym second.systems);
-      line = λ c d line next first second. one.line (named_of c) (named_of d) line next first.step second.step;
-      no_letters = λ c line made. one.no_letters (named_of c) line made.step;
-      no_states = λ c line made. one.no_states (named_of c) line made.step;
-      one_limit = one.one_limit;
-    }
+project_one track a =
+    let direction = direction_of a.systems in
+    step_one (relation_project_step track a) (IsEquivalence-projection a.automaton (staying_places (named_of a) track) direction)
+    (λ c d first second. same_relation c d (one_projection direction track (named_of a) (named_of c) (named_of d) first.projection second.projection) (first.systems ∙ sym second.systems))
 
-module _ (limit : ℕ) (system : SystemValue) (number : ℕ) where
-  abbrev Alike : List ℕ → List ℕ → Type 0
-  Alike = ConstantAlike system.direction (system_of system) number
-
-  constant_line : (d : Automaton) (line : StepLine) → IsConstantStep limit system.direction (system_of system) number d line → IsStepLine limit kinds.Const Alike system.digits (states_of d) line
-  constant_line d line made = record { kind_is = made.kind_is; width = made.width; size_is = made.size_is; small = made.small; within = made.within }
-
-  -- a number has one canonical automaton
-  one_constant : (d e : Automaton) (line next : StepLine) → IsConstantStep limit system.direction (system_of system) number d line → IsConstantStep limit system.direction (system_of system) number e next → d ≡ e
-  one_constant d e line next first second =
-      canonical_forms d e first.canonical second.canonical (first.constant.sizes ∙ sym second.constant.sizes)
-      (λ w over.
-      let here : IsWord (product (sizes_of (system_of system ∷ []))) w = subst (λ (sizes : List ℕ). IsWord (product sizes) w) first.constant.sizes over in
-      let one = first.constant.accepts w here in
-      let other = second.constant.accepts w here in
-      same_tests (accepts_of d w) (accepts_of e w) (λ is. other.1 (one.0 is), λ is. one.1 (other.0 is)))
+-- a number has one canonical automaton
+one_constant : (direction : Direction) (s : System) (number : ℕ) (d e : Automaton) → IsConstantOf direction s number d → IsConstantOf direction s number e → IsCanonical d → IsCanonical e → d ≡ e
+one_constant direction s number d e first second canonical also =
+    canonical_forms d e canonical also (first.sizes ∙ sym second.sizes)
+    (λ w over.
+    let here = subst (λ (sizes : List ℕ). IsWord (product sizes) w) first.sizes over in
+    let one = first.accepts w here in
+    let other = second.accepts w here in
+    same_tests (accepts_of d w) (accepts_of e w) (λ is. other.1 (one.0 is), λ is. one.1 (other.0 is)))
 
 pub constant_one : RelationConstantHasOneOutcome
-constant_one limit system number name =
-    let alike : List ℕ → List ℕ → Type 0 = ConstantAlike system.direction (system_of system) number in
-    let width = IsOneWidth-equivalence alike system.digits (IsEquivalence-constant system.direction (system_of system) number) in
-    record {
-      result = λ c d line next first second.
-          let automata = one_constant limit system number c.automaton d.automaton line next first.step second.step in
-          same_relation c d (λ i. record { names = (first.names ∙ sym second.names) i; automaton = automata i }) (first.systems ∙ sym second.systems);
-      line = λ c d line next first second.
-          one_line alike system.digits width limit (states_of c.automaton) (states_of d.automaton) kinds.Const line next (constant_line limit system number c.automaton line first.step) (constant_line limit system number d.automaton next second.step)
-          (ap states_of (one_constant limit system number c.automaton d.automaton line next first.step second.step));
-      no_letters = λ c line made none. none;
-      no_states = λ c line made. not_beside alike system.digits width limit (states_of c.automaton) kinds.Const line (constant_line limit system number c.automaton line made.step);
-      one_limit = λ none. absurd none;
-    }
+constant_one system number name =
+    step_one (relation_constant_step system number name) (IsEquivalence-constant system.direction (system_of system) number)
+    (λ c d first second.
+    let automata = one_constant system.direction (system_of system) number c.automaton d.automaton first.constant second.constant first.canonical second.canonical in
+    same_relation c d (λ i. record { names = (first.names ∙ sym second.names) i; automaton = automata i }) (first.systems ∙ sym second.systems))
+
+pub reading_one : ReadingHasOneAnswer
+reading_one systems listed =
+    let direction = direction_of systems in
+    then_one Memory (DoesStep (read_step listed)) (λ read. Then (DoesStep (pad_step direction read)) (λ closed. DoesStep (reading_valid_step systems closed))) (read_one listed)
+    (λ read. then_one Memory (DoesStep (pad_step direction read)) (λ closed. DoesStep (reading_valid_step systems closed)) (pad_one direction read)
+    (λ closed. step_one (reading_valid_step systems closed) (IsEquivalence-validity (numbered closed) (languages_of systems))
+    (λ r s first second. same_relation r s (one_on_tracks (numbered closed) _ (named_of r) (named_of s) first.part second.part) (first.systems_are ∙ sym second.systems_are))))

@@ -1,86 +1,82 @@
 -- A step on automata is one on relations.
-use Rattle.std.proofs.Common.{◌≡◌, ℕ, List, [], ◌∷◌, ap, sym, ◌∙◌, subst}
-use Rattle.digit_tuple.specs.Deterministic.{Automaton}
-use Rattle.digit_tuple.specs.StepResults.{IsDone, IsRefusedBy}
-use Rattle.digit_tuple.specs.Steps.{StepLog}
+use Rattle.std.proofs.Common.{◌≡◌, ℕ, List, Ok, Err, refl, ap, ◌∙◌, subst}
+use Rattle.digit_tuple.specs.Deterministic.{Automaton, states_of}
+use Rattle.digit_tuple.specs.StepResults.{IsLineOf}
+use Rattle.digit_tuple.specs.Steps.{Step, StepLog}
 use Rattle.digit_tuple.specs.declared.direction.Direction.{Direction}
 use Rattle.digit_tuple.specs.declared.step_fault.StepFault.{StepFault}
-use Rattle.digit_tuple.specs.declared.steps.StepLine.{StepLine}
 use Rattle.minimise.specs.Tracked.{NamedAutomaton}
 use Rattle.product_op.specs.declared.op.Op.{Op}
-use Rattle.numeration.specs.Relations.{IsLanguageOf}
-use Rattle.num_system.specs.Sealed.{SystemValue, system_of, IsSealed}
-use Rattle.constants.specs.ConstantSteps.{IsConstantStep, ConstantExceeds}
-use Rattle.automaton_steps.specs.StepLines.{IsRefused}
-use Rattle.automaton_steps.specs.JoinSteps.{IsJoinStep}
-use Rattle.automaton_steps.specs.ComplementSteps.{IsComplementStep, ComplementExceeds}
-use Rattle.automaton_steps.specs.ProjectSteps.{IsProjectStep}
+use Rattle.automaton_steps.specs.JoinSteps.{IsJoin, join_step}
+use Rattle.automaton_steps.specs.Makings.{Making, DoesStep, IsRefusedStep}
+use Rattle.automaton_steps.specs.ProjectSteps.{IsProjection, project_step}
+use Rattle.automaton_steps.specs.ValiditySteps.{IsComplement, complement_step}
+use Rattle.num_system.specs.Sealed.{SystemValue}
 use Rattle.num_system.specs.Tracks.{direction_of, languages_of}
 use Rattle.number_relations.specs.Relations.{RelationValue, named_of, relation_over}
-use Rattle.number_relations.specs.Joins.{IsRelationJoinStep, joint_systems}
-use Rattle.number_relations.specs.Complements.{IsRelationComplement, IsRelationComplementStep, RelationComplementExceeds}
-use Rattle.number_relations.specs.Projections.{IsRelationProjectStep, staying_systems}
-use Rattle.number_relations.specs.Constants.{IsRelationConstant, IsRelationConstantStep, RelationConstantExceeds}
+use Rattle.number_relations.specs.Joins.{IsRelationJoin, joint_systems, relation_join_step}
+use Rattle.number_relations.specs.Complements.{IsRelationComplement, relation_complement_step}
+use Rattle.number_relations.specs.Projections.{IsRelationProjection, relation_project_step, staying_systems}
 
-module _ (old new : StepLog) (op : Op) (a b : RelationValue) (systems : List SystemValue) (languages : List Automaton) (same : systems ≡ joint_systems a b) (are : languages ≡ languages_of systems) where
+-- a step that is done with one value is done with another one whose automaton has as many states
+pub step_done : {A B : Type 0} (first : Making A) (second : Making B) (a : A) (b : B) → first.step ≡ second.step → states_of (first.automaton_of a) ≡ states_of (second.automaton_of b)
+    → (first.IsMade a → second.IsMade b) → (old new : StepLog) → DoesStep first old (Ok a) new → DoesStep second old (Ok b) new
+step_done first second a b same states made old new done = record {
+  line = done.line;
+  step = record {
+    made_is = made done.step.made_is;
+    line_is =
+        subst (λ (n : ℕ). IsLineOf old.limit second.step n done.line) states (subst (λ (step : Step). IsLineOf old.limit step (states_of (first.automaton_of a)) done.line) same done.step.line_is);
+  };
+  new_is = done.new_is;
+}
+
+-- and is refused alike
+pub step_refused : {A B : Type 0} (first : Making A) (second : Making B) → first.step ≡ second.step → (old new : StepLog) (fault : StepFault) → DoesStep first old (Err fault) new
+    → DoesStep second old (Err fault) new
+step_refused first second same old new fault = subst (λ (step : Step). IsRefusedStep old step fault × (new ≡ old)) same
+
+module _ (op : Op) (a b : RelationValue) (systems : List SystemValue) (languages : List Automaton) (same : systems ≡ joint_systems a b) (are : languages ≡ languages_of systems) where
+  abbrev pub joins : Making NamedAutomaton
+  joins = join_step op languages (named_of a) (named_of b)
+
   languages_joint : languages ≡ languages_of (joint_systems a b)
   languages_joint = are ∙ ap languages_of same
 
-  pub join_done : (joined : NamedAutomaton) → IsDone old (IsJoinStep old.limit op languages (named_of a) (named_of b) joined) new → IsDone old (IsRelationJoinStep old.limit op a b (relation_over joined systems)) new
-  join_done joined done = record {
-    line = done.line;
-    step = record { systems = same; step = subst (λ (ls : List Automaton). IsJoinStep old.limit op ls (named_of a) (named_of b) joined done.line) languages_joint done.step };
-    new_is = done.new_is;
-  }
+  pub join_same : joins.step ≡ (relation_join_step op a b).step
+  join_same = ap (λ (ls : List Automaton). (join_step op ls (named_of a) (named_of b)).step) languages_joint
 
-module _ (old new : StepLog) (a : RelationValue) (systems : List SystemValue) (languages : List Automaton) (same : systems ≡ a.systems) (are : languages ≡ languages_of systems) where
+  pub join_made : (joined : NamedAutomaton) → IsJoin op languages (named_of a) (named_of b) joined → IsRelationJoin op a b (relation_over joined systems)
+  join_made joined is = record { systems = same; join = subst (λ (ls : List Automaton). IsJoin op ls (named_of a) (named_of b) joined) languages_joint is }
+
+  pub join_done : (joined : NamedAutomaton) (old new : StepLog) → DoesStep joins old (Ok joined) new → DoesStep (relation_join_step op a b) old (Ok (relation_over joined systems)) new
+  join_done joined = step_done joins (relation_join_step op a b) joined (relation_over joined systems) join_same refl (join_made joined)
+
+module _ (a : RelationValue) (systems : List SystemValue) (languages : List Automaton) (same : systems ≡ a.systems) (are : languages ≡ languages_of systems) where
+  abbrev pub complements : Making NamedAutomaton
+  complements = complement_step languages (named_of a)
+
   languages_own : languages ≡ languages_of a.systems
   languages_own = are ∙ ap languages_of same
 
-  pub complement_done : (complement : NamedAutomaton) → IsDone old (IsComplementStep old.limit languages (named_of a) complement) new → IsDone old (IsRelationComplementStep old.limit a (relation_over complement systems)) new
-  complement_done complement done = record {
-    line = done.line;
-    step = record { systems = same; step = subst (λ (ls : List Automaton). IsComplementStep old.limit ls (named_of a) complement done.line) languages_own done.step };
-    new_is = done.new_is;
-  }
+  pub complement_same : complements.step ≡ (relation_complement_step a).step
+  complement_same = ap (λ (ls : List Automaton). (complement_step ls (named_of a)).step) languages_own
 
-  pub complement_refused : (fault : StepFault) → IsRefused old ⊥ (ComplementExceeds old.limit languages (named_of a)) new fault → IsRefused old ⊥ (RelationComplementExceeds old.limit a) new fault
-  complement_refused fault refused = subst (λ (ls : List Automaton). IsRefused old ⊥ (ComplementExceeds old.limit ls (named_of a)) new fault) languages_own refused
+  pub complement_made : (complement : NamedAutomaton) → IsComplement languages (named_of a) complement → IsRelationComplement a (relation_over complement systems)
+  complement_made complement is = record { systems = same; complement = subst (λ (ls : List Automaton). IsComplement ls (named_of a) complement) languages_own is }
 
-module _ (old new : StepLog) (track : List ℕ) (a : RelationValue) (direction : Direction) (is : direction ≡ direction_of a.systems) where
-  pub project_done : (systems : List SystemValue) → systems ≡ staying_systems a track → (projected : NamedAutomaton) → IsDone old (IsProjectStep old.limit direction track (named_of a) projected) new
-      → IsDone old (IsRelationProjectStep old.limit track a (relation_over projected systems)) new
-  project_done systems same projected done = record {
-    line = done.line;
-    step = record { systems = same; step = subst (λ (w : Direction). IsProjectStep old.limit w track (named_of a) projected done.line) is done.step };
-    new_is = done.new_is;
-  }
+  pub complement_done : (complement : NamedAutomaton) (old new : StepLog) → DoesStep complements old (Ok complement) new → DoesStep (relation_complement_step a) old (Ok (relation_over complement systems)) new
+  complement_done complement = step_done complements (relation_complement_step a) complement (relation_over complement systems) complement_same refl (complement_made complement)
 
--- the language of a sealed system, seen in its parts
-pub constant_language : (system seen : SystemValue) (direction : Direction) (d : Automaton) → IsSealed system → seen ≡ system → direction ≡ seen.direction → d ≡ seen.language → IsLanguageOf direction (system_of system) d
-constant_language system seen direction d sealed same is_direction is =
-    subst (λ (w : Direction). IsLanguageOf w (system_of system) d) (sym (is_direction ∙ ap (λ (v : SystemValue). v.direction) same))
-    (subst (λ (e : Automaton). IsLanguageOf system.direction (system_of system) e) (sym (is ∙ ap (λ (v : SystemValue). v.language) same)) sealed.language)
+module _ (track : List ℕ) (a : RelationValue) (direction : Direction) (systems : List SystemValue) (is : direction ≡ direction_of a.systems) (same : systems ≡ staying_systems a track) where
+  abbrev pub projects : Making NamedAutomaton
+  projects = project_step direction track (named_of a)
 
-module _ (old new : StepLog) (system : SystemValue) (number : ℕ) (name : List ℕ) (direction : Direction) (is : direction ≡ system.direction) where
-  pub constant_done : (names : List (List ℕ)) (systems : List SystemValue) (d : Automaton) → names ≡ name ∷ [] → systems ≡ system ∷ []
-      → IsDone old (IsConstantStep old.limit direction (system_of system) number d) new
-      → IsDone old (IsRelationConstantStep old.limit system number name (record { names = names; systems = systems; automaton = d })) new
-  constant_done names systems d named same done = record {
-    line = done.line;
-    step = record { names = named; systems = same; step = subst (λ (w : Direction). IsConstantStep old.limit w (system_of system) number d done.line) is done.step };
-    new_is = done.new_is;
-  }
+  pub project_same : projects.step ≡ (relation_project_step track a).step
+  project_same = ap (λ (w : Direction). (project_step w track (named_of a)).step) is
 
-  pub constant_refused : (fault : StepFault) → IsRefusedBy old ⊥ (ConstantExceeds old.limit direction (system_of system) number) fault → new ≡ old → IsRefused old ⊥ (RelationConstantExceeds old.limit system number) new fault
-  constant_refused fault refused kept = record {
-    by_limit = subst (λ (w : Direction). IsRefusedBy old ⊥ (ConstantExceeds old.limit w (system_of system) number) fault) is refused;
-    same = kept;
-  }
+  pub project_made : (projected : NamedAutomaton) → IsProjection direction track (named_of a) projected → IsRelationProjection track a (relation_over projected systems)
+  project_made projected made = record { systems = same; projection = subst (λ (w : Direction). IsProjection w track (named_of a) projected) is made }
 
--- what a step makes
-pub complement_of : (limit : ℕ) (a c : RelationValue) (line : StepLine) → IsRelationComplementStep limit a c line → IsRelationComplement a c
-complement_of limit a c line made = record { systems = made.systems; complement = made.step.complement_is }
-
-pub constant_of : (limit : ℕ) (system : SystemValue) (number : ℕ) (name : List ℕ) (c : RelationValue) (line : StepLine) → IsRelationConstantStep limit system number name c line → IsRelationConstant system number name c
-constant_of limit system number name c line made = record { names = made.names; systems = made.systems; constant = made.step.constant; canonical = made.step.canonical }
+  pub project_done : (projected : NamedAutomaton) (old new : StepLog) → DoesStep projects old (Ok projected) new → DoesStep (relation_project_step track a) old (Ok (relation_over projected systems)) new
+  project_done projected = step_done projects (relation_project_step track a) projected (relation_over projected systems) project_same refl (project_made projected)

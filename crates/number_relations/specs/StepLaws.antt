@@ -1,24 +1,26 @@
 -- Laws of the relations that steps make, on tuples of numbers.
-use Rattle.number_relations.specs.Readings.{AreReadingSteps, IsListedOf}
-use Rattle.numeration.specs.Representation.{sizes_of}
-use Rattle.digit_tuple.specs.Automaton.{Branching}
+use Rattle.std.specs.Prelude.{◌≡◌, ℕ, ◌*◌, List, [], ◌∷◌, length, ◌↔◌, Ok}
 use Rattle.std.specs.List.{AllByRecursion}
-use Rattle.std.specs.Prelude.{◌≡◌, ℕ, ◌*◌, List, [], ◌∷◌, length, ◌↔◌}
+use Rattle.digit_tuple.specs.Automaton.{Branching}
 use Rattle.digit_tuple.specs.Names.{AreDistinct, places_of}
-use Rattle.digit_tuple.specs.declared.steps.StepLine.{StepLine}
+use Rattle.digit_tuple.specs.Steps.{StepLog}
+use Rattle.digit_tuple.specs.declared.step_fault.StepFault.TheVariants.{Memory}
 use Rattle.product_op.specs.declared.op.Op.{Op}
 use Rattle.project_close.specs.StayingTracks.{staying_places}
+use Rattle.numeration.specs.Representation.{sizes_of}
 use Rattle.numeration.specs.SomeTracks.{completed}
 use Rattle.num_system.specs.Joined.{joined, IsBound}
 use Rattle.num_system.specs.Sealed.{SystemValue, IsSealed}
-use Rattle.automaton_steps.specs.Laws.{HasOneOutcome}
 use Rattle.num_system.specs.Tracks.{ShareDirection, systems_of, direction_of, number_under}
+use Rattle.automaton_steps.specs.Laws.{HasOneOutcome}
+use Rattle.automaton_steps.specs.OneAnswers.{HasOneAnswer}
 use Rattle.number_relations.specs.Relations.{RelationValue, IsRelation, RelationHolds, named_of, systems_in}
-use Rattle.number_relations.specs.Joins.{AgreeOnSystems, HaveOneDirection, IsRelationJoin, IsRelationJoinStep, RelationJoinExceedsLetters, RelationJoinExceeds}
-use Rattle.number_relations.specs.Complements.{IsRelationComplement, IsRelationComplementStep, RelationComplementExceeds}
-use Rattle.number_relations.specs.Projections.{IsRelationProjection, IsRelationProjectStep, RelationProjectExceedsLetters, RelationProjectExceeds}
-use Rattle.number_relations.specs.Constants.{IsRelationConstant, IsRelationConstantStep, RelationConstantExceeds}
-use Rattle.number_relations.specs.Multiples.{AreMultipleSteps, IsMultiple}
+use Rattle.number_relations.specs.Joins.{AgreeOnSystems, HaveOneDirection, IsRelationJoin, relation_join_step}
+use Rattle.number_relations.specs.Complements.{IsRelationComplement, relation_complement_step}
+use Rattle.number_relations.specs.Projections.{IsRelationProjection, relation_project_step}
+use Rattle.number_relations.specs.Constants.{IsRelationConstant, relation_constant_step}
+use Rattle.number_relations.specs.Multiples.{DoesMultiple, IsMultiple}
+use Rattle.number_relations.specs.Readings.{DoesReading, IsListedOf}
 
 -- a join holds of numbers as the connective says of the relations on those of their tracks
 abbrev pub JoinsHold : Type 0
@@ -33,8 +35,7 @@ JoinsAreRelations = (op : Op) (a b c : RelationValue) → IsRelation a → IsRel
 
 -- the step has one outcome
 abbrev pub RelationJoinHasOneOutcome : Type 0
-RelationJoinHasOneOutcome = (limit : ℕ) (op : Op) (a b : RelationValue)
-    → HasOneOutcome RelationValue (IsRelationJoinStep limit op a b) (RelationJoinExceedsLetters a b) (RelationJoinExceeds limit op a b)
+RelationJoinHasOneOutcome = (op : Op) (a b : RelationValue) → HasOneOutcome (relation_join_step op a b)
 
 -- a complement holds of the numbers of which the relation does not hold
 abbrev pub ComplementsHold : Type 0
@@ -44,7 +45,7 @@ abbrev pub ComplementsAreRelations : Type 0
 ComplementsAreRelations = (a c : RelationValue) → IsRelation a → IsRelationComplement a c → IsRelation c
 
 abbrev pub RelationComplementHasOneOutcome : Type 0
-RelationComplementHasOneOutcome = (limit : ℕ) (a : RelationValue) → HasOneOutcome RelationValue (IsRelationComplementStep limit a) ⊥ (RelationComplementExceeds limit a)
+RelationComplementHasOneOutcome = (a : RelationValue) → HasOneOutcome (relation_complement_step a)
 
 -- a projection holds of numbers that some number on the dropped track completes to numbers of which the relation holds
 abbrev pub ProjectionsHold : Type 0
@@ -55,8 +56,7 @@ abbrev pub ProjectionsAreRelations : Type 0
 ProjectionsAreRelations = (track : List ℕ) (a c : RelationValue) → IsRelation a → IsRelationProjection track a c → IsRelation c
 
 abbrev pub RelationProjectHasOneOutcome : Type 0
-RelationProjectHasOneOutcome = (limit : ℕ) (track : List ℕ) (a : RelationValue)
-    → HasOneOutcome RelationValue (IsRelationProjectStep limit track a) (RelationProjectExceedsLetters track a) (RelationProjectExceeds limit track a)
+RelationProjectHasOneOutcome = (track : List ℕ) (a : RelationValue) → HasOneOutcome (relation_project_step track a)
 
 -- a constant holds of its number alone
 abbrev pub ConstantsHold : Type 0
@@ -67,13 +67,12 @@ abbrev pub ConstantsAreRelations : Type 0
 ConstantsAreRelations = (system : SystemValue) (number : ℕ) (name : List ℕ) (c : RelationValue) → IsSealed system → IsRelationConstant system number name c → IsRelation c
 
 abbrev pub RelationConstantHasOneOutcome : Type 0
-RelationConstantHasOneOutcome = (limit : ℕ) (system : SystemValue) (number : ℕ) (name : List ℕ)
-    → HasOneOutcome RelationValue (IsRelationConstantStep limit system number name) ⊥ (RelationConstantExceeds limit system number)
+RelationConstantHasOneOutcome = (system : SystemValue) (number : ℕ) (name : List ℕ) → HasOneOutcome (relation_constant_step system number name)
 
 -- the steps of a factor make its multiple
 abbrev pub StepsMakeMultiples : Type 0
-StepsMakeMultiples = (limit : ℕ) (system : SystemValue) (factor : ℕ) (x y w : List ℕ) (lines : List StepLine) (r : RelationValue) → IsSealed system → AreDistinct (x ∷ y ∷ w ∷ [])
-    → AreMultipleSteps limit system factor x y w lines r → IsMultiple system factor x y r
+StepsMakeMultiples = (system : SystemValue) (factor : ℕ) (x y w : List ℕ) (old new : StepLog) (r : RelationValue) → IsSealed system → AreDistinct (x ∷ y ∷ w ∷ [])
+    → DoesMultiple system factor x y w old (Ok r) new → IsMultiple system factor x y r
 
 -- a multiple holds of two numbers where the one is so many times the other
 abbrev pub MultiplesHold : Type 0
@@ -82,10 +81,14 @@ MultiplesHold = (system : SystemValue) (factor : ℕ) (x y : List ℕ) (r : Rela
 
 -- a relation that was read holds of the numbers of which some representation is accepted by the listed automaton, and is a relation
 abbrev pub ReadingsHold : Type 0
-ReadingsHold = (limit : ℕ) (systems : List SystemValue) (listed : Branching) (r : RelationValue) (lines : List StepLine) (ns : List ℕ)
-    → AllByRecursion IsSealed systems → ShareDirection systems → listed.sizes ≡ sizes_of (systems_of systems) → AreReadingSteps limit systems listed r lines → length ns ≡ length systems
+ReadingsHold = (systems : List SystemValue) (listed : Branching) (old new : StepLog) (r : RelationValue) (ns : List ℕ)
+    → AllByRecursion IsSealed systems → ShareDirection systems → listed.sizes ≡ sizes_of (systems_of systems) → DoesReading systems listed old (Ok r) new → length ns ≡ length systems
     → RelationHolds r ns ↔ IsListedOf (direction_of systems) (systems_of systems) listed ns
 
 abbrev pub ReadingsAreRelations : Type 0
-ReadingsAreRelations = (limit : ℕ) (systems : List SystemValue) (listed : Branching) (r : RelationValue) (lines : List StepLine)
-    → AllByRecursion IsSealed systems → ShareDirection systems → listed.sizes ≡ sizes_of (systems_of systems) → AreReadingSteps limit systems listed r lines → IsRelation r
+ReadingsAreRelations = (systems : List SystemValue) (listed : Branching) (old new : StepLog) (r : RelationValue)
+    → AllByRecursion IsSealed systems → ShareDirection systems → listed.sizes ≡ sizes_of (systems_of systems) → DoesReading systems listed old (Ok r) new → IsRelation r
+
+-- its steps have one answer
+abbrev pub ReadingHasOneAnswer : Type 0
+ReadingHasOneAnswer = (systems : List SystemValue) (listed : Branching) → HasOneAnswer Memory (DoesReading systems listed)

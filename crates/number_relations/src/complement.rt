@@ -1,6 +1,7 @@
 //! Complements of relations.
 
-ghost use Rattle.number_relations.specs.Complements.{DoesRelationComplement};
+ghost use Rattle.automaton_steps.specs.Makings.{DoesStep};
+ghost use Rattle.number_relations.specs.Complements.{relation_complement_step};
 
 use crate::placed::systems_for;
 use crate::relation::Relation;
@@ -21,7 +22,7 @@ pub fn complement_step(
     argument: &Relation,
     steps: &mut Steps,
 ) -> Result<Relation, StepFault>
-    ensures { DoesRelationComplement steps.old argument.now result steps.new }
+    ensures { DoesStep (relation_complement_step argument.now) steps.old result steps.new }
 {
     let names = argument.names();
     let systems = systems_for(alloc, argument.systems(), names, names)?;

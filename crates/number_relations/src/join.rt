@@ -1,7 +1,8 @@
 //! Relations joined by a connective.
 
 ghost use Rattle.num_system.specs.Joined.{IsBound};
-ghost use Rattle.number_relations.specs.Joins.{AgreeOnSystems, HaveOneDirection, DoesRelationJoin};
+ghost use Rattle.automaton_steps.specs.Makings.{DoesStep};
+ghost use Rattle.number_relations.specs.Joins.{AgreeOnSystems, HaveOneDirection, relation_join_step};
 
 use crate::relation::Relation;
 use crate::track_systems::joint_systems;
@@ -34,7 +35,7 @@ pub fn join_step(
     requires agree { AgreeOnSystems a.now b.now }
     requires direction { HaveOneDirection a.now b.now }
     requires bound { IsBound op a.now.names b.now.names }
-    ensures { DoesRelationJoin steps.old op a.now b.now result steps.new }
+    ensures { DoesStep (relation_join_step op a.now b.now) steps.old result steps.new }
 {
     let names = joint_names(alloc, a.names(), b.names())?;
     let systems = joint_systems(alloc, a, b, &names)?;

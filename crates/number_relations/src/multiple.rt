@@ -48,7 +48,7 @@ pub fn multiple_steps(
     steps: &mut Steps,
 ) -> Result<Relation, StepFault>
     requires { AreDistinct (names.number.now ∷ names.multiple.now ∷ names.between.now ∷ []) }
-    ensures steps { DoesMultiple steps.old system.now.value factor names.entry.number.now names.entry.multiple.now names.entry.between.now result steps.new }
+    ensures steps { DoesMultiple system.now.value factor names.entry.number.now names.entry.multiple.now names.entry.between.now steps.old result steps.new }
     ensures multiple { IfOk result (IsMultiple system.now.value factor names.entry.number.now names.entry.multiple.now) }
 {
     is_sealed(system.as_ref());
@@ -88,7 +88,7 @@ fn nothing_steps(
     multiple: &Name,
     steps: &mut Steps,
 ) -> Result<Relation, StepFault>
-    ensures { DoesMultiple steps.old system.now.value 0 number.now multiple.now multiple.now result steps.new }
+    ensures { DoesMultiple system.now.value 0 number.now multiple.now multiple.now steps.old result steps.new }
 {
     let zero = constant_step(alloc, system, 0, multiple, steps)?;
     let any = Relation::number(alloc, system, number)?;
@@ -113,7 +113,7 @@ fn growth_steps(
 ) -> Result<Relation, StepFault>
     requires relation { IsRelation relation.now }
     requires systems { AllByRecursion (λ (s : SystemValue). s ≡ system.now.value) relation.now.systems }
-    ensures { DoesGrowth steps.old system.now.value growth.entry.added.now growth.entry.greater.now growth.entry.lesser.now relation.now result steps.new }
+    ensures { DoesGrowth system.now.value growth.entry.added.now growth.entry.greater.now growth.entry.lesser.now relation.now steps.old result steps.new }
 {
     let Growth {
         lesser,

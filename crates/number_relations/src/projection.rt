@@ -1,7 +1,8 @@
 //! Projections of relations.
 
 ghost use Rattle.std.specs.List.{Contains};
-ghost use Rattle.number_relations.specs.Projections.{DoesRelationProject};
+ghost use Rattle.automaton_steps.specs.Makings.{DoesStep};
+ghost use Rattle.number_relations.specs.Projections.{relation_project_step};
 
 use crate::placed::systems_for;
 use crate::relation::Relation;
@@ -27,7 +28,7 @@ pub fn project_step(
     steps: &mut Steps,
 ) -> Result<Relation, StepFault>
     requires there { Contains argument.now.names track.now }
-    ensures { DoesRelationProject steps.old track.now argument.now result steps.new }
+    ensures { DoesStep (relation_project_step track.now argument.now) steps.old result steps.new }
 {
     let names = names_without(alloc, argument.names(), track)?;
     let systems = systems_for(alloc, argument.systems(), argument.names(), &names)?;

@@ -36,10 +36,9 @@ pub fn reading_steps(
 ) -> Result<Relation, StepFault>
     requires sizes { listed.now.sizes ≡ sizes_of (systems_of (map rc_value systems.now)) }
     requires direction { ShareDirection (map rc_value systems.now) }
-    ensures { DoesReading steps.old (map rc_value systems.now) listed.now result steps.new }
+    ensures { DoesReading (map rc_value systems.now) listed.now steps.old result steps.new }
 {
     are_sealed(systems);
-    let _ = listed.alphabet().tracks();
     let kept = shared(alloc, systems)?;
     let languages = languages_of(alloc, systems)?;
     let read = read_step(alloc, listed, steps)?;

@@ -1,6 +1,6 @@
 //! Laws of the relations that steps make, each a call that does nothing.
 
-ghost use Rattle.number_relations.specs.StepLaws.{ComplementsAreRelations, ComplementsHold, ConstantsAreRelations, ConstantsHold, JoinsAreRelations, JoinsHold, MultiplesHold, ProjectionsAreRelations, ProjectionsHold, ReadingsAreRelations, ReadingsHold, RelationComplementHasOneOutcome, RelationConstantHasOneOutcome, RelationJoinHasOneOutcome, RelationProjectHasOneOutcome, StepsMakeMultiples};
+ghost use Rattle.number_relations.specs.StepLaws.{ComplementsAreRelations, ComplementsHold, ConstantsAreRelations, ConstantsHold, JoinsAreRelations, JoinsHold, MultiplesHold, ProjectionsAreRelations, ProjectionsHold, ReadingHasOneAnswer, ReadingsAreRelations, ReadingsHold, RelationComplementHasOneOutcome, RelationConstantHasOneOutcome, RelationJoinHasOneOutcome, RelationProjectHasOneOutcome, StepsMakeMultiples};
 
 /// A join holds of numbers as its connective says of the relations on those of their tracks. The step has
 /// one outcome.
@@ -39,8 +39,10 @@ pub fn multiples_hold()
     ensures steps { StepsMakeMultiples }
 {}
 
-/// A relation that was read holds of the numbers of which some representation is accepted by the listed automaton.
+/// A relation that was read holds of the numbers of which some representation is accepted by the listed automaton. Its
+/// steps have one answer.
 pub fn readings_hold()
     ensures holds { ReadingsHold }
     ensures relation { ReadingsAreRelations }
+    ensures one { ReadingHasOneAnswer }
 {}

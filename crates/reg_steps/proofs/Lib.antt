@@ -4,4 +4,3 @@ pub mod OneRegex
 pub mod RelationLemmas
 pub mod OneRelation
 pub mod OneLanguages
-pub mod RelationDone

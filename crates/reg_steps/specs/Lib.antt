@@ -3,5 +3,3 @@ pub mod RegexSteps
 pub mod RelationSteps
 pub mod Relations
 pub mod Laws
--- what functions inside the crate do
-pub mod Refusals

@@ -1,36 +1,19 @@
--- The three steps that make the automaton of an expression over numeration systems, and how they pass a limit.
-use Rattle.std.specs.Prelude.{ℕ, ℤ, List}
+-- The steps that make the automaton of an expression over numeration systems.
+use Rattle.std.specs.Prelude.{ℤ, List, Result}
 use Rattle.digit_tuple.specs.Deterministic.{Automaton}
+use Rattle.digit_tuple.specs.StepResults.{Then}
+use Rattle.digit_tuple.specs.Steps.{StepLog}
 use Rattle.digit_tuple.specs.declared.direction.Direction.{Direction}
-use Rattle.digit_tuple.specs.declared.steps.StepLine.{StepLine}
+use Rattle.digit_tuple.specs.declared.step_fault.StepFault.{StepFault}
+use Rattle.minimise.specs.Tracked.{NamedAutomaton}
 use Rattle.regex_build.specs.Expression.{Expression}
-use Rattle.reg_steps.specs.RegexSteps.{IsRegexStep}
-use Rattle.automaton_steps.specs.PadSteps.{IsPadStep, PadExceeds}
-use Rattle.automaton_steps.specs.ValidSteps.{IsValidStep, ValidExceeds}
+use Rattle.automaton_steps.specs.Makings.{DoesStep}
 use Rattle.automaton_steps.specs.Numbered.{numbered}
+use Rattle.automaton_steps.specs.PadSteps.{pad_step}
+use Rattle.automaton_steps.specs.ValiditySteps.{valid_step}
+use Rattle.reg_steps.specs.RegexSteps.{regex_step}
 
--- the expression's own automaton, and the closure of that, each by a step
-pub record IsClosed (limit : ℕ) (direction : Direction) (sets : List (List ℤ)) (expression : Expression (List ℤ)) : Type 0 where
-  pub matches : Automaton
-  pub closed : Automaton
-  pub regex : StepLine
-  pub pad : StepLine
-  pub regex_step : IsRegexStep limit sets expression matches regex
-  pub pad_step : IsPadStep limit direction matches closed pad
-
--- the steps regex, pad and valid make this automaton
-pub record AreRelationSteps (limit : ℕ) (direction : Direction) (languages : List Automaton) (sets : List (List ℤ)) (expression : Expression (List ℤ)) (automaton : Automaton) (valid : StepLine) : Type 0 where
-  pub before : IsClosed limit direction sets expression
-  pub valid_step : IsValidStep limit languages (numbered before.closed) (numbered automaton) valid
-
--- the second step passes the limit
-pub record SecondExceeds (limit : ℕ) (direction : Direction) (sets : List (List ℤ)) (expression : Expression (List ℤ)) : Type 0 where
-  pub matches : Automaton
-  pub regex : StepLine
-  pub regex_step : IsRegexStep limit sets expression matches regex
-  pub exceeds : PadExceeds limit direction matches
-
--- the third step passes the limit
-pub record ThirdExceeds (limit : ℕ) (direction : Direction) (languages : List Automaton) (sets : List (List ℤ)) (expression : Expression (List ℤ)) : Type 0 where
-  pub before : IsClosed limit direction sets expression
-  pub exceeds : ValidExceeds limit languages (numbered before.closed)
+-- the steps regex, pad and valid, over the languages of the tracks
+abbrev pub DoesRelation : Direction → List Automaton → List (List ℤ) → Expression (List ℤ) → StepLog → Result NamedAutomaton StepFault → StepLog → Type 0
+DoesRelation direction languages sets expression =
+    Then (DoesStep (regex_step sets expression)) (λ matches. Then (DoesStep (pad_step direction matches)) (λ closed. DoesStep (valid_step languages (numbered closed))))

@@ -1,6 +1,7 @@
 //! The step `regex`.
 
-ghost use Rattle.reg_steps.specs.RegexSteps.{DoesRegex};
+ghost use Rattle.automaton_steps.specs.Makings.{DoesStep};
+ghost use Rattle.reg_steps.specs.RegexSteps.{regex_step as the_step};
 
 use digit_tuple::dfa::Dfa;
 use digit_tuple::faults::OpFault;
@@ -20,7 +21,7 @@ use std::alloc::Global;
 /// `Letters` if and only if the sets are too many or have too many tuples for an alphabet, looked at first; `States` if
 /// and only if the width passes the limit. The steps are as before then, also where memory is wanting.
 pub fn regex_step(alloc: Global, regex: &Regex, steps: &mut Steps) -> Result<Dfa, StepFault>
-    ensures { DoesRegex steps.old regex.now.sets regex.now.tree result steps.new }
+    ensures { DoesStep (the_step regex.now.sets regex.now.tree) steps.old result steps.new }
 {
     match build(alloc, regex, steps.limit()) {
         Ok(Stepped { result, width }) => {

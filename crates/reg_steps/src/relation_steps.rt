@@ -4,7 +4,7 @@ ghost use Rattle.std.specs.Prelude.{map};
 ghost use Rattle.std.specs.Rc.{rc_value};
 ghost use Rattle.digit_tuple.specs.Sets.{sizes_of};
 ghost use Rattle.product_op.specs.Validity.{AreLanguages};
-ghost use Rattle.reg_steps.specs.Refusals.{DoesRelation};
+ghost use Rattle.reg_steps.specs.RelationSteps.{DoesRelation};
 
 use crate::regex_step::regex_step;
 use automaton_steps::numbered::numbered;
@@ -38,7 +38,7 @@ pub fn relation_steps(
     steps: &mut Steps,
 ) -> Result<Tracked, StepFault>
     requires languages { AreLanguages (sizes_of regex.now.sets) (map rc_value languages.now) }
-    ensures { DoesRelation steps.old direction (map rc_value languages.now) regex.now.sets regex.now.tree result steps.new }
+    ensures { DoesRelation direction (map rc_value languages.now) regex.now.sets regex.now.tree steps.old result steps.new }
 {
     let matches = regex_step(alloc, regex, steps)?;
     let closed = pad_step(alloc, &matches, direction, steps)?;

@@ -6,11 +6,11 @@ use Rattle.std.specs.Prelude.{FitsSigned}
 use Rattle.digit_tuple.specs.Systems.{IsDigitCount}
 use Rattle.digit_tuple.specs.declared.direction.Direction.TheVariants.{Msd}
 use Rattle.digit_tuple.specs.declared.header.Header.TheVariants as headers
-use Rattle.digit_tuple.specs.declared.steps.StepLine.{StepLine}
 use Rattle.digit_tuple.specs.declared.systems.SystemTrack.{SystemTrack}
 use Rattle.base_k.specs.Positional.{base}
 use Rattle.dfa_text.specs.RelationText.{word_text}
-use Rattle.fixed_points.specs.Promotion.{IsPromoteStep}
+use Rattle.fixed_points.specs.Promotion.{IsFixedWord}
+use Rattle.morph_words.specs.MorphismKinds.{HasFixedPoint}
 use Rattle.morph_words.specs.Rules.{Rules}
 use Rattle.num_system.specs.Sealed.{SystemValue, system_of}
 use Rattle.num_system.specs.Tracks.{systems_of}
@@ -57,11 +57,12 @@ one_name k name (s ∷ t ∷ systems) within is = let long : length (systems_of 
 pub base_text_is : (k : ℕ) (word : WordValue) → systems_of word.systems ≡ base k ∷ [] → named_text (base_name k ∷ []) word ≡ text_of_word Msd (msd_base k ∷ []) word
 base_text_is k word is = ap (λ (ts : List SystemTrack). word_text (headers.Systems ts) word.function.automaton (outputs_of word.function)) (one_track k (base_name k) word.systems is)
 
-pub fixed_text : (custom : Custom) (limit : ℕ) (rules : Rules) (word : WordValue) (line : StepLine) (step : IsPromoteStep limit rules word line) → All (λ letter. FitsSigned w32 letter) word.function.letters → IsFixedText custom rules (named_text (base_name step.k ∷ []) word)
-fixed_text custom limit rules word line step fits =
-    let of_fixed : IsWordOfFixed rules step.k word = record { word_is = step.fixed_word.word_is; system = step.fixed_word.system; direction = step.fixed_word.direction; letters = step.fixed_word.letters } in
-    subst (λ (text : List ℕ). IsFixedText custom rules text) (sym (base_text_is step.k word step.fixed_word.system)) (fixed_word_text custom rules step.k word step.has of_fixed fits)
+pub fixed_text : (custom : Custom) (rules : Rules) (k : ℕ) (word : WordValue) → HasFixedPoint rules k → IsFixedWord rules k word → All (λ letter. FitsSigned w32 letter) word.function.letters
+    → IsFixedText custom rules (named_text (base_name k ∷ []) word)
+fixed_text custom rules k word has is fits =
+    let of_fixed : IsWordOfFixed rules k word = record { word_is = is.word_is; system = is.system; direction = is.direction; letters = is.letters } in
+    subst (λ (text : List ℕ). IsFixedText custom rules text) (sym (base_text_is k word is.system)) (fixed_word_text custom rules k word has of_fixed fits)
 
 -- and it is over its base
-pub over_base : (limit : ℕ) (rules : Rules) (word : WordValue) (line : StepLine) (step : IsPromoteStep limit rules word line) → IsOverBase word step.k
-over_base limit rules word line step = record { base_is = record { least = step.has.base.0; most = step.has.base.1 }; system = step.fixed_word.system }
+pub over_base : (rules : Rules) (k : ℕ) (word : WordValue) → HasFixedPoint rules k → IsFixedWord rules k word → IsOverBase word k
+over_base rules k word has is = record { base_is = record { least = has.base.0; most = has.base.1 }; system = is.system }

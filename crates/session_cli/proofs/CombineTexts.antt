@@ -105,7 +105,7 @@ module _ (automata : List ValuedName) (tables : List Loaded) (files : Files) (li
   h = headers_of tables
 
   combination : IsCombination steps.before.parts steps.before.tracks word
-  combination = steps.done.done.step.combination
+  combination = steps.done.1.step.made_is
 
   under_first : (vs : List ValuedName) (ps : List PartValue) → HaveSystemsOfFirst h (listed_names vs) → ArePartsFrom (relations_in steps.before.reads) 0 vs ps → AreSystemsFor ps steps.before.tracks
       → ((name : List ℕ) (r : RelationValue) → relation_named (relations_in steps.before.reads) name ≡ Some r → AreUnder steps.before.systems (automaton_tracks h name) r.systems) → AreUnder steps.before.systems (first_names h (listed_names vs)) steps.before.tracks

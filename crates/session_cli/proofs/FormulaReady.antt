@@ -71,10 +71,10 @@ module _ (r : Resolved) (read : ReadValue) (reads : List TableRead) (formula : t
 
   -- the steps were done, or stopped, after the tables were read
   pub steps_here : (admitted : StepLog) (custom : Custom) (reading new : StepLog) (result : Result RelationValue StepFault) → AreSealed systems → AreMeant custom systems → AreTablesRead systems admitted tables reads reading
-      → BuildsFormula reading (resolved_library r read) (formula_plan (headers_in r) (formula_of r)) result new → AreFormulaSteps admitted custom tables formula result new.lines
+      → BuildsFormula (resolved_library r read) (formula_plan (headers_in r) (formula_of r)) reading result new → AreFormulaSteps admitted custom tables formula result new.lines
   steps_here admitted custom reading new result are_sealed meant tables_read builds =
-      let two = subst (λ (l : LibraryValue). BuildsFormula reading l (formula_plan (headers_in r) (formula_of r)) result new) up.library builds in
-      let three = subst (λ (h : Headers). BuildsFormula reading (library_with reads systems) (formula_plan h (formula_of r)) result new) up.headers two in
+      let two = subst (λ (l : LibraryValue). BuildsFormula l (formula_plan (headers_in r) (formula_of r)) reading result new) up.library builds in
+      let three = subst (λ (h : Headers). BuildsFormula (library_with reads systems) (formula_plan h (formula_of r)) reading result new) up.headers two in
       record {
         systems = systems;
         sealed = are_sealed;
@@ -83,7 +83,7 @@ module _ (r : Resolved) (read : ReadValue) (reads : List TableRead) (formula : t
         reading = reading;
         read = tables_read;
         log = new;
-        builds = subst (λ (f : trees.Formula). BuildsFormula reading (library_with reads systems) (formula_plan (headers_of tables) f) result new) up.formula_is three;
+        builds = subst (λ (f : trees.Formula). BuildsFormula (library_with reads systems) (formula_plan (headers_of tables) f) reading result new) up.formula_is three;
         lines_are = refl;
       }
 

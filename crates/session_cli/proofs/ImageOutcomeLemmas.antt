@@ -8,6 +8,7 @@ use Rattle.digit_tuple.specs.Letters.{IsWord, product}
 use Rattle.digit_tuple.specs.Steps.{StepLog}
 use Rattle.digit_tuple.specs.declared.step_fault.StepFault.{StepFault}
 use Rattle.digit_tuple.specs.declared.step_fault.StepFault.TheVariants as faults
+use Rattle.automaton_steps.proofs.AnswerCases.{memory_alone, one_result, one_value, same_fault}
 use Rattle.minimise.proofs.OrderLemmas.{same_in_order}
 use Rattle.numeration.specs.Representation.{letters_in, sizes_of}
 use Rattle.num_system.specs.Sealed.{IsSealed, SystemValue}
@@ -24,13 +25,12 @@ use Rattle.word_output.proofs.OptionLemmas.{same_option}
 use Rattle.word_output.proofs.PlaceLaws.{letter_of_place, place_of_letter}
 use Rattle.number_relations.specs.Relations.{RelationValue}
 use Rattle.formula_parse.specs.Tokens.{Name}
-use Rattle.formula_build.specs.Building.{IsStopped}
 use Rattle.formula_build.specs.Libraries.{AreSealed, AreWords, IsLibrary, LibraryValue, NamedWord, with_word as with_named}
 use Rattle.formula_build.specs.OneBuilding.{Agree}
-use Rattle.formula_build.specs.Solutions.{IsFormulaBuilt}
+use Rattle.formula_build.specs.Solutions.{BuildsFormula}
 use Rattle.formula_build.proofs.OneBuildingLemmas.{one_building}
 use Rattle.combinations.specs.Parts.{PartValue}
-use Rattle.combinations.specs.CombineSteps.{IsCombineDone, IsCombineStepRefused}
+use Rattle.combinations.specs.CombineSteps.{DoesCombine}
 use Rattle.combinations.specs.declared.combine_fault.CombineFault.{CombineFault}
 use Rattle.combinations.specs.declared.combine_fault.CombineFault.TheVariants as combining
 use Rattle.combinations.proofs.OutcomeLemmas as combinations
@@ -101,10 +101,6 @@ module _ (rules : Rules) (word : WordValue) where
       same_in_order (λ b c. b <ℤ c) (λ b c less more. omega (arith, ints, less, more)) xs ys one.ascending two.ascending (λ b at. (two.members b).1 ((one.members b).0 at)) (λ b at. (one.members b).1 ((two.members b).0 at))
 
 -- what an outcome gives, where it is one
-abbrev ok_or : Result RelationValue StepFault → RelationValue → RelationValue
-ok_or (Ok r) d = r
-ok_or (Err fault) d = d
-
 abbrev err_or : Result RelationValue StepFault → StepFault → StepFault
 err_or (Ok r) d = d
 err_or (Err fault) d = fault
@@ -117,19 +113,18 @@ module _ (l : LibraryValue) (is : IsLibrary l) (s : Name) (k : ℕ) where
   agree : Agree l l
   agree = record { relations = refl; words = refl; systems = λ y a b first second. same_Some a b (sym first ∙ second) }
 
-  one_built : (b : ℤ) (old new next : StepLog) (r q : RelationValue) → IsFormulaBuilt old l (letter_plan s k b) r new → IsFormulaBuilt old l (letter_plan s k b) q next → (r ≡ q) × (new ≡ next)
+  one_built : (b : ℤ) (old new next : StepLog) (r q : RelationValue) → BuildsFormula l (letter_plan s k b) old (Ok r) new → BuildsFormula l (letter_plan s k b) old (Ok q) next → (r ≡ q) × (new ≡ next)
   one_built b old new next r q one two =
-      let both = one_building l l old new next (letter_plan s k b) (Ok r) (Ok q) is is agree one two (λ e. cc) (λ e. cc) in
-      (ap (λ x. ok_or x r) both.0, both.1)
+      one_value faults.Memory new next r q (one_building l l old new next (letter_plan s k b) (Ok r) (Ok q) is is agree one two)
 
-  not_both : (b : ℤ) (old new next : StepLog) (r : RelationValue) (fault : StepFault) → IsFormulaBuilt old l (letter_plan s k b) r new → IsStopped old l (letter_plan s k b).steps next fault → fault ≢ faults.Memory → ⊥
+  not_both : (b : ℤ) (old new next : StepLog) (r : RelationValue) (fault : StepFault) → BuildsFormula l (letter_plan s k b) old (Ok r) new → BuildsFormula l (letter_plan s k b) old (Err fault) next → fault ≢ faults.Memory → ⊥
   not_both b old new next r fault one two apart =
-      let both = one_building l l old new next (letter_plan s k b) (Ok r) (Err fault) is is agree one (inr two) (λ e. cc) (λ e. apart (ap (λ x. err_or x faults.Memory) e)) in
-      let same : Ok r ≡ Err fault = both.0 in cc
+      apart (memory_alone faults.Memory new next r fault (one_building l l old new next (letter_plan s k b) (Ok r) (Err fault) is is agree one two))
 
-  one_stopped : (b : ℤ) (old new next : StepLog) (fault other : StepFault) → IsStopped old l (letter_plan s k b).steps new fault → IsStopped old l (letter_plan s k b).steps next other → fault ≢ faults.Memory → other ≢ faults.Memory → (fault ≡ other) × (new ≡ next)
+  one_stopped : (b : ℤ) (old new next : StepLog) (fault other : StepFault) → BuildsFormula l (letter_plan s k b) old (Err fault) new → BuildsFormula l (letter_plan s k b) old (Err other) next → fault ≢ faults.Memory → other ≢ faults.Memory → (fault ≡ other) × (new ≡ next)
   one_stopped b old new next fault other one two apart away =
-      let both = one_building l l old new next (letter_plan s k b) (Err fault) (Err other) is is agree (inr one) (inr two) (λ e. apart (ap (λ x. err_or x faults.Memory) e)) (λ e. away (ap (λ x. err_or x faults.Memory) e)) in
+      let both = one_result faults.Memory new next (Err fault) (Err other) (one_building l l old new next (letter_plan s k b) (Err fault) (Err other) is is agree one two) (λ e. apart (ap (λ x. err_or x faults.Memory) e))
+      (λ e. away (ap (λ x. err_or x faults.Memory) e)) in
       (ap (λ x. err_or x fault) both.0, both.1)
 
   all_built : (bs : List ℤ) (old new next : StepLog) (parts others : List PartValue) → AreBuilt l s k old bs parts new → AreBuilt l s k old bs others next → (parts ≡ others) × (new ≡ next)
@@ -146,10 +141,10 @@ module _ (l : LibraryValue) (is : IsLibrary l) (s : Name) (k : ℕ) where
   -- the steps stop at a letter, read from the first
   abbrev StopsAt : StepLog → List ℤ → StepFault → StepLog → Type 0
   StopsAt old [] fault new = ⊥
-  StopsAt old (b ∷ bs) fault new = IsStopped old l (letter_plan s k b).steps new fault ⊎ ((r : RelationValue) × (middle : StepLog) × IsFormulaBuilt old l (letter_plan s k b) r middle × StopsAt middle bs fault new)
+  StopsAt old (b ∷ bs) fault new = BuildsFormula l (letter_plan s k b) old (Err fault) new ⊎ ((r : RelationValue) × (middle : StepLog) × BuildsFormula l (letter_plan s k b) old (Ok r) middle × StopsAt middle bs fault new)
 
-  stops_at : (prefix rest : List ℤ) (here : ℤ) (old middle new : StepLog) (parts : List PartValue) (fault : StepFault) → AreBuilt l s k old prefix parts middle → IsStopped middle l (letter_plan s k here).steps new fault → StopsAt old (prefix ++ here ∷ rest) fault new
-  stops_at [] rest here old middle new [] fault built stopped = inl (subst (λ m. IsStopped m l (letter_plan s k here).steps new fault) built stopped)
+  stops_at : (prefix rest : List ℤ) (here : ℤ) (old middle new : StepLog) (parts : List PartValue) (fault : StepFault) → AreBuilt l s k old prefix parts middle → BuildsFormula l (letter_plan s k here) middle (Err fault) new → StopsAt old (prefix ++ here ∷ rest) fault new
+  stops_at [] rest here old middle new [] fault built stopped = inl (subst (λ m. BuildsFormula l (letter_plan s k here) m (Err fault) new) built stopped)
   stops_at [] rest here old middle new (p ∷ ps) fault built stopped = absurd built
   stops_at (b ∷ prefix) rest here old middle new [] fault built stopped = absurd built
   stops_at (b ∷ prefix) rest here old middle new (p ∷ ps) fault (value, (between, first, more)) stopped = inr (p.relation, between, first, stops_at prefix rest here between middle new ps fault more stopped)
@@ -181,8 +176,8 @@ module _ (l : LibraryValue) (is : IsLibrary l) (s : Name) (k : ℕ) where
     one_combined : (v u : WordValue) (new next : StepLog) → IsCombined l word s k old letters v new → IsCombined l word s k old letters u next → (v ≡ u) × (new ≡ next)
     one_combined v u new next one two =
         let same = all_built letters old one.middle two.middle one.parts two.parts one.built two.built in
-        (combinations.one_outcome one.middle one.parts word.systems).words v u new next one.done
-        (subst (λ m. IsCombineDone m one.parts word.systems u next) (sym same.1) (subst (λ (ps : List PartValue). IsCombineDone two.middle ps word.systems u next) (sym same.0) two.done))
+        one_value (combining.Step faults.Memory) new next v u (combinations.one_outcome one.parts word.systems one.middle new next (Ok v) (Ok u) one.done
+        (subst (λ m. DoesCombine one.parts word.systems m (Ok u) next) (sym same.1) (subst (λ (ps : List PartValue). DoesCombine ps word.systems two.middle (Ok u) next) (sym same.0) two.done)))
 
     one_end : (fault other : StepFault) (new next : StepLog) → Stops fault new → Stops other next → fault ≢ faults.Memory → other ≢ faults.Memory → (fault ≡ other) × (new ≡ next)
     one_end fault other new next (inl one) (inl two) apart away = one_stop letters old new next fault other (stop_of letters old new fault one) (stop_of letters old next other two) apart away
@@ -190,9 +185,11 @@ module _ (l : LibraryValue) (is : IsLibrary l) (s : Name) (k : ℕ) where
     one_end fault other new next (inr one) (inl two) apart away = absurd (not_stopped letters old one.middle next one.parts other one.built (stop_of letters old next other two) away)
     one_end fault other new next (inr one) (inr two) apart away =
         let same = all_built letters old one.middle two.middle one.parts two.parts one.built two.built in
-        let moved = subst (λ m. IsCombineStepRefused m one.parts word.systems other next) (sym same.1) (subst (λ (ps : List PartValue). IsCombineStepRefused two.middle ps word.systems other next) (sym same.0) two.stopped) in
-        let fault_is : combining.Step fault ≡ combining.Step other = (combinations.one_outcome one.middle one.parts word.systems).faults (combining.Step fault) (combining.Step other) new next one.stopped moved (λ e. apart (step_in e)) (λ e. away (step_in e)) in
-        (ap (λ e. step_or e fault) fault_is, one.stopped.refused.same ∙ sym moved.refused.same)
+        let moved = subst (λ m. DoesCombine one.parts word.systems m (Err (combining.Step other)) next) (sym same.1)
+        (subst (λ (ps : List PartValue). DoesCombine ps word.systems two.middle (Err (combining.Step other)) next) (sym same.0) two.stopped) in
+        let fault_is : combining.Step fault ≡ combining.Step other = same_fault (combining.Step faults.Memory) new next (combining.Step fault) (combining.Step other)
+        (combinations.one_outcome one.parts word.systems one.middle new next (Err (combining.Step fault)) (Err (combining.Step other)) one.stopped moved) (λ e. apart (step_in e)) (λ e. away (step_in e)) in
+        (ap (λ e. step_or e fault) fault_is, one.stopped.1.1 ∙ sym moved.1.1)
       where
         step_in : {f : StepFault} → combining.Step f ≡ combining.Step faults.Memory → f ≡ faults.Memory
         step_in {f} e = ap (λ x. step_or x f) e
@@ -201,8 +198,10 @@ module _ (l : LibraryValue) (is : IsLibrary l) (s : Name) (k : ℕ) where
     done_not_stopped v fault new next done (inl stop) apart = not_stopped letters old done.middle next done.parts fault done.built (stop_of letters old next fault stop) apart
     done_not_stopped v fault new next done (inr stop) apart =
         let same = all_built letters old done.middle stop.middle done.parts stop.parts done.built stop.built in
-        let moved = subst (λ m. IsCombineStepRefused m done.parts word.systems fault next) (sym same.1) (subst (λ (ps : List PartValue). IsCombineStepRefused stop.middle ps word.systems fault next) (sym same.0) stop.stopped) in
-        let is_memory : combining.Step fault ≡ combining.Step faults.Memory = (combinations.one_outcome done.middle done.parts word.systems).apart v (combining.Step fault) new next done.done moved in
+        let moved = subst (λ m. DoesCombine done.parts word.systems m (Err (combining.Step fault)) next) (sym same.1)
+        (subst (λ (ps : List PartValue). DoesCombine ps word.systems stop.middle (Err (combining.Step fault)) next) (sym same.0) stop.stopped) in
+        let is_memory : combining.Step fault ≡ combining.Step faults.Memory = memory_alone (combining.Step faults.Memory) new next v (combining.Step fault)
+        (combinations.one_outcome done.parts word.systems done.middle new next (Ok v) (Err (combining.Step fault)) done.done moved) in
         apart (ap (λ x. step_or x fault) is_memory)
 
 module _ (old : StepLog) (rules : Rules) (word : WordValue) (s : Name) (morphism : IsMorphism rules) (is : IsWordValue word) where

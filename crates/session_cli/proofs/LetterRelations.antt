@@ -2,6 +2,8 @@
 use Rattle.std.proofs.Common.{◌≡◌, ℕ, ℤ, List, [], ◌∷◌, map, None, Result, Ok, Err, refl, sym, ap, ◌∙◌, subst}
 use Rattle.std.specs.Prelude.{◌↔◌, ⊤, IfOk}
 use Rattle.std.proofs.lemmas.Option.{none-some}
+use Rattle.digit_tuple.specs.Steps.{StepLog}
+use Rattle.digit_tuple.specs.declared.step_fault.StepFault.{StepFault}
 use Rattle.formula_parse.specs.Tokens.{Name}
 use Rattle.formula_parse.specs.Trees.{Formula}
 use Rattle.formula_parse.specs.Views.{formula_view}
@@ -18,7 +20,7 @@ use Rattle.formula_build.specs.KnownNames.{AreKnownIn}
 use Rattle.formula_build.specs.Libraries.{IsSystemIn, LibraryValue, meanings_of}
 use Rattle.formula_build.specs.Resolved.{plan_headers}
 use Rattle.formula_build.specs.ResolvedViews.{IsPlanned, formula_of, headers_in, library_of}
-use Rattle.formula_build.specs.Solutions.{IsSolution, direction_named}
+use Rattle.formula_build.specs.Solutions.{BuildsFormula, IsSolution, direction_named, formula_plan}
 use Rattle.formula_build.specs.TrackSystems.{Fits}
 use Rattle.formula_build.specs.VariableTracks.{AreSystemsOf, IsOverVariables}
 use Rattle.formula_build.specs.declared.names.Names.{Names}
@@ -26,6 +28,7 @@ use Rattle.formula_build.specs.declared.resolving.Resolved.{Resolved}
 use Rattle.num_system.specs.Sealed.{SystemValue}
 use Rattle.number_relations.specs.Relations.{RelationHolds, RelationValue}
 use Rattle.word_images.specs.ImageFormula.{image_formula, place_variable}
+use Rattle.session_cli.specs.ImageSteps.{letter_plan}
 use Rattle.session_cli.specs.LetterParts.{IsLetterRelation, IsUsable}
 use Rattle.session_cli.specs.RecodedWords.{image_headers}
 use Rattle.session_cli.specs.LetterSettings.{library_in}
@@ -80,6 +83,13 @@ module _ (t : Setting) (s : Name) (k : ℕ) (b : ℤ) (usable : IsUsable t s k) 
     known_here =
         subst (λ (f : Formula). AreKnownIn (library_of r t.words) f) (sym is)
         (subst (λ (l : LibraryValue). AreKnownIn l (image_formula s k b)) (sym library_same) (known_in usable.rules usable.word s k (library_in t) usable.setting.library usable.few usable.system usable.systems b usable.some))
+
+    -- what is built of the formula is built by the letter's plan
+    pub built_here : (old new : StepLog) (result : Result RelationValue StepFault) → BuildsFormula (library_of r t.words) (formula_plan (headers_in r) (formula_of r)) old result new → BuildsFormula (library_in t) (letter_plan s k b) old result new
+    built_here old new result does =
+        subst (λ (f : Formula). BuildsFormula (library_in t) (formula_plan (image_headers s k) f) old result new) is
+        (subst (λ (h : Headers). BuildsFormula (library_in t) (formula_plan h (formula_of r)) old result new) headers_same
+        (subst (λ (l : LibraryValue). BuildsFormula l (formula_plan (headers_in r) (formula_of r)) old result new) library_same does))
 
     one_system : (l : LibraryValue) (ss : List SystemValue) → AreSystemsOf l (record { name = place_variable; system = s } ∷ []) ss → (v : SystemValue) × (ss ≡ v ∷ []) × IsSystemIn l s v
     one_system l [] over = absurd over

@@ -17,7 +17,7 @@ pub mod Standing
 pub mod Coming
 pub mod Between
 pub mod WholeSteps
-pub mod TrackWidths
+pub mod OneExpression
 pub mod NameLemmas
 pub mod HeaderLines
 pub mod MeantNames

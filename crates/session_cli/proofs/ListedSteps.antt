@@ -1,7 +1,7 @@
 -- The steps by which listed automata are combined, and why they are refused, from what the code of each part answers.
-use Rattle.std.proofs.Common.{◌≢◌, ℕ, List, [], ◌∷◌, inl, inr, refl, sym, subst}
+use Rattle.std.proofs.Common.{◌≢◌, ℕ, List, [], ◌∷◌, Ok, Err, inl, inr, refl, sym, subst}
 use Rattle.combinations.specs.Combined.{AreSystemsFor}
-use Rattle.combinations.specs.CombineSteps.{IsCombineDone, IsCombineRefused}
+use Rattle.combinations.specs.CombineSteps.{DoesCombine}
 use Rattle.combinations.specs.Parts.{PartValue, systems_at}
 use Rattle.combinations.specs.declared.combine_fault.CombineFault.TheVariants as combines
 use Rattle.command_head.specs.Heads.{ValuedName}
@@ -60,11 +60,11 @@ module _ (admitted : StepLog) (read : ListedAutomata) (systems : List NamedSyste
   }
 
   -- the step that combines them is done
-  pub list_done : (custom : Custom) → AreMeant custom systems → (word : WordValue) (log : StepLog) → IsCombineDone reading parts (systems_at parts 0) word log → AreStepsOver admitted custom systems read word log.lines
+  pub list_done : (custom : Custom) → AreMeant custom systems → (word : WordValue) (log : StepLog) → DoesCombine parts (systems_at parts 0) reading (Ok word) log → AreStepsOver admitted custom systems read word log.lines
   unfolding before
   list_done custom meant word log done = record { steps = record { before = before custom meant; log = log; done = done; lines_are = refl }; systems_are = refl }
 
   -- or it is refused
-  pub list_refused : (custom : Custom) → AreMeant custom systems → (fault : StepFault) (log : StepLog) → IsCombineRefused reading parts (systems_at parts 0) (combines.Step fault) log → Fails (Pure (CombinedAnswers admitted custom read.tables.items (automata_of read))) (fault_of fault)
+  pub list_refused : (custom : Custom) → AreMeant custom systems → (fault : StepFault) (log : StepLog) → DoesCombine parts (systems_at parts 0) reading (Err (combines.Step fault)) log → Fails (Pure (CombinedAnswers admitted custom read.tables.items (automata_of read))) (fault_of fault)
   unfolding before
   list_refused custom meant fault log refused = uncombined admitted custom read.tables.items (automata_of read) fault (inr (record { before = before custom meant; log = log; refused = refused }))

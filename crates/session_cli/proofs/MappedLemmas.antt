@@ -1,5 +1,5 @@
 -- The relations of all letters, combined.
-use Rattle.std.proofs.Common.{◌≡◌, ℕ, List, [], ◌∷◌, length, ℤ, inr, refl, sym, ap, ◌∙◌, subst, arith}
+use Rattle.std.proofs.Common.{◌≡◌, ℕ, List, [], ◌∷◌, length, ℤ, Ok, Err, inr, refl, sym, ap, ◌∙◌, subst, arith}
 use Rattle.std.specs.Prelude.{slice_index_or}
 use Rattle.digit_tuple.specs.Steps.{StepLog}
 use Rattle.digit_tuple.specs.declared.step_fault.StepFault.{StepFault}
@@ -9,7 +9,7 @@ use Rattle.morph_words.specs.Rules.{Rules}
 use Rattle.word_output.specs.Words.{IsWordValue, WordValue}
 use Rattle.formula_parse.specs.Tokens.{Name}
 use Rattle.formula_build.specs.Solutions.{direction_named}
-use Rattle.combinations.specs.CombineSteps.{IsCombineDone, IsCombineRefused, IsCombineStepRefused}
+use Rattle.combinations.specs.CombineSteps.{DoesCombine}
 use Rattle.combinations.specs.Parts.{PartValue}
 use Rattle.combinations.specs.declared.combine_fault.CombineFault.{CombineFault}
 use Rattle.combinations.specs.declared.combine_fault.CombineFault.TheVariants.{Shape, Step}
@@ -51,17 +51,17 @@ module _ (rules : Rules) (word : WordValue) (s : Name) (k : ℕ) (t : Setting) (
     are_here : AreLetterParts t s k read
     are_here = subst (AreLetterParts t s k) (sym read_are) are
 
-    pub one_shape : (f : CombineFault) (i j : ℕ) (new : StepLog) → f ≡ Shape i j → IsCombineRefused middle read ss f new → ⊥
+    pub one_shape : (f : CombineFault) (i j : ℕ) (new : StepLog) → f ≡ Shape i j → DoesCombine read ss middle (Err f) new → ⊥
     one_shape f i j new is_shape refused =
-        no_shape_fault t s k system read i j setting.library.systems are_here (subst (λ e. IsCombineRefused middle read ss e new) is_shape refused).0
+        no_shape_fault t s k system read i j setting.library.systems are_here (subst (λ e. DoesCombine read ss middle (Err e) new) is_shape refused).0
 
     -- what is combined is the image
-    pub image_made : (v : WordValue) (new : StepLog) → IsCombineDone middle read ss v new → IsImageWord rules word v
+    pub image_made : (v : WordValue) (new : StepLog) → DoesCombine read ss middle (Ok v) new → IsImageWord rules word v
     image_made v new done =
-        let moved = subst (λ (ts : List SystemValue). IsCombineDone middle read ts v new) ss_are done in
-        image_word rules word s k t is track mapped setting.library letters outputs read are_here (built_values (library_in t) s k letters read old middle built_here) v moved.done.step.combination
+        let moved = subst (λ (ts : List SystemValue). DoesCombine read ts middle (Ok v) new) ss_are done in
+        image_word rules word s k t is track mapped setting.library letters outputs read are_here (built_values (library_in t) s k letters read old middle built_here) v moved.1.step.made_is
 
-    pub combining_stopped : (f : CombineFault) (fault : StepFault) (new : StepLog) → f ≡ Step fault → IsCombineRefused middle read ss f new → IsImageStopped old rules word s fault new
+    pub combining_stopped : (f : CombineFault) (fault : StepFault) (new : StepLog) → f ≡ Step fault → DoesCombine read ss middle (Err f) new → IsImageStopped old rules word s fault new
     combining_stopped f fault new is_step refused = record {
       k = k;
       mapped = mapped;
@@ -69,5 +69,5 @@ module _ (rules : Rules) (word : WordValue) (s : Name) (k : ℕ) (t : Setting) (
       library = setting.library;
       letters = letters;
       outputs = outputs;
-      stopped = inr (record { parts = read; middle = middle; built = built_here; stopped = subst (λ (ts : List SystemValue). IsCombineStepRefused middle read ts fault new) ss_are (subst (λ e. IsCombineRefused middle read ss e new) is_step refused) });
+      stopped = inr (record { parts = read; middle = middle; built = built_here; stopped = subst (λ (ts : List SystemValue). DoesCombine read ts middle (Err (Step fault)) new) ss_are (subst (λ e. DoesCombine read ss middle (Err e) new) is_step refused) });
     }

@@ -4,6 +4,7 @@ use Rattle.wal_outside.specs.Files.{Files}
 use Rattle.digit_tuple.specs.Steps.{StepLog}
 use Rattle.digit_tuple.specs.declared.step_fault.StepFault.{StepFault}
 use Rattle.digit_tuple.specs.declared.step_fault.StepFault.TheVariants as steps
+use Rattle.automaton_steps.proofs.AnswerCases.{one_result}
 use Rattle.digit_tuple.specs.declared.steps.StepLine.{StepLine}
 use Rattle.dfa_loading.specs.Headers.{headers_of}
 use Rattle.dfa_loading.specs.Loading.{AreListedBy}
@@ -90,11 +91,12 @@ module _ (admitted : StepLog) (custom : Custom) (tables : List Loaded) (formula 
       let library : IsLibrary (library_with a.reads a.systems) = record { relations = relations; words = words; systems = a.sealed } in
       let other : IsLibrary (library_with a.reads b.systems) = record { relations = relations; words = words; systems = b.sealed } in
       let agree : Agree (library_with a.reads a.systems) (library_with a.reads b.systems) = record { relations = refl; words = refl; systems = (meant_agree custom a.systems b.systems a.sealed a.meant b.sealed b.meant).systems } in
-      let builds : BuildsFormula a.reading (library_with a.reads b.systems) (formula_plan (headers_of tables) formula) q.result b.log =
-      subst (λ (rs : List TableRead). BuildsFormula a.reading (library_with rs b.systems) (formula_plan (headers_of tables) formula) q.result b.log) (sym same.0)
-      (subst (λ (old : StepLog). BuildsFormula old (library_with b.reads b.systems) (formula_plan (headers_of tables) formula) q.result b.log) (sym same.1) b.builds) in
+      let builds : BuildsFormula (library_with a.reads b.systems) (formula_plan (headers_of tables) formula) a.reading q.result b.log =
+      subst (λ (rs : List TableRead). BuildsFormula (library_with rs b.systems) (formula_plan (headers_of tables) formula) a.reading q.result b.log) (sym same.0)
+      (subst (λ (old : StepLog). BuildsFormula (library_with b.reads b.systems) (formula_plan (headers_of tables) formula) old q.result b.log) (sym same.1) b.builds) in
       let one : (p.result ≡ q.result) × (a.log ≡ b.log) =
-      one_building (library_with a.reads a.systems) (library_with a.reads b.systems) a.reading a.log b.log (formula_plan (headers_of tables) formula) p.result q.result library other agree a.builds builds p.told q.told in
+      one_result steps.Memory a.log b.log p.result q.result
+      (one_building (library_with a.reads a.systems) (library_with a.reads b.systems) a.reading a.log b.log (formula_plan (headers_of tables) formula) p.result q.result library other agree a.builds builds) p.told q.told in
       let lines : p.lines ≡ q.lines = a.lines_are ∙ (ap (λ (log : StepLog). log.lines) one.1 ∙ sym b.lines_are) in
       p.is ∙ ((λ i. of_steps (one.0 i) (lines i)) ∙ sym q.is)
 

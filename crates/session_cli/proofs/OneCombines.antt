@@ -3,8 +3,8 @@ use Rattle.std.proofs.Common.{◌≡◌, ◌≢◌, ◌⊎◌, ℕ, suc, List, [
 use Rattle.std.specs.List.{AllByRecursion}
 use Rattle.wal_outside.specs.Files.{Files}
 use Rattle.combinations.specs.Combined.{AreSystemsFor}
-use Rattle.combinations.specs.CombineSteps.{IsCombineDone, IsCombineRefused}
-use Rattle.combinations.specs.Laws.{HasOneCombination}
+use Rattle.automaton_steps.proofs.AnswerCases.{memory_alone, one_value, same_fault}
+use Rattle.combinations.specs.CombineSteps.{DoesCombine}
 use Rattle.combinations.specs.Parts.{PartValue}
 use Rattle.combinations.specs.declared.combine_fault.CombineFault.TheVariants as combines
 use Rattle.combinations.proofs.OutcomeLemmas.{one_outcome}
@@ -298,9 +298,9 @@ module _ (admitted : StepLog) (custom : Custom) (tables : List Loaded) (automata
   both_made r s p q =
       let a = p.done.before in
       let b = q.done.before in
-      let there = moved (λ old ps ts. IsCombineDone old ps ts q.word q.done.log) a b q.done.done in
-      let one : HasOneCombination a.reading a.parts a.tracks = one_outcome a.reading a.parts a.tracks in
-      let same : p.done.log ≡ q.done.log = (one.words p.word q.word p.done.log q.done.log p.done.done there).1 in
+      let there = moved (λ old ps ts. DoesCombine ps ts old (Ok q.word) q.done.log) a b q.done.done in
+      let same : p.done.log ≡ q.done.log = (one_value (combines.Step steps.Memory) p.done.log q.done.log p.word q.word
+      (one_outcome a.parts a.tracks a.reading p.done.log q.done.log (Ok p.word) (Ok q.word) p.done.done there)).1 in
       let lines : p.lines ≡ q.lines = p.done.lines_are ∙ (ap (λ (log : StepLog). log.lines) same ∙ sym q.done.lines_are) in
       p.is ∙ (ap (λ (ls : List StepLine). let x : Result (List StepLine) Fault = Ok ls in x) lines ∙ sym q.is)
 
@@ -308,17 +308,19 @@ module _ (admitted : StepLog) (custom : Custom) (tables : List Loaded) (automata
   made_refused r s p q =
       let a = p.done.before in
       let b = q.stops.before in
-      let there = moved (λ old ps ts. IsCombineRefused old ps ts (combines.Step q.fault) q.stops.log) a b q.stops.refused in
-      let e : combines.Step q.fault ≡ combines.Step steps.Memory = (one_outcome a.reading a.parts a.tracks).apart p.word (combines.Step q.fault) p.done.log q.stops.log p.done.done there in
+      let there = moved (λ old ps ts. DoesCombine ps ts old (Err (combines.Step q.fault)) q.stops.log) a b q.stops.refused in
+      let e : combines.Step q.fault ≡ combines.Step steps.Memory =
+      memory_alone (combines.Step steps.Memory) p.done.log q.stops.log p.word (combines.Step q.fault) (one_outcome a.parts a.tracks a.reading p.done.log q.stops.log (Ok p.word) (Err (combines.Step q.fault)) p.done.done there) in
       q.told (step_fault_same q.fault steps.Memory e)
 
   both_refused : (r s : Result (List StepLine) Fault) → IsWordRefused admitted custom tables automata r → IsWordRefused admitted custom tables automata s → r ≡ s
   both_refused r s p q =
       let a = p.stops.before in
       let b = q.stops.before in
-      let there = moved (λ old ps ts. IsCombineRefused old ps ts (combines.Step q.fault) q.stops.log) a b q.stops.refused in
+      let there = moved (λ old ps ts. DoesCombine ps ts old (Err (combines.Step q.fault)) q.stops.log) a b q.stops.refused in
       let e : combines.Step p.fault ≡ combines.Step q.fault =
-      (one_outcome a.reading a.parts a.tracks).faults (combines.Step p.fault) (combines.Step q.fault) p.stops.log q.stops.log p.stops.refused there (λ is. p.told (step_fault_same p.fault steps.Memory is)) (λ is. q.told (step_fault_same q.fault steps.Memory is)) in
+      same_fault (combines.Step steps.Memory) p.stops.log q.stops.log (combines.Step p.fault) (combines.Step q.fault)
+      (one_outcome a.parts a.tracks a.reading p.stops.log q.stops.log (Err (combines.Step p.fault)) (Err (combines.Step q.fault)) p.stops.refused there) (λ is. p.told (step_fault_same p.fault steps.Memory is)) (λ is. q.told (step_fault_same q.fault steps.Memory is)) in
       p.is ∙ (ap (λ (f : StepFault). let x : Result (List StepLine) Fault = Err (fault_of f) in x) (step_fault_same p.fault q.fault e) ∙ sym q.is)
 
   not_both : (a : AreListedParts admitted custom tables automata) (s : Result (List StepLine) Fault) → IsStopped admitted custom tables s → ⊥

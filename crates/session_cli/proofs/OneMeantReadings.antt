@@ -29,7 +29,6 @@ use Rattle.session_cli.specs.TableReads.{TableRead, ARelation, AWord, AreSystems
 use Rattle.session_cli.specs.TableReading.{IsReadable, AreReadable}
 use Rattle.session_cli.specs.TrackSystems.{fault_of}
 use Rattle.session_cli.proofs.OneSealed.{meant_agree}
-use Rattle.session_cli.proofs.OneTableReadings as readings
 use Rattle.session_cli.proofs.OneTableReadings.{StopsReading, refusal_stops, gap_stops, one_reading, reading_apart, one_stopping}
 use Rattle.session_cli.proofs.ReadableTables.{under_shared_direction}
 use Rattle.session_cli.proofs.TableFiles.{IsListedTable, tables_listed}
@@ -38,8 +37,12 @@ use Rattle.session_cli.proofs.TableHeaders.{systems_in, tables_shared_direction}
 use Rattle.session_cli.proofs.TableReads.{AreAlike}
 use Rattle.session_cli.proofs.WordLaws.{one_word_outcome}
 
+-- the systems that are under the header of the table have one direction
+abbrev IsOfOneDirection : List NamedSystem → Loaded → Type 0
+IsOfOneDirection systems table = (tracks : List SystemValue) → AreSystemsUnder systems table.listed.header tracks → ShareDirection tracks
+
 -- over systems that names mean, each table has tracks of one direction
-table_directions : (custom : Custom) (systems : List NamedSystem) (tables : List Loaded) → AreMeant custom systems → AllByRecursion table_headers.IsOfOneDirection tables → AllByRecursion (readings.IsOfOneDirection systems) tables
+table_directions : (custom : Custom) (systems : List NamedSystem) (tables : List Loaded) → AreMeant custom systems → AllByRecursion table_headers.IsOfOneDirection tables → AllByRecursion (IsOfOneDirection systems) tables
 table_directions custom systems [] are directions = tt
 table_directions custom systems (table ∷ tables) are directions = (of_header table.listed.header directions.0, table_directions custom systems tables are directions.1)
   where
@@ -49,7 +52,7 @@ table_directions custom systems (table ∷ tables) are directions = (of_header t
     of_header (Sets sets) one tracks under = absurd under
 
 -- tables that were read were readable
-read_readable : (systems : List NamedSystem) (old new : StepLog) (tables : List Loaded) (reads : List TableRead) → AllByRecursion IsListedTable tables → AllByRecursion (readings.IsOfOneDirection systems) tables → AreTablesRead systems old tables reads new → AreReadable systems tables
+read_readable : (systems : List NamedSystem) (old new : StepLog) (tables : List Loaded) (reads : List TableRead) → AllByRecursion IsListedTable tables → AllByRecursion (IsOfOneDirection systems) tables → AreTablesRead systems old tables reads new → AreReadable systems tables
 read_readable systems old new [] reads are directions made = tt
 read_readable systems old new (table ∷ tables) [] are directions made = absurd made
 read_readable systems old new (table ∷ tables) (r ∷ reads) are directions (mid, first, rest) = (one r first, read_readable systems mid new tables reads are.1 directions.1 rest)
@@ -78,7 +81,7 @@ pub missing_by : (admitted : StepLog) (custom : Custom) (tables : List Loaded) (
 missing_by admitted custom tables name representation a = record { systems = a.systems; sealed = a.sealed; meant = a.meant; fault = Gap name representation; stops = gap_stops a.systems admitted tables name representation a.gap; is = refl }
 
 module _ (admitted : StepLog) (custom : Custom) (tables : List Loaded) (files : Files) (named : List File) (listed : AreListedBy files named tables) where
-  directions : (systems : List NamedSystem) → AreMeant custom systems → AllByRecursion (readings.IsOfOneDirection systems) tables
+  directions : (systems : List NamedSystem) → AreMeant custom systems → AllByRecursion (IsOfOneDirection systems) tables
   directions systems meant = table_directions custom systems tables meant (tables_shared_direction files named tables listed)
 
   alike : (systems others : List NamedSystem) → AreSealed systems → AreMeant custom systems → AreSealed others → AreMeant custom others → AreAlike systems others
@@ -88,7 +91,7 @@ module _ (admitted : StepLog) (custom : Custom) (tables : List Loaded) (files : 
   pub same_reading : (systems others : List NamedSystem) (new now : StepLog) (rs ss : List TableRead) → AreSealed systems → AreMeant custom systems → AreSealed others → AreMeant custom others → AreTablesRead systems admitted tables rs new → AreTablesRead others admitted tables ss now
       → (rs ≡ ss) × (new ≡ now)
   same_reading systems others new now rs ss sealed meant sealed' meant' read read' =
-      one_reading one_table one_word_outcome systems others sealed (alike systems others sealed meant sealed' meant') admitted new now tables rs ss (directions systems meant) read read'
+      one_reading one_table one_word_outcome systems others (alike systems others sealed meant sealed' meant') admitted new now tables rs ss read read'
 
   -- tables that were read were readable
   pub were_readable : (systems : List NamedSystem) (new : StepLog) (rs : List TableRead) → AreMeant custom systems → AreTablesRead systems admitted tables rs new → AreReadable systems tables
@@ -97,10 +100,10 @@ module _ (admitted : StepLog) (custom : Custom) (tables : List Loaded) (files : 
   -- what is read is not stopped
   pub read_stopped : (systems : List NamedSystem) (new : StepLog) (rs : List TableRead) (r : Result (List StepLine) Fault) → AreSealed systems → AreMeant custom systems → AreTablesRead systems admitted tables rs new → IsStopped admitted custom tables r → ⊥
   read_stopped systems new rs r sealed meant read q =
-      reading_apart one_table one_word_outcome systems q.systems sealed (alike systems q.systems sealed meant q.sealed q.meant) admitted new tables rs q.fault (directions systems meant) read q.stops
+      reading_apart one_table one_word_outcome systems q.systems (alike systems q.systems sealed meant q.sealed q.meant) admitted new tables rs q.fault read q.stops
 
   -- and two that stop have one fault
   pub both_stopped : (r s : Result (List StepLine) Fault) → IsStopped admitted custom tables r → IsStopped admitted custom tables s → r ≡ s
   both_stopped r s p q =
-      let same : p.fault ≡ q.fault = one_stopping one_table one_word_outcome p.systems q.systems p.sealed (alike p.systems q.systems p.sealed p.meant q.sealed q.meant) admitted tables p.fault q.fault (directions p.systems p.meant) p.stops q.stops in
+      let same : p.fault ≡ q.fault = one_stopping one_table one_word_outcome p.systems q.systems (alike p.systems q.systems p.sealed p.meant q.sealed q.meant) admitted tables p.fault q.fault p.stops q.stops in
       p.is ∙ (ap (λ (f : ReadFault). let x : Result (List StepLine) Fault = Err (fault_of_reading f) in x) same ∙ sym q.is)

@@ -3,7 +3,11 @@ use Rattle.std.proofs.Common.{◌≡◌, ◌≢◌, ℕ, ◌+◌, ◌<◌, ◌�
 use Rattle.wal_outside.specs.declared.folder.Folder.TheVariants.{Automata, Results}
 use Rattle.digit_tuple.specs.Steps.{StepLog}
 use Rattle.digit_tuple.specs.declared.direction.Direction.{Direction}
+use Rattle.digit_tuple.specs.declared.step_fault.StepFault.{StepFault}
+use Rattle.digit_tuple.specs.declared.step_fault.StepFault.TheVariants as steps
 use Rattle.digit_tuple.specs.declared.steps.StepLine.{StepLine}
+use Rattle.minimise.specs.Tracked.{NamedAutomaton}
+use Rattle.automaton_steps.proofs.AnswerCases.{one_result}
 use Rattle.command_head.specs.Heads as heads
 use Rattle.command_head.specs.Parts.{first_word_of}
 use Rattle.command_head.specs.Grammar.{SpellsReg}
@@ -29,9 +33,11 @@ use Rattle.session_cli.specs.HeadAnswers.{HeadAnswers}
 use Rattle.session_cli.specs.Accepting.{Answer, stored}
 use Rattle.session_cli.specs.RegOutcomes.{systems_named, TracksAnswers, ParsedAnswers, StepsAnswers, regex_success, after_expression, after_tracks, after_admission, after_head, reg_checks}
 use Rattle.session_cli.specs.SystemChecks.{systems_known}
+use Rattle.session_cli.specs.TrackSteps.{DoesExpression}
+use Rattle.session_cli.specs.TrackSystems.{fault_of}
 use Rattle.session_cli.specs.Outcomes.{LengthAnswers, WordAnswers, word_text, checks_by, after_length, Outcome}
 use Rattle.session_cli.proofs.CheckSteps.{IsSingle, then_single}
-use Rattle.session_cli.proofs.TrackWidths.{one_lines, done_not_letters, done_not_states, letters_not_states, one_excess}
+use Rattle.session_cli.proofs.OneExpression.{expression_one}
 use Rattle.session_cli.proofs.NameLemmas.{one_list_of_systems, not_parted, same_part}
 use Rattle.session_cli.proofs.OneHeads.{head_single}
 use Rattle.session_cli.proofs.OneTexts.{stored_single}
@@ -46,12 +52,22 @@ use Rattle.session_cli.proofs.OneTextCommands.{macro_single, morphism_single, pr
 single_by : {Y : Type 0} (c : Check Y) (value : Result Y Fault) → ((r : Result Y Fault) → c.answers r → r ≡ value) → IsSingle c
 single_by c value is = λ r s a b. is r a ∙ sym (is s b)
 
--- the steps are within the limits, or one of them is the first to pass one
-steps_is : (admitted : StepLog) (tracks : Tracks) (e : Expression (List ℤ)) (r : Result (List StepLine) Fault) → StepsAnswers admitted tracks e r
-    → ((lines : List StepLine) × StepsAnswers admitted tracks e (Ok lines) × (r ≡ Ok lines)) ⊎ ((StepsAnswers admitted tracks e (Err (faults.Letters (length admitted.lines + 1))) × (r ≡ Err (faults.Letters (length admitted.lines + 1)))) ⊎ ((step : ℕ) × StepsAnswers admitted tracks e (Err (faults.States step)) × (r ≡ Err (faults.States step))))
-steps_is admitted tracks e (Ok lines) a = inl (lines, a, refl)
-steps_is admitted tracks e (Err (faults.Letters step)) (is, passes) = inr (inl ((refl, passes), ap (λ (n : ℕ). let x : Result (List StepLine) Fault = Err (faults.Letters n) in x) is))
-steps_is admitted tracks e (Err (faults.States step)) a = inr (inr (step, a, refl))
+-- the steps, or why they are refused, as a command's
+abbrev of_steps : Result NamedAutomaton StepFault → StepLog → Result (List StepLine) Fault
+of_steps (Ok made) log = Ok log.lines
+of_steps (Err fault) log = Err (fault_of fault)
+
+record AreSteps (admitted : StepLog) (tracks : Tracks) (e : Expression (List ℤ)) (r : Result (List StepLine) Fault) : Type 0 where
+  result : Result NamedAutomaton StepFault
+  log : StepLog
+  does : DoesExpression tracks e admitted result log
+  told : result ≢ Err steps.Memory
+  is : r ≡ of_steps result log
+
+steps_is : (admitted : StepLog) (tracks : Tracks) (e : Expression (List ℤ)) (r : Result (List StepLine) Fault) → StepsAnswers admitted tracks e r → AreSteps admitted tracks e r
+steps_is admitted tracks e (Ok lines) (made, log, does, lines_are) = record { result = Ok made; log = log; does = does; told = λ is. cc; is = ap Ok lines_are }
+steps_is admitted tracks e (Err (faults.Letters step)) (log, does) = record { result = Err (steps.Letters step); log = log; does = does; told = λ is. cc; is = refl }
+steps_is admitted tracks e (Err (faults.States step)) (log, does) = record { result = Err (steps.States step); log = log; does = does; told = λ is. cc; is = refl }
 steps_is admitted tracks e (Err faults.Command) a = absurd a
 steps_is admitted tracks e (Err (faults.Syntax grammar at)) a = absurd a
 steps_is admitted tracks e (Err (faults.Number grammar at)) a = absurd a
@@ -79,19 +95,12 @@ steps_is admitted tracks e (Err (faults.WordGap of representation)) a = absurd a
 steps_is admitted tracks e (Err (faults.Plain of)) a = absurd a
 
 steps_single : (admitted : StepLog) (tracks : Tracks) (e : Expression (List ℤ)) → IsSingle (Pure (StepsAnswers admitted tracks e))
-steps_single admitted tracks e r s a b = by_step (steps_is admitted tracks e r a) (steps_is admitted tracks e s b)
+steps_single admitted tracks e r s a b = by (steps_is admitted tracks e r a) (steps_is admitted tracks e s b)
   where
-    by_step : ((lines : List StepLine) × StepsAnswers admitted tracks e (Ok lines) × (r ≡ Ok lines)) ⊎ ((StepsAnswers admitted tracks e (Err (faults.Letters (length admitted.lines + 1))) × (r ≡ Err (faults.Letters (length admitted.lines + 1)))) ⊎ ((step : ℕ) × StepsAnswers admitted tracks e (Err (faults.States step)) × (r ≡ Err (faults.States step))))
-        → ((lines : List StepLine) × StepsAnswers admitted tracks e (Ok lines) × (s ≡ Ok lines)) ⊎ ((StepsAnswers admitted tracks e (Err (faults.Letters (length admitted.lines + 1))) × (s ≡ Err (faults.Letters (length admitted.lines + 1)))) ⊎ ((step : ℕ) × StepsAnswers admitted tracks e (Err (faults.States step)) × (s ≡ Err (faults.States step)))) → r ≡ s
-    by_step (inl (lines, done, is)) (inl (other, done', is')) = is ∙ (ap (λ (ls : List StepLine). let x : Result (List StepLine) Fault = Ok ls in x) (one_lines admitted tracks e lines other done done') ∙ sym is')
-    by_step (inl (lines, done, is)) (inr (inl (passes, is'))) = absurd (done_not_letters admitted tracks e lines done passes.1)
-    by_step (inl (lines, done, is)) (inr (inr (step, above, is'))) = absurd (done_not_states admitted tracks e lines step done above)
-    by_step (inr (inl (passes, is))) (inl (lines, done, is')) = absurd (done_not_letters admitted tracks e lines done passes.1)
-    by_step (inr (inl (passes, is))) (inr (inl (passes', is'))) = is ∙ sym is'
-    by_step (inr (inl (passes, is))) (inr (inr (step, above, is'))) = absurd (letters_not_states admitted tracks e step passes.1 above)
-    by_step (inr (inr (step, above, is))) (inl (lines, done, is')) = absurd (done_not_states admitted tracks e lines step done above)
-    by_step (inr (inr (step, above, is))) (inr (inl (passes, is'))) = absurd (letters_not_states admitted tracks e step passes.1 above)
-    by_step (inr (inr (step, above, is))) (inr (inr (step', above', is'))) = is ∙ (ap (λ (n : ℕ). let x : Result (List StepLine) Fault = Err (faults.States n) in x) (one_excess admitted tracks e step step' above above') ∙ sym is')
+    by : AreSteps admitted tracks e r → AreSteps admitted tracks e s → r ≡ s
+    by p q =
+        let one = one_result steps.Memory p.log q.log p.result q.result (expression_one tracks e admitted p.log q.log p.result q.result p.does q.does) p.told q.told in
+        p.is ∙ ((λ i. of_steps (one.0 i) (one.1 i)) ∙ sym q.is)
 
 -- the fault of an expression
 abbrev of_parse : Result Pattern RegexFault → Result Pattern Fault

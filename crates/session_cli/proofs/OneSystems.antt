@@ -5,7 +5,7 @@ use Rattle.digit_tuple.specs.Steps.{StepLog}
 use Rattle.digit_tuple.specs.declared.step_fault.StepFault.TheVariants as steps
 use Rattle.dfa_loading.specs.declared.fault.LoadFault.TheVariants as loads
 use Rattle.wal_outside.specs.declared.folder.Folder.TheVariants.{Bases}
-use Rattle.adder_check.specs.OneAnswer.{AreOne}
+use Rattle.automaton_steps.proofs.AnswerCases.{one_result}
 use Rattle.system_files.specs.SystemFiles.{Custom}
 use Rattle.system_admission.specs.SystemSteps.{AdmitsNames}
 use Rattle.system_admission.specs.declared.system_fault.SystemFault.{SystemFault}
@@ -66,9 +66,6 @@ pub systems_single : (limit : ℕ) (custom : Custom) (names : List (List ℕ)) �
 systems_single limit custom names r s a b = by (systems_is limit custom names r a) (systems_is limit custom names s b)
   where
     by : IsAdmission limit custom names r → IsAdmission limit custom names s → r ≡ s
-    by p q = by_one (names_one custom names (no_steps limit) p.result q.result p.log q.log p.admits q.admits)
-      where
-        by_one : AreOne (systems.Step steps.Memory) p.result p.log q.result q.log → r ≡ s
-        by_one (inl memory) = absurd (p.told memory)
-        by_one (inr (inl memory)) = absurd (q.told memory)
-        by_one (inr (inr (same, after))) = p.is ∙ ((λ i. of_names (same i) (after i)) ∙ sym q.is)
+    by p q =
+        let one = one_result (systems.Step steps.Memory) p.log q.log p.result q.result (names_one custom names (no_steps limit) p.log q.log p.result q.result p.admits q.admits) p.told q.told in
+        p.is ∙ ((λ i. of_names (one.0 i) (one.1 i)) ∙ sym q.is)

@@ -2,10 +2,10 @@
 use Rattle.std.proofs.Common.{◌≡◌, ◌≢◌, ◌⊎◌, ℕ, List, [], ◌∷◌, Result, Ok, Err, codes, inl, inr, refl, sym, ap, ◌∙◌, subst}
 use Rattle.wal_outside.specs.Files.{Files}
 use Rattle.wal_outside.specs.declared.folder.Folder.TheVariants.{Macros, Morphisms}
-use Rattle.digit_tuple.specs.StepResults.{IsDone}
-use Rattle.digit_tuple.specs.Steps.{StepLog, with_line}
+use Rattle.digit_tuple.specs.Steps.{StepLog}
 use Rattle.digit_tuple.specs.declared.step_fault.StepFault.TheVariants as steps
 use Rattle.digit_tuple.specs.declared.steps.StepLine.{StepLine}
+use Rattle.automaton_steps.proofs.AnswerCases.{one_result}
 use Rattle.command_head.specs.Grammar.{SpellsNamed, SpellsPromote}
 use Rattle.command_head.specs.Heads.{NamedHead}
 use Rattle.command_head.proofs.NamedHeads.{one_named}
@@ -13,8 +13,8 @@ use Rattle.command_head.proofs.OneFault.{one_head}
 use Rattle.command_head.proofs.WordHeads.{one_promote}
 use Rattle.dfa_loading.specs.declared.fault.LoadFault.{LoadFault}
 use Rattle.dfa_loading.specs.declared.fault.LoadFault.TheVariants as loads
-use Rattle.fixed_points.specs.Laws.{HasOnePromotion, PromotionsHaveOneOutcome}
-use Rattle.fixed_points.specs.Promotion.{IsPromoteStep, IsPromoteRefused}
+use Rattle.fixed_points.specs.Laws.{PromotionsHaveOneOutcome}
+use Rattle.fixed_points.specs.Promotion.{DoesPromote}
 use Rattle.fixed_points.specs.declared.promote_fault.PromoteFault.{PromoteFault}
 use Rattle.fixed_points.specs.declared.promote_fault.PromoteFault.TheVariants as promotes
 use Rattle.morph_words.specs.Faults.{Parses}
@@ -165,16 +165,23 @@ loading_single ledger name r s a b =
     let also : AnswersMorphism p.files name q.told = subst (λ (files : Files). AnswersMorphism files name q.told) same q.answers in
     p.is ∙ (ap of_loading (files_have_one_answer one_answer p.files name p.told q.told p.answers also) ∙ sym q.is)
 
--- the step is done, or not
-abbrev IsPromotion : ℕ → Rules → Result (List StepLine) Fault → Type 0
-IsPromotion limit rules r =
-    ((word : WordValue) × (line : StepLine) × IsPromoteStep limit rules word line × (r ≡ Ok (line ∷ [])))
-    ⊎ ((fault : PromoteFault) × IsPromoteRefused (no_steps limit) rules fault × (fault ≢ promotes.Step steps.Memory) × (r ≡ Err (fault_of_promotion fault)))
+-- the steps, or why there is no fixed point, as a command's
+abbrev of_promotion : Result WordValue PromoteFault → StepLog → Result (List StepLine) Fault
+of_promotion (Ok word) log = Ok log.lines
+of_promotion (Err fault) log = Err (fault_of_promotion fault)
+
+record IsPromotion (limit : ℕ) (rules : Rules) (r : Result (List StepLine) Fault) : Type 0 where
+  result : Result WordValue PromoteFault
+  log : StepLog
+  does : DoesPromote rules (no_steps limit) result log
+  told : result ≢ Err (promotes.Step steps.Memory)
+  is : r ≡ of_promotion result log
 
 promotion_is : (limit : ℕ) (rules : Rules) (r : Result (List StepLine) Fault) → PromotedAnswers limit rules r → IsPromotion limit rules r
-promotion_is limit rules (Ok lines) (word, line, step, is) = inl (word, line, step, ap (λ (ls : List StepLine). let x : Result (List StepLine) Fault = Ok ls in x) is)
-promotion_is limit rules (Err (faults.Morphism kind)) a = inr (promotes.Morphism kind, a, λ is. cc, refl)
-promotion_is limit rules (Err (faults.States step)) a = inr (promotes.Step (steps.States step), a, λ is. cc, refl)
+promotion_is limit rules (Ok lines) (word, log, does, lines_are) = record { result = Ok word; log = log; does = does; told = λ is. cc; is = ap Ok lines_are }
+promotion_is limit rules (Err (faults.Morphism kind)) (log, does) = record { result = Err (promotes.Morphism kind); log = log; does = does; told = λ is. cc; is = refl }
+promotion_is limit rules (Err (faults.Letters step)) (log, does) = record { result = Err (promotes.Step (steps.Letters step)); log = log; does = does; told = λ is. cc; is = refl }
+promotion_is limit rules (Err (faults.States step)) (log, does) = record { result = Err (promotes.Step (steps.States step)); log = log; does = does; told = λ is. cc; is = refl }
 promotion_is limit rules (Err faults.Command) a = absurd a
 promotion_is limit rules (Err (faults.Syntax grammar at)) a = absurd a
 promotion_is limit rules (Err (faults.MixedChain at)) a = absurd a
@@ -192,7 +199,6 @@ promotion_is limit rules (Err (faults.SystemUnknown of)) a = absurd a
 promotion_is limit rules (Err (faults.NotAdmitted of law)) a = absurd a
 promotion_is limit rules (Err (faults.Clash of one two)) a = absurd a
 promotion_is limit rules (Err (faults.Direction one two)) a = absurd a
-promotion_is limit rules (Err (faults.Letters step)) a = absurd a
 promotion_is limit rules (Err (faults.WordGap of representation)) a = absurd a
 promotion_is limit rules (Err (faults.Plain of)) a = absurd a
 promotion_is limit rules (Err (faults.LetterMissing letter)) a = absurd a
@@ -202,25 +208,12 @@ promotion_is limit rules (Err faults.Memory) a = absurd a
 promotion_is limit rules (Err faults.ScriptLimit) a = absurd a
 
 promoted_single : PromotionsHaveOneOutcome → (limit : ℕ) (rules : Rules) → IsSingle (Pure (PromotedAnswers limit rules))
-promoted_single promotions limit rules r s a b = by_promotion (promotion_is limit rules r a) (promotion_is limit rules s b)
+promoted_single promotions limit rules r s a b = by (promotion_is limit rules r a) (promotion_is limit rules s b)
   where
-    one : HasOnePromotion (no_steps limit) rules
-    one = promotions (no_steps limit) rules
-
-    done : (word : WordValue) (line : StepLine) → IsPromoteStep limit rules word line → IsDone (no_steps limit) (IsPromoteStep limit rules word) (with_line (no_steps limit) line)
-    done word line step = record { line = line; step = step; new_is = refl }
-
-    not_both : (word : WordValue) (line : StepLine) (fault : PromoteFault) → IsPromoteStep limit rules word line → IsPromoteRefused (no_steps limit) rules fault → fault ≢ promotes.Step steps.Memory → ⊥
-    not_both word line fault step refused some = some (one.apart word (with_line (no_steps limit) line) fault (done word line step) refused)
-
-    by_promotion : IsPromotion limit rules r → IsPromotion limit rules s → r ≡ s
-    by_promotion (inl (word, line, step, is)) (inl (word', line', step', is')) =
-        let logs : with_line (no_steps limit) line ≡ with_line (no_steps limit) line' = (one.words word word' (with_line (no_steps limit) line) (with_line (no_steps limit) line') (done word line step) (done word' line' step')).1 in
-        is ∙ (ap (λ (log : StepLog). let x : Result (List StepLine) Fault = Ok log.lines in x) logs ∙ sym is')
-    by_promotion (inl (word, line, step, is)) (inr (fault, refused, some, is')) = absurd (not_both word line fault step refused some)
-    by_promotion (inr (fault, refused, some, is)) (inl (word, line, step, is')) = absurd (not_both word line fault step refused some)
-    by_promotion (inr (fault, refused, some, is)) (inr (fault', refused', some', is')) =
-        is ∙ (ap (λ (f : PromoteFault). let x : Result (List StepLine) Fault = Err (fault_of_promotion f) in x) (one.faults fault fault' refused refused' some some') ∙ sym is')
+    by : IsPromotion limit rules r → IsPromotion limit rules s → r ≡ s
+    by p q =
+        let one = one_result (promotes.Step steps.Memory) p.log q.log p.result q.result (promotions rules (no_steps limit) p.log q.log p.result q.result p.does q.does) p.told q.told in
+        p.is ∙ ((λ i. of_promotion (one.0 i) (one.1 i)) ∙ sym q.is)
 
 -- a `promote` has one fixed point
 pub promote_single : PromotionsHaveOneOutcome → (limit : ℕ) (ledger : Ledger) (text : List ℕ) → IsSingle (promote_checks limit ledger text)

@@ -1,5 +1,5 @@
 -- Formulas of letters that are built one after another.
-use Rattle.std.proofs.Common.{◌≡◌, ℕ, zero, suc, ◌+◌, ◌<◌, List, [], ◌∷◌, ◌++◌, length, get_or, take, drop, ℤ, pos, ◌⊎◌, inl, inr, refl, sym, ap, subst, arith}
+use Rattle.std.proofs.Common.{◌≡◌, ℕ, zero, suc, ◌+◌, ◌<◌, List, [], ◌∷◌, ◌++◌, length, get_or, take, drop, ℤ, pos, refl, sym, ap, subst, arith, Ok, Err}
 use Rattle.std.proofs.lemmas.List.{take_more}
 use Rattle.digit_tuple.specs.Steps.{StepLog}
 use Rattle.digit_tuple.specs.declared.step_fault.StepFault.{StepFault}
@@ -7,9 +7,8 @@ use Rattle.digit_tuple.specs.declared.step_fault.StepFault.TheVariants as faults
 use Rattle.morph_words.proofs.ListSteps.{all_append}
 use Rattle.number_relations.specs.Relations.{RelationValue}
 use Rattle.formula_parse.specs.Tokens.{Name}
-use Rattle.formula_build.specs.Building.{IsStopped}
 use Rattle.formula_build.specs.Libraries.{LibraryValue}
-use Rattle.formula_build.specs.Solutions.{IsFormulaBuilt}
+use Rattle.formula_build.specs.Solutions.{BuildsFormula}
 use Rattle.combinations.specs.Parts.{PartValue}
 use Rattle.session_cli.specs.ImageSteps.{AreBuilt, IsLetterStopped, letter_plan}
 use Rattle.session_cli.specs.LetterParts.{AreLetterParts, IsLetterRelation}
@@ -17,24 +16,24 @@ use Rattle.session_cli.specs.declared.setting.Setting.{Setting}
 use Rattle.session_cli.proofs.LetterPlaces.{values_of}
 
 module _ (l : LibraryValue) (s : Name) (k : ℕ) where
-  built_push : (bs : List ℤ) (parts : List PartValue) (old middle new : StepLog) (b : ℤ) (r : RelationValue) → AreBuilt l s k old bs parts middle → IsFormulaBuilt middle l (letter_plan s k b) r new
+  built_push : (bs : List ℤ) (parts : List PartValue) (old middle new : StepLog) (b : ℤ) (r : RelationValue) → AreBuilt l s k old bs parts middle → BuildsFormula l (letter_plan s k b) middle (Ok r) new
       → AreBuilt l s k old (bs ++ b ∷ []) (parts ++ record { relation = r; value = b } ∷ []) new
-  built_push [] [] old middle new b r same here = (refl, (new, subst (λ m. IsFormulaBuilt m l (letter_plan s k b) r new) same here, refl))
+  built_push [] [] old middle new b r same here = (refl, (new, subst (λ m. BuildsFormula l (letter_plan s k b) m (Ok r) new) same here, refl))
   built_push [] (p ∷ ps) old middle new b r built here = absurd built
   built_push (c ∷ bs) [] old middle new b r built here = absurd built
   built_push (c ∷ bs) (p ∷ ps) old middle new b r (value, (between, first, rest)) here = (value, (between, first, built_push bs ps between middle new b r rest here))
 
   -- one letter more
   pub built_more : (letters : List ℤ) (n : ℕ) (parts new_parts : List PartValue) (old middle new : StepLog) (r : RelationValue) → n < length letters → new_parts ≡ parts ++ record { relation = r; value = get_or letters n (pos 0) } ∷ [] → AreBuilt l s k old (take n letters) parts middle
-      → IsFormulaBuilt middle l (letter_plan s k (get_or letters n (pos 0))) r new → AreBuilt l s k old (take (n + 1) letters) new_parts new
+      → BuildsFormula l (letter_plan s k (get_or letters n (pos 0))) middle (Ok r) new → AreBuilt l s k old (take (n + 1) letters) new_parts new
   built_more letters n parts new_parts old middle new r within pushed built here =
       subst (λ bs. AreBuilt l s k old bs new_parts new) (sym (take_more letters n (pos 0) within))
       (subst (λ ps. AreBuilt l s k old (take n letters ++ get_or letters n (pos 0) ∷ []) ps new) (sym pushed) (built_push (take n letters) parts old middle new (get_or letters n (pos 0)) r built here))
 
   -- a letter whose steps stop
-  stopped_here : (letters : List ℤ) (n : ℕ) (parts : List PartValue) (old middle new : StepLog) (fault : StepFault) → n < length letters → AreBuilt l s k old (take n letters) parts middle → IsStopped middle l (letter_plan s k (get_or letters n (pos 0))).steps new fault
+  pub stops_here : (letters : List ℤ) (n : ℕ) (parts : List PartValue) (old middle new : StepLog) (fault : StepFault) → n < length letters → AreBuilt l s k old (take n letters) parts middle → BuildsFormula l (letter_plan s k (get_or letters n (pos 0))) middle (Err fault) new
       → IsLetterStopped l s k old letters fault new
-  stopped_here letters n parts old middle new fault within built stopped = record {
+  stops_here letters n parts old middle new fault within built stopped = record {
     prefix = take n letters;
     here = get_or letters n (pos 0);
     rest = drop (suc n) letters;
@@ -49,11 +48,6 @@ module _ (l : LibraryValue) (s : Name) (k : ℕ) where
       cut [] m inside = absurd (omega (arith, inside))
       cut (x ∷ xs) zero inside = refl
       cut (x ∷ xs) (suc m) inside = ap (λ ys. x ∷ ys) (cut xs m (omega (arith, inside)))
-
-  pub stops_here : (letters : List ℤ) (n : ℕ) (parts : List PartValue) (old middle new : StepLog) (fault : StepFault) → n < length letters → AreBuilt l s k old (take n letters) parts middle
-      → (fault ≡ faults.Memory) ⊎ IsStopped middle l (letter_plan s k (get_or letters n (pos 0))).steps new fault → (fault ≡ faults.Memory) ⊎ IsLetterStopped l s k old letters fault new
-  stops_here letters n parts old middle new fault within built (inl memory) = inl memory
-  stops_here letters n parts old middle new fault within built (inr stopped) = inr (stopped_here letters n parts old middle new fault within built stopped)
 
   -- the values are the letters
   pub built_values : (bs : List ℤ) (parts : List PartValue) (old new : StepLog) → AreBuilt l s k old bs parts new → values_of parts ≡ bs

@@ -1,5 +1,5 @@
 -- From the head of a `promote` to what it stores.
-use Rattle.std.proofs.Common.{◌≡◌, ℕ, Bool, List, [], ◌∷◌, Ok, inl, inr, refl, sym, ap, ◌∙◌, subst}
+use Rattle.std.proofs.Common.{◌≡◌, ℕ, Bool, List, [], ◌∷◌, Ok, Err, inl, inr, refl, sym, ap, ◌∙◌, subst}
 use Rattle.std.specs.Int.{w32}
 use Rattle.std.specs.List.{All}
 use Rattle.std.specs.Prelude.{FitsSigned}
@@ -9,9 +9,9 @@ use Rattle.wal_outside.specs.declared.folder.Folder.TheVariants.{Words}
 use Rattle.command_head.specs.Breaks.{HasHead}
 use Rattle.command_head.specs.Grammar.{SpellsPromote}
 use Rattle.command_head.specs.Heads.{PromoteHead}
+use Rattle.digit_tuple.specs.Steps.{StepLog}
 use Rattle.digit_tuple.specs.declared.step_fault.StepFault.TheVariants as steps
-use Rattle.digit_tuple.specs.declared.steps.StepLine.{StepLine}
-use Rattle.fixed_points.specs.Promotion.{IsPromoteStep, IsPromoteRefused}
+use Rattle.fixed_points.specs.Promotion.{DoesPromote}
 use Rattle.fixed_points.specs.declared.promote_fault.PromoteFault.{PromoteFault}
 use Rattle.fixed_points.specs.declared.promote_fault.PromoteFault.TheVariants as promotes
 use Rattle.morph_words.specs.Rules.{Rules}
@@ -37,32 +37,35 @@ use Rattle.session_cli.proofs.BaseTexts.{fixed_text}
 use Rattle.session_cli.proofs.CheckSteps.{fails_first, fails_after, plans_after}
 use Rattle.session_cli.proofs.StoringTexts.{unstored, word_refused}
 
--- what has no fixed point, or passes the limit
-pub not_promoted : (limit : ℕ) (rules : Rules) (fault : PromoteFault) → IsPromoteRefused (no_steps limit) rules fault → Fails (Pure (PromotedAnswers limit rules)) (fault_of_promotion fault)
-not_promoted limit rules (promotes.Morphism kind) refused = refused
-not_promoted limit rules (promotes.Step (steps.Letters step)) refused = absurd refused.1
-not_promoted limit rules (promotes.Step (steps.States step)) refused = refused
-not_promoted limit rules (promotes.Step steps.Memory) refused = tt
+-- what has no fixed point, or passes a limit
+pub not_promoted : (limit : ℕ) (rules : Rules) (fault : PromoteFault) (log : StepLog) → DoesPromote rules (no_steps limit) (Err fault) log → Fails (Pure (PromotedAnswers limit rules)) (fault_of_promotion fault)
+not_promoted limit rules (promotes.Morphism kind) log refused = (log, refused)
+not_promoted limit rules (promotes.Step (steps.Letters step)) log refused = (log, refused)
+not_promoted limit rules (promotes.Step (steps.States step)) log refused = (log, refused)
+not_promoted limit rules (promotes.Step steps.Memory) log refused = tt
 
 pub promotion_refused : (limit : ℕ) (custom : Custom) (name : List ℕ) (rules : Rules) (fault : Fault) → Fails (Pure (PromotedAnswers limit rules)) fault → Fails (after_morphism limit custom name rules) fault
 promotion_refused limit custom name rules fault refused = fails_first (Pure (PromotedAnswers limit rules)) (λ lines. stored custom (fixed_success name rules lines)) fault refused
 
-module _ (limit : ℕ) (custom : Custom) (name : List ℕ) (rules : Rules) (word : WordValue) (line : StepLine) (step : IsPromoteStep limit rules word line) (fits : All (λ letter. FitsSigned w32 letter) word.function.letters) where
+module _ (limit : ℕ) (custom : Custom) (name : List ℕ) (rules : Rules) (word : WordValue) (log : StepLog) (done : DoesPromote rules (no_steps limit) (Ok word) log) (fits : All (λ letter. FitsSigned w32 letter) word.function.letters) where
+  has_text : IsFixedText custom rules (named_text (base_name done.0 ∷ []) word)
+  has_text = fixed_text custom rules done.0 word done.1 done.2.step.made_is fits
+
   -- the text of the word is too long
-  pub fixed_refused : (fault : Fault) → HasNoWordText (base_name step.k ∷ []) word fault → Fails (after_morphism limit custom name rules) fault
+  pub fixed_refused : (fault : Fault) → HasNoWordText (base_name done.0 ∷ []) word fault → Fails (after_morphism limit custom name rules) fault
   fixed_refused fault refused =
-      fails_after (Pure (PromotedAnswers limit rules)) (λ lines. stored custom (fixed_success name rules lines)) (line ∷ []) fault (word, line, step, refl)
-      (unstored custom (fixed_success name rules (line ∷ [])) (named_text (base_name step.k ∷ []) word) fault (fixed_text custom limit rules word line step fits) (word_refused (base_name step.k ∷ []) word fault refused))
+      fails_after (Pure (PromotedAnswers limit rules)) (λ lines. stored custom (fixed_success name rules lines)) log.lines fault (word, log, done, refl)
+      (unstored custom (fixed_success name rules log.lines) (named_text (base_name done.0 ∷ []) word) fault has_text (word_refused (base_name done.0 ∷ []) word fault refused))
 
   -- or it is stored
-  pub fixed_made : (shown : Bool) (made : Made) → IsWordTextOf (base_name step.k ∷ []) word made.stored.items → made.printed ≡ shown_steps shown (line ∷ []) → IsMade custom (after_morphism limit custom name rules) shown made
+  pub fixed_made : (shown : Bool) (made : Made) → IsWordTextOf (base_name done.0 ∷ []) word made.stored.items → made.printed ≡ shown_steps shown log.lines → IsMade custom (after_morphism limit custom name rules) shown made
   fixed_made shown made text printed =
-      let has : IsFixedText custom rules made.stored.items = subst (λ (t : List ℕ). IsFixedText custom rules t) (sym text.0) (fixed_text custom limit rules word line step fits) in
+      let has : IsFixedText custom rules made.stored.items = subst (λ (t : List ℕ). IsFixedText custom rules t) (sym text.0) has_text in
       record {
-        success = fixed_success name rules (line ∷ []);
-        answers = (line ∷ [], (word, line, step, refl), (refl, (made.stored.items, has, text.1)));
+        success = fixed_success name rules log.lines;
+        answers = (log.lines, (word, log, done, refl), (refl, (made.stored.items, has, text.1)));
         has_text = has;
-        printed_is = printed ∙ sym (append-nil (shown_steps shown (line ∷ [])));
+        printed_is = printed ∙ sym (append-nil (shown_steps shown log.lines));
       }
 
 -- nothing is read after the morphism

@@ -1,11 +1,15 @@
 -- What is made of an expression that was parsed.
-use Rattle.std.proofs.Common.{◌≡◌, ℕ, ◌<◌, length, Bool, List, [], ◌∷◌, ◌++◌, ℤ, Result, Ok, Err, inl, inr, refl, sym, ap, ◌∙◌, subst, append-nil, append_assoc}
+use Rattle.std.proofs.Common.{◌≡◌, ℕ, ◌<◌, length, Bool, List, [], ◌∷◌, ℤ, Result, Ok, Err, inl, inr, refl, sym, ap, ◌∙◌, subst, append-nil}
 use Rattle.digit_tuple.proofs.SystemLemmas.{length-digit_set}
 use Rattle.digit_tuple.specs.Deterministic.{Automaton}
 use Rattle.digit_tuple.specs.Sets.{sizes_of}
 use Rattle.digit_tuple.specs.Steps.{StepLog}
 use Rattle.digit_tuple.specs.declared.direction.Direction.{Direction}
 use Rattle.digit_tuple.specs.declared.steps.StepLine.{StepLine}
+use Rattle.minimise.specs.Tracked.{NamedAutomaton}
+use Rattle.automaton_steps.specs.Makings.{DoesStep}
+use Rattle.automaton_steps.specs.Numbered.{numbered}
+use Rattle.regex_build.specs.Expression.{Expression}
 use Rattle.regex_build.specs.Patterns.{Pattern}
 use Rattle.regex_build.specs.Parsing.{Parses}
 use Rattle.dfa_text.specs.Meaning.{AreTrackSets}
@@ -14,12 +18,9 @@ use Rattle.product_op.specs.Validity.{AreLanguages}
 use Rattle.numeration.specs.Representation as representation
 use Rattle.digit_tuple.specs.declared.step_fault.StepFault.{StepFault}
 use Rattle.digit_tuple.specs.declared.step_fault.StepFault.TheVariants as step_faults
-use Rattle.reg_steps.specs.RegexSteps as regex_steps
-use Rattle.reg_steps.specs.RegexSteps.{IsRegexStep}
-use Rattle.reg_steps.specs.RelationSteps.{SecondExceeds, ThirdExceeds}
+use Rattle.reg_steps.specs.RegexSteps.{regex_step}
+use Rattle.reg_steps.specs.RelationSteps.{DoesRelation}
 use Rattle.reg_steps.specs.Relations.{IsRelation, AreSystemLanguages}
-use Rattle.digit_tuple.specs.StepResults.{IsDone, IsRefusedBy}
-use Rattle.reg_steps.specs.Refusals.{AreDone, AreRefused}
 use Rattle.reg_steps.proofs.OneLanguages.{languages_of_tracks}
 use Rattle.reg_steps.proofs.RelationLemmas.{relation_made}
 use Rattle.session_cli.specs.declared.fault.Fault.{Fault}
@@ -32,7 +33,7 @@ use Rattle.session_cli.specs.Lines.{shown_steps}
 use Rattle.definitions.specs.Tracks.{NamedSystem, systems_of, Tracks, OverSets, OverSystems, letter_sets, header_of}
 use Rattle.session_cli.specs.declared.plan.Made.{Made}
 use Rattle.definitions.specs.Texts.{IsTrackText}
-use Rattle.session_cli.specs.TrackSteps.{AreSteps}
+use Rattle.session_cli.specs.TrackSteps.{DoesExpression}
 use Rattle.session_cli.specs.Accepting.{Success, stored}
 use Rattle.session_cli.specs.RegOutcomes.{ParsedAnswers, StepsAnswers, regex_success, after_expression, after_tracks}
 use Rattle.session_cli.specs.Plans.{Prints, Makes}
@@ -45,13 +46,9 @@ pub system_sizes : (direction : Direction) (named : List NamedSystem) → sizes_
 system_sizes direction [] = refl
 system_sizes direction (s ∷ named) = ap (λ (n : ℕ). n ∷ sizes_of (letter_sets (OverSystems direction named))) (length-digit_set s.system.digits) ∙ ap (λ (ns : List ℕ). s.system.digits ∷ ns) (system_sizes direction named)
 
--- three lines after others
-three_lines : (lines : List StepLine) (one two three : StepLine) → ((lines ++ one ∷ []) ++ two ∷ []) ++ three ∷ [] ≡ lines ++ one ∷ two ∷ three ∷ []
-three_lines lines one two three = append_assoc (lines ++ one ∷ []) (two ∷ []) (three ∷ []) ∙ append_assoc lines (one ∷ []) (two ∷ three ∷ [])
-
 -- what is made of an expression by its steps, by whether the text fits
 made_by_steps : (custom : Custom) (admitted : StepLog) (name : List ℕ) (tracks : Tracks) (body : List ℕ) (shown : Bool) (pattern : Pattern) (lines printed_lines : List StepLine) (automaton : Automaton) (result : Result Made Fault)
-    → Parses (letter_sets tracks) body (Ok pattern) → AreSteps admitted tracks pattern.tree lines → IsTrackText custom tracks pattern.tree (relation_text (header_of tracks) automaton) → printed_lines ≡ lines
+    → Parses (letter_sets tracks) body (Ok pattern) → StepsAnswers admitted tracks pattern.tree (Ok lines) → IsTrackText custom tracks pattern.tree (relation_text (header_of tracks) automaton) → printed_lines ≡ lines
     → Prints (header_of tracks) automaton shown printed_lines result → Makes custom (after_tracks admitted custom name body tracks) shown result
 made_by_steps custom admitted name tracks body shown pattern lines printed_lines automaton result parses steps has same prints =
     makes_after custom (Pure (ParsedAnswers (letter_sets tracks) body)) (λ (p : Pattern). after_expression admitted custom name tracks p.tree) pattern shown result parses
@@ -97,26 +94,25 @@ made_by_steps custom admitted name tracks body shown pattern lines printed_lines
 
 -- the step over sets was made
 pub made_over_sets : (custom : Custom) (admitted : StepLog) (name : List ℕ) (sets : List (List ℤ)) (body : List ℕ) (shown : Bool) (pattern : Pattern) (automaton : Automaton) (steps : StepLog) → AreTrackSets sets → Parses sets body (Ok pattern)
-    → IsDone admitted (IsRegexStep admitted.limit pattern.sets pattern.tree automaton) steps → (result : Result Made Fault) → Prints (header_of (OverSets sets)) automaton shown steps.lines result → Makes custom (after_tracks admitted custom name body (OverSets sets)) shown result
-made_over_sets custom admitted name sets body shown pattern automaton steps tracks parses done result prints =
-    let P : List (List ℤ) → Type 0 = λ over. IsRegexStep admitted.limit over pattern.tree automaton done.line in
-    let step : IsRegexStep admitted.limit sets pattern.tree automaton done.line = subst P parses.sets_are done.step in
-    made_by_steps custom admitted name (OverSets sets) body shown pattern (admitted.lines ++ done.line ∷ []) steps.lines automaton result parses (record { automaton = automaton; line = done.line; step = step; lines_are = refl })
-    (regex_text sets pattern.tree automaton (relation_text (header_of (OverSets sets)) automaton) tracks step.of_regex refl) (ap (λ (log : StepLog). log.lines) done.new_is) prints
+    → DoesStep (regex_step pattern.sets pattern.tree) admitted (Ok automaton) steps → (result : Result Made Fault) → Prints (header_of (OverSets sets)) automaton shown steps.lines result → Makes custom (after_tracks admitted custom name body (OverSets sets)) shown result
+made_over_sets custom admitted name sets body shown pattern automaton steps tracks parses made result prints =
+    let done : DoesStep (regex_step sets pattern.tree) admitted (Ok automaton) steps = subst (λ (over : List (List ℤ)). DoesStep (regex_step over pattern.tree) admitted (Ok automaton) steps) parses.sets_are made in
+    made_by_steps custom admitted name (OverSets sets) body shown pattern steps.lines steps.lines automaton result parses (numbered automaton, steps, inl (automaton, steps, done, (refl, refl)), refl)
+    (regex_text sets pattern.tree automaton (relation_text (header_of (OverSets sets)) automaton) tracks done.step.made_is refl) refl prints
 
 -- the steps over systems were made
-pub made_over_systems : (custom : Custom) (admitted : StepLog) (name : List ℕ) (direction : Direction) (named : List NamedSystem) (languages : List Automaton) (body : List ℕ) (shown : Bool) (pattern : Pattern) (automaton : Automaton) (steps : StepLog) → 0 < length named → AreNamed custom direction named
+pub made_over_systems : (custom : Custom) (admitted : StepLog) (name : List ℕ) (direction : Direction) (named : List NamedSystem) (languages : List Automaton) (body : List ℕ) (shown : Bool) (pattern : Pattern) (relation : NamedAutomaton) (steps : StepLog) → 0 < length named → AreNamed custom direction named
     → AreSystemLanguages direction (systems_of named) languages → Parses (letter_sets (OverSystems direction named)) body (Ok pattern)
-    → AreDone admitted direction languages pattern.sets pattern.tree automaton steps → (result : Result Made Fault) → Prints (header_of (OverSystems direction named)) automaton shown steps.lines result
+    → DoesRelation direction languages pattern.sets pattern.tree admitted (Ok relation) steps → (result : Result Made Fault) → Prints (header_of (OverSystems direction named)) relation.automaton shown steps.lines result
     → Makes custom (after_tracks admitted custom name body (OverSystems direction named)) shown result
-made_over_systems custom admitted name direction named languages body shown pattern automaton steps some are_named are parses made result prints =
-    let P : List (List ℤ) → Type 0 = λ over. AreDone admitted direction languages over pattern.tree automaton steps in
-    let done : AreDone admitted direction languages (letter_sets (OverSystems direction named)) pattern.tree automaton steps = subst P parses.sets_are made in
-    let relation : IsRelation direction (systems_of named) (letter_sets (OverSystems direction named)) pattern.tree automaton =
-    relation_made admitted.limit direction (systems_of named) languages (letter_sets (OverSystems direction named)) pattern.tree automaton done.valid (named_are_systems custom direction named are_named) are (system_sizes direction named) done.steps in
-    made_by_steps custom admitted name (OverSystems direction named) body shown pattern (admitted.lines ++ done.steps.before.regex ∷ done.steps.before.pad ∷ done.valid ∷ []) steps.lines automaton result parses
-    (record { languages = languages; languages_are = are; automaton = automaton; valid = done.valid; steps = done.steps; lines_are = refl }) (record { some = some; are = are_named; automaton = automaton; of_relation = relation; text_is = refl })
-    (ap (λ (log : StepLog). log.lines) done.new_is ∙ three_lines admitted.lines done.steps.before.regex done.steps.before.pad done.valid) prints
+made_over_systems custom admitted name direction named languages body shown pattern relation steps some are_named are parses made result prints =
+    let sets : List (List ℤ) = letter_sets (OverSystems direction named) in
+    let done : DoesRelation direction languages sets pattern.tree admitted (Ok relation) steps =
+    subst (λ (over : List (List ℤ)). DoesRelation direction languages over pattern.tree admitted (Ok relation) steps) parses.sets_are made in
+    let of_relation : IsRelation direction (systems_of named) sets pattern.tree relation.automaton =
+    relation_made direction (systems_of named) languages sets pattern.tree admitted steps relation (named_are_systems custom direction named are_named) are (system_sizes direction named) done in
+    made_by_steps custom admitted name (OverSystems direction named) body shown pattern steps.lines steps.lines relation.automaton result parses (relation, steps, inr (languages, are, done), refl)
+    (record { some = some; are = are_named; automaton = relation.automaton; of_relation = of_relation; text_is = refl }) refl prints
 
 -- a step was refused
 unstepped : (custom : Custom) (admitted : StepLog) (name : List ℕ) (tracks : Tracks) (body : List ℕ) (pattern : Pattern) (f : Fault) → Parses (letter_sets tracks) body (Ok pattern) → Fails (Pure (StepsAnswers admitted tracks pattern.tree)) f → Fails (after_tracks admitted custom name body tracks) f
@@ -124,27 +120,23 @@ unstepped custom admitted name tracks body pattern f parses refused =
     fails_after (Pure (ParsedAnswers (letter_sets tracks) body)) (λ (p : Pattern). after_expression admitted custom name tracks p.tree) pattern f parses
     (fails_first (Pure (StepsAnswers admitted tracks pattern.tree)) (λ (ls : List StepLine). stored custom (regex_success name tracks pattern.tree ls)) f refused)
 
-pub refused_over_sets : (custom : Custom) (admitted : StepLog) (name : List ℕ) (sets : List (List ℤ)) (body : List ℕ) (pattern : Pattern) (fault : StepFault) → Parses sets body (Ok pattern)
-    → IsRefusedBy admitted (regex_steps.ExceedsLetters pattern.sets) (regex_steps.ExceedsStates admitted.limit pattern.sets pattern.tree) fault → Fails (after_tracks admitted custom name body (OverSets sets)) (fault_of fault)
-refused_over_sets custom admitted name sets body pattern fault parses refused = unstepped custom admitted name (OverSets sets) body pattern (fault_of fault) parses (by_fault fault refused)
-  where
-    by_fault : (f : StepFault) → IsRefusedBy admitted (regex_steps.ExceedsLetters pattern.sets) (regex_steps.ExceedsStates admitted.limit pattern.sets pattern.tree) f → Fails (Pure (StepsAnswers admitted (OverSets sets) pattern.tree)) (fault_of f)
-    by_fault (step_faults.Letters step) (is, passes) = let P : List (List ℤ) → Type 0 = λ over. regex_steps.ExceedsLetters over in (is, subst P parses.sets_are passes)
-    by_fault (step_faults.States step) (is, passes) = let P : List (List ℤ) → Type 0 = λ over. regex_steps.ExceedsStates admitted.limit over pattern.tree in (is, subst P parses.sets_are passes)
-    by_fault step_faults.Memory refused = tt
+-- its number is told, unless memory ran out
+stopped_at : (admitted : StepLog) (tracks : Tracks) (e : Expression (List ℤ)) (log : StepLog) (fault : StepFault) → DoesExpression tracks e admitted (Err fault) log → Fails (Pure (StepsAnswers admitted tracks e)) (fault_of fault)
+stopped_at admitted tracks e log (step_faults.Letters step) refused = (log, refused)
+stopped_at admitted tracks e log (step_faults.States step) refused = (log, refused)
+stopped_at admitted tracks e log step_faults.Memory refused = tt
 
-pub refused_over_systems : (custom : Custom) (admitted : StepLog) (name : List ℕ) (direction : Direction) (named : List NamedSystem) (languages : List Automaton) (body : List ℕ) (pattern : Pattern) (fault : StepFault) → AreSystemLanguages direction (systems_of named) languages
-    → Parses (letter_sets (OverSystems direction named)) body (Ok pattern) → AreRefused admitted direction languages pattern.sets pattern.tree fault → Fails (after_tracks admitted custom name body (OverSystems direction named)) (fault_of fault)
-refused_over_systems custom admitted name direction named languages body pattern fault are parses refused = unstepped custom admitted name (OverSystems direction named) body pattern (fault_of fault) parses (by_fault fault refused)
-  where
-    by_fault : (f : StepFault) → AreRefused admitted direction languages pattern.sets pattern.tree f → Fails (Pure (StepsAnswers admitted (OverSystems direction named) pattern.tree)) (fault_of f)
-    by_fault (step_faults.Letters step) (is, passes) = let P : List (List ℤ) → Type 0 = λ over. regex_steps.ExceedsLetters over in (is, subst P parses.sets_are passes)
-    by_fault (step_faults.States step) (inl (is, passes)) = let P : List (List ℤ) → Type 0 = λ over. regex_steps.ExceedsStates admitted.limit over pattern.tree in inl (is, subst P parses.sets_are passes)
-    by_fault (step_faults.States step) (inr (inl (is, passes))) = let P : List (List ℤ) → Type 0 = λ over. SecondExceeds admitted.limit direction over pattern.tree in inr (inl (is, subst P parses.sets_are passes))
-    by_fault (step_faults.States step) (inr (inr (is, passes))) =
-        let P : List (List ℤ) → Type 0 = λ over. ThirdExceeds admitted.limit direction languages over pattern.tree in
-        inr (inr (is, record { languages = languages; languages_are = are; third = subst P parses.sets_are passes }))
-    by_fault step_faults.Memory refused = tt
+pub refused_over_sets : (custom : Custom) (admitted : StepLog) (name : List ℕ) (sets : List (List ℤ)) (body : List ℕ) (pattern : Pattern) (fault : StepFault) (log : StepLog) → Parses sets body (Ok pattern)
+    → DoesStep (regex_step pattern.sets pattern.tree) admitted (Err fault) log → Fails (after_tracks admitted custom name body (OverSets sets)) (fault_of fault)
+refused_over_sets custom admitted name sets body pattern fault log parses refused =
+    let here : DoesStep (regex_step sets pattern.tree) admitted (Err fault) log = subst (λ (over : List (List ℤ)). DoesStep (regex_step over pattern.tree) admitted (Err fault) log) parses.sets_are refused in
+    unstepped custom admitted name (OverSets sets) body pattern (fault_of fault) parses (stopped_at admitted (OverSets sets) pattern.tree log fault (inr (fault, here, refl)))
+
+pub refused_over_systems : (custom : Custom) (admitted : StepLog) (name : List ℕ) (direction : Direction) (named : List NamedSystem) (languages : List Automaton) (body : List ℕ) (pattern : Pattern) (fault : StepFault) (log : StepLog) → AreSystemLanguages direction (systems_of named) languages
+    → Parses (letter_sets (OverSystems direction named)) body (Ok pattern) → DoesRelation direction languages pattern.sets pattern.tree admitted (Err fault) log → Fails (after_tracks admitted custom name body (OverSystems direction named)) (fault_of fault)
+refused_over_systems custom admitted name direction named languages body pattern fault log are parses refused =
+    let here = subst (λ (over : List (List ℤ)). DoesRelation direction languages over pattern.tree admitted (Err fault) log) parses.sets_are refused in
+    unstepped custom admitted name (OverSystems direction named) body pattern (fault_of fault) parses (stopped_at admitted (OverSystems direction named) pattern.tree log fault (inr (languages, are, here)))
 
 -- the languages of the tracks of an expression over systems
 pub languages_fit : (direction : Direction) (named : List NamedSystem) (languages : List Automaton) (body : List ℕ) (pattern : Pattern) → AreSystemLanguages direction (systems_of named) languages → Parses (letter_sets (OverSystems direction named)) body (Ok pattern)

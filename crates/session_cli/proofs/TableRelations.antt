@@ -168,7 +168,7 @@ pub relation_of_table : TablesHold → (systems : List NamedSystem) → AreSeale
 relation_of_table hold systems sealed old new table r readable read =
     let one : ShareDirection read.tracks = read_shared_direction systems table read.tracks readable read.over in
     let over : AreTableSystems table.listed read.tracks = record { sealed = below_sealed systems table.listed.header read.tracks sealed read.over; tracks = below_tracks systems table.listed.header read.tracks read.over one } in
-    hold old.limit read.tracks table.listed r.relation read.done.lines over read.done.steps
+    hold read.tracks table.listed old new r.relation over read.done
 
 -- it holds of the numbers of which the text does that lists the table
 pub relation_holds : TablesHold → (custom : Custom) (systems : List NamedSystem) → AreSealed systems → AreMeant custom systems → (old new : StepLog) (table : Loaded) (r : NamedRelation) (text : List ℕ) → relation_of text ≡ Ok table.listed

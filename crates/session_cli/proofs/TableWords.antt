@@ -6,9 +6,9 @@ use Rattle.dfa_reading.specs.WordFiles.{word_of, IsWordListed}
 use Rattle.dfa_loading.specs.declared.loaded.Loaded.{Loaded}
 use Rattle.num_system.specs.Sealed.{SystemValue}
 use Rattle.num_system.specs.Tracks.{ShareDirection, direction_of}
-use Rattle.word_output.specs.WordReadings.{AreWordSteps}
+use Rattle.word_output.specs.WordReadings.{DoesWordSteps}
 use Rattle.word_output.specs.Words.{WordValue, IsWordValue, HasLetter}
-use Rattle.word_output.proofs.WordSteps.{word_is}
+use Rattle.word_output.proofs.WordSteps.{steps_made, word_is}
 use Rattle.formula_build.specs.Libraries.{NamedWord, NamedSystem, AreSealed}
 use Rattle.definitions.specs.WordFiles.{FileLetter}
 use Rattle.definitions.specs.WordLaws.{NamesMean, WordsHaveFileLetters}
@@ -35,8 +35,9 @@ module _ (systems : List NamedSystem) (sealed : AreSealed systems) (old new : St
   pub word_of_table : IsWordValue w.word
   word_of_table =
       let own : WordValue = record { systems = read.tracks; function = w.word.function } in
-      let is : IsWordValue own = word_is old.limit read.tracks table.listed w.word.function read.done.lines read.done.steps (below_sealed systems table.listed.header read.tracks sealed read.over) one some read.done.no_gap in
-      let same : own ≡ w.word = λ i. record { systems = sym read.done.systems_are i; function = w.word.function } in
+      let made = steps_made read.tracks table.listed old new w.word.function read.done.0 in
+      let is : IsWordValue own = word_is read.tracks table.listed w.word.function made (below_sealed systems table.listed.header read.tracks sealed read.over) one some read.done.1 in
+      let same : own ≡ w.word = λ i. record { systems = sym read.done.2 i; function = w.word.function } in
       subst IsWordValue same is
 
   module _ (custom : Custom) (are : AreMeant custom systems) where
@@ -51,7 +52,7 @@ module _ (systems : List NamedSystem) (sealed : AreSealed systems) (old new : St
     -- at each place it has the letter of the text that lists the table
     pub word_letters : WordsHaveFileLetters → (text : List ℕ) → word_of text ≡ Ok table.listed → (ns : List ℕ) (letter : ℤ) → HasLetter w.word ns letter ↔ FileLetter custom text ns letter
     word_letters have text lists ns letter =
-        let over = sym read.done.systems_are in
-        have custom text table.listed listed.names old.limit w.word read.done.lines lists listed.header
+        let over = sym read.done.2 in
+        have custom text table.listed listed.names old new w.word lists listed.header
         (subst (NamesMean custom listed.names) over mean) word_of_table
-        (subst (λ (ss : List SystemValue). AreWordSteps old.limit ss table.listed w.word.function read.done.lines) over read.done.steps) ns letter
+        (subst (λ (ss : List SystemValue). DoesWordSteps ss table.listed old (Ok w.word.function) new) over read.done.0) ns letter

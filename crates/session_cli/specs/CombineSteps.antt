@@ -1,11 +1,11 @@
 -- The steps by which listed automata are combined: after those of the systems that are admitted, first those that read the tables, then one
 -- that makes the word.
-use Rattle.std.specs.Prelude.{◌≡◌, ◌⊎◌, ℕ, suc, List, [], ◌∷◌, Some, ⊤}
+use Rattle.std.specs.Prelude.{◌≡◌, ◌⊎◌, ℕ, suc, List, [], ◌∷◌, Some, Ok, Err, ⊤}
 use Rattle.digit_tuple.specs.Steps.{StepLog}
 use Rattle.digit_tuple.specs.declared.step_fault.StepFault.{StepFault}
 use Rattle.digit_tuple.specs.declared.steps.StepLine.{StepLine}
 use Rattle.combinations.specs.Combined.{AreSystemsFor}
-use Rattle.combinations.specs.CombineSteps.{IsCombineDone, IsCombineRefused}
+use Rattle.combinations.specs.CombineSteps.{DoesCombine}
 use Rattle.combinations.specs.Parts.{PartValue}
 use Rattle.combinations.specs.declared.combine_fault.CombineFault.TheVariants.{Step}
 use Rattle.command_head.specs.Heads.{ValuedName}
@@ -43,14 +43,14 @@ pub record AreListedParts (admitted : StepLog) (custom : Custom) (tables : List 
 pub record AreCombineSteps (admitted : StepLog) (custom : Custom) (tables : List Loaded) (automata : List ValuedName) (word : WordValue) (lines : List StepLine) : Type 0 where
   pub before : AreListedParts admitted custom tables automata
   pub log : StepLog
-  pub done : IsCombineDone before.reading before.parts before.tracks word log
+  pub done : DoesCombine before.parts before.tracks before.reading (Ok word) log
   pub lines_are : lines ≡ log.lines
 
 -- it is refused by this fault
 pub record IsCombiningStopped (admitted : StepLog) (custom : Custom) (tables : List Loaded) (automata : List ValuedName) (fault : StepFault) : Type 0 where
   pub before : AreListedParts admitted custom tables automata
   pub log : StepLog
-  pub refused : IsCombineRefused before.reading before.parts before.tracks (Step fault) log
+  pub refused : DoesCombine before.parts before.tracks before.reading (Err (Step fault)) log
 
 -- a step that reads a table, or the one that combines, is the first to pass a limit
 abbrev pub AreCombineStepsRefused : StepLog → Custom → List Loaded → List ValuedName → StepFault → Type 0

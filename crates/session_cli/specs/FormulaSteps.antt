@@ -34,7 +34,7 @@ pub record AreFormulaSteps (admitted : StepLog) (custom : Custom) (tables : List
   pub reading : StepLog
   pub read : AreTablesRead systems admitted tables reads reading
   pub log : StepLog
-  pub builds : BuildsFormula reading (library_with reads systems) (formula_plan (headers_of tables) formula) result log
+  pub builds : BuildsFormula (library_with reads systems) (formula_plan (headers_of tables) formula) reading result log
   pub lines_are : lines ≡ log.lines
 
 -- the steps that read the tables are refused by this fault

@@ -1,5 +1,5 @@
 -- The steps by which the image of a word is made.
-use Rattle.std.specs.Prelude.{◌≡◌, ◌⊎◌, ℕ, ℤ, List, [], ◌∷◌, ◌++◌, Result, MatchResult}
+use Rattle.std.specs.Prelude.{◌≡◌, ◌⊎◌, ℕ, ℤ, List, [], ◌∷◌, ◌++◌, Result, Ok, Err, MatchResult}
 use Rattle.digit_tuple.specs.Steps.{StepLog}
 use Rattle.digit_tuple.specs.declared.step_fault.StepFault.{StepFault}
 use Rattle.digit_tuple.specs.declared.step_fault.StepFault.TheVariants.{Memory}
@@ -8,11 +8,11 @@ use Rattle.morph_words.specs.Uniform.{IsImageLength, IsLeast, IsLengthRefused, H
 use Rattle.word_output.specs.Words.{WordValue}
 use Rattle.formula_parse.specs.Tokens.{Name}
 use Rattle.formula_build.specs.Libraries.{LibraryValue}
-use Rattle.formula_build.specs.Building.{IsStopped}
-use Rattle.formula_build.specs.Solutions.{IsFormulaBuilt, formula_plan}
+use Rattle.formula_build.specs.Solutions.{BuildsFormula, formula_plan}
 use Rattle.formula_plan.specs.Plans.{Made}
 use Rattle.combinations.specs.Parts.{PartValue}
-use Rattle.combinations.specs.CombineSteps.{IsCombineDone, IsCombineStepRefused}
+use Rattle.combinations.specs.CombineSteps.{DoesCombine}
+use Rattle.combinations.specs.declared.combine_fault.CombineFault.TheVariants as combining
 use Rattle.word_images.specs.ImageFormula.{image_formula}
 use Rattle.session_cli.specs.RecodedWords.{IsImageLibrary, image_headers}
 use Rattle.word_images.specs.ImageWords.{AreOutputs, IsMapped, IsMissing}
@@ -28,7 +28,7 @@ abbrev pub AreBuilt : LibraryValue → Name → ℕ → StepLog → List ℤ →
 AreBuilt l s k old [] [] new = new ≡ old
 AreBuilt l s k old [] (part ∷ parts) new = ⊥
 AreBuilt l s k old (b ∷ bs) [] new = ⊥
-AreBuilt l s k old (b ∷ bs) (part ∷ parts) new = (part.value ≡ b) × ((middle : StepLog) × IsFormulaBuilt old l (letter_plan s k b) part.relation middle × AreBuilt l s k middle bs parts new)
+AreBuilt l s k old (b ∷ bs) (part ∷ parts) new = (part.value ≡ b) × ((middle : StepLog) × BuildsFormula l (letter_plan s k b) old (Ok part.relation) middle × AreBuilt l s k middle bs parts new)
 
 -- those before one letter were built, and the steps of its formula stop at one that passes a limit
 pub record IsLetterStopped (l : LibraryValue) (s : Name) (k : ℕ) (old : StepLog) (letters : List ℤ) (fault : StepFault) (new : StepLog) : Type 0 where
@@ -39,21 +39,21 @@ pub record IsLetterStopped (l : LibraryValue) (s : Name) (k : ℕ) (old : StepLo
   pub parts : List PartValue
   pub middle : StepLog
   pub built : AreBuilt l s k old prefix parts middle
-  pub stopped : IsStopped middle l (letter_plan s k here).steps new fault
+  pub stopped : BuildsFormula l (letter_plan s k here) middle (Err fault) new
 
 -- all were built, and the step that combines them passes a limit
 pub record IsCombiningStopped (l : LibraryValue) (word : WordValue) (s : Name) (k : ℕ) (old : StepLog) (letters : List ℤ) (fault : StepFault) (new : StepLog) : Type 0 where
   pub parts : List PartValue
   pub middle : StepLog
   pub built : AreBuilt l s k old letters parts middle
-  pub stopped : IsCombineStepRefused middle parts word.systems fault new
+  pub stopped : DoesCombine parts word.systems middle (Err (combining.Step fault)) new
 
 -- all were built, and the step that combines them makes this word
 pub record IsCombined (l : LibraryValue) (word : WordValue) (s : Name) (k : ℕ) (old : StepLog) (letters : List ℤ) (v : WordValue) (new : StepLog) : Type 0 where
   pub parts : List PartValue
   pub middle : StepLog
   pub built : AreBuilt l s k old letters parts middle
-  pub done : IsCombineDone middle parts word.systems v new
+  pub done : DoesCombine parts word.systems middle (Ok v) new
 
 -- the word is mapped, and its steps were done after the others and make this word
 pub record IsImageDone (old : StepLog) (rules : Rules) (word : WordValue) (s : Name) (v : WordValue) (new : StepLog) : Type 0 where

@@ -1,12 +1,13 @@
 -- What a `promote` does, by its checks in their order: the shape of its head, the file of the morphism, that the morphism has a fixed point,
 -- the step, and the length of the text to store.
-use Rattle.std.specs.Prelude.{◌≡◌, ℕ, List, [], ◌∷◌, None, Result, Ok, Err}
+use Rattle.std.specs.Prelude.{◌≡◌, ℕ, List, None, Result, Ok, Err}
+use Rattle.digit_tuple.specs.Steps.{StepLog}
 use Rattle.digit_tuple.specs.declared.step_fault.StepFault.TheVariants as steps
 use Rattle.digit_tuple.specs.declared.steps.StepLine.{StepLine}
 use Rattle.wal_outside.specs.declared.folder.Folder.TheVariants.{Words}
 use Rattle.command_head.specs.Grammar.{SpellsPromote}
 use Rattle.command_head.specs.Heads.{PromoteHead}
-use Rattle.fixed_points.specs.Promotion.{IsPromoteStep, IsPromoteRefused}
+use Rattle.fixed_points.specs.Promotion.{DoesPromote}
 use Rattle.fixed_points.specs.declared.promote_fault.PromoteFault.TheVariants as promotes
 use Rattle.morph_words.specs.Rules.{Rules}
 use Rattle.word_output.specs.Words.{WordValue}
@@ -20,11 +21,12 @@ use Rattle.session_cli.specs.HeadAnswers.{HeadAnswers}
 use Rattle.session_cli.specs.MorphismChecks.{morphism_loaded}
 use Rattle.session_cli.specs.SystemChecks.{no_steps}
 
--- the line of the step; or why the morphism has no fixed point, or the number of the step where it passes the limit
+-- the line of the step; or why the morphism has no fixed point, or the number of the step where it passes a limit
 abbrev pub PromotedAnswers : ℕ → Rules → Result (List StepLine) Fault → Type 0
-PromotedAnswers limit rules (Ok lines) = (word : WordValue) × (line : StepLine) × IsPromoteStep limit rules word line × (lines ≡ line ∷ [])
-PromotedAnswers limit rules (Err (faults.Morphism kind)) = IsPromoteRefused (no_steps limit) rules (promotes.Morphism kind)
-PromotedAnswers limit rules (Err (faults.States step)) = IsPromoteRefused (no_steps limit) rules (promotes.Step (steps.States step))
+PromotedAnswers limit rules (Ok lines) = (word : WordValue) × (log : StepLog) × DoesPromote rules (no_steps limit) (Ok word) log × (lines ≡ log.lines)
+PromotedAnswers limit rules (Err (faults.Morphism kind)) = (log : StepLog) × DoesPromote rules (no_steps limit) (Err (promotes.Morphism kind)) log
+PromotedAnswers limit rules (Err (faults.Letters step)) = (log : StepLog) × DoesPromote rules (no_steps limit) (Err (promotes.Step (steps.Letters step))) log
+PromotedAnswers limit rules (Err (faults.States step)) = (log : StepLog) × DoesPromote rules (no_steps limit) (Err (promotes.Step (steps.States step))) log
 PromotedAnswers limit rules (Err fault) = ⊥
 
 -- what is stored and printed of a fixed point

@@ -1,10 +1,12 @@
 -- What a `reg` does, by its checks in their order: the shape of its head, its systems, their direction, its expression, its steps, and the
 -- length of the text that it is to store.
-use Rattle.std.specs.Prelude.{◌≡◌, ℕ, ◌+◌, ℤ, List, [], length, None, Result, Ok, Err}
+use Rattle.std.specs.Prelude.{◌≡◌, ℕ, ℤ, List, [], None, Result, Ok, Err}
 use Rattle.std.specs.Str.{bytes_eq}
 use Rattle.wal_outside.specs.declared.folder.Folder.TheVariants.{Automata}
 use Rattle.digit_tuple.specs.Steps.{StepLog}
+use Rattle.digit_tuple.specs.declared.step_fault.StepFault.TheVariants as steps
 use Rattle.digit_tuple.specs.declared.steps.StepLine.{StepLine}
+use Rattle.minimise.specs.Tracked.{NamedAutomaton}
 use Rattle.command_head.specs.Heads as heads
 use Rattle.command_head.specs.Heads.{RegHead}
 use Rattle.command_head.specs.Grammar.{SpellsReg}
@@ -21,7 +23,7 @@ use Rattle.definitions.specs.Tracks.{Tracks, letter_sets}
 use Rattle.formula_resolve.specs.FirstMentions.{each_once}
 use Rattle.system_files.specs.SystemFiles.{Custom}
 use Rattle.session_cli.specs.HeadTracks.{PartInDirection, AreTracksOf}
-use Rattle.session_cli.specs.TrackSteps.{AreSteps, ExceedsLetters, ExceedsStates}
+use Rattle.session_cli.specs.TrackSteps.{DoesExpression}
 use Rattle.session_cli.specs.HeadAnswers.{HeadAnswers}
 use Rattle.session_cli.specs.SystemChecks.{systems_known}
 use Rattle.session_cli.specs.Accepting.{Success, stored}
@@ -47,9 +49,9 @@ ParsedAnswers sets body (Err fault) = ⊥
 
 -- the lines of the steps, or the number of the first one that passes a limit
 abbrev pub StepsAnswers : StepLog → Tracks → Expression (List ℤ) → Result (List StepLine) Fault → Type 0
-StepsAnswers admitted tracks expression (Ok lines) = AreSteps admitted tracks expression lines
-StepsAnswers admitted tracks expression (Err (faults.Letters step)) = (step ≡ length admitted.lines + 1) × ExceedsLetters tracks
-StepsAnswers admitted tracks expression (Err (faults.States step)) = ExceedsStates admitted tracks expression step
+StepsAnswers admitted tracks expression (Ok lines) = (made : NamedAutomaton) × (log : StepLog) × DoesExpression tracks expression admitted (Ok made) log × (lines ≡ log.lines)
+StepsAnswers admitted tracks expression (Err (faults.Letters step)) = (log : StepLog) × DoesExpression tracks expression admitted (Err (steps.Letters step)) log
+StepsAnswers admitted tracks expression (Err (faults.States step)) = (log : StepLog) × DoesExpression tracks expression admitted (Err (steps.States step)) log
 StepsAnswers admitted tracks expression (Err fault) = ⊥
 
 -- what is stored and printed of an expression

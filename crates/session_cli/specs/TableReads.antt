@@ -1,6 +1,6 @@
 -- The steps by which the files that a formula names are read, one after another: those of an automaton make a relation, and those of a word
 -- its letters.
-use Rattle.std.specs.Prelude.{◌≡◌, ◌⊎◌, ℕ, List, [], ◌∷◌, Some}
+use Rattle.std.specs.Prelude.{◌≡◌, ◌⊎◌, ℕ, List, [], ◌∷◌, Some, Ok, Err}
 use Rattle.std.specs.List.{AllZip}
 use Rattle.digit_tuple.specs.Steps.{StepLog}
 use Rattle.digit_tuple.specs.declared.step_fault.StepFault.{StepFault}
@@ -11,8 +11,9 @@ use Rattle.formula_resolve.specs.declared.file.File.{File}
 use Rattle.formula_resolve.specs.declared.file.File.TheVariants.{Automaton, Word}
 use Rattle.formula_build.specs.Libraries.{NamedRelation, NamedWord, NamedSystem, ReadValue, LibraryValue, system_named}
 use Rattle.num_system.specs.Sealed.{SystemValue}
-use Rattle.word_output.specs.WordReadings.{IsWordDone, PassesWord, HasWordGap}
-use Rattle.definitions.specs.TableSteps.{IsTableDone, PassesTable}
+use Rattle.word_output.specs.WordReadings.{DoesWord}
+use Rattle.word_output.specs.declared.word_fault.WordFault.TheVariants.{Gap, Step}
+use Rattle.definitions.specs.TableSteps.{DoesTable}
 
 -- what is made of a file: a relation or a word, under the file's name
 pub data TableRead : Type 0 where
@@ -48,14 +49,14 @@ pub record IsRelationRead (systems : List NamedSystem) (old : StepLog) (table : 
   pub file_is : table.file ≡ Automaton r.name
   pub tracks : List SystemValue
   pub over : AreSystemsUnder systems table.listed.header tracks
-  pub done : IsTableDone old tracks table.listed r.relation new
+  pub done : DoesTable tracks table.listed old (Ok r.relation) new
 
 -- those of a word's table make the word that its name stands for
 pub record IsWordRead (systems : List NamedSystem) (old : StepLog) (table : Loaded) (w : NamedWord) (new : StepLog) : Type 0 where
   pub file_is : table.file ≡ Word w.name
   pub tracks : List SystemValue
   pub over : AreSystemsUnder systems table.listed.header tracks
-  pub done : IsWordDone old tracks table.listed w.word new
+  pub done : DoesWord tracks table.listed old (Ok w.word) new
 
 abbrev pub IsTableRead : List NamedSystem → StepLog → Loaded → TableRead → StepLog → Type 0
 IsTableRead systems old table (ARelation r) new = IsRelationRead systems old table r new
@@ -63,8 +64,8 @@ IsTableRead systems old table (AWord w) new = IsWordRead systems old table w new
 
 -- a step of a file of this kind is the first to pass a limit
 abbrev pub PassesFile : File → StepLog → List SystemValue → Listed → StepFault → Type 0
-PassesFile (Automaton name) old tracks listed fault = PassesTable old tracks listed fault
-PassesFile (Word name) old tracks listed fault = PassesWord old tracks listed fault
+PassesFile (Automaton name) old tracks listed fault = (new : StepLog) × DoesTable tracks listed old (Err fault) new
+PassesFile (Word name) old tracks listed fault = (new : StepLog) × DoesWord tracks listed old (Err (Step fault)) new
 
 -- a step of the table is
 pub record IsTableRefused (systems : List NamedSystem) (old : StepLog) (table : Loaded) (fault : StepFault) : Type 0 where
@@ -78,7 +79,8 @@ pub record IsTableGap (systems : List NamedSystem) (old : StepLog) (table : Load
   pub file_is : table.file ≡ Word name
   pub tracks : List SystemValue
   pub over : AreSystemsUnder systems table.listed.header tracks
-  pub gap : HasWordGap old.limit tracks table.listed representation
+  pub new : StepLog
+  pub gap : DoesWord tracks table.listed old (Err (Gap representation)) new
 
 -- the steps of some tables, one after another, make what their names stand for
 abbrev pub AreTablesRead : List NamedSystem → StepLog → List Loaded → List TableRead → StepLog → Type 0

@@ -1,8 +1,8 @@
 //! The command `combine`: the word that listed automata make together.
 
-ghost use Rattle.std.specs.Prelude.{◌≡◌, ◌≢◌, ◌↔◌, ◌<◌, ◌≤◌, ◌^◌, ℕ, List, [], length, None, IsTrue, IfOk, MatchOption, MatchResult};
+ghost use Rattle.std.specs.Prelude.{◌≡◌, ◌≢◌, ◌↔◌, ◌<◌, ◌≤◌, ◌^◌, ℕ, List, [], length, None, Ok, Err, IsTrue, IfOk, MatchOption, MatchResult};
 ghost use Rattle.std.specs.List.{AllByRecursion};
-ghost use Rattle.combinations.specs.CombineSteps.{IsCombineDone, IsCombineRefused};
+ghost use Rattle.combinations.specs.CombineSteps.{DoesCombine};
 ghost use Rattle.combinations.specs.Parts.{systems_at};
 ghost use Rattle.combinations.specs.Shapes.{HaveOneShape as HaveOneTracks};
 ghost use Rattle.combinations.specs.declared.combine_fault.CombineFault.TheVariants.{Step};
@@ -284,7 +284,7 @@ fn parts_of(
 fn word_of(alloc: Global, parts: &[Part], steps: &mut Steps) -> Result<Word, StepFault>
     requires some { parts.now ≢ [] }
     requires shape { HaveOneTracks parts.now }
-    ensures { MatchResult result (λ word. IsCombineDone steps.old parts.now (systems_at parts.now 0) word steps.new) (λ fault. IsCombineRefused steps.old parts.now (systems_at parts.now 0) (Step fault) steps.new) }
+    ensures { MatchResult result (λ word. DoesCombine parts.now (systems_at parts.now 0) steps.old (Ok word) steps.new) (λ fault. DoesCombine parts.now (systems_at parts.now 0) steps.old (Err (Step fault)) steps.new) }
 {
     match combine(alloc, parts, parts[0].relation().systems(), steps) {
         Ok(word) => Ok(word),

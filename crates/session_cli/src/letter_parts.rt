@@ -58,7 +58,7 @@ fn letter_relation(
     steps: &mut Steps,
 ) -> Result<Relation, StepFault>
     requires { IsUsable formulas.setting.now formulas.system.now formulas.length }
-    ensures steps { BuildsFormula steps.old (library_in formulas.entry.setting.now) (letter_plan formulas.entry.system.now formulas.entry.length letter) result steps.new }
+    ensures steps { BuildsFormula (library_in formulas.entry.setting.now) (letter_plan formulas.entry.system.now formulas.entry.length letter) steps.old result steps.new }
     ensures relation { IfOk result (IsLetterRelation formulas.entry.setting.now formulas.entry.system.now formulas.entry.length letter) }
 {
     let Formulas {

@@ -10,6 +10,7 @@ use Rattle.numeration.specs.Relations.{HoldsOf, IsAdderOf, IsSum}
 use Rattle.numeration.specs.Representation.{sizes_of}
 use Rattle.numeration.specs.Systems.{System, IsSystem}
 use Rattle.automaton_steps.specs.ReadSteps.{IsRead}
+use Rattle.automaton_steps.proofs.ThenAnswers.{equal_value, no_fault}
 use Rattle.adder_check.specs.AdderLaws.{IsAddition}
 use Rattle.adder_check.specs.AdderRelation.{DoesAdder, HoldsInFile, adds_in_file, three_of}
 use Rattle.adder_check.specs.Admission.{DoesAdmission, DoesLanguage, IsAdmitted, IsSystemOfFile, user_system}
@@ -20,7 +21,6 @@ use Rattle.adder_check.specs.declared.user_system.UserSystem.{UserSystem}
 use Rattle.adder_check.proofs.AdderLemmas.{adder_holds}
 use Rattle.adder_check.proofs.FileLemmas.{reversed_file}
 use Rattle.adder_check.proofs.FileSystems.{is_of_file, sizes_of_one, three_languages, three_sizes}
-use Rattle.adder_check.proofs.OneAnswers.{from_ok, ok_not_err}
 use Rattle.adder_check.proofs.SameHolds.{same_holds}
 use Rattle.adder_check.proofs.SureAdders.{surely_adder}
 
@@ -29,24 +29,24 @@ read_file : (listed : Branching) (read : Automaton) → IsRead listed read → I
 read_file listed read is = record { sizes = is.sizes; canonical = is.canonical; language = is.language }
 
 file_made : (listed : Branching) (reversed : Bool) (old new : StepLog) (d : Automaton) → DoesFile listed reversed old (Ok d) new → IsOfFile listed reversed d
-file_made listed reversed old new d (inr (f, does, none)) = absurd (ok_not_err d f none)
+file_made listed reversed old new d (inr (f, does, none)) = absurd (no_fault d f none)
 file_made listed reversed old new d (inl (read, mid, does, turns)) = by reversed turns
   where
     by : (b : Bool) → DoesReversal b read mid (Ok d) new → IsOfFile listed b d
-    by true turn = reversed_file listed read mid new (Ok d) does.step.read_is turn
-    by false turn = subst (IsOfFile listed false) (sym (from_ok d read turn.0)) (read_file listed read does.step.read_is)
+    by true turn = reversed_file listed read mid new (Ok d) does.step.made_is turn
+    by false turn = subst (IsOfFile listed false) (sym (equal_value d read turn.0)) (read_file listed read does.step.made_is)
 
 language_made : (read_direction : Direction) (listed : Branching) (reversed : Bool) (old new : StepLog) (d : Automaton) → DoesLanguage read_direction listed reversed old (Ok d) new → IsOfFile listed reversed d
-language_made read_direction listed reversed old new d (inr (f, does, none)) = absurd (ok_not_err d f none)
+language_made read_direction listed reversed old new d (inr (f, does, none)) = absurd (no_fault d f none)
 language_made read_direction listed reversed old new d (inl (made, mid, does, kept)) = subst (IsOfFile listed reversed) (sym kept.1.0) (file_made listed reversed old mid made does)
 
 -- and those of an adder's file the automaton of its relation
 adder_made : (read_direction : Direction) (s : System) (listed : Branching) (reversed : Bool) (languages : List Automaton) (old new : StepLog) (sums : NamedAutomaton) → IsSystem s → listed.sizes ≡ sizes_of (three_of s)
     → AreLanguagesOf read_direction (three_of s) languages → DoesAdder read_direction listed reversed languages old (Ok sums) new → HoldsOf read_direction (three_of s) (HoldsInFile read_direction s listed reversed) sums.automaton
-adder_made read_direction s listed reversed languages old new sums system sizes are (inr (f, does, none)) = absurd (ok_not_err sums f none)
-adder_made read_direction s listed reversed languages old new sums system sizes are (inl (read, mid, file, inr (f, does, none))) = absurd (ok_not_err sums f none)
+adder_made read_direction s listed reversed languages old new sums system sizes are (inr (f, does, none)) = absurd (no_fault sums f none)
+adder_made read_direction s listed reversed languages old new sums system sizes are (inl (read, mid, file, inr (f, does, none))) = absurd (no_fault sums f none)
 adder_made read_direction s listed reversed languages old new sums system sizes are (inl (read, mid, file, inl (closed, after, pad, valid))) =
-    adder_holds read_direction s system listed reversed read closed sums languages sizes (file_made listed reversed old mid read file) pad.step.closure valid.step.valid_part are
+    adder_holds read_direction s system listed reversed read closed sums languages sizes (file_made listed reversed old mid read file) pad.step.made_is valid.step.made_is are
 
 -- three numbers of which the third is the sum
 is_sum : (x y z : ℕ) → x + y ≡ z → IsSum (x ∷ y ∷ z ∷ [])
@@ -96,10 +96,10 @@ module _ (read_direction : Direction) (language adder : Branching) (reversed : B
       law = adds read_direction (user_system user) adder reversed user.adder system relation is_adder
 
   pub admitted : (old new : StepLog) (user : UserSystem) → DoesAdmission read_direction language adder reversed old (Ok user) new → IsAdmitted read_direction language adder reversed user
-  admitted old new user (inr (f, does, none)) = absurd (ok_not_err user f none)
-  admitted old new user (inl (d, mid, words, inr (f, does, none))) = absurd (ok_not_err user f none)
-  admitted old new user (inl (d, mid, words, inl (next, after, successor, inr (f, does, none)))) = absurd (ok_not_err user f none)
-  admitted old new user (inl (d, mid, words, inl (next, after, successor, inl (sums, later, adds_up, inr (f, does, none))))) = absurd (ok_not_err user f none)
+  admitted old new user (inr (f, does, none)) = absurd (no_fault user f none)
+  admitted old new user (inl (d, mid, words, inr (f, does, none))) = absurd (no_fault user f none)
+  admitted old new user (inl (d, mid, words, inl (next, after, successor, inr (f, does, none)))) = absurd (no_fault user f none)
+  admitted old new user (inl (d, mid, words, inl (next, after, successor, inl (sums, later, adds_up, inr (f, does, none))))) = absurd (no_fault user f none)
   admitted old new user (inl (d, mid, words, inl (next, after, successor, inl (sums, later, adds_up, inl (done, last, laws, made))))) =
       let file = language_made read_direction language reversed old mid d words in
       let size = sizes_of_one read_direction language reversed d file digits one in

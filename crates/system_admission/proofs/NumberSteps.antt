@@ -5,13 +5,13 @@ use Rattle.digit_tuple.specs.Deterministic.{Automaton}
 use Rattle.digit_tuple.specs.Steps.{StepLog}
 use Rattle.digit_tuple.specs.declared.direction.Direction.{Direction}
 use Rattle.digit_tuple.specs.declared.step_fault.StepFault.{StepFault}
+use Rattle.automaton_steps.proofs.ThenAnswers.{equal_fault, no_fault}
 use Rattle.adder_check.specs.Admission.{DoesAdmission, DoesLanguage}
 use Rattle.adder_check.specs.Faults.{fault_of}
 use Rattle.adder_check.specs.LanguageLaws.{KeepsZeros, IsEndless, language_in}
 use Rattle.adder_check.specs.LanguageSteps.{DoesFile, IsFirstLanguageFault}
 use Rattle.adder_check.specs.declared.admit_fault.AdmitFault.{AdmitFault}
 use Rattle.adder_check.specs.declared.user_system.UserSystem.{UserSystem}
-use Rattle.adder_check.proofs.OneAnswers.{from_err, ok_not_err}
 use Rattle.system_admission.specs.Admissions.{StopsAtLanguage}
 
 -- the file of a language is read and keeps the laws, or not
@@ -30,9 +30,9 @@ pub stops_admission : (direction : Direction) (language adder : Branching) (reve
     → DoesAdmission direction language adder reversed old result new
 stops_admission direction language adder reversed old new result (inl (next, mid, does, none)) = absurd none
 stops_admission direction language adder reversed old new result (inr (fault, inl (d, mid, words, next), is)) = inl (d, mid, words, inr (fault, next, is))
-stops_admission direction language adder reversed old new result (inr (fault, inr (other, words, same), is)) = inr (other, words, is ∙ ap (λ (f : AdmitFault). Err f) (from_err fault other same))
+stops_admission direction language adder reversed old new result (inr (fault, inr (other, words, same), is)) = inr (other, words, is ∙ ap (λ (f : AdmitFault). Err f) (equal_fault fault other same))
 
 -- and gives no system
 pub not_stopped : (direction : Direction) (language : Branching) (reversed : Bool) (old new : StepLog) (user : UserSystem) → StopsAtLanguage direction language reversed old (Ok user) new → ⊥
 not_stopped direction language reversed old new user (inl (next, mid, does, none)) = none
-not_stopped direction language reversed old new user (inr (fault, does, is)) = ok_not_err user fault is
+not_stopped direction language reversed old new user (inr (fault, does, is)) = no_fault user fault is

@@ -6,12 +6,12 @@ use Rattle.digit_tuple.specs.declared.direction.Direction.{Direction}
 use Rattle.digit_tuple.proofs.BranchTables.{same_branching}
 use Rattle.digit_tuple.proofs.LetterLemmas.{not_too_large}
 use Rattle.dfa_reading.specs.Listed.{Listed}
+use Rattle.automaton_steps.specs.OneAnswers.{HasOneAnswer}
+use Rattle.automaton_steps.proofs.ThenAnswers.{no_fault}
 use Rattle.adder_check.specs.Admission.{DoesAdmission}
-use Rattle.adder_check.specs.OneAnswer.{HasOneAnswer}
 use Rattle.adder_check.specs.declared.admit_fault.AdmitFault.TheVariants as faults
 use Rattle.adder_check.specs.declared.user_system.UserSystem.{UserSystem}
 use Rattle.adder_check.proofs.OneAdmission.{admission_one}
-use Rattle.adder_check.proofs.OneAnswers.{ok_not_err}
 use Rattle.system_files.specs.SystemFiles.{SystemFiles}
 use Rattle.system_admission.specs.Admissions.{AdmitsFiles, AdmitsWithLanguage, IsSystemIn, IsTableOf}
 use Rattle.system_admission.proofs.AdmittedSystems.{admitted}
@@ -31,33 +31,33 @@ table_one sizes listed n m one other =
 module _ (direction : Direction) (files : SystemFiles) where
   -- with the language's automaton
   with_language_one : (language : Branching) → IsTableOf (files.digits ∷ []) files.language language → HasOneAnswer faults.Memory (AdmitsWithLanguage direction files language)
-  with_language_one language table old r s m n (inl (large, stops)) (inl (also_large, also)) =
-      admission_one direction language language files.reversed files.digits table.is_branching.sizes_are old r s m n
+  with_language_one language table old m n r s (inl (large, stops)) (inl (also_large, also)) =
+      admission_one direction language language files.reversed files.digits table.is_branching.sizes_are old m n r s
       (stops_admission direction language language files.reversed old m r stops) (stops_admission direction language language files.reversed old n s also)
-  with_language_one language table old r s m n (inl (large, stops)) (inr (adder, sums, does)) =
-      admission_one direction language adder files.reversed files.digits table.is_branching.sizes_are old r s m n (stops_admission direction language adder files.reversed old m r stops) does
-  with_language_one language table old r s m n (inr (adder, sums, does)) (inl (large, stops)) =
-      admission_one direction language adder files.reversed files.digits table.is_branching.sizes_are old r s m n does (stops_admission direction language adder files.reversed old n s stops)
-  with_language_one language table old r s m n (inr (adder, sums, does)) (inr (other, also_sums, also)) =
+  with_language_one language table old m n r s (inl (large, stops)) (inr (adder, sums, does)) =
+      admission_one direction language adder files.reversed files.digits table.is_branching.sizes_are old m n r s (stops_admission direction language adder files.reversed old m r stops) does
+  with_language_one language table old m n r s (inr (adder, sums, does)) (inl (large, stops)) =
+      admission_one direction language adder files.reversed files.digits table.is_branching.sizes_are old m n r s does (stops_admission direction language adder files.reversed old n s stops)
+  with_language_one language table old m n r s (inr (adder, sums, does)) (inr (other, also_sums, also)) =
       let same = table_one (files.digits ∷ files.digits ∷ files.digits ∷ []) files.adder adder other sums also_sums in
-      admission_one direction language adder files.reversed files.digits table.is_branching.sizes_are old r s m n does
+      admission_one direction language adder files.reversed files.digits table.is_branching.sizes_are old m n r s does
       (subst (λ (b : Branching). DoesAdmission direction language b files.reversed old s n) (sym same) also)
 
   -- the admission of files
   pub files_one : HasOneAnswer faults.Memory (AdmitsFiles direction files)
-  files_one old r s m n (inl one) other = inl one.0
-  files_one old r s m n (inr one) (inl other) = inr (inl other.0)
-  files_one old r s m n (inr (inl (large, one))) (inr (inl (also_large, other))) = inr (inr (one.0 ∙ sym other.0, one.1 ∙ sym other.1))
-  files_one old r s m n (inr (inl (large, one))) (inr (inr (language, table, other))) = absurd (not_too_large (files.digits ∷ []) table.fits large)
-  files_one old r s m n (inr (inr (language, table, one))) (inr (inl (large, other))) = absurd (not_too_large (files.digits ∷ []) table.fits large)
-  files_one old r s m n (inr (inr (language, table, one))) (inr (inr (words, also_table, other))) =
+  files_one old m n r s (inl one) other = inr (inl one.0)
+  files_one old m n r s (inr one) (inl other) = inr (inr other.0)
+  files_one old m n r s (inr (inl (large, one))) (inr (inl (also_large, other))) = inl (one.0 ∙ sym other.0, one.1 ∙ sym other.1)
+  files_one old m n r s (inr (inl (large, one))) (inr (inr (language, table, other))) = absurd (not_too_large (files.digits ∷ []) table.fits large)
+  files_one old m n r s (inr (inr (language, table, one))) (inr (inl (large, other))) = absurd (not_too_large (files.digits ∷ []) table.fits large)
+  files_one old m n r s (inr (inr (language, table, one))) (inr (inr (words, also_table, other))) =
       let same = table_one (files.digits ∷ []) files.language language words table also_table in
-      with_language_one language table old r s m n one (subst (λ (b : Branching). AdmitsWithLanguage direction files b old s n) (sym same) other)
+      with_language_one language table old m n r s one (subst (λ (b : Branching). AdmitsWithLanguage direction files b old s n) (sym same) other)
 
   -- what is admitted is the system that the files define
   pub files_define : (old new : StepLog) (user : UserSystem) → AdmitsFiles direction files old (Ok user) new → IsSystemIn direction files user
-  files_define old new user (inl (none, same)) = absurd (ok_not_err user faults.Memory none)
-  files_define old new user (inr (inl (large, refused))) = absurd (ok_not_err user (faults.Letters _) refused.0)
+  files_define old new user (inl (none, same)) = absurd (no_fault user faults.Memory none)
+  files_define old new user (inr (inl (large, refused))) = absurd (no_fault user (faults.Letters _) refused.0)
   files_define old new user (inr (inr (language, table, inl (large, stops)))) = absurd (not_stopped direction language files.reversed old new user stops)
   files_define old new user (inr (inr (language, table, inr (adder, sums, does)))) =
       defined direction files language table.is_branching adder sums.is_branching user

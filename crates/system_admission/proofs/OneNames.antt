@@ -1,16 +1,17 @@
 -- Admissions of names have one outcome.
-use Rattle.std.proofs.Common.{◌≡◌, ◌⊎◌, ℕ, List, [], ◌∷◌, Result, Ok, Err, inl, inr, refl, sym, ap, ◌∙◌, subst}
+use Rattle.std.proofs.Common.{◌≡◌, ℕ, List, [], ◌∷◌, Result, Ok, Err, inl, inr, refl, sym, ap, ◌∙◌, subst}
 use Rattle.std.specs.Prelude.{⊤}
 use Rattle.digit_tuple.specs.Steps.{StepLog}
 use Rattle.digit_tuple.specs.declared.direction.Direction.{Direction}
 use Rattle.digit_tuple.specs.declared.step_fault.StepFault.TheVariants as steps
 use Rattle.dfa_loading.specs.declared.fault.LoadFault.{LoadFault}
+use Rattle.automaton_steps.specs.OneAnswers.{AreOneAnswer, HasOneAnswer}
+use Rattle.automaton_steps.proofs.AnswerCases.{memory_alone, one_value, raised_one}
+use Rattle.automaton_steps.proofs.ThenAnswers.{then_one}
 use Rattle.adder_check.specs.Admission.{user_system}
-use Rattle.adder_check.specs.OneAnswer.{AreOne, HasOneAnswer}
 use Rattle.adder_check.specs.declared.admit_fault.AdmitFault.{AdmitFault}
 use Rattle.adder_check.specs.declared.admit_fault.AdmitFault.TheVariants as admits
 use Rattle.adder_check.specs.declared.user_system.UserSystem.{UserSystem}
-use Rattle.adder_check.proofs.OneAnswers.{from_err, ok_not_err, then_one}
 use Rattle.system_names.specs.UserNames.{IsUserName}
 use Rattle.system_names.proofs.UserSystems.{one_user_system}
 use Rattle.system_files.specs.SystemFiles.{Custom, SystemFiles, AreFilesOf, RefusesFiles}
@@ -47,12 +48,12 @@ module _ (custom : Custom) (name : List ℕ) where
       (subst (λ (w : Direction). AreFilesOf custom w other.part files) told.0 (subst (λ (p : List ℕ). AreFilesOf custom direction p files) told.1 one.found)) other.found
 
   -- and one admission
-  both : (direction turn : Direction) (files others : SystemFiles) (old : StepLog) (r s : Result UserSystem AdmitFault) (m n : StepLog) → HasFiles custom name direction files → HasFiles custom name turn others
-      → AdmitsFiles direction files old r m → AdmitsFiles turn others old s n → AreOne admits.Memory r m s n
-  both direction turn files others old r s m n one other does also =
+  both : (direction turn : Direction) (files others : SystemFiles) (old m n : StepLog) (r s : Result UserSystem AdmitFault) → HasFiles custom name direction files → HasFiles custom name turn others
+      → AdmitsFiles direction files old r m → AdmitsFiles turn others old s n → AreOneAnswer admits.Memory r s m n
+  both direction turn files others old m n r s one other does also =
       let directions = same_direction direction turn files others one other in
       let same = same_files direction turn files others one other in
-      files_one direction files old r s m n does
+      files_one direction files old m n r s does
       (subst (λ (w : Direction). AdmitsFiles w files old s n) (sym directions) (subst (λ (f : SystemFiles). AdmitsFiles turn f old s n) (sym same) also))
 
   -- files that are there are not refused
@@ -66,23 +67,22 @@ module _ (custom : Custom) (name : List ℕ) where
 
   -- what was admitted and what was not
   not_both : (old m n : StepLog) (user : UserSystem) (fault : SystemFault) → IsAdmittedName custom name old user m → IsNotAdmitted custom name old fault n → fault ≡ memory
-  not_both old m n user fault is not = not.fault_is ∙ ap (fault_of name) (by (both is.direction not.direction is.files not.files old (Ok user) (Err not.refusal) m n is.has_files not.has_files is.admits not.admits))
-    where
-      by : (let good : Result UserSystem AdmitFault = Ok user in AreOne admits.Memory good m (Err not.refusal) n) → not.refusal ≡ admits.Memory
-      by (inl none) = absurd (ok_not_err user admits.Memory none)
-      by (inr (inl ran_out)) = from_err {A = UserSystem} not.refusal admits.Memory ran_out
-      by (inr (inr same)) = absurd (ok_not_err user not.refusal same.0)
+  not_both old m n user fault is not =
+      not.fault_is ∙ ap (fault_of name) (memory_alone admits.Memory m n user not.refusal (both is.direction not.direction is.files not.files old m n (Ok user) (Err not.refusal) is.has_files not.has_files is.admits not.admits))
 
   admitted_or_refused : (old m n : StepLog) (user : UserSystem) (fault : SystemFault) → IsAdmittedName custom name old user m → RefusesName custom name old fault n → fault ≡ memory
   admitted_or_refused old m n user fault is (inl (none, told, same)) = absurd (none (is.direction, is.has_files.part, is.has_files.is_name))
   admitted_or_refused old m n user fault is (inr (inl (direction, part, named, (load, refuses, told), same))) = absurd (there_or_not is.direction direction part is.files load is.has_files named refuses)
   admitted_or_refused old m n user fault is (inr (inr not)) = not_both old m n user fault is not
 
-  abbrev AreOneFault : SystemFault → StepLog → SystemFault → StepLog → Type 0
-  AreOneFault fault m other n = (fault ≡ memory) ⊎ ((other ≡ memory) ⊎ ((fault ≡ other) × (m ≡ n)))
+  abbrev AreOneFault : (fault other : SystemFault) (m n : StepLog) → Type 0
+  AreOneFault fault other m n = let bad : SystemFault → Result ⊤ SystemFault = λ f. Err f in AreOneAnswer memory (bad fault) (bad other) m n
 
-  refused_one : (old m n : StepLog) (fault other : SystemFault) → RefusesName custom name old fault m → RefusesName custom name old other n → AreOneFault fault m other n
-  refused_one old m n fault other (inl (none, told, same)) (inl (also_none, also_told, also_same)) = inr (inr (told ∙ sym also_told, same ∙ sym also_same))
+  one_fault : (fault other : SystemFault) (m n : StepLog) → fault ≡ other → m ≡ n → AreOneFault fault other m n
+  one_fault fault other m n same after = inl (ap (λ (f : SystemFault). Err f) same, after)
+
+  refused_one : (old m n : StepLog) (fault other : SystemFault) → RefusesName custom name old fault m → RefusesName custom name old other n → AreOneFault fault other m n
+  refused_one old m n fault other (inl (none, told, same)) (inl (also_none, also_told, also_same)) = one_fault fault other m n (told ∙ sym also_told) (same ∙ sym also_same)
   refused_one old m n fault other (inl (none, told, same)) (inr (inl (direction, part, named, rest, also))) = absurd (none (direction, part, named))
   refused_one old m n fault other (inl (none, told, same)) (inr (inr not)) = absurd (none (not.direction, not.has_files.part, not.has_files.is_name))
   refused_one old m n fault other (inr (inl (direction, part, named, rest, also))) (inl (none, told, same)) = absurd (none (direction, part, named))
@@ -90,44 +90,34 @@ module _ (custom : Custom) (name : List ℕ) where
   refused_one old m n fault other (inr (inl (direction, part, named, (load, refuses, told), same))) (inr (inl (turn, another, also_named, (also_load, also_refuses, also_told), also_same))) =
       let names = one_user_system direction turn part another name named also_named in
       let here = subst (λ (w : Direction). RefusesFiles custom w another load) names.0 (subst (λ (p : List ℕ). RefusesFiles custom direction p load) names.1 refuses) in
-      inr (inr (told ∙ ap faults.Load (one_refusal custom turn another load also_load here also_refuses) ∙ sym also_told, same ∙ sym also_same))
+      one_fault fault other m n (told ∙ ap faults.Load (one_refusal custom turn another load also_load here also_refuses) ∙ sym also_told) (same ∙ sym also_same)
   refused_one old m n fault other (inr (inl (direction, part, named, (load, refuses, told), same))) (inr (inr not)) = absurd (there_or_not not.direction direction part not.files load not.has_files named refuses)
   refused_one old m n fault other (inr (inr not)) (inr (inl (direction, part, named, (load, refuses, told), same))) = absurd (there_or_not not.direction direction part not.files load not.has_files named refuses)
-  refused_one old m n fault other (inr (inr one)) (inr (inr not)) = by (both one.direction not.direction one.files not.files old (Err one.refusal) (Err not.refusal) m n one.has_files not.has_files one.admits not.admits)
-    where
-      by : (let bad : AdmitFault → Result UserSystem AdmitFault = λ x. Err x in AreOne admits.Memory (bad one.refusal) m (bad not.refusal) n) → AreOneFault fault m other n
-      by (inl ran_out) = inl (one.fault_is ∙ ap (fault_of name) (from_err {A = UserSystem} one.refusal admits.Memory ran_out))
-      by (inr (inl ran_out)) = inr (inl (not.fault_is ∙ ap (fault_of name) (from_err {A = UserSystem} not.refusal admits.Memory ran_out)))
-      by (inr (inr same)) = inr (inr (one.fault_is ∙ ap (fault_of name) (from_err {A = UserSystem} one.refusal not.refusal same.0) ∙ sym not.fault_is, same.1))
+  refused_one old m n fault other (inr (inr one)) (inr (inr not)) =
+      subst (λ (f : SystemFault). AreOneFault f other m n) (sym one.fault_is)
+      (subst (λ (f : SystemFault). AreOneFault (fault_of name one.refusal) f m n) (sym not.fault_is)
+      (raised_one (fault_of name) admits.Memory m n one.refusal not.refusal
+      (both one.direction not.direction one.files not.files old m n (Err one.refusal) (Err not.refusal) one.has_files not.has_files one.admits not.admits)))
 
   same_admitted : (old m n : StepLog) (user other : UserSystem) → IsAdmittedName custom name old user m → IsAdmittedName custom name old other n → m ≡ n
-  same_admitted old m n user other one also = by (both one.direction also.direction one.files also.files old (Ok user) (Ok other) m n one.has_files also.has_files one.admits also.admits)
-    where
-      by : (let good : UserSystem → Result UserSystem AdmitFault = λ x. Ok x in AreOne admits.Memory (good user) m (good other) n) → m ≡ n
-      by (inl none) = absurd (ok_not_err user admits.Memory none)
-      by (inr (inl none)) = absurd (ok_not_err other admits.Memory none)
-      by (inr (inr same)) = same.1
+  same_admitted old m n user other one also =
+      (one_value admits.Memory m n user other (both one.direction also.direction one.files also.files old m n (Ok user) (Ok other) one.has_files also.has_files one.admits also.admits)).1
 
   -- one name has one outcome
-  other_one : (old : StepLog) (r s : Result ⊤ SystemFault) (m n : StepLog) → AdmitsOther custom name old r m → AdmitsOther custom name old s n → AreOne memory r m s n
-  other_one old (Ok a) (Ok b) m n (user, one) (another, other) = inr (inr (refl, same_admitted old m n user another one other))
-  other_one old (Ok a) (Err fault) m n (user, one) other = inr (inl (ap (λ (f : SystemFault). Err f) (admitted_or_refused old m n user fault one other)))
-  other_one old (Err fault) (Ok b) m n one (user, other) = inl (ap (λ (f : SystemFault). Err f) (admitted_or_refused old n m user fault other one))
-  other_one old (Err fault) (Err other) m n one also = by (refused_one old m n fault other one also)
-    where
-      by : AreOneFault fault m other n → (let bad : SystemFault → Result ⊤ SystemFault = λ x. Err x in AreOne memory (bad fault) m (bad other) n)
-      by (inl ran_out) = inl (ap (λ (f : SystemFault). Err f) ran_out)
-      by (inr (inl ran_out)) = inr (inl (ap (λ (f : SystemFault). Err f) ran_out))
-      by (inr (inr same)) = inr (inr (ap (λ (f : SystemFault). Err f) same.0, same.1))
+  other_one : HasOneAnswer memory (AdmitsOther custom name)
+  other_one old m n (Ok a) (Ok b) (user, one) (another, other) = inl (refl, same_admitted old m n user another one other)
+  other_one old m n (Ok a) (Err fault) (user, one) other = inr (inr (ap (λ (f : SystemFault). Err f) (admitted_or_refused old m n user fault one other)))
+  other_one old m n (Err fault) (Ok b) one (user, other) = inr (inl (ap (λ (f : SystemFault). Err f) (admitted_or_refused old n m user fault other one)))
+  other_one old m n (Err fault) (Err other) one also = refused_one old m n fault other one also
 
   name_one : HasOneAnswer memory (AdmitsName custom name)
-  name_one old r s m n (inl (built_in, one, same)) (inl (also_built_in, other, also)) = inr (inr (one ∙ sym other, same ∙ sym also))
-  name_one old r s m n (inl (built_in, rest, same)) (inr (none, other)) = absurd (none built_in)
-  name_one old r s m n (inr (none, one)) (inl (built_in, rest, same)) = absurd (none built_in)
-  name_one old r s m n (inr (none, one)) (inr (also_none, other)) = other_one old r s m n one other
+  name_one old m n r s (inl (built_in, one, same)) (inl (also_built_in, other, also)) = inl (one ∙ sym other, same ∙ sym also)
+  name_one old m n r s (inl (built_in, rest, same)) (inr (none, other)) = absurd (none built_in)
+  name_one old m n r s (inr (none, one)) (inl (built_in, rest, same)) = absurd (none built_in)
+  name_one old m n r s (inr (none, one)) (inr (also_none, other)) = other_one old m n r s one other
 
 -- and so have names one after another
 pub names_one : AdmissionsHaveOneOutcome
-names_one custom [] old r s m n one other = inr (inr (one.0 ∙ sym other.0, one.1 ∙ sym other.1))
-names_one custom (name ∷ names) old r s m n one other =
-    then_one (faults.Step steps.Memory) (AdmitsName custom name) (λ done. AdmitsNames custom names) (name_one custom name) (λ done old mid does. names_one custom names) old r s m n one other
+names_one custom [] old m n r s one other = inl (one.0 ∙ sym other.0, one.1 ∙ sym other.1)
+names_one custom (name ∷ names) old m n r s one other =
+    then_one (faults.Step steps.Memory) (AdmitsName custom name) (λ done. AdmitsNames custom names) (name_one custom name) (λ done. names_one custom names) old m n r s one other

@@ -3,8 +3,8 @@ use Rattle.std.specs.Prelude.{◌≡◌, ℕ, List, Result, ⊤}
 use Rattle.digit_tuple.specs.Steps.{StepLog, with_lines}
 use Rattle.digit_tuple.specs.declared.step_fault.StepFault.TheVariants as steps
 use Rattle.digit_tuple.specs.declared.steps.StepLine.{StepLine}
+use Rattle.automaton_steps.specs.OneAnswers.{HasOneAnswer}
 use Rattle.adder_check.specs.Admission.{user_system}
-use Rattle.adder_check.specs.OneAnswer.{HasOneAnswer}
 use Rattle.adder_check.specs.declared.user_system.UserSystem.{UserSystem}
 use Rattle.system_files.specs.SystemFiles.{Custom}
 use Rattle.system_files.specs.UserSystems.{IsUserSystem}

@@ -3,13 +3,14 @@ use Rattle.std.specs.Prelude.{◌≡◌, ◌⊎◌, ℕ, ◌+◌, Bool, List, []
 use Rattle.digit_tuple.specs.Automaton.{Branching, IsBranchTable, letters_of}
 use Rattle.digit_tuple.specs.Deterministic.{Automaton}
 use Rattle.digit_tuple.specs.Letters.{IsAlphabet, IsTooLarge}
+use Rattle.digit_tuple.specs.StepResults.{Then}
 use Rattle.digit_tuple.specs.Steps.{StepLog}
 use Rattle.digit_tuple.specs.declared.direction.Direction.{Direction}
 use Rattle.dfa_reading.specs.Branching.{IsBranching}
 use Rattle.dfa_reading.specs.Listed.{Listed}
 use Rattle.numeration.specs.Systems.{System}
 use Rattle.adder_check.specs.Admission.{DoesLanguage, DoesAdmission, IsFirstFault, user_system}
-use Rattle.adder_check.specs.Faults.{Then, Lifted}
+use Rattle.adder_check.specs.Faults.{Lifted}
 use Rattle.adder_check.specs.SuccessorPlan.{DoesSuccessor}
 use Rattle.adder_check.specs.declared.admit_fault.AdmitFault.{AdmitFault}
 use Rattle.adder_check.specs.declared.admit_fault.AdmitFault.TheVariants as faults

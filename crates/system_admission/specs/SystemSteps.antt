@@ -1,9 +1,9 @@
 -- The systems that names mean, one after another: a name that is built in takes no step, a user's system those of its admission.
 use Rattle.std.specs.Prelude.{◌≡◌, ◌⊎◌, ℕ, List, [], ◌∷◌, Result, Ok, Err, ⊤}
+use Rattle.digit_tuple.specs.StepResults.{Then}
 use Rattle.digit_tuple.specs.Steps.{StepLog}
 use Rattle.digit_tuple.specs.declared.direction.Direction.{Direction}
 use Rattle.digit_tuple.specs.declared.step_fault.StepFault.TheVariants as steps
-use Rattle.adder_check.specs.Faults.{Then}
 use Rattle.adder_check.specs.declared.admit_fault.AdmitFault.{AdmitFault}
 use Rattle.adder_check.specs.declared.admit_fault.AdmitFault.TheVariants as admits
 use Rattle.adder_check.specs.declared.user_system.UserSystem.{UserSystem}

@@ -5,8 +5,6 @@ pub mod PlaceLemmas
 pub mod PlaceLaws
 pub mod WordSteps
 pub mod WordHeaders
-pub mod WordsDone
-pub mod OutcomeLemmas
 pub mod StepOutcomes
 pub mod OneWords
 pub mod PairPlaces

@@ -1,28 +1,26 @@
--- Each step of automatic words has one outcome.
-use Rattle.std.proofs.Common.{◌≡◌, ℕ, List, sym, ap, ◌∙◌, subst, refl}
-use Rattle.digit_tuple.specs.Deterministic.{Automaton, accepts_of, letters_of, states_of}
-use Rattle.digit_tuple.specs.Letters.{IsTooLarge, IsWord, product}
+-- Each step of automatic words has one answer.
+use Rattle.std.proofs.Common.{◌≡◌, ℕ, List, sym, ◌∙◌, subst, refl}
+use Rattle.digit_tuple.specs.Deterministic.{Automaton, accepts_of, letters_of}
+use Rattle.digit_tuple.specs.Letters.{IsWord, product}
 use Rattle.digit_tuple.specs.Width.{IsEquivalence}
 use Rattle.digit_tuple.specs.declared.direction.Direction.{Direction}
 use Rattle.digit_tuple.specs.declared.direction.Direction.TheVariants.{Msd, Lsd}
-use Rattle.digit_tuple.specs.declared.kind.Kind.TheVariants as kinds
-use Rattle.digit_tuple.proofs.WidthLemmas.{IsEquivalence-facts, IsOneWidth-equivalence}
+use Rattle.digit_tuple.proofs.TruthLemmas.{same_tests}
+use Rattle.digit_tuple.proofs.WidthLemmas.{IsEquivalence-facts}
 use Rattle.dfa_reading.specs.Listed.{Listed}
+use Rattle.dfa_reading.proofs.TupleWords.{tuples_of}
 use Rattle.minimise.specs.Tracked.{NamedAutomaton}
 use Rattle.minimise.proofs.CanonicalLemmas.{canonical_forms}
-use Rattle.digit_tuple.proofs.TruthLemmas.{same_tests}
-use Rattle.num_system.proofs.StepLemmas.{not_too_large}
 use Rattle.num_system.specs.declared.comparison.Comparison.{Comparison}
 use Rattle.automaton_steps.specs.Laws.{HasOneOutcome}
-use Rattle.automaton_steps.proofs.OneLines.{not_beside, one_line}
+use Rattle.automaton_steps.proofs.StepAnswers.{step_one}
 use Rattle.word_output.specs.Laws.{PairsHaveOneOutcome}
 use Rattle.word_output.specs.LetterFunctions.{LetterFunctionValue, LetterFunctionsAreEqual, letter_after}
-use Rattle.word_output.specs.LetterPaddings.{IsLetterPadding, IsLetterPadStep, LetterPadExceeds, PaddedLettersAlike}
-use Rattle.word_output.specs.LetterReadings.{IsLetterReading, IsLetterReadStep, LeadsListed, LetterReadExceeds, ListedAlike}
-use Rattle.word_output.specs.ValidLetters.{AreValidLetters, IsValidLettersStep, ValidLettersAlike, ValidLettersExceed}
-use Rattle.word_output.specs.WordPairs.{IsPair, PairAlike, PlacedLetters, pair_sizes}
+use Rattle.word_output.specs.LetterPaddings.{IsLetterPadding, PaddedLettersAlike, letter_pad_step}
+use Rattle.word_output.specs.LetterReadings.{IsLetterReading, LeadsListed, ListedAlike, letter_read_step}
+use Rattle.word_output.specs.ValidLetters.{AreValidLetters, ValidLettersAlike, valid_letters_step}
+use Rattle.word_output.specs.WordPairs.{IsPair, PairAlike, PlacedLetters, pair_sizes, pair_step}
 use Rattle.word_output.proofs.OptionLemmas.{same_option}
-use Rattle.dfa_reading.proofs.TupleWords.{tuples_of}
 
 -- words that are alike to a step: these are equivalences
 listed_alike : (sizes : List ℕ) (listed : Listed) → IsEquivalence (ListedAlike sizes listed)
@@ -60,9 +58,6 @@ pair_alike a b = record {
   transitive = λ u v w one two. record { first = λ t over. one.first t over ∙ two.first t over; second = λ t over. one.second t over ∙ two.second t over };
 }
 
-same_states : (f g : LetterFunctionValue) → f ≡ g → states_of f.automaton ≡ states_of g.automaton
-same_states f g same = ap (λ (x : LetterFunctionValue). states_of x.automaton) same
-
 module _ (equal : LetterFunctionsAreEqual) where
   one_read : (sizes : List ℕ) (listed : Listed) (f g : LetterFunctionValue) → IsLetterReading sizes listed f → IsLetterReading sizes listed g → f ≡ g
   one_read sizes listed f g one other =
@@ -74,17 +69,8 @@ module _ (equal : LetterFunctionsAreEqual) where
       let second = other.letters tuples.0 w letter tuples.1 in
       (λ is. second.1 (first.0 is), λ is. first.1 (second.0 is))))
 
-  pub read_outcome : (limit : ℕ) (sizes : List ℕ) (listed : Listed) → HasOneOutcome LetterFunctionValue (IsLetterReadStep limit sizes listed) (IsTooLarge sizes) (LetterReadExceeds limit sizes listed)
-  read_outcome limit sizes listed =
-      let width = IsOneWidth-equivalence (ListedAlike sizes listed) (product sizes) (listed_alike sizes listed) in
-      record {
-        result = λ f g line next a b. one_read sizes listed f g a.reading b.reading;
-        line = λ f g line next a b. one_line (ListedAlike sizes listed) (product sizes) width limit (states_of f.automaton) (states_of g.automaton) kinds.Read line next a.line_is b.line_is
-            (same_states f g (one_read sizes listed f g a.reading b.reading));
-        no_letters = λ f line a. not_too_large sizes a.alphabet;
-        no_states = λ f line a above. not_beside (ListedAlike sizes listed) (product sizes) width limit (states_of f.automaton) kinds.Read line a.line_is above.exceeds;
-        one_limit = λ large above. not_too_large sizes above.alphabet large;
-      }
+  pub read_outcome : (sizes : List ℕ) (listed : Listed) → HasOneOutcome (letter_read_step sizes listed)
+  read_outcome sizes listed = step_one (letter_read_step sizes listed) (listed_alike sizes listed) (one_read sizes listed)
 
   one_padding : (direction : Direction) (f g h : LetterFunctionValue) → IsLetterPadding direction f g → IsLetterPadding direction f h → g ≡ h
   one_padding direction f g h one other =
@@ -93,18 +79,8 @@ module _ (equal : LetterFunctionsAreEqual) where
       let here : IsWord (letters_of f.automaton) w = subst (λ (sizes : List ℕ). IsWord (product sizes) w) one.sizes over in
       one.letters w here ∙ sym (other.letters w here))
 
-  pub pad_outcome : (limit : ℕ) (direction : Direction) (f : LetterFunctionValue) → HasOneOutcome LetterFunctionValue (IsLetterPadStep limit direction f) ⊥ (LetterPadExceeds limit direction f)
-  pad_outcome limit direction f =
-      let letters : ℕ = letters_of f.automaton in
-      let width = IsOneWidth-equivalence (PaddedLettersAlike direction f) letters (padded_alike direction f) in
-      record {
-        result = λ g h line next a b. one_padding direction f g h a.padding b.padding;
-        line = λ g h line next a b. one_line (PaddedLettersAlike direction f) letters width limit (states_of g.automaton) (states_of h.automaton) kinds.Pad line next a.line_is b.line_is
-            (same_states g h (one_padding direction f g h a.padding b.padding));
-        no_letters = λ g line a none. none;
-        no_states = λ g line a. not_beside (PaddedLettersAlike direction f) letters width limit (states_of g.automaton) kinds.Pad line a.line_is;
-        one_limit = λ none. absurd none;
-      }
+  pub pad_outcome : (direction : Direction) (f : LetterFunctionValue) → HasOneOutcome (letter_pad_step direction f)
+  pad_outcome direction f = step_one (letter_pad_step direction f) (padded_alike direction f) (one_padding direction f)
 
   one_validity : (languages : List Automaton) (f g h : LetterFunctionValue) → AreValidLetters languages f g → AreValidLetters languages f h → g ≡ h
   one_validity languages f g h one other =
@@ -113,18 +89,8 @@ module _ (equal : LetterFunctionsAreEqual) where
       let here : IsWord (letters_of f.automaton) w = subst (λ (sizes : List ℕ). IsWord (product sizes) w) one.sizes over in
       one.letters w here ∙ sym (other.letters w here))
 
-  pub valid_outcome : (limit : ℕ) (languages : List Automaton) (f : LetterFunctionValue) → HasOneOutcome LetterFunctionValue (IsValidLettersStep limit languages f) ⊥ (ValidLettersExceed limit languages f)
-  valid_outcome limit languages f =
-      let letters : ℕ = letters_of f.automaton in
-      let width = IsOneWidth-equivalence (ValidLettersAlike f languages) letters (valid_alike f languages) in
-      record {
-        result = λ g h line next a b. one_validity languages f g h a.valid_letters b.valid_letters;
-        line = λ g h line next a b. one_line (ValidLettersAlike f languages) letters width limit (states_of g.automaton) (states_of h.automaton) kinds.Valid line next a.line_is b.line_is
-            (same_states g h (one_validity languages f g h a.valid_letters b.valid_letters));
-        no_letters = λ g line a none. none;
-        no_states = λ g line a. not_beside (ValidLettersAlike f languages) letters width limit (states_of g.automaton) kinds.Valid line a.line_is;
-        one_limit = λ none. absurd none;
-      }
+  pub valid_outcome : (languages : List Automaton) (f : LetterFunctionValue) → HasOneOutcome (valid_letters_step languages f)
+  valid_outcome languages f = step_one (valid_letters_step languages f) (valid_alike f languages) (one_validity languages f)
 
 pub one_pair : (comparison : Comparison) (a b : PlacedLetters) (c e : NamedAutomaton) → IsPair comparison a b c → IsPair comparison a b e → c ≡ e
 one_pair comparison a b c e one other = λ i. record { names = (one.names ∙ sym other.names) i; automaton = automata i }
@@ -139,14 +105,4 @@ one_pair comparison a b c e one other = λ i. record { names = (one.names ∙ sy
         same_tests (accepts_of c.automaton w) (accepts_of e.automaton w) (λ is. second.1 (first.0 is), λ is. first.1 (second.0 is)))
 
 pub pair_outcome : PairsHaveOneOutcome
-pair_outcome limit comparison a b =
-    let letters : ℕ = product (pair_sizes a b) in
-    let width = IsOneWidth-equivalence (PairAlike a b) letters (pair_alike a b) in
-    record {
-      result = λ c e line next one two. one_pair comparison a b c e one.pair two.pair;
-      line = λ c e line next one two. one_line (PairAlike a b) letters width limit (states_of c.automaton) (states_of e.automaton) kinds.Product line next one.line_is two.line_is
-          (ap (λ (x : NamedAutomaton). states_of x.automaton) (one_pair comparison a b c e one.pair two.pair));
-      no_letters = λ c line one. not_too_large (pair_sizes a b) one.alphabet;
-      no_states = λ c line one above. not_beside (PairAlike a b) letters width limit (states_of c.automaton) kinds.Product line one.line_is above.exceeds;
-      one_limit = λ large above. not_too_large (pair_sizes a b) above.alphabet large;
-    }
+pair_outcome comparison a b = step_one (pair_step comparison a b) (pair_alike a b) (one_pair comparison a b)

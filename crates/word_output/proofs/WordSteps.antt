@@ -1,28 +1,50 @@
 -- What the three steps of a word make: its letters are those that are listed, and without a gap it is a word.
-use Rattle.std.proofs.Common.{◌≡◌, ℕ, ◌<◌, ℤ, true, List, length, Option, None, Some, sym, ap, ◌∙◌, subst, if◌then◌else◌}
+use Rattle.std.proofs.Common.{◌≡◌, ℕ, ◌<◌, ℤ, true, List, length, Option, None, Some, Ok, sym, ap, ◌∙◌, subst, if◌then◌else◌}
 use Rattle.std.specs.Prelude.{IsSome}
 use Rattle.std.specs.List.{AllByRecursion}
 use Rattle.digit_tuple.specs.Letters.{IsWord, product}
 use Rattle.digit_tuple.specs.Paddings.{strip}
+use Rattle.digit_tuple.specs.StepResults.{Then}
+use Rattle.digit_tuple.specs.Steps.{StepLog}
 use Rattle.digit_tuple.specs.declared.direction.Direction.{Direction}
-use Rattle.digit_tuple.specs.declared.steps.StepLine.{StepLine}
 use Rattle.dfa_reading.specs.Listed.{Listed}
 use Rattle.product_op.specs.Validity.{is_valid}
 use Rattle.numeration.specs.Systems.{System}
 use Rattle.numeration.specs.Representation.{letters_in, sizes_of}
 use Rattle.num_system.specs.Sealed.{IsSealed, SystemValue}
 use Rattle.num_system.specs.Tracks.{ShareDirection, languages_of, systems_of, direction_of}
+use Rattle.automaton_steps.specs.Makings.{DoesStep}
+use Rattle.automaton_steps.proofs.AnswerCases.{both_done}
 use Rattle.word_output.specs.Gaps.{HasNoGap}
 use Rattle.word_output.specs.Laws.{WordsHaveListedLetters}
 use Rattle.word_output.specs.LetterFunctions.{LetterFunctionValue, letter_after}
-use Rattle.word_output.specs.WordReadings.{AreWordSteps, HasListedLetterAt}
+use Rattle.word_output.specs.LetterPaddings.{IsLetterPadding, letter_pad_step}
+use Rattle.word_output.specs.LetterReadings.{IsLetterReading, letter_read_step}
+use Rattle.word_output.specs.ValidLetters.{AreValidLetters, valid_letters_step}
+use Rattle.word_output.specs.WordReadings.{DoesWordSteps, HasListedLetterAt}
 use Rattle.word_output.specs.Words.{HasLetter, IsWordValue, RepresentsPlace}
 use Rattle.word_output.proofs.OptionLemmas.{kept_passes, there_or}
 use Rattle.word_output.proofs.PlaceLemmas.{one_stripped, place_of_valid, stripped_represents, valid_of_place}
 use Rattle.word_output.proofs.StripLemmas.{strip-twice}
 use Rattle.dfa_reading.proofs.TupleWords.{tuples_of, word_of_tuples}
 
-module _ (limit : ℕ) (systems : List SystemValue) (listed : Listed) (f : LetterFunctionValue) (lines : List StepLine) (steps : AreWordSteps limit systems listed f lines) where
+-- what the steps made
+pub record AreMade (systems : List SystemValue) (listed : Listed) (f : LetterFunctionValue) : Type 0 where
+  pub read : LetterFunctionValue
+  pub padded : LetterFunctionValue
+  pub reading : IsLetterReading (sizes_of (systems_of systems)) listed read
+  pub padding : IsLetterPadding (direction_of systems) read padded
+  pub validity : AreValidLetters (languages_of systems) padded f
+
+module _ (systems : List SystemValue) (listed : Listed) where
+  pub steps_made : (old new : StepLog) (f : LetterFunctionValue) → DoesWordSteps systems listed old (Ok f) new → AreMade systems listed f
+  steps_made old new f done =
+      let first = both_done (DoesStep (letter_read_step (sizes_of (systems_of systems)) listed))
+      (λ read. Then (DoesStep (letter_pad_step (direction_of systems) read)) (λ padded. DoesStep (valid_letters_step (languages_of systems) padded))) old new f done in
+      let rest = both_done (DoesStep (letter_pad_step (direction_of systems) first.0)) (λ padded. DoesStep (valid_letters_step (languages_of systems) padded)) first.1 new f first.3 in
+      record { read = first.0; padded = rest.0; reading = first.2.step.made_is; padding = rest.2.step.made_is; validity = rest.3.step.made_is }
+
+module _ (systems : List SystemValue) (listed : Listed) (f : LetterFunctionValue) (made : AreMade systems listed f) where
   abbrev direction : Direction
   direction = direction_of systems
 
@@ -30,19 +52,19 @@ module _ (limit : ℕ) (systems : List SystemValue) (listed : Listed) (f : Lette
   ss = systems_of systems
 
   abbrev read : LetterFunctionValue
-  read = steps.before.read
+  read = made.read
 
   abbrev padded : LetterFunctionValue
-  padded = steps.before.padded
+  padded = made.padded
 
   read_sizes : read.automaton.sizes ≡ sizes_of ss
-  read_sizes = steps.before.read_step.reading.sizes_are
+  read_sizes = made.reading.sizes_are
 
   padded_sizes : padded.automaton.sizes ≡ sizes_of ss
-  padded_sizes = steps.before.pad_step.padding.sizes ∙ read_sizes
+  padded_sizes = made.padding.sizes ∙ read_sizes
 
   pub function_sizes : f.automaton.sizes ≡ sizes_of ss
-  function_sizes = steps.valid_step.valid_letters.sizes ∙ padded_sizes
+  function_sizes = made.validity.sizes ∙ padded_sizes
 
   over_sizes : (sizes w : List ℕ) → sizes ≡ sizes_of ss → IsWord (letters_in ss) w → IsWord (product sizes) w
   over_sizes sizes w same over = subst (λ (ns : List ℕ). IsWord (product ns) w) (sym same) over
@@ -53,9 +75,9 @@ module _ (limit : ℕ) (systems : List SystemValue) (listed : Listed) (f : Lette
   -- the letter of a word is the listed one of the word without leading zeros, where it is valid
   kept_letter : (w : List ℕ) → IsWord (letters_in ss) w → letter_after f w ≡ (if is_valid (sizes_of ss) (languages_of systems) w then letter_after read (strip direction w) else None)
   kept_letter w over =
-      steps.valid_step.valid_letters.letters w (over_sizes padded.automaton.sizes w padded_sizes over)
+      made.validity.letters w (over_sizes padded.automaton.sizes w padded_sizes over)
       ∙ ap (λ (sizes : List ℕ). if is_valid sizes (languages_of systems) w then letter_after padded w else None) padded_sizes
-      ∙ ap (λ (o : Option ℤ). if is_valid (sizes_of ss) (languages_of systems) w then o else None) (steps.before.pad_step.padding.letters w (over_sizes read.automaton.sizes w read_sizes over))
+      ∙ ap (λ (o : Option ℤ). if is_valid (sizes_of ss) (languages_of systems) w then o else None) (made.padding.letters w (over_sizes read.automaton.sizes w read_sizes over))
 
   valid_letter : (w : List ℕ) → IsWord (letters_in ss) w → is_valid_here w → letter_after f w ≡ letter_after read (strip direction w)
   valid_letter w over valid = kept_letter w over ∙ ap (λ b. if b then letter_after read (strip direction w) else None) valid
@@ -76,7 +98,7 @@ module _ (limit : ℕ) (systems : List SystemValue) (listed : Listed) (f : Lette
 
       pub word_is : IsWordValue (record { systems = systems; function = f })
       word_is = record {
-        function = steps.valid_step.valid_letters.function;
+        function = made.validity.function;
         some = some;
         sealed = sealed;
         shared_direction = one;
@@ -103,7 +125,7 @@ module _ (limit : ℕ) (systems : List SystemValue) (listed : Listed) (f : Lette
           letters = tuples.1;
           represents = short.represents;
           shortest = strip-twice direction w;
-          letter_is = (steps.before.read_step.reading.letters tuples.0 (strip direction w) letter tuples.1).0 read_is;
+          letter_is = (made.reading.letters tuples.0 (strip direction w) letter tuples.1).0 read_is;
         }
 
     -- and one that is listed there is its letter
@@ -115,11 +137,12 @@ module _ (limit : ℕ) (systems : List SystemValue) (listed : Listed) (f : Lette
           represented,
           valid_letter has.word over (valid_of_place systems sealed one ns has.word represented)
               ∙ ap (letter_after read) has.shortest
-              ∙ (steps.before.read_step.reading.letters has.tuples has.word letter has.letters).1 has.letter_is,
+              ∙ (made.reading.letters has.tuples has.word letter has.letters).1 has.letter_is,
         )
 
 pub words_listed : WordsHaveListedLetters
-words_listed limit listed v lines are is steps ns letter = (
-  listed_letter limit v.systems listed v.function lines steps is.sealed is.shared_direction ns letter,
-  letter_listed limit v.systems listed v.function lines steps is.sealed is.shared_direction ns letter,
-)
+words_listed old new listed v are is done ns letter =
+    let made = steps_made v.systems listed old new v.function done in (
+      listed_letter v.systems listed v.function made is.sealed is.shared_direction ns letter,
+      letter_listed v.systems listed v.function made is.sealed is.shared_direction ns letter,
+    )

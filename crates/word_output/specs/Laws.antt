@@ -1,11 +1,9 @@
 -- Laws of automatic words.
-use Rattle.std.specs.Prelude.{◌≡◌, ◌≢◌, ◌↔◌, ℕ, ℤ, List, ◌++◌, map, length}
+use Rattle.std.specs.Prelude.{◌≡◌, ◌↔◌, ℕ, ℤ, List, ◌++◌, map, length, Ok}
 use Rattle.digit_tuple.specs.Deterministic.{Automaton}
-use Rattle.digit_tuple.specs.Letters.{IsTooLarge}
 use Rattle.digit_tuple.specs.Names.{joint_names}
 use Rattle.digit_tuple.specs.Steps.{StepLog}
 use Rattle.digit_tuple.specs.declared.step_fault.StepFault.TheVariants.{Memory}
-use Rattle.digit_tuple.specs.declared.steps.StepLine.{StepLine}
 use Rattle.dfa_reading.specs.Listed.{Listed}
 use Rattle.dfa_reading.specs.WordFiles.{IsWordListed}
 use Rattle.minimise.specs.Tracked.{NamedAutomaton}
@@ -14,17 +12,17 @@ use Rattle.num_system.specs.Sealed.{SystemValue}
 use Rattle.num_system.specs.Tracks.{AgreeUnder, ShareDirection, number_under, systems_of, systems_under, direction_of}
 use Rattle.num_system.specs.declared.comparison.Comparison.{Comparison}
 use Rattle.automaton_steps.specs.Laws.{HasOneOutcome}
+use Rattle.automaton_steps.specs.OneAnswers.{HasOneAnswer}
 use Rattle.word_output.specs.LetterFunctions.{LetterFunctionValue}
 use Rattle.word_output.specs.LetterSets.{ComparesLetters, IsLetterSet}
-use Rattle.word_output.specs.WordPairs.{IsPair, IsPairStep, PairExceeds, PlacedLetters, pair_sizes}
-use Rattle.word_output.specs.WordReadings.{AreWordSteps, HasListedLetterAt, IsWordDone, IsWordRefused}
+use Rattle.word_output.specs.WordPairs.{IsPair, PlacedLetters, pair_step}
+use Rattle.word_output.specs.WordReadings.{DoesWord, DoesWordSteps, HasListedLetterAt}
 use Rattle.word_output.specs.Words.{HasLetter, IsWordValue, WordValue}
-use Rattle.word_output.specs.declared.word_fault.WordFault.{WordFault}
 use Rattle.word_output.specs.declared.word_fault.WordFault.TheVariants.{Step}
 
 -- a word that is read has at each place the letter that is listed there
 abbrev pub WordsHaveListedLetters : Type 0
-WordsHaveListedLetters = (limit : ℕ) (listed : Listed) (v : WordValue) (lines : List StepLine) → IsWordListed listed → IsWordValue v → AreWordSteps limit v.systems listed v.function lines
+WordsHaveListedLetters = (old new : StepLog) (listed : Listed) (v : WordValue) → IsWordListed listed → IsWordValue v → DoesWordSteps v.systems listed old (Ok v.function) new
     → (ns : List ℕ) (letter : ℤ) → HasLetter v ns letter ↔ HasListedLetterAt (direction_of v.systems) (systems_of v.systems) listed ns letter
 
 -- a place has one letter at most
@@ -56,14 +54,8 @@ OneLetterSet = (comparison : Comparison) (letter : ℤ) (f : LetterFunctionValue
 
 -- the step of a pair has one outcome
 abbrev pub PairsHaveOneOutcome : Type 0
-PairsHaveOneOutcome = (limit : ℕ) (comparison : Comparison) (a b : PlacedLetters)
-    → HasOneOutcome NamedAutomaton (IsPairStep limit comparison a b) (IsTooLarge (pair_sizes a b)) (PairExceeds limit a b)
+PairsHaveOneOutcome = (comparison : Comparison) (a b : PlacedLetters) → HasOneOutcome (pair_step comparison a b)
 
--- what a file lists is read as one word after the same steps; or it is refused by one fault, unless memory runs out; and not both
-pub record HasOneWord (old : StepLog) (systems : List SystemValue) (listed : Listed) : Type 0 where
-  pub words : (v u : WordValue) (new next : StepLog) → IsWordDone old systems listed v new → IsWordDone old systems listed u next → (v ≡ u) × (new ≡ next)
-  pub faults : (fault other : WordFault) → IsWordRefused old systems listed fault → IsWordRefused old systems listed other → fault ≢ Step Memory → other ≢ Step Memory → fault ≡ other
-  pub apart : (v : WordValue) (new : StepLog) (fault : WordFault) → IsWordDone old systems listed v new → IsWordRefused old systems listed fault → fault ≡ Step Memory
-
+-- what a file lists is read as one word, or refused by one fault
 abbrev pub WordReadingsHaveOneOutcome : Type 0
-WordReadingsHaveOneOutcome = (old : StepLog) (systems : List SystemValue) (listed : Listed) → HasOneWord old systems listed
+WordReadingsHaveOneOutcome = (systems : List SystemValue) (listed : Listed) → HasOneAnswer (Step Memory) (DoesWord systems listed)

@@ -1,17 +1,13 @@
 -- The step that gives each word the letter of the word without the zeros at the end of its most significant letters.
-use Rattle.std.specs.Prelude.{◌≡◌, ◌↔◌, ℕ, List, Result, MatchResult}
-use Rattle.digit_tuple.specs.Deterministic.{letters_of, states_of}
+use Rattle.std.specs.Prelude.{◌≡◌, ◌↔◌, ℕ, List}
+use Rattle.digit_tuple.specs.Deterministic.{letters_of}
 use Rattle.digit_tuple.specs.Letters.{IsWord}
 use Rattle.digit_tuple.specs.Paddings.{strip, without_zeros}
-use Rattle.digit_tuple.specs.StepResults.{IsDone}
-use Rattle.digit_tuple.specs.Steps.{StepLog}
 use Rattle.digit_tuple.specs.declared.direction.Direction.{Direction}
 use Rattle.digit_tuple.specs.declared.direction.Direction.TheVariants.{Msd, Lsd}
 use Rattle.digit_tuple.specs.declared.kind.Kind.TheVariants as kinds
-use Rattle.digit_tuple.specs.declared.step_fault.StepFault.{StepFault}
-use Rattle.digit_tuple.specs.declared.steps.StepLine.{StepLine}
 use Rattle.project_close.specs.Padding.{AreZeros}
-use Rattle.automaton_steps.specs.StepLines.{IsStepLine, Exceeds, IsRefused}
+use Rattle.automaton_steps.specs.Makings.{Making}
 use Rattle.word_output.specs.LetterFunctions.{LetterFunctionValue, IsLetterFunction, letter_after, SameLettersAfter}
 
 -- both or neither of the words are all zeros, and what follows the one without its leading zeros has the letter that it has after the
@@ -36,16 +32,10 @@ pub record IsLetterPadding (direction : Direction) (f padded : LetterFunctionVal
   pub function : IsLetterFunction padded
   pub letters : (w : List ℕ) → IsWord (letters_of f.automaton) w → letter_after padded w ≡ letter_after f (strip direction w)
 
--- the step is within the limit, and makes this function
-pub record IsLetterPadStep (limit : ℕ) (direction : Direction) (f padded : LetterFunctionValue) (line : StepLine) : Type 0 where
-  pub padding : IsLetterPadding direction f padded
-  pub line_is : IsStepLine limit kinds.Pad (PaddedLettersAlike direction f) (letters_of f.automaton) (states_of padded.automaton) line
-
--- the step passes the limit
-abbrev pub LetterPadExceeds : ℕ → Direction → LetterFunctionValue → Type 0
-LetterPadExceeds limit direction f = Exceeds limit (PaddedLettersAlike direction f) (letters_of f.automaton)
-
--- the step is done, or refused
-abbrev pub DoesLetterPad : StepLog → Direction → LetterFunctionValue → Result LetterFunctionValue StepFault → StepLog → Type 0
-DoesLetterPad old direction f result new =
-    MatchResult result (λ padded. IsDone old (IsLetterPadStep old.limit direction f padded) new) (IsRefused old ⊥ (LetterPadExceeds old.limit direction f) new)
+-- the step
+abbrev pub letter_pad_step : Direction → LetterFunctionValue → Making LetterFunctionValue
+letter_pad_step direction f = record {
+  step = record { kind = kinds.Pad; sizes = f.automaton.sizes; alike = PaddedLettersAlike direction f };
+  automaton_of = λ padded. padded.automaton;
+  IsMade = IsLetterPadding direction f;
+}

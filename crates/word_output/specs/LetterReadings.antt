@@ -1,16 +1,10 @@
 -- The step that makes the letter function of what a word's file lists.
-use Rattle.std.specs.Prelude.{◌≡◌, ◌↔◌, ℕ, ℤ, List, Some, Result, MatchResult}
+use Rattle.std.specs.Prelude.{◌≡◌, ◌↔◌, ℕ, ℤ, List, Some}
 use Rattle.std.specs.List.{AllZip}
-use Rattle.digit_tuple.specs.Deterministic.{states_of}
-use Rattle.digit_tuple.specs.Letters.{product, IsAlphabet, IsTooLarge}
-use Rattle.digit_tuple.specs.StepResults.{IsDone}
-use Rattle.digit_tuple.specs.Steps.{StepLog}
 use Rattle.digit_tuple.specs.declared.kind.Kind.TheVariants as kinds
-use Rattle.digit_tuple.specs.declared.step_fault.StepFault.{StepFault}
-use Rattle.digit_tuple.specs.declared.steps.StepLine.{StepLine}
 use Rattle.dfa_reading.specs.Branching.{IsLetterOfDigits}
 use Rattle.dfa_reading.specs.Listed.{Listed, MovesAlong, output_of}
-use Rattle.automaton_steps.specs.StepLines.{IsStepLine, Exceeds, IsRefused}
+use Rattle.automaton_steps.specs.Makings.{Making}
 use Rattle.word_output.specs.LetterFunctions.{LetterFunctionValue, IsLetterFunction, letter_after}
 
 -- a path of listed transitions spells the tuples, and ends in a state with this letter
@@ -33,18 +27,10 @@ pub record IsLetterReading (sizes : List ℕ) (listed : Listed) (f : LetterFunct
   pub function : IsLetterFunction f
   pub letters : (tuples : List (List ℕ)) (w : List ℕ) (letter : ℤ) → AllZip (IsLetterOfDigits sizes) tuples w → (letter_after f w ≡ Some letter) ↔ HasListedLetter sizes listed tuples letter
 
--- the step is within the limits, and makes this function
-pub record IsLetterReadStep (limit : ℕ) (sizes : List ℕ) (listed : Listed) (f : LetterFunctionValue) (line : StepLine) : Type 0 where
-  pub alphabet : IsAlphabet sizes
-  pub reading : IsLetterReading sizes listed f
-  pub line_is : IsStepLine limit kinds.Read (ListedAlike sizes listed) (product sizes) (states_of f.automaton) line
-
--- its width passes the limit
-pub record LetterReadExceeds (limit : ℕ) (sizes : List ℕ) (listed : Listed) : Type 0 where
-  pub alphabet : IsAlphabet sizes
-  pub exceeds : Exceeds limit (ListedAlike sizes listed) (product sizes)
-
--- the step is done, or refused
-abbrev pub DoesLetterRead : StepLog → List ℕ → Listed → Result LetterFunctionValue StepFault → StepLog → Type 0
-DoesLetterRead old sizes listed result new =
-    MatchResult result (λ f. IsDone old (IsLetterReadStep old.limit sizes listed f) new) (IsRefused old (IsTooLarge sizes) (LetterReadExceeds old.limit sizes listed) new)
+-- the step: words are alike that lead to the same listed states
+abbrev pub letter_read_step : List ℕ → Listed → Making LetterFunctionValue
+letter_read_step sizes listed = record {
+  step = record { kind = kinds.Read; sizes = sizes; alike = ListedAlike sizes listed };
+  automaton_of = λ f. f.automaton;
+  IsMade = IsLetterReading sizes listed;
+}

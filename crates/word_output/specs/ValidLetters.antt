@@ -1,15 +1,11 @@
 -- The step that keeps the letters of the words whose tracks are each in the language of a system.
-use Rattle.std.specs.Prelude.{◌≡◌, ℕ, ℤ, List, drop, map, slice_index, Option, None, if◌then◌else◌, Result, MatchResult}
-use Rattle.digit_tuple.specs.Deterministic.{Automaton, letters_of, states_of}
+use Rattle.std.specs.Prelude.{◌≡◌, ℕ, ℤ, List, drop, map, slice_index, Option, None, if◌then◌else◌}
+use Rattle.digit_tuple.specs.Deterministic.{Automaton, letters_of}
 use Rattle.digit_tuple.specs.Letters.{IsWord}
-use Rattle.digit_tuple.specs.StepResults.{IsDone}
-use Rattle.digit_tuple.specs.Steps.{StepLog}
 use Rattle.digit_tuple.specs.declared.kind.Kind.TheVariants as kinds
-use Rattle.digit_tuple.specs.declared.step_fault.StepFault.{StepFault}
-use Rattle.digit_tuple.specs.declared.steps.StepLine.{StepLine}
 use Rattle.product_op.specs.Readings.{Reading, all_true, flags_at}
 use Rattle.product_op.specs.Validity.{is_valid, TracksAlike}
-use Rattle.automaton_steps.specs.StepLines.{IsStepLine, Exceeds, IsRefused}
+use Rattle.automaton_steps.specs.Makings.{Making}
 use Rattle.word_output.specs.LetterFunctions.{LetterFunctionValue, IsLetterFunction, letter_after, SameLettersAfter}
 use Rattle.word_output.specs.StateLetters.{letter_of_state}
 
@@ -24,19 +20,13 @@ pub record AreValidLetters (languages : List Automaton) (f valid : LetterFunctio
   pub function : IsLetterFunction valid
   pub letters : (w : List ℕ) → IsWord (letters_of f.automaton) w → letter_after valid w ≡ (if is_valid f.automaton.sizes languages w then letter_after f w else None)
 
--- the step is within the limit, and makes this function
-pub record IsValidLettersStep (limit : ℕ) (languages : List Automaton) (f valid : LetterFunctionValue) (line : StepLine) : Type 0 where
-  pub valid_letters : AreValidLetters languages f valid
-  pub line_is : IsStepLine limit kinds.Valid (ValidLettersAlike f languages) (letters_of f.automaton) (states_of valid.automaton) line
-
--- the step passes the limit
-abbrev pub ValidLettersExceed : ℕ → List Automaton → LetterFunctionValue → Type 0
-ValidLettersExceed limit languages f = Exceeds limit (ValidLettersAlike f languages) (letters_of f.automaton)
-
--- the step is done, or refused
-abbrev pub DoesValidLetters : StepLog → List Automaton → LetterFunctionValue → Result LetterFunctionValue StepFault → StepLog → Type 0
-DoesValidLetters old languages f result new =
-    MatchResult result (λ valid. IsDone old (IsValidLettersStep old.limit languages f valid) new) (IsRefused old ⊥ (ValidLettersExceed old.limit languages f) new)
+-- the step
+abbrev pub valid_letters_step : List Automaton → LetterFunctionValue → Making LetterFunctionValue
+valid_letters_step languages f = record {
+  step = record { kind = kinds.Valid; sizes = f.automaton.sizes; alike = ValidLettersAlike f languages };
+  automaton_of = λ valid. valid.automaton;
+  IsMade = AreValidLetters languages f;
+}
 
 -- The letter of the first state of a tuple, where the languages accept at the others. Nobody has to believe this: it serves the code.
 abbrev pub valid_letter : LetterFunctionValue → List Reading → List ℕ → Option ℤ

@@ -1,18 +1,14 @@
 -- The step that compares the letters of two words, whose tracks are under names: tracks of one name are one track.
-use Rattle.std.specs.Prelude.{◌≡◌, ◌↔◌, ℕ, ◌<◌, ℤ, List, [], ◌++◌, length, slice_index_or, Option, Some, IsTrue, Result, MatchResult}
-use Rattle.digit_tuple.specs.Deterministic.{accepts_of, states_of}
-use Rattle.digit_tuple.specs.Letters.{product, IsAlphabet, IsTooLarge, IsWord}
+use Rattle.std.specs.Prelude.{◌≡◌, ◌↔◌, ℕ, ◌<◌, ℤ, List, [], ◌++◌, length, slice_index_or, Option, Some, IsTrue}
+use Rattle.digit_tuple.specs.Deterministic.{accepts_of}
+use Rattle.digit_tuple.specs.Letters.{product, IsWord}
 use Rattle.digit_tuple.specs.Names.{joint_names, places_of}
 use Rattle.digit_tuple.specs.Parts.{part, picked}
-use Rattle.digit_tuple.specs.StepResults.{IsDone}
-use Rattle.digit_tuple.specs.Steps.{StepLog}
 use Rattle.digit_tuple.specs.declared.kind.Kind.TheVariants as kinds
-use Rattle.digit_tuple.specs.declared.step_fault.StepFault.{StepFault}
-use Rattle.digit_tuple.specs.declared.steps.StepLine.{StepLine}
 use Rattle.minimise.specs.Canonical.{IsCanonical}
 use Rattle.minimise.specs.Tracked.{NamedAutomaton}
 use Rattle.num_system.specs.declared.comparison.Comparison.{Comparison}
-use Rattle.automaton_steps.specs.StepLines.{IsStepLine, Exceeds, IsRefused}
+use Rattle.automaton_steps.specs.Makings.{Making}
 use Rattle.word_output.specs.LetterFunctions.{LetterFunctionValue, IsLetterFunction, letter_after}
 use Rattle.word_output.specs.LetterSets.{ComparesLetters}
 
@@ -55,18 +51,10 @@ pub record IsPair (comparison : Comparison) (a b : PlacedLetters) (paired : Name
   pub language : (w : List ℕ) → IsWord (product (pair_sizes a b)) w → IsTrue (accepts_of paired.automaton w)
       ↔ ((x : ℤ) × (y : ℤ) × (letter_read (pair_names a b) (pair_sizes a b) a w ≡ Some x) × (letter_read (pair_names a b) (pair_sizes a b) b w ≡ Some y) × ComparesLetters comparison x y)
 
--- the step is within the limits, and makes this automaton
-pub record IsPairStep (limit : ℕ) (comparison : Comparison) (a b : PlacedLetters) (paired : NamedAutomaton) (line : StepLine) : Type 0 where
-  pub alphabet : IsAlphabet (pair_sizes a b)
-  pub pair : IsPair comparison a b paired
-  pub line_is : IsStepLine limit kinds.Product (PairAlike a b) (product (pair_sizes a b)) (states_of paired.automaton) line
-
--- its width passes the limit
-pub record PairExceeds (limit : ℕ) (a b : PlacedLetters) : Type 0 where
-  pub alphabet : IsAlphabet (pair_sizes a b)
-  pub exceeds : Exceeds limit (PairAlike a b) (product (pair_sizes a b))
-
--- the step is done, or refused
-abbrev pub DoesPair : StepLog → Comparison → PlacedLetters → PlacedLetters → Result NamedAutomaton StepFault → StepLog → Type 0
-DoesPair old comparison a b result new =
-    MatchResult result (λ paired. IsDone old (IsPairStep old.limit comparison a b paired) new) (IsRefused old (IsTooLarge (pair_sizes a b)) (PairExceeds old.limit a b) new)
+-- the step
+abbrev pub pair_step : Comparison → PlacedLetters → PlacedLetters → Making NamedAutomaton
+pair_step comparison a b = record {
+  step = record { kind = kinds.Product; sizes = pair_sizes a b; alike = PairAlike a b };
+  automaton_of = λ paired. paired.automaton;
+  IsMade = IsPair comparison a b;
+}

@@ -4,7 +4,8 @@ ghost use Rattle.std.specs.Prelude.{◌+◌, ◌≤◌, IfOk};
 ghost use Rattle.std.specs.Result.{IsErrOf};
 ghost use Rattle.digit_tuple.specs.Deterministic.{letters_of, states_of};
 ghost use Rattle.digit_tuple.specs.Width.{HasApart, HasWidth};
-ghost use Rattle.word_output.specs.LetterPaddings.{DoesLetterPad, IsLetterPadding, PaddedLettersAlike};
+ghost use Rattle.automaton_steps.specs.Makings.{DoesStep};
+ghost use Rattle.word_output.specs.LetterPaddings.{IsLetterPadding, PaddedLettersAlike, letter_pad_step};
 
 use crate::letter_function::LetterFunction;
 use crate::lsd_letters::pad_lsd;
@@ -30,8 +31,9 @@ pub fn pad_letters(
     direction: Direction,
     steps: &mut Steps,
 ) -> Result<LetterFunction, StepFault>
-    ensures { DoesLetterPad steps.old direction function.now result steps.new }
+    ensures { DoesStep (letter_pad_step direction function.now) steps.old result steps.new }
 {
+    let _ = function.dfa().alphabet().tracks();
     match padded(alloc, function, direction, steps.limit()) {
         Ok(Stepped { result, width }) => {
             steps.done(Kind::Pad, width, result.dfa().states())?;

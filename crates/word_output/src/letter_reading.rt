@@ -6,12 +6,14 @@ ghost use Rattle.std.specs.Result.{IsErrOf};
 ghost use Rattle.digit_tuple.specs.Deterministic.{letters_of, states_of};
 ghost use Rattle.digit_tuple.specs.FirstWords.{IsNumberedByFirsts};
 ghost use Rattle.digit_tuple.specs.Letters.{product, IsAlphabet, IsTooLarge};
+ghost use Rattle.digit_tuple.specs.StepResults.{ExceedsWidth};
 ghost use Rattle.digit_tuple.specs.Width.{HasApart, HasWidth};
 ghost use Rattle.dfa_reading.specs.Branching.{AreGiven, sizes_in};
 ghost use Rattle.dfa_reading.specs.WordFiles.{IsFunctional, IsWordListed};
 ghost use Rattle.product_op.specs.TrackReadings.{whole_reading};
 ghost use Rattle.product_op.specs.Tuples.{AreTuples, LeadToOne};
-ghost use Rattle.word_output.specs.LetterReadings.{DoesLetterRead, LetterReadExceeds, ListedAlike};
+ghost use Rattle.automaton_steps.specs.Makings.{DoesStep};
+ghost use Rattle.word_output.specs.LetterReadings.{ListedAlike, letter_read_step};
 ghost use Rattle.word_output.specs.ListedStates.{AreListedStates, listed_letters};
 
 use crate::letter_function::LetterFunction;
@@ -44,7 +46,7 @@ pub fn read_letters(
     requires states { 0 < length listed.now.outputs }
     requires word { IsWordListed listed.now }
     requires given { AreGiven listed.now.header digits.now }
-    ensures { DoesLetterRead steps.old (sizes_in listed.now.header digits.now) listed.now result steps.new }
+    ensures { DoesStep (letter_read_step (sizes_in listed.now.header digits.now) listed.now) steps.old result steps.new }
 {
     match listed_states(alloc, listed, digits, steps.limit()) {
         Ok(Stepped { result, width }) => {
@@ -76,7 +78,7 @@ fn listed_states(
     ensures width { IfOk result (λ stepped. HasWidth (ListedAlike (sizes_in listed.now.header digits.now) listed.now) (product (sizes_in listed.now.header digits.now)) stepped.width) }
     ensures size { IfOk result (λ stepped. states_of stepped.result.dfa ≤ stepped.width) }
     ensures within { IfOk result (λ stepped. stepped.width ≤ limit) }
-    ensures exceeds { IsErrOf result OpFault.States → LetterReadExceeds limit (sizes_in listed.now.header digits.now) listed.now }
+    ensures exceeds { IsErrOf result OpFault.States → ExceedsWidth limit (letter_read_step (sizes_in listed.now.header digits.now) listed.now).step }
     ensures too_large { IsErrOf result OpFault.Letters → IsTooLarge (sizes_in listed.now.header digits.now) }
 {
     let table = listed.table(alloc, digits)?;

@@ -6,8 +6,10 @@ ghost use Rattle.std.specs.Result.{IsErrOf};
 ghost use Rattle.digit_tuple.specs.Deterministic.{states_of};
 ghost use Rattle.digit_tuple.specs.Letters.{product, IsAlphabet, IsTooLarge};
 ghost use Rattle.digit_tuple.specs.Names.{place_of};
+ghost use Rattle.digit_tuple.specs.StepResults.{ExceedsWidth};
 ghost use Rattle.digit_tuple.specs.Width.{HasWidth};
-ghost use Rattle.word_output.specs.WordPairs.{DoesPair, IsPair, MayPair, PairAlike, PairExceeds, pair_names, pair_sizes};
+ghost use Rattle.automaton_steps.specs.Makings.{DoesStep};
+ghost use Rattle.word_output.specs.WordPairs.{IsPair, MayPair, PairAlike, pair_sizes, pair_step as the_step};
 
 use crate::letter_function::LetterFunction;
 use crate::letter_pairs::compared;
@@ -41,7 +43,7 @@ pub fn pair_step(
     steps: &mut Steps,
 ) -> Result<Tracked, StepFault>
     requires { MayPair (record { function = first.function.now; under = first.under.now }) (record { function = second.function.now; under = second.under.now }) }
-    ensures { DoesPair steps.old comparison (record { function = first.entry.function.now; under = first.entry.under.now }) (record { function = second.entry.function.now; under = second.entry.under.now }) result steps.new }
+    ensures { DoesStep (the_step comparison (record { function = first.entry.function.now; under = first.entry.under.now }) (record { function = second.entry.function.now; under = second.entry.under.now })) steps.old result steps.new }
 {
     match paired(alloc, first, comparison, second, steps.limit()) {
         Ok(Stepped { result, width }) => {
@@ -69,7 +71,7 @@ fn paired(
     ensures size { IfOk result (λ stepped. states_of stepped.result.automaton ≤ stepped.width) }
     ensures within { IfOk result (λ stepped. stepped.width ≤ limit) }
     ensures letters { IsErrOf result OpFault.Letters → IsTooLarge (pair_sizes (record { function = first.entry.function.now; under = first.entry.under.now }) (record { function = second.entry.function.now; under = second.entry.under.now })) }
-    ensures states { IsErrOf result OpFault.States → PairExceeds limit (record { function = first.entry.function.now; under = first.entry.under.now }) (record { function = second.entry.function.now; under = second.entry.under.now }) }
+    ensures states { IsErrOf result OpFault.States → ExceedsWidth limit (the_step comparison (record { function = first.entry.function.now; under = first.entry.under.now }) (record { function = second.entry.function.now; under = second.entry.under.now })).step }
 {
     let names = joint_names(alloc, first.under, second.under)?;
     let sizes = joint_sizes(alloc, first, second, &names)?;

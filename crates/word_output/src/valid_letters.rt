@@ -5,7 +5,8 @@ ghost use Rattle.std.specs.List.{All};
 ghost use Rattle.std.specs.Rc.{rc_value};
 ghost use Rattle.product_op.specs.Readings.{readings_in};
 ghost use Rattle.product_op.specs.Validity.{AreLanguages};
-ghost use Rattle.word_output.specs.ValidLetters.{DoesValidLetters, tuple_letters, valid_letter};
+ghost use Rattle.automaton_steps.specs.Makings.{DoesStep};
+ghost use Rattle.word_output.specs.ValidLetters.{tuple_letters, valid_letter, valid_letters_step};
 
 use crate::letter_function::LetterFunction;
 use digit_tuple::dfa::Dfa;
@@ -37,10 +38,11 @@ pub fn valid_letters(
     steps: &mut Steps,
 ) -> Result<LetterFunction, StepFault>
     requires { AreLanguages function.now.automaton.sizes (map rc_value languages.now) }
-    ensures { DoesValidLetters steps.old (map rc_value languages.now) function.now result steps.new }
+    ensures { DoesStep (valid_letters_step (map rc_value languages.now) function.now) steps.old result steps.new }
 {
     let dfa = function.dfa();
     let alphabet = dfa.alphabet().copy(alloc)?;
+    let _ = alphabet.tracks();
     let readers = validity_readers(alloc, &alphabet, dfa, languages)?;
     match explore_tuples(alloc, alphabet, &readers, steps.limit()) {
         Ok(Stepped { result, width }) => {

@@ -7,7 +7,7 @@ ghost use Rattle.dfa_reading.specs.WordFiles.{IsWordListed};
 ghost use Rattle.dfa_reading.specs.Headers.{digits_in};
 ghost use Rattle.num_system.specs.Sealed.{IsSealed};
 ghost use Rattle.num_system.specs.Tracks.{ShareDirection, languages_of as languages_of_systems};
-ghost use Rattle.word_output.specs.WordReadings.{DoesLetterSteps, DoesWord};
+ghost use Rattle.word_output.specs.WordReadings.{DoesWord, DoesWordSteps};
 
 use crate::gap::least_gap;
 use crate::letter_function::LetterFunction;
@@ -45,7 +45,7 @@ pub fn read_word_steps(
     requires word { IsWordListed listed.now }
     requires tracks { length systems.now ≡ length (digits_in listed.now.header) }
     requires direction { ShareDirection (map rc_value systems.now) }
-    ensures { DoesWord steps.old (map rc_value systems.now) listed.now result steps.new }
+    ensures { DoesWord (map rc_value systems.now) listed.now steps.old result steps.new }
 {
     are_sealed(systems);
     let kept = shared(alloc, systems)?;
@@ -74,7 +74,7 @@ fn letter_steps(
     requires tracks { length systems.now ≡ length (digits_in listed.now.header) }
     requires sealed { AllByRecursion IsSealed (map rc_value systems.now) }
     requires languages { map rc_value languages.now ≡ languages_of_systems (map rc_value systems.now) }
-    ensures { DoesLetterSteps steps.old (map rc_value systems.now) listed.now result steps.new }
+    ensures { DoesWordSteps (map rc_value systems.now) listed.now steps.old result steps.new }
 {
     let digits = digits_of(alloc, systems)?;
     let read = read_letters(alloc, listed, &digits, steps)?;

@@ -1,5 +1,5 @@
-use Rattle.automaton_steps.proofs.OneOutcomes.{complement_outcome}
+use Rattle.automaton_steps.proofs.OneAnswers.{complement_one}
 use Rattle.automaton_steps.proofs.laws.complement_has_one_outcome.Goals as goal
 
 pub returns : goal.returns
-returns c = complement_outcome
+returns c = complement_one

@@ -1,5 +1,5 @@
-use Rattle.automaton_steps.proofs.OneOutcomes.{join_outcome}
+use Rattle.automaton_steps.proofs.OneAnswers.{join_one}
 use Rattle.automaton_steps.proofs.laws.join_has_one_outcome.Goals as goal
 
 pub returns : goal.returns
-returns c = join_outcome
+returns c = join_one

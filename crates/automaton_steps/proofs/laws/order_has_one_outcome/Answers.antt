@@ -1,5 +1,5 @@
-use Rattle.automaton_steps.proofs.OneOutcomes.{order_outcome}
+use Rattle.automaton_steps.proofs.OneAnswers.{order_one}
 use Rattle.automaton_steps.proofs.laws.order_has_one_outcome.Goals as goal
 
 pub returns : goal.returns
-returns c = order_outcome
+returns c = order_one

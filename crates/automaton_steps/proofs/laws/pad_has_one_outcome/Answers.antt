@@ -1,5 +1,5 @@
-use Rattle.automaton_steps.proofs.OneOutcomes.{pad_outcome}
+use Rattle.automaton_steps.proofs.OneAnswers.{pad_one}
 use Rattle.automaton_steps.proofs.laws.pad_has_one_outcome.Goals as goal
 
 pub returns : goal.returns
-returns c = pad_outcome
+returns c = pad_one

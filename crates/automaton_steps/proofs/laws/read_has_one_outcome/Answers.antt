@@ -1,5 +1,5 @@
-use Rattle.automaton_steps.proofs.OneOutcomes.{read_outcome}
+use Rattle.automaton_steps.proofs.OneAnswers.{read_one}
 use Rattle.automaton_steps.proofs.laws.read_has_one_outcome.Goals as goal
 
 pub returns : goal.returns
-returns c = read_outcome
+returns c = read_one

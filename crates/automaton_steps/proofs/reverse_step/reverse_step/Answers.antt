@@ -1,11 +1,8 @@
-use Rattle.std.proofs.Common.{ap, arith}
-use Rattle.digit_tuple.specs.Deterministic.{letters_of}
-use Rattle.digit_tuple.specs.Letters.{product}
-use Rattle.digit_tuple.specs.declared.kind.Kind.TheVariants.{Reverse}
-use Rattle.determinise.specs.Reversed.{SameReversedResidual}
-use Rattle.automaton_steps.specs.ReverseSteps.{IsReversed}
+use Rattle.std.proofs.Common.{ap, subst, arith}
+use Rattle.digit_tuple.specs.Letters.{product, IsAlphabet}
+use Rattle.automaton_steps.specs.ReverseSteps.{IsReversed, reverse_step}
 use Rattle.automaton_steps.proofs.ReverseSizes.{IsReversed-canonical, IsEquivalence-reverse, reverse_kept}
-use Rattle.automaton_steps.proofs.StepSizes.{step_line}
+use Rattle.automaton_steps.proofs.StepSizes.{line_of}
 use Rattle.automaton_steps.proofs.reverse_step.reverse_step.Goals as goal
 
 pub returns-in_ok-done-in-Ok : goal.returns-in_ok-done-in-Ok
@@ -13,11 +10,12 @@ returns-in_ok-done-in-Ok c =
     let d = c.args.argument.now in
     let e = c.in_ok-reversed-in-Ok.reversed in
     let is : IsReversed d e = IsReversed-canonical d c.in-Ok.field-0.result e c.in-Ok.ensures.sizes c.in-Ok.ensures.language c.in_ok-reversed-in-Ok.ensures.sizes c.in_ok-reversed-in-Ok.ensures.language c.in_ok-reversed-in-Ok.ensures.canonical in
+    let alphabet : IsAlphabet d.sizes = subst IsAlphabet c.alphabet.ensures.sizes c.tracks.ensures.alphabet in
     record {
       line = _;
       step = record {
-        reversed_is = is;
-        line_is = step_line (SameReversedResidual d) (letters_of d) e is.canonical (ap product is.sizes) (IsEquivalence-reverse d) (reverse_kept d e is) c.args.steps.now.limit c.in-Ok.field-0.width c.states.result Reverse c.in-Ok.ensures.width (omega (arith, c.in-Ok.ensures.within, c.limit.ensures)) c.states.ensures.value;
+        made_is = is;
+        line_is = line_of (reverse_step d).step e alphabet is.canonical (ap product is.sizes) (IsEquivalence-reverse d) (reverse_kept d e is) c.args.steps.now.limit c.in-Ok.field-0.width c.states.result c.in-Ok.ensures.width (omega (arith, c.in-Ok.ensures.within, c.limit.ensures)) c.states.ensures.value;
       };
       new_is = c.in_ok-done-in-Ok.ensures.ok;
     }

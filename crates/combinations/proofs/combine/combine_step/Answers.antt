@@ -2,19 +2,20 @@ use Rattle.std.proofs.Common.{◌≡◌, List, Err, map, refl, sym, ap, ◌∙�
 use Rattle.std.specs.Rc.{rc_value}
 use Rattle.std.specs.Result.{IsErrOf}
 use Rattle.digit_tuple.specs.Deterministic.{states_of}
+use Rattle.digit_tuple.specs.StepResults.{ExceedsWidth}
 use Rattle.digit_tuple.specs.declared.faults.OpFault.TheVariants.{Letters, States}
 use Rattle.num_system.specs.Sealed.{SystemValue}
 use Rattle.word_output.specs.Words.{IsWordValue, WordValue}
 use Rattle.combinations.specs.Combined.{IsCombination}
-use Rattle.combinations.specs.CombineSteps.{CombineExceeds}
+use Rattle.combinations.specs.CombineSteps.{combine_step}
 use Rattle.combinations.proofs.combine.combine_step.Goals as goal
 
 pub from_parts-requires : goal.from_parts-requires
 from_parts-requires c =
     subst (λ (ss : List SystemValue). IsWordValue (record { systems = ss; function = c.in-Ok.field-0.result })) (sym c.in_ok-kept.ensures) c.in-Ok.ensures.combination.word_is
 
-pub returns-in-Ok-clause-done : goal.returns-in-Ok-clause-done
-returns-in-Ok-clause-done c =
+pub returns-in-Ok : goal.returns-in-Ok
+returns-in-Ok c =
     let systems : List SystemValue = map rc_value c.args.systems.now in
     let f = c.in-Ok.field-0.result in
     let word : record { systems = systems; function = f } ≡ c.from_parts.result =
@@ -23,9 +24,9 @@ returns-in-Ok-clause-done c =
     record {
       line = _;
       step = record {
-        alphabet = c.in-Ok.ensures.alphabet;
-        combination = subst (IsCombination c.args.parts.now systems) word c.in-Ok.ensures.combination;
+        made_is = subst (IsCombination c.args.parts.now systems) word c.in-Ok.ensures.combination;
         line_is = record {
+          alphabet = c.in-Ok.ensures.alphabet;
           kind_is = refl;
           width = c.in-Ok.ensures.width;
           size_is = size;
@@ -36,17 +37,14 @@ returns-in-Ok-clause-done c =
       new_is = c.in_ok-done-in-Ok.ensures.ok;
     }
 
-pub returns-in-Err-Letters-clause-refused : goal.returns-in-Err-Letters-clause-refused
-returns-in-Err-Letters-clause-refused c =
+pub returns-in-Err-Letters : goal.returns-in-Err-Letters
+returns-in-Err-Letters c =
     let is_letters : c.in-Err-Letters.field-0 ≡ Letters = c.in-Err-Letters.field-0-is in
     let fault : IsErrOf c.combined.result Letters = c.in-Err-Letters.is ∙ ap Err is_letters in
-    record { by_limit = (c.next_number.ensures, c.combined.ensures.letters fault); same = refl }
+    ((c.next_number.ensures, c.combined.ensures.letters fault), refl)
 
-pub returns-in-Err-States-clause-refused : goal.returns-in-Err-States-clause-refused
-returns-in-Err-States-clause-refused c =
+pub returns-in-Err-States : goal.returns-in-Err-States
+returns-in-Err-States c =
     let is_states : c.in-Err-States.field-0 ≡ States = c.in-Err-States.field-0-is in
     let fault : IsErrOf c.combined.result States = c.in-Err-States.is ∙ ap Err is_states in
-    record {
-      by_limit = (c.next_number-in-Err-States.ensures, subst (λ n. CombineExceeds n c.args.parts.now (map rc_value c.args.systems.now)) c.limit.ensures (c.combined.ensures.states fault));
-      same = refl;
-    }
+    ((c.next_number-in-Err-States.ensures, subst (λ n. ExceedsWidth n (combine_step c.args.parts.now (map rc_value c.args.systems.now)).step) c.limit.ensures (c.combined.ensures.states fault)), refl)

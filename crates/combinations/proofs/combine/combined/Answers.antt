@@ -3,6 +3,7 @@ use Rattle.std.specs.Rc.{rc_value}
 use Rattle.std.specs.Result.{IsErrOf}
 use Rattle.digit_tuple.specs.Deterministic.{Automaton}
 use Rattle.digit_tuple.specs.Letters.{IsAlphabet, IsTooLarge, IsWord, product}
+use Rattle.digit_tuple.specs.StepResults.{ExceedsWidth}
 use Rattle.digit_tuple.specs.Width.{HasApart, HasWidth}
 use Rattle.digit_tuple.specs.declared.faults.OpFault.TheVariants as faults
 use Rattle.product_op.specs.Readings.{AreReadings, Reading, readings_in}
@@ -15,7 +16,7 @@ use Rattle.num_system.specs.Tracks.{languages_of, systems_of}
 use Rattle.num_system.proofs.LineLemmas.{handed_on}
 use Rattle.word_output.specs.StateLetters.{letter_led}
 use Rattle.word_output.proofs.OptionLemmas.{same_fault}
-use Rattle.combinations.specs.CombineSteps.{CombineExceeds, CombineExceedsLetters}
+use Rattle.combinations.specs.CombineSteps.{combine_step}
 use Rattle.combinations.specs.HeldLetters.{combined_readings, held_letters}
 use Rattle.combinations.proofs.StepLemmas.{apart_combine, beside, enough_readers, languages_on_tracks, readings_beside, width_combine, word_of_tuples}
 use Rattle.combinations.proofs.combine.combined.Goals as goal
@@ -24,7 +25,7 @@ pub returns-in_err-alphabet-clause-letters : goal.returns-in_err-alphabet-clause
 returns-in_err-alphabet-clause-letters c =
     let systems : List SystemValue = map rc_value c.args.systems.now in
     let digits : c.deref.result.now ≡ sizes_of (systems_of systems) = c.deref.ensures.value ∙ c.in_ok-digits.ensures in
-    handed_on (λ r. IsErrOf r faults.Letters → CombineExceedsLetters systems) c.from_residual-in_err-alphabet.result c.in_err-alphabet.field-0.0 c.from_residual-in_err-alphabet.ensures.1
+    handed_on (λ r. IsErrOf r faults.Letters → IsTooLarge (sizes_of (systems_of systems))) c.from_residual-in_err-alphabet.result c.in_err-alphabet.field-0.0 c.from_residual-in_err-alphabet.ensures.1
     (λ refused. subst (λ (ss : List ℕ). IsTooLarge ss) digits (c.in_err-alphabet.ensures.letters.0 (same_fault c.in_err-alphabet.field-0.0 faults.Letters refused)))
 
 pub combined_readers-requires : goal.combined_readers-requires
@@ -58,10 +59,10 @@ returns-in_err-result-clause-states c =
     let read : readings_in c.deref-3.result.now ≡ beside parts systems c.are_sealed.ensures =
     ap readings_in c.deref-3.ensures.value ∙ c.in_ok-readers.ensures ∙ ap (λ (ss : List ℕ). combined_readings parts ss (map rc_value c.deref-2.result.now)) sizes
     ∙ ap (λ (ls : List Automaton). combined_readings parts (sizes_of (systems_of systems)) ls) languages in
-    handed_on (λ r. IsErrOf r faults.States → CombineExceeds c.args.limit parts systems) c.from_residual-in_err-result.result c.in_err-result.field-0.0 c.from_residual-in_err-result.ensures.1
+    handed_on (λ r. IsErrOf r faults.States → ExceedsWidth c.args.limit (combine_step parts systems).step) c.from_residual-in_err-result.result c.in_err-result.field-0.0 c.from_residual-in_err-result.ensures.1
     (λ refused. record {
       alphabet = subst (λ (ss : List ℕ). IsAlphabet ss) digits c.in_ok-alphabet.ensures.fits;
-      exceeds = apart_combine parts systems c.are_sealed.ensures c.requires.systems c.requires.shape c.are_relations.ensures (c.args.limit + 1)
+      apart = apart_combine parts systems c.are_sealed.ensures c.requires.systems c.requires.shape c.are_relations.ensures (c.args.limit + 1)
           (subst (λ (rs : List Reading). HasApart (LeadToOne rs) (product (sizes_of (systems_of systems))) (c.args.limit + 1)) read
           (subst (λ (ss : List ℕ). HasApart (LeadToOne (readings_in c.deref-3.result.now)) (product ss) (c.args.limit + 1)) sizes
           (c.in_err-result.ensures.states (same_fault c.in_err-result.field-0.0 faults.States refused))));

@@ -8,11 +8,10 @@ use Rattle.word_output.specs.StateLetters.{letter_led}
 use Rattle.morph_words.specs.Rules.{IsMorphism, Rules}
 use Rattle.fixed_points.specs.LetterGraph.{IsLetterGraph, accepts_all}
 use Rattle.morph_words.specs.MorphismKinds.{HasFixedPoint}
-use Rattle.fixed_points.specs.Occurrences.{SoManyOccur}
-use Rattle.fixed_points.proofs.ReachedLemmas.{so_many_occur, some_occur}
+use Rattle.fixed_points.proofs.ReachedLemmas.{place_apart, place_width}
 use Rattle.morph_words.proofs.RuleLemmas.{bits_back}
 use Rattle.base_k.proofs.BaseAlphabets.{one_fits}
-use Rattle.fixed_points.proofs.WordLemmas.{letter_reached}
+use Rattle.fixed_points.proofs.WordLemmas.{letter_reached, one_alphabet}
 use Rattle.fixed_points.proofs.fixed_letters.fixed_letters.Goals as goal
 
 graph_of : (rules : Rules) (k : ℕ) → IsMorphism rules → HasFixedPoint rules k → IsLetterGraph rules k
@@ -42,7 +41,10 @@ returns-in_err-result-clause-states c refused =
     let wrong : c.from_residual-in_err-result.result ≡ Err States = refused in
     let is_states : c.in_err-result.field-0.0 ≡ States = cc in
     let fault : IsErrOf c.explore_keys.result States = c.in_err-result.was ∙ ap Err is_states in
-    some_occur c.args.morphism.now c.args.base (graph_of c.args.morphism.now c.args.base c.image-image.ensures.morphism c.requires) (c.args.limit + 1) (c.explore_keys.ensures.states fault)
+    record {
+      alphabet = one_alphabet c.args.base c.requires.base.1;
+      apart = place_apart c.args.morphism.now c.args.base (graph_of c.args.morphism.now c.args.base c.image-image.ensures.morphism c.requires) (c.args.limit + 1) (c.explore_keys.ensures.states fault);
+    }
 
 pub returns-clause-sizes : goal.returns-clause-sizes
 returns-clause-sizes c = c.in_ok-function.ensures.sizes ∙ c.in_ok-result.ensures.sizes ∙ c.in_ok-alphabet.ensures
@@ -59,9 +61,4 @@ returns-clause-letters c = λ w over.
 
 pub returns-clause-width : goal.returns-clause-width
 returns-clause-width c =
-    let dfa = c.in_ok-result.field-0.result.dfa in
-    let sizes : dfa.sizes ≡ c.args.base ∷ [] = c.in_ok-result.ensures.sizes ∙ c.in_ok-alphabet.ensures in
-    let letters : letters_of dfa ≡ c.args.base = ap product sizes ∙ one_times c.args.base in
-    subst (SoManyOccur c.args.morphism.now) (sym c.states.ensures.value)
-    (so_many_occur c.args.morphism.now c.args.base (graph_of c.args.morphism.now c.args.base c.image-image.ensures.morphism c.requires) accepts_all c.in_ok-result.field-0.result.keys dfa
-    c.in_ok-result.ensures.explored c.in_ok-result.ensures.table.initial c.in_ok-result.ensures.keys c.rank_is_positional.ensures c.in_ok-result.ensures.numbered.0 letters c.in_ok-result.ensures.numbered.1)
+    place_width c.args.morphism.now c.args.base (graph_of c.args.morphism.now c.args.base c.image-image.ensures.morphism c.requires) c.in_ok-result.field-0.width c.in_ok-result.ensures.width

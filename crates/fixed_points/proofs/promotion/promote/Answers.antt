@@ -3,7 +3,7 @@ use Rattle.std.specs.Rc.{rc_value}
 use Rattle.digit_tuple.specs.Deterministic.{states_of}
 use Rattle.word_output.specs.Words.{WordValue}
 use Rattle.fixed_points.specs.Promotion.{IsFixedWord}
-use Rattle.fixed_points.proofs.WordLemmas.{fixed_word}
+use Rattle.fixed_points.proofs.WordLemmas.{fixed_word, one_alphabet}
 use Rattle.fixed_points.proofs.promotion.promote.Goals as goal
 
 pub from_parts-requires : goal.from_parts-requires
@@ -21,20 +21,22 @@ returns-in-Ok c =
     fixed_word c.rank_is_positional.ensures rules k word.systems f c.in_ok-base.ensures.base
     c.in_ok-systems.ensures.systems c.in_ok-systems.ensures.direction c.in_ok-systems.ensures.sealed c.in-Ok.ensures.function c.in-Ok.ensures.sizes c.in-Ok.ensures.letters in
     let made : word ≡ c.from_parts.result = sym c.from_parts.ensures in
-    let size : c.states.result ≡ states_of f.automaton = c.states.ensures.value ∙ ap states_of c.dfa.ensures.value in
-    record {
-      line = _;
-      step = record {
-        k = k;
-        has = c.in_ok-base.ensures.base;
-        fixed_word = subst (IsFixedWord rules k) made fixed;
-        line_is = record {
-          kind_is = refl;
-          width = c.in-Ok.ensures.width;
-          size_is = size ∙ ap (λ (w : WordValue). states_of w.function.automaton) made;
-          small = omega (arith, size, c.in-Ok.ensures.size);
-          within = omega (arith, c.in-Ok.ensures.within, c.limit.ensures);
+    let size : c.states.result ≡ states_of f.automaton = c.states.ensures.value ∙ ap states_of c.dfa.ensures.value in (
+      k,
+      c.in_ok-base.ensures.base,
+      record {
+        line = _;
+        step = record {
+          made_is = subst (IsFixedWord rules k) made fixed;
+          line_is = record {
+            alphabet = one_alphabet k c.in_ok-base.ensures.base.base.1;
+            kind_is = refl;
+            width = c.in-Ok.ensures.width;
+            size_is = size ∙ ap (λ (w : WordValue). states_of w.function.automaton) made;
+            small = omega (arith, size, c.in-Ok.ensures.size);
+            within = omega (arith, c.in-Ok.ensures.within, c.limit.ensures);
+          };
         };
-      };
-      new_is = c.in_ok-done-in-Ok.ensures.ok;
-    }
+        new_is = c.in_ok-done-in-Ok.ensures.ok;
+      },
+    )

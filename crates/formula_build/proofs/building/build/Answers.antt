@@ -7,6 +7,7 @@ use Rattle.formula_resolve.specs.declared.variable.Variable.{Variable}
 use Rattle.formula_build.specs.ResolvedViews.{formula_of, headers_in, library_of}
 use Rattle.formula_build.proofs.SolutionLemmas.{listed_parts, made_solution, plan_ready}
 use Rattle.formula_build.proofs.VariableTrackLemmas.{made_tracks}
+use Rattle.formula_build.proofs.BuiltLemmas.{built_makes}
 use Rattle.formula_build.proofs.building.build.Goals as goal
 
 pub make_plans-requires-clause-parts : goal.make_plans-requires-clause-parts
@@ -29,7 +30,7 @@ returns-clause-solution c =
     let library : IsLibrary l = record { relations = c.is_read.ensures.relations; words = c.is_read.ensures.words; systems = c.are_sealed.ensures } in
     let p = c.requires.planned in
     made_solution l (headers_in r) (formula_of r) library p.formed p.directions p.resolved (omega (arith, p.few)) c.requires.fits c.requires.known c.in_ok-made.made c.in_ok-in_order.field-0
-    (subst (λ (q : Plan). Makes l q c.in_ok-made.made) p.plan.last_is c.in_ok-made.ensures.makes) c.in_ok-in_order.ensures
+    (subst (λ (q : Plan). Makes l q c.in_ok-made.made) p.plan.last_is (built_makes l _ c.in_ok-made.made _ _ _ c.in_ok-made.ensures)) c.in_ok-in_order.ensures
 
 pub returns-clause-tracks : goal.returns-clause-tracks
 returns-clause-tracks c =
@@ -39,4 +40,4 @@ returns-clause-tracks c =
     let p = c.requires.planned in
     subst (λ (vs : List Variable). IsOverVariables l vs c.in_ok-in_order.field-0) (sym p.variables)
     (made_tracks l (headers_in r) (formula_of r) library p.formed p.directions p.resolved (omega (arith, p.few)) c.requires.fits c.requires.known c.in_ok-made.made c.in_ok-in_order.field-0
-    (subst (λ (q : Plan). Makes l q c.in_ok-made.made) p.plan.last_is c.in_ok-made.ensures.makes) c.in_ok-in_order.ensures)
+    (subst (λ (q : Plan). Makes l q c.in_ok-made.made) p.plan.last_is (built_makes l _ c.in_ok-made.made _ _ _ c.in_ok-made.ensures)) c.in_ok-in_order.ensures)

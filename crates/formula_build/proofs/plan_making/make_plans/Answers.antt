@@ -1,14 +1,14 @@
 use Rattle.formula_build.specs.KnownViews.{known_value}
-use Rattle.std.proofs.Common.{◌≡◌, ◌<◌, List, [], ◌∷◌, ◌++◌, true, false, length, filter, get_or, Ok, Err, subst, sym, ap, ◌∙◌, arith}
+use Rattle.std.proofs.Common.{◌≡◌, ◌<◌, List, [], ◌∷◌, ◌++◌, true, false, length, filter, get_or, Ok, Err, inr, subst, sym, ap, ◌∙◌, arith}
 use Rattle.std.proofs.lemmas.List.{get_or_default, length-append}
 use Rattle.digit_tuple.specs.Steps.{StepLog}
 use Rattle.number_relations.specs.Relations.{RelationValue}
 use Rattle.num_system.proofs.LineLemmas.{handed_on}
 use Rattle.formula_plan.specs.Plans.{is_step}
 use Rattle.formula_plan.specs.Makings.{plan_at}
-use Rattle.formula_build.specs.Building.{Builds, IsBuilt}
+use Rattle.formula_build.specs.Building.{Builds, DoesSteps}
 use Rattle.formula_build.specs.MadeOf.{MayMake, DoesMaking, is_marked}
-use Rattle.formula_build.proofs.BuildingLemmas.{IsUnderWay, ends, mark_read, none, conflict_made, conflict_passed, conflict_ready, conflict_stopped}
+use Rattle.formula_build.proofs.BuildingLemmas.{IsUnderWay, ends, mark_read, none, turn_made, turn_passed, turn_ready, turn_stopped}
 use Rattle.formula_build.proofs.plan_making.make_plans.Goals.{then-index+in_ok-relation, else-index+in_ok-relation-2}
 use Rattle.formula_build.proofs.plan_making.make_plans.Goals as goal
 
@@ -20,7 +20,7 @@ make-requires c =
     let i = c.loop-place.place in
     let told : is_marked marks i ≡ true = mark_read marks i c.index.result.now true (omega (arith, c.loop-place-test.true, loop.needed.count, loop.makings.as_many)) c.index.ensures c.if-index.true in
     subst (λ (found : List RelationValue). MayMake (known_value c.args.known) found c.index-makings-place.result) (sym c.deref.ensures.value)
-    (conflict_ready c.args.steps.now c.loop-place.steps (known_value c.args.known) c.args.plans.now marks c.loop-place.made.items c.args.last items i c.index-makings-place.result loop.direction loop.count loop.makings loop.needed
+    (turn_ready c.args.steps.now c.loop-place.steps (known_value c.args.known) c.args.plans.now marks c.loop-place.made.items c.args.last items i c.index-makings-place.result loop.so_far loop.count loop.makings loop.needed
     c.loop-place-test.true c.index-makings-place.is c.requires.parts c.requires.ready told)
 
 pub returns-in_err-relation : goal.returns-in_err-relation
@@ -35,8 +35,8 @@ returns-in_err-relation c =
     let told : is_marked marks i ≡ true = mark_read marks i c.index.result.now true (omega (arith, c.loop-place-test.true, loop.needed.count, loop.makings.as_many)) c.index.ensures c.if-index.true in
     let does : DoesMaking c.loop-place.steps l c.loop-place.made.items m (Err fault) c.make.new.steps =
     subst (λ (found : List RelationValue). DoesMaking c.loop-place.steps l found m (Err fault) c.make.new.steps) c.deref.ensures.value c.in_err-relation.ensures in
-    handed_on (λ r. Builds c.args.steps.now l (filter is_step c.args.plans.now) (plan_at c.args.plans.now c.args.last) r c.make.new.steps) c.from_residual-in_err-relation.result fault c.from_residual-in_err-relation.ensures.1
-    (conflict_stopped c.args.steps.now c.loop-place.steps l c.args.plans.now marks c.loop-place.made.items c.args.last items i m loop.direction loop.count loop.makings loop.needed c.loop-place-test.true c.index-makings-place.is
+    handed_on (λ r. Builds l (filter is_step c.args.plans.now) (plan_at c.args.plans.now c.args.last) c.args.steps.now r c.make.new.steps) c.from_residual-in_err-relation.result fault c.from_residual-in_err-relation.ensures.1
+    (turn_stopped c.args.steps.now c.loop-place.steps l c.args.plans.now marks c.loop-place.made.items c.args.last items i m loop.so_far loop.count loop.makings loop.needed c.loop-place-test.true c.index-makings-place.is
     c.make.new.steps fault told does)
 
 pub loop-place-preserved : goal.loop-place-preserved
@@ -52,22 +52,22 @@ loop-place-preserved c =
     let inside : i < length marks = omega (arith, c.loop-place-test.true, loop.needed.count, loop.makings.as_many) in
     let made = c.if-index.relation in
     let pushed = c.in_ok-push.ensures.items in
-    let direction : IsUnderWay c.args.steps.now l plans marks (rs ++ made ∷ []) c.if-index.steps = elim c.if-index.branch [
+    let so_far : IsUnderWay c.args.steps.now l plans (plan_at plans c.args.last) marks (rs ++ made ∷ []) c.if-index.steps = elim c.if-index.branch [
       | then-index+in_ok-relation w ↦ (
           let r = w.in_ok-relation.relation in
           let log = w.make.new.steps in
           let does : DoesMaking c.loop-place.steps l rs m (Ok r) log = subst (λ (found : List RelationValue). DoesMaking c.loop-place.steps l found m (Ok r) log) w.deref.ensures.value w.in_ok-relation.ensures in
           let told : is_marked marks i ≡ true = mark_read marks i c.index.result.now true inside c.index.ensures w.if-index.true in
-          subst (λ (found : StepLog). IsUnderWay c.args.steps.now l plans marks (rs ++ made ∷ []) found) (sym w.steps-is)
-          (subst (λ (found : RelationValue). IsUnderWay c.args.steps.now l plans marks (rs ++ found ∷ []) log) (sym w.relation-is)
-          (conflict_made c.args.steps.now c.loop-place.steps l plans marks rs c.args.last items i m loop.direction loop.count loop.makings loop.needed c.loop-place-test.true c.index-makings-place.is log r told does)))
+          subst (λ (found : StepLog). IsUnderWay c.args.steps.now l plans (plan_at plans c.args.last) marks (rs ++ made ∷ []) found) (sym w.steps-is)
+          (subst (λ (found : RelationValue). IsUnderWay c.args.steps.now l plans (plan_at plans c.args.last) marks (rs ++ found ∷ []) log) (sym w.relation-is)
+          (turn_made c.args.steps.now c.loop-place.steps l plans marks rs c.args.last items i m loop.so_far loop.count loop.makings loop.needed c.loop-place-test.true c.index-makings-place.is log r told does)))
       | else-index+in_ok-relation-2 w ↦ (
           let unmarked : is_marked marks i ≡ false = mark_read marks i c.index.result.now false inside c.index.ensures w.if-index.false in
-          subst (λ (found : StepLog). IsUnderWay c.args.steps.now l plans marks (rs ++ made ∷ []) found) (sym w.steps-is)
-          (conflict_passed c.args.steps.now c.loop-place.steps l plans marks rs c.args.last items i m loop.direction loop.count loop.makings loop.needed c.loop-place-test.true c.index-makings-place.is made unmarked))
+          subst (λ (found : StepLog). IsUnderWay c.args.steps.now l plans (plan_at plans c.args.last) marks (rs ++ made ∷ []) found) (sym w.steps-is)
+          (turn_passed c.args.steps.now c.loop-place.steps l plans marks rs c.args.last items i m loop.so_far loop.count loop.makings loop.needed c.loop-place-test.true c.index-makings-place.is made unmarked))
     ] in
     record {
-      direction = subst (λ (found : List RelationValue). IsUnderWay c.args.steps.now l plans marks found c.if-index.steps) (sym pushed) direction;
+      so_far = subst (λ (found : List RelationValue). IsUnderWay c.args.steps.now l plans (plan_at plans c.args.last) marks found c.if-index.steps) (sym pushed) so_far;
       count = ap length pushed ∙ (omega (arith, length-append rs (made ∷ []), loop.count));
       makings = loop.makings;
       needed = loop.needed;
@@ -79,6 +79,6 @@ returns c =
     let plans = c.args.plans.now in
     let rs = c.loop-place.made.items in
     let all : length rs ≡ length plans = omega (arith, loop.count, loop.makings.as_many, c.loop-place-test.false, c.loop-place.auto.place-end) in
-    let built = ends c.args.steps.now c.loop-place.steps (known_value c.args.known) plans c.in_ok-needed.needed.items rs c.args.last loop.direction all c.requires.place loop.needed.last_is in
+    let built = ends c.args.steps.now c.loop-place.steps (known_value c.args.known) plans c.in_ok-needed.needed.items rs c.args.last loop.so_far all c.requires.place loop.needed.last_is in
     let found : get_or rs c.args.last none ≡ c.swap_remove.result = get_or_default rs c.args.last none c.swap_remove.result (omega (arith, all, c.requires.place)) ∙ sym c.swap_remove.ensures.value in
-    subst (λ (r : RelationValue). IsBuilt c.args.steps.now (known_value c.args.known) (filter is_step plans) (plan_at plans c.args.last) r c.loop-place.steps) found built
+    inr (subst (λ (r : RelationValue). DoesSteps (known_value c.args.known) (filter is_step plans) (plan_at plans c.args.last) c.args.steps.now (Ok r) c.loop-place.steps) found built)

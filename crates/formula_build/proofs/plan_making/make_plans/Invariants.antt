@@ -1,14 +1,14 @@
 use Rattle.formula_build.specs.KnownViews.{known_value}
 use Rattle.std.proofs.Common.{◌≡◌, length}
-use Rattle.formula_plan.specs.Makings.{AreMakingsOf}
+use Rattle.formula_plan.specs.Makings.{AreMakingsOf, plan_at}
 use Rattle.formula_build.specs.MadeOf.{AreNeeded}
 use Rattle.formula_build.proofs.BuildingLemmas.{IsUnderWay}
 use Rattle.formula_build.proofs.plan_making.make_plans.Given as goal
 
--- the needed plans so far were made, with the lines of their steps
+-- the needed plans so far were made, by their steps
 abbrev pub invariant-loop-place : goal.invariant-loop-place
 invariant-loop-place l = record {
-  direction : IsUnderWay l.fn.steps (known_value l.known) l.plans l.needed.items l.made.items l.steps;
+  so_far : IsUnderWay l.fn.steps (known_value l.known) l.plans (plan_at l.plans l.last) l.needed.items l.made.items l.steps;
   count : length l.made.items ≡ l.place;
   makings : AreMakingsOf l.plans l.makings;
   needed : AreNeeded l.plans l.makings l.last l.needed.items;

@@ -27,5 +27,5 @@ from_parts-requires c =
     let second : right ≡ placed_letters b = λ i. record { function = c.function-2.ensures.value i; under = (c.deref-2.ensures.value ∙ c.in_ok-others.ensures) i } in
     let tracked = c.in_ok-tracked.tracked in
     let pair : IsPair c.args.comparison (placed_letters a) (placed_letters b) tracked =
-    subst (λ (x : PlacedLetters). IsPair c.args.comparison x (placed_letters b) tracked) first (subst (λ (x : PlacedLetters). IsPair c.args.comparison left x tracked) second c.in_ok-tracked.ensures.step.pair) in
+    subst (λ (x : PlacedLetters). IsPair c.args.comparison x (placed_letters b) tracked) first (subst (λ (x : PlacedLetters). IsPair c.args.comparison left x tracked) second c.in_ok-tracked.ensures.step.made_is) in
     pair_is c.args.comparison a b c.function.ensures.word c.function-2.ensures.word c.requires (relation_over tracked (map rc_value c.in_ok-systems.systems.items)) (record { systems = c.in_ok-systems.ensures; pair = pair })

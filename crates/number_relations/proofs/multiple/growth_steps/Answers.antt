@@ -1,10 +1,10 @@
-use Rattle.std.proofs.Common.{ℕ, ◌≡◌, ◌+◌, List, [], ◌∷◌}
+use Rattle.std.proofs.Common.{ℕ, ◌≡◌, ◌+◌, List, [], ◌∷◌, inl, inr, refl}
 use Rattle.std.specs.List.{Contains}
 use Rattle.std.proofs.lemmas.List.Elements.{All-contains}
 use Rattle.digit_tuple.proofs.MemberLemmas.{Contains-head}
 use Rattle.product_op.specs.declared.op.Op.TheVariants.{And}
-use Rattle.number_relations.proofs.GrowthLemmas.{join_of}
-use Rattle.number_relations.proofs.MultiplesDone.{growth_last}
+use Rattle.num_system.proofs.LineLemmas.{handed_on}
+use Rattle.number_relations.specs.Multiples.{DoesGrowth}
 use Rattle.number_relations.proofs.NamedSteps.{second_there}
 use Rattle.number_relations.proofs.OverOne.{agree_over, direction_over, over_named, over_systems}
 use Rattle.number_relations.proofs.multiple.growth_steps.Goals as goal
@@ -18,6 +18,14 @@ join_step-requires-clause-agree c =
     let sum = c.in_ok-sum.sum in
     agree_over system c.args.relation.now sum c.requires.relation c.in_ok-sum.ensures.relation c.requires.systems (over_systems system (w ∷ z ∷ y ∷ []) (λ (f : List ℕ → ℕ). f w + f z ≡ f y) sum c.in_ok-sum.ensures)
 
+pub returns-in_err-joined : goal.returns-in_err-joined
+returns-in_err-joined c =
+    let growth = c.args.growth in
+    let new = c.join_step.new.steps in
+    let fault = c.in_err-joined.field-0.0 in
+    handed_on (λ r. DoesGrowth c.args.system.now.value growth.added.now growth.greater.now growth.lesser.now c.args.relation.now c.args.steps.now r new) c.from_residual-in_err-joined.result fault c.from_residual-in_err-joined.ensures.1
+    (inr (c.in_ok-sum.sum, c.in_ok-sum.ensures, inr (fault, c.in_err-joined.ensures, refl)))
+
 pub project_step-requires : goal.project_step-requires
 project_step-requires c =
     let system = c.args.system.now.value in
@@ -30,11 +38,8 @@ project_step-requires c =
     let all = over_systems system (w ∷ z ∷ y ∷ []) (λ (f : List ℕ → ℕ). f w + f z ≡ f y) sum c.in_ok-sum.ensures in
     let agree = agree_over system a sum c.requires.relation c.in_ok-sum.ensures.relation c.requires.systems all in
     let direction = direction_over system a sum c.requires.systems all in
-    let made = join_of c.args.steps.now.limit And a sum joined c.in_ok-joined.ensures.line c.in_ok-joined.ensures.step in
     let there = over_named system (w ∷ z ∷ y ∷ []) (λ (f : List ℕ → ℕ). f w + f z ≡ f y) sum c.in_ok-sum.ensures w (Contains-head w (z ∷ y ∷ [])) in
-    record { there = All-contains (Contains joined.names) sum.names w (second_there And a sum joined c.requires.relation c.in_ok-sum.ensures.relation agree direction tt made) there }
+    record { there = All-contains (Contains joined.names) sum.names w (second_there And a sum joined c.requires.relation c.in_ok-sum.ensures.relation agree direction tt c.in_ok-joined.ensures.step.made_is) there }
 
 pub returns : goal.returns
-returns c =
-    growth_last c.args.steps.now c.join_step.new.steps c.project_step.new.steps c.args.system.now.value c.args.growth.added.now c.args.growth.greater.now c.args.growth.lesser.now c.args.relation.now c.in_ok-sum.sum
-    c.in_ok-joined.joined c.project_step.result c.in_ok-sum.ensures c.in_ok-joined.ensures c.project_step.ensures
+returns c = inr (c.in_ok-sum.sum, c.in_ok-sum.ensures, inl (c.in_ok-joined.joined, c.join_step.new.steps, c.in_ok-joined.ensures, c.project_step.ensures))

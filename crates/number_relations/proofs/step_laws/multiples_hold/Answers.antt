@@ -11,4 +11,4 @@ returns-clause-holds c system factor x y r ns is count =
     subst (λ (ms : List ℕ). RelationHolds r ms ↔ (f y ≡ factor * f x)) (numbers_of_names r.names ns is.relation.tracked.distinct count) (is.holds_of f)
 
 pub returns-clause-steps : goal.returns-clause-steps
-returns-clause-steps c limit system factor x y w lines r sealed distinct made = steps_multiple limit system factor x y w lines r sealed distinct made
+returns-clause-steps c = steps_multiple

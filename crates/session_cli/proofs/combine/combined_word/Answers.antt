@@ -1,6 +1,6 @@
-use Rattle.std.proofs.Common.{◌≢◌, List, [], sym, subst}
+use Rattle.std.proofs.Common.{◌≢◌, List, [], Ok, Err, sym, subst}
 use Rattle.std.proofs.lemmas.Result.{err_from_is_err_and}
-use Rattle.combinations.specs.CombineSteps.{IsCombineDone, IsCombineRefused}
+use Rattle.combinations.specs.CombineSteps.{DoesCombine}
 use Rattle.combinations.specs.Parts.{PartValue, systems_at}
 use Rattle.combinations.specs.Shapes.{HaveOneShape as HaveOneTracks}
 use Rattle.combinations.specs.declared.combine_fault.CombineFault.TheVariants.{Step}
@@ -89,7 +89,7 @@ returns-in_err-word c =
     subst (λ (l : ReadValue). ArePartsFrom l.relations 0 (automata_of read) parts) done.2 (subst (λ xs. ArePartsFrom c.in_ok-library.library.relations 0 (automata_in xs) parts) c.deref-2.ensures.value c.in_ok-parts.ensures) in
     let some : automata_of read ≢ [] = some_automata read.automata.items possible.read_list.some in
     let fault = c.in_err-word.field-0.0 in
-    let refused = subst (λ (ps : List PartValue). IsCombineRefused c.read_tables.new.steps ps (systems_at ps 0) (Step fault) c.word_of.new.steps) c.deref-3.ensures.value c.in_err-word.ensures in
+    let refused = subst (λ (ps : List PartValue). DoesCombine ps (systems_at ps 0) c.read_tables.new.steps (Err (Step fault)) c.word_of.new.steps) c.deref-3.ensures.value c.in_err-word.ensures in
     λ custom meant. rw (p.1, p.2) (list_refused c.args.steps.now read systems c.are_sealed.ensures done.0 c.read_tables.new.steps done.1 parts are some custom meant fault c.word_of.new.steps refused)
 
 pub returns : goal.returns
@@ -103,5 +103,5 @@ returns c =
     subst (λ (l : ReadValue). ArePartsFrom l.relations 0 (automata_of read) parts) done.2 (subst (λ xs. ArePartsFrom c.in_ok-library.library.relations 0 (automata_in xs) parts) c.deref-2.ensures.value c.in_ok-parts.ensures) in
     let some : automata_of read ≢ [] = some_automata read.automata.items possible.read_list.some in
     let word = c.in_ok-word.word in
-    let made = subst (λ (ps : List PartValue). IsCombineDone c.read_tables.new.steps ps (systems_at ps 0) word c.word_of.new.steps) c.deref-3.ensures.value c.in_ok-word.ensures in
+    let made = subst (λ (ps : List PartValue). DoesCombine ps (systems_at ps 0) c.read_tables.new.steps (Ok word) c.word_of.new.steps) c.deref-3.ensures.value c.in_ok-word.ensures in
     λ custom meant. list_done c.args.steps.now read systems c.are_sealed.ensures done.0 c.read_tables.new.steps done.1 parts are some custom meant word c.word_of.new.steps made

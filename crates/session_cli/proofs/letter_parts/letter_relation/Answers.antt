@@ -11,7 +11,7 @@ use Rattle.formula_build.specs.declared.resolving.Resolved.{Resolved}
 use Rattle.word_images.specs.ImageFormula.{image_formula}
 use Rattle.session_cli.specs.LetterParts.{IsLetterRelation}
 use Rattle.session_cli.proofs.NamedWords.{directions}
-use Rattle.session_cli.proofs.LetterRelations.{fits_here, if_ok_both, known_here, not_refused, relation_here}
+use Rattle.session_cli.proofs.LetterRelations.{built_here, fits_here, if_ok_both, known_here, not_refused, relation_here}
 use Rattle.session_cli.proofs.LetterResolution.{formed}
 use Rattle.session_cli.proofs.letter_parts.letter_relation.Goals as goal
 
@@ -41,6 +41,14 @@ build-requires-clause-known c =
     let k = c.args.formulas.length in
     let is = ap formula_view c.in-Ok.ensures.formula ∙ c.in_ok-formula.ensures ∙ ap (λ (b : ℤ). image_formula s k b) (to_z-of_z w32 c.args.letter fits) in
     known_here c.args.formulas.setting.now s k c.args.letter c.requires c.in-Ok.resolved c.in-Ok.ensures.names is
+
+pub returns-in-Ok-clause-steps : goal.returns-in-Ok-clause-steps
+returns-in-Ok-clause-steps c =
+    let fits : SFits w32 c.args.letter = search rules in
+    let s = c.args.formulas.system.now in
+    let k = c.args.formulas.length in
+    let is = ap formula_view c.in-Ok.ensures.formula ∙ c.in_ok-formula.ensures ∙ ap (λ (b : ℤ). image_formula s k b) (to_z-of_z w32 c.args.letter fits) in
+    built_here c.args.formulas.setting.now s k c.args.letter c.requires c.in-Ok.resolved c.in-Ok.ensures.names is c.args.steps.now c.build.new.steps c.build.result c.build.ensures.steps
 
 pub returns-in-Ok-clause-relation : goal.returns-in-Ok-clause-relation
 returns-in-Ok-clause-relation c =

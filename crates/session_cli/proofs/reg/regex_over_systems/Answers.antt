@@ -19,11 +19,11 @@ relation_steps-requires c =
 pub returns-in_err-relation : goal.returns-in_err-relation
 returns-in_err-relation c =
     let p = err_from_is_err_and c.from_residual-in_err-relation.result c.from_residual-in_err-relation.ensures.1 in
-    λ custom name are. rw (p.1, p.2) (refused_over_systems custom c.args.steps.now name c.args.systems.now.direction (named_in c.args.systems.now.systems.items) (map rc_value c.in_ok-languages.languages.items) c.args.body.now c.in_ok-regex.regex c.in_err-relation.field-0.0
+    λ custom name are. rw (p.1, p.2) (refused_over_systems custom c.args.steps.now name c.args.systems.now.direction (named_in c.args.systems.now.systems.items) (map rc_value c.in_ok-languages.languages.items) c.args.body.now c.in_ok-regex.regex c.in_err-relation.field-0.0 c.relation_steps.new.steps
     c.in_ok-languages.ensures (rw c.in_ok-tracks.ensures at c.in_ok-regex.ensures) (rw c.deref.ensures.value at c.in_err-relation.ensures))
 
 pub returns : goal.returns
 returns c =
-    λ custom name are. made_over_systems custom c.args.steps.now name c.args.systems.now.direction (named_in c.args.systems.now.systems.items) (map rc_value c.in_ok-languages.languages.items) c.args.body.now c.args.shown c.in_ok-regex.regex c.in_ok-relation.relation.automaton
+    λ custom name are. made_over_systems custom c.args.steps.now name c.args.systems.now.direction (named_in c.args.systems.now.systems.items) (map rc_value c.in_ok-languages.languages.items) c.args.body.now c.args.shown c.in_ok-regex.regex c.in_ok-relation.relation
     c.relation_steps.new.steps (some_named c.args.systems.now.systems.items c.requires.some) are c.in_ok-languages.ensures (rw c.in_ok-tracks.ensures at c.in_ok-regex.ensures) (rw c.deref.ensures.value at c.in_ok-relation.ensures) c.made_of.result
     (rw (c.in_ok-tracks.ensures, c.dfa.ensures.value) at c.made_of.ensures)

@@ -24,8 +24,7 @@ returns-in_ok-done-in-Ok c =
     record {
       line = _;
       step = record {
-        alphabet = c.in-Ok.ensures.alphabet;
-        reading = record {
+        made_is = record {
           sizes_are = c.in_ok-read-in-Ok.ensures.sizes ∙ states.sizes_are;
           function = c.in_ok-read-in-Ok.ensures.function;
           letters = λ tuples w letter zipped.
@@ -34,6 +33,7 @@ returns-in_ok-done-in-Ok c =
               (letter_led-listed sizes listed keys e states tuples w letter zipped);
         };
         line_is = record {
+          alphabet = c.in-Ok.ensures.alphabet;
           kind_is = refl;
           width = c.in-Ok.ensures.width;
           size_is = size;

@@ -5,11 +5,12 @@ use Rattle.digit_tuple.specs.Deterministic.{states_of}
 use Rattle.digit_tuple.specs.Letters.{IsAlphabet, IsTooLarge}
 use Rattle.digit_tuple.specs.Names.{places_of}
 use Rattle.digit_tuple.specs.Parts.{picked}
+use Rattle.digit_tuple.specs.StepResults.{ExceedsWidth}
 use Rattle.digit_tuple.specs.declared.faults.OpFault.TheVariants as faults
 use Rattle.minimise.specs.Tracked.{NamedAutomaton}
 use Rattle.product_op.proofs.SizeLemmas.{AreDistinct-ordered}
 use Rattle.num_system.proofs.LineLemmas.{handed_on}
-use Rattle.word_output.specs.WordPairs.{IsPair, PairExceeds, PlacedLetters, pair_names, pair_sizes}
+use Rattle.word_output.specs.WordPairs.{IsPair, PlacedLetters, pair_names, pair_sizes, pair_step}
 use Rattle.word_output.proofs.OptionLemmas.{same_fault}
 use Rattle.word_output.proofs.PairSizes.{fit_first, fit_second, joint_sizes_are, pair_apart, pair_is, pair_small, pair_width, reads_over}
 use Rattle.word_output.proofs.pair.paired.Goals as goal
@@ -58,10 +59,10 @@ returns-in_err-result-clause-states c =
     let g_sizes : g.automaton.sizes ≡ pair_sizes a b = c.in_ok-other.ensures.sizes ∙ tracks in
     let reads_f = reads_over a b a f c.deref-3.result.now c.in_ok-tracks.tracks (c.deref-3.ensures.value ∙ c.in_ok-names.ensures.names) tracks c.in_ok-one.ensures.letters in
     let reads_g = reads_over a b b g c.deref-4.result.now c.in_ok-tracks.tracks (c.deref-4.ensures.value ∙ c.in_ok-names.ensures.names) tracks c.in_ok-other.ensures.letters in
-    handed_on (λ r. IsErrOf r faults.States → PairExceeds c.args.limit a b) c.from_residual-in_err-result.result c.in_err-result.field-0.0 c.from_residual-in_err-result.ensures.1
+    handed_on (λ r. IsErrOf r faults.States → ExceedsWidth c.args.limit (pair_step c.args.comparison a b).step) c.from_residual-in_err-result.result c.in_err-result.field-0.0 c.from_residual-in_err-result.ensures.1
     (λ refused. record {
       alphabet = subst (λ (ss : List ℕ). IsAlphabet ss) sizes c.in_ok-tracks.ensures.fits;
-      exceeds = pair_apart a b f g f_sizes g_sizes reads_f reads_g (c.args.limit + 1) (c.in_err-result.ensures.states (same_fault c.in_err-result.field-0.0 faults.States refused));
+      apart = pair_apart a b f g f_sizes g_sizes reads_f reads_g (c.args.limit + 1) (c.in_err-result.ensures.states (same_fault c.in_err-result.field-0.0 faults.States refused));
     })
 
 pub of_canonical-requires-clause-distinct : goal.of_canonical-requires-clause-distinct

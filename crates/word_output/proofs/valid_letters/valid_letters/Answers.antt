@@ -2,7 +2,7 @@ use Rattle.std.proofs.Common.{◌≡◌, ◌+◌, ℕ, ℤ, List, Option, Err, m
 use Rattle.std.specs.Rc.{rc_value}
 use Rattle.std.specs.Result.{IsErrOf}
 use Rattle.digit_tuple.specs.Deterministic.{Automaton, letters_of, states_of}
-use Rattle.digit_tuple.specs.Letters.{product, IsWord}
+use Rattle.digit_tuple.specs.Letters.{product, IsAlphabet, IsWord}
 use Rattle.digit_tuple.specs.Width.{HasApart, HasWidth}
 use Rattle.digit_tuple.specs.declared.faults.OpFault.TheVariants.{States}
 use Rattle.product_op.specs.Readings.{AreReadings, Reading, readings_in}
@@ -50,7 +50,7 @@ returns-in-Ok c =
     record {
       line = _;
       step = record {
-        valid_letters = record {
+        made_is = record {
           sizes = c.in_ok-valid-in-Ok.ensures.sizes ∙ own;
           function = c.in_ok-valid-in-Ok.ensures.function;
           letters = λ w over.
@@ -59,6 +59,7 @@ returns-in-Ok c =
               ∙ letters-tuples f function languages fit keys e tuples w over;
         };
         line_is = record {
+          alphabet = subst IsAlphabet sizes c.tracks.ensures.alphabet;
           kind_is = refl;
           width = width-valid f function languages fit width counted;
           size_is = size;
@@ -85,4 +86,4 @@ returns-in-Err-States c =
     subst (λ n. HasApart (LeadToOne (validity_readings d languages)) (letters_of d) n) limit
     (subst (λ (rs : List Reading). HasApart (LeadToOne rs) (letters_of d) (c.limit.result + 1)) are
     (subst (λ (ss : List ℕ). HasApart (LeadToOne (readings_in c.deref.result.now)) (product ss) (c.limit.result + 1)) sizes (c.explore_tuples.ensures.states fault))) in
-    record { by_limit = (c.next_number.ensures, apart-valid f c.dfa-dfa.ensures.function languages fit most apart); same = refl }
+    ((c.next_number.ensures, record { alphabet = subst IsAlphabet sizes c.tracks.ensures.alphabet; apart = apart-valid f c.dfa-dfa.ensures.function languages fit most apart }), refl)
