@@ -9,7 +9,7 @@
 // `def e "At t<=n => R[i+t]=P[j+2*n-t]";`.
 //
 // Sets are bits in one buffer, numbered by open addressing with their hashes beside; of each state only the words with a
-// bit are kept. The least automaton comes from rounds of hashed rows, until one parts no class. Equal hashes are taken for
+// bit are kept. The minimal automaton comes from rounds of hashed rows, until one parts no class. Equal hashes are taken for
 // equal rows there, which walnut may not.
 #include <chrono>
 #include <cstdint>

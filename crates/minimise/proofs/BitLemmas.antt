@@ -11,11 +11,11 @@ use Rattle.minimise.specs.ClassFunctions.{class_from, SameClassesFrom, SameClass
 use Rattle.minimise.specs.Outputs.{bit_of, bits_of}
 use Rattle.minimise.specs.Canonical.{IsCanonical, IsCanonicalWithClasses}
 
-pub bit_of-tells : (b c : Bool) → bit_of b ≡ bit_of c → b ≡ c
-bit_of-tells true true same = refl
-bit_of-tells true false same = absurd (omega arith)
-bit_of-tells false true same = absurd (omega arith)
-bit_of-tells false false same = refl
+pub bit_of-injective : (b c : Bool) → bit_of b ≡ bit_of c → b ≡ c
+bit_of-injective true true same = refl
+bit_of-injective true false same = absurd (omega arith)
+bit_of-injective false true same = absurd (omega arith)
+bit_of-injective false false same = refl
 
 bit_of-some : (b : Bool) → IsTrue b ↔ (bit_of b ≢ 0)
 bit_of-some true = ((λ is none. omega (arith, none)), (λ some. refl))
@@ -43,14 +43,14 @@ module _ (d : Automaton) where
       by (Some p) rest = rest p
 
   pub no_class-dead : (q : ℕ) → HasNoClassFrom d (bits_of d) q → IsDead d q
-  no_class-dead q none w over = bit_of-tells (accepts_from d q w) false (sym (class_from-bits w q) ∙ none w over)
+  no_class-dead q none w over = bit_of-injective (accepts_from d q w) false (sym (class_from-bits w q) ∙ none w over)
 
   pub dead-no_class : (q : ℕ) → IsDead d q → HasNoClassFrom d (bits_of d) q
   dead-no_class q dead w over = class_from-bits w q ∙ ap bit_of (dead w over)
 
 -- one residual is one function to bits
 pub classes-residual : (d e : Automaton) (p q : ℕ) → SameClassesFrom d (bits_of d) p e (bits_of e) q → SameResidual d p e q
-classes-residual d e p q same w over = bit_of-tells (accepts_from d p w) (accepts_from e q w) (sym (class_from-bits d w p) ∙ same w over ∙ class_from-bits e w q)
+classes-residual d e p q same w over = bit_of-injective (accepts_from d p w) (accepts_from e q w) (sym (class_from-bits d w p) ∙ same w over ∙ class_from-bits e w q)
 
 pub residual-classes : (d e : Automaton) (p q : ℕ) → SameResidual d p e q → SameClassesFrom d (bits_of d) p e (bits_of e) q
 residual-classes d e p q same w over = class_from-bits d w p ∙ ap bit_of (same w over) ∙ sym (class_from-bits e w q)

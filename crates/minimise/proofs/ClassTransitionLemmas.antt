@@ -104,8 +104,8 @@ module _ (d : Automaton) (classes : List ℕ) where
       by (inr differs) rest = other differs rest (class_of classes e.target == dead_class d classes) ∙ ap (λ (o : Option ℕ). live_class d classes (unwrap_or o (states_of d))) (sym (target_by-other e es a differs))
 
   -- the live class determines the class
-  pub live_class-tells : (p q : ℕ) → live_class d classes p ≡ live_class d classes q → class_of classes p ≡ class_of classes q
-  live_class-tells p q = by (class_of classes p == dead_class d classes) refl (class_of classes q == dead_class d classes) refl
+  pub live_class-injective : (p q : ℕ) → live_class d classes p ≡ live_class d classes q → class_of classes p ≡ class_of classes q
+  live_class-injective p q = by (class_of classes p == dead_class d classes) refl (class_of classes q == dead_class d classes) refl
     where
       by : (b : Bool) → (class_of classes p == dead_class d classes) ≡ b → (c : Bool) → (class_of classes q == dead_class d classes) ≡ c
           → (if b then None else Some (class_of classes p)) ≡ (if c then None else Some (class_of classes q)) → class_of classes p ≡ class_of classes q
@@ -125,7 +125,7 @@ module _ (d : Automaton) (classes : List ℕ) where
     pub alike_from_rows : (p q : ℕ) → class_of classes p ≡ class_of classes q → transitions_at p ≡ transitions_at q → AreAlike d classes p q
     alike_from_rows p q own transitions = record {
       own = own;
-      next = λ a small. live_class-tells (next_of d p a) (next_of d q a) (sym (leads_at p a) ∙ ap (λ (es : List Transition). target_by es a) transitions ∙ leads_at q a);
+      next = λ a small. live_class-injective (next_of d p a) (next_of d q a) (sym (leads_at p a) ∙ ap (λ (es : List Transition). target_by es a) transitions ∙ leads_at q a);
     }
 
     -- states that are alike have one row

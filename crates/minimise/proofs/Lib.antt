@@ -34,3 +34,12 @@ pub mod ClassLeadLemmas
 pub mod NoWordLemmas
 pub mod ApartLemmas
 pub mod KeySizes
+pub mod WeightLemmas
+pub mod ClassSumLemmas
+pub mod PaidLemmas
+pub mod PaidCutLemmas
+pub mod SpanSumLemmas
+pub mod InDegreeLemmas
+pub mod RoundLemmas
+pub mod LookLemmas
+pub mod FewLemmas

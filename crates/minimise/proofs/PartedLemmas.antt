@@ -104,7 +104,7 @@ module _ (d : Automaton) (outputs : List ℕ) (given : length outputs ≡ states
 
   pub IsSettled-parted : (pending : List ℕ) → pending ≡ old.pending ++ class ∷ [] → IsSettled d outputs old.classes.items pending → IsSettled d outputs new.classes.items new.pending
   IsSettled-parted pending is settled = record {
-    told = λ p q small low same. settled.told p q small low (grown.parted p q same);
+    one_output = λ p q small low same. settled.one_output p q small low (grown.parted p q same);
     led = λ p q a small low inside same. by p q a same (settled.led p q a small low inside (grown.parted p q same));
   }
     where

@@ -6,7 +6,7 @@ use Rattle.minimise.specs.Outputs.{SameOutputs}
 use Rattle.minimise.specs.ClassFunctions.{class_from}
 use Rattle.minimise.specs.Classes.{class_of, next_of}
 use Rattle.minimise.specs.Alike.{AreAlike}
-use Rattle.minimise.specs.CoarseClasses.{IsCoarse, AreCoarseClasses, AreResidualClasses, TellOutputs}
+use Rattle.minimise.specs.CoarseClasses.{IsCoarse, AreCoarseClasses, AreResidualClasses, HaveOneOutput}
 use Rattle.minimise.proofs.StabilityLemmas.{IsStable}
 use Rattle.minimise.proofs.SinkLemmas.{next_within}
 use Rattle.minimise.proofs.ClassFromLemmas.{class_from-next}
@@ -21,7 +21,7 @@ module _ (d : Automaton) (outputs : List ℕ) (given : length outputs ≡ states
   }
 
   -- what stays alike, and has one output, has one residual
-  module _ (classes : List ℕ) (stable : IsStable d classes) (tell : TellOutputs d outputs classes) where
+  module _ (classes : List ℕ) (stable : IsStable d classes) (tell : HaveOneOutput d outputs classes) where
     pub residual_from_class : (w : List ℕ) (p q : ℕ) → p ≤ states_of d → q ≤ states_of d → class_of classes p ≡ class_of classes q → IsWord (letters_of d) w → class_from d outputs p w ≡ class_from d outputs q w
     residual_from_class [] p q small low same over = tell p q small low same
     residual_from_class (a ∷ w) p q small low same over =
@@ -30,7 +30,7 @@ module _ (d : Automaton) (outputs : List ℕ) (given : length outputs ≡ states
         ∙ sym (class_from-next d outputs given q a w)
 
   -- classes that letters keep, each of one output, are the residuals
-  pub AreResidualClasses-stable : (classes : List ℕ) → AreCoarseClasses d outputs classes → IsStable d classes → TellOutputs d outputs classes → AreResidualClasses d outputs classes
+  pub AreResidualClasses-stable : (classes : List ℕ) → AreCoarseClasses d outputs classes → IsStable d classes → HaveOneOutput d outputs classes → AreResidualClasses d outputs classes
   AreResidualClasses-stable classes coarse stable tell = record {
     width = coarse.width;
     below = coarse.below;

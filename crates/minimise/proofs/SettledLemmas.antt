@@ -9,7 +9,7 @@ use Rattle.digit_tuple.proofs.MemberLemmas.{Contains-none}
 use Rattle.digit_tuple.proofs.PigeonLemmas.{StandsIn, onto_one}
 use Rattle.minimise.specs.declared.partition.ClassSpan.{ClassSpan}
 use Rattle.minimise.specs.Classes.{class_of, next_of}
-use Rattle.minimise.specs.CoarseClasses.{AreResidualClasses, TellOutputs}
+use Rattle.minimise.specs.CoarseClasses.{AreResidualClasses, HaveOneOutput}
 use Rattle.minimise.specs.Partition.{AreParted, IsGiven, IsUnion, span_of}
 use Rattle.minimise.specs.Settled.{AreAllPending, AreSettled, IsSettled}
 use Rattle.minimise.specs.StateOrder.{AreAtEnd}
@@ -161,8 +161,8 @@ module _ (d : Automaton) (outputs classes states places : List ℕ) (spans : Lis
             by (inr stayed) = subst (Contains waiting) (sym (given.elsewhere p stayed)) (still (class_of classes p) there)
 
         -- one of two states of one class leaves
-        told : (p q : ℕ) → Contains (slice_range states middle last) p → (Contains (slice_range states middle last) q → ⊥) → class_of classes p ≡ class_of classes q → Contains waiting (class_of new p) ⊎ Contains waiting (class_of new q)
-        told p q gone stayed same = by part
+        one_leaves : (p q : ℕ) → Contains (slice_range states middle last) p → (Contains (slice_range states middle last) q → ⊥) → class_of classes p ≡ class_of classes q → Contains waiting (class_of new p) ⊎ Contains waiting (class_of new q)
+        one_leaves p q gone stayed same = by part
           where
             by : (next ≡ length spans) ⊎ (next ≡ class) → Contains waiting (class_of new p) ⊎ Contains waiting (class_of new q)
             by (inl is) = inl (subst (Contains waiting) (is ∙ sym (given.there p gone)) there_now)
@@ -179,8 +179,8 @@ module _ (d : Automaton) (outputs classes states places : List ℕ) (spans : Lis
           where
             by : Contains (slice_range states middle last) p ⊎ (Contains (slice_range states middle last) p → ⊥) → Contains (slice_range states middle last) q ⊎ (Contains (slice_range states middle last) q → ⊥) → AreSettled new waiting p q
             by (inl gone) (inl also) = inl (given.there p gone ∙ sym (given.there q also))
-            by (inl gone) (inr stayed) = inr (told p q gone stayed same)
-            by (inr stayed) (inl gone) = inr (swapped q p (told q p gone stayed (sym same)))
+            by (inl gone) (inr stayed) = inr (one_leaves p q gone stayed same)
+            by (inr stayed) (inl gone) = inr (swapped q p (one_leaves q p gone stayed (sym same)))
             by (inr stayed) (inr also) = inl (given.elsewhere p stayed ∙ same ∙ sym (given.elsewhere q also))
 
         -- where all classes are pending, all still are
@@ -192,10 +192,10 @@ module _ (d : Automaton) (outputs classes states places : List ℕ) (spans : Lis
             by (inr old) = still k (all k live (omega (arith, made, one_more, old)))
 
   -- classes that part those that are given, all of them pending
-  pub IsSettled-begin : (before : List ℕ) → AreAllPending (length spans) pending → TellOutputs d outputs before
+  pub IsSettled-begin : (before : List ℕ) → AreAllPending (length spans) pending → HaveOneOutput d outputs before
       → ((p q : ℕ) → p ≤ states_of d → q ≤ states_of d → class_of classes p ≡ class_of classes q → class_of before p ≡ class_of before q) → IsSettled d outputs classes pending
   IsSettled-begin before all tell finer = record {
-    told = λ p q small low same. tell p q small low (finer p q small low same);
+    one_output = λ p q small low same. tell p q small low (finer p q small low same);
     led = λ p q a small low inside same. by (next_of d p a) (next_of d q a) (cases_lt 0 (class_of classes (next_of d p a))) (cases_lt 0 (class_of classes (next_of d q a)));
   }
     where
@@ -207,7 +207,7 @@ module _ (d : Automaton) (outputs classes states places : List ℕ) (spans : Lis
   -- where none is pending the classes are the residuals
   pub AreResidualClasses-settled : length outputs ≡ states_of d → pending ≡ [] → IsSettled d outputs classes pending → AreResidualClasses d outputs classes
   AreResidualClasses-settled given none settled = AreResidualClasses-stable d outputs given parted.table classes (AreCoarseClasses-parted d outputs classes states places spans pending parted)
-      (λ p q small low same. record { own = same; next = λ a inside. by (next_of d p a) (next_of d q a) (settled.led p q a small low inside same) }) settled.told
+      (λ p q small low same. record { own = same; next = λ a inside. by (next_of d p a) (next_of d q a) (settled.led p q a small low inside same) }) settled.one_output
     where
       nothing : (c : ℕ) → Contains pending c → ⊥
       nothing c there = Contains-none c (subst (λ (xs : List ℕ). Contains xs c) none there)

@@ -3,7 +3,7 @@ use Rattle.std.proofs.Common.{◌≡◌, ℕ, ◌+◌, ◌<◌, ◌≤◌, List,
 use Rattle.digit_tuple.specs.Deterministic.{Automaton, states_of}
 use Rattle.minimise.specs.Classes.{class_of}
 use Rattle.minimise.specs.Alike.{AreAlike}
-use Rattle.minimise.specs.CoarseClasses.{TellOutputs}
+use Rattle.minimise.specs.CoarseClasses.{HaveOneOutput}
 
 -- states of one class are alike
 abbrev pub IsStable : Automaton → List ℕ → Type 0
@@ -24,5 +24,5 @@ module _ (d : Automaton) (classes : List ℕ) where
       }
 
   -- states have the outputs of the leaders of their classes
-  pub TellOutputs-led : (outputs leaders : List ℕ) → ((q : ℕ) → q < states_of d + 1 → class_of outputs q ≡ class_of outputs (class_of leaders (class_of classes q))) → TellOutputs d outputs classes
-  TellOutputs-led outputs leaders led p q small low own = led p (omega arith) ∙ ap (λ c. class_of outputs (class_of leaders c)) own ∙ sym (led q (omega arith))
+  pub HaveOneOutput-led : (outputs leaders : List ℕ) → ((q : ℕ) → q < states_of d + 1 → class_of outputs q ≡ class_of outputs (class_of leaders (class_of classes q))) → HaveOneOutput d outputs classes
+  HaveOneOutput-led outputs leaders led p q small low own = led p (omega arith) ∙ ap (λ c. class_of outputs (class_of leaders c)) own ∙ sym (led q (omega arith))

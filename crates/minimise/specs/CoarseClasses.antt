@@ -14,8 +14,8 @@ abbrev pub AreResiduals : Automaton → List ℕ → List ℕ → Type 0
 AreResiduals d outputs classes = (p q : ℕ) → p ≤ states_of d → q ≤ states_of d → class_of classes p ≡ class_of classes q ↔ SameOutputs d outputs p q
 
 -- states of one class have one output
-abbrev pub TellOutputs : Automaton → List ℕ → List ℕ → Type 0
-TellOutputs d outputs classes = (p q : ℕ) → p ≤ states_of d → q ≤ states_of d → class_of classes p ≡ class_of classes q → class_of outputs p ≡ class_of outputs q
+abbrev pub HaveOneOutput : Automaton → List ℕ → List ℕ → Type 0
+HaveOneOutput d outputs classes = (p q : ℕ) → p ≤ states_of d → q ≤ states_of d → class_of classes p ≡ class_of classes q → class_of outputs p ≡ class_of outputs q
 
 -- a number for each state and the sink, and one where words lead to the same outputs
 pub record AreCoarseNumbers (d : Automaton) (outputs numbers : List ℕ) : Type 0 where

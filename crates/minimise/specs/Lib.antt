@@ -1,5 +1,6 @@
 pub mod Residuals
 pub mod Classes
+pub mod Weights
 pub mod ClassFunctions
 pub mod Outputs
 pub mod Canonical
@@ -21,5 +22,9 @@ pub mod StateOrder
 pub mod Pending
 pub mod Settled
 pub mod Partition
+pub mod Paid
+pub mod PaidPartition
+pub mod LookCounts
+pub mod RoundCosts
 pub mod Quotient
 pub mod QuotientLaws

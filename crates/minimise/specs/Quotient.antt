@@ -40,6 +40,6 @@ key_output outputs leaders key = class_of outputs (leader_of leaders key)
 abbrev pub class_accepts : List ℕ → List ℕ → List ℕ → Bool
 class_accepts outputs leaders key = not (key_output outputs leaders key == 0)
 
--- the key transition that a transition to a class stands for
+-- the key transition of a transition to a class
 abbrev pub key_transition : Transition → KeyTransition
 key_transition transition = record { letter = transition.letter; key = transition.target ∷ [] }

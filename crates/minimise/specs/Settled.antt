@@ -4,7 +4,7 @@ use Rattle.std.specs.List.{All, Contains}
 use Rattle.digit_tuple.specs.Deterministic.{Automaton, letters_of, states_of}
 use Rattle.digit_tuple.specs.Keys.{KeyTransition, transition_at}
 use Rattle.minimise.specs.Classes.{class_of, dead_class, next_of}
-use Rattle.minimise.specs.CoarseClasses.{TellOutputs}
+use Rattle.minimise.specs.CoarseClasses.{HaveOneOutput}
 
 -- two states have one class, or that of one of them is pending
 abbrev pub AreSettled : List ℕ → List ℕ → ℕ → ℕ → Type 0
@@ -12,7 +12,7 @@ AreSettled classes pending p q = (class_of classes p ≡ class_of classes q) ⊎
 
 -- states of one class have one output, and lead by each letter into one class, unless one of the two classes is pending
 pub record IsSettled (d : Automaton) (outputs classes pending : List ℕ) : Type 0 where
-  pub told : TellOutputs d outputs classes
+  pub one_output : HaveOneOutput d outputs classes
   pub led : (p q a : ℕ) → p ≤ states_of d → q ≤ states_of d → a < letters_of d → class_of classes p ≡ class_of classes q → AreSettled classes pending (next_of d p a) (next_of d q a)
 
 -- states of one class are all in the set, or none of them is

@@ -1,18 +1,22 @@
 //! The canonical automaton of a language.
 
-ghost use Rattle.std.specs.Prelude.{◌≡◌, ◌↔◌, ℕ, List, IfOk, IfSome, IfNone, IsTrue};
+ghost use Rattle.std.specs.Prelude.{◌≡◌, ◌↔◌, ℕ, ◌+◌, ◌*◌, ◌<◌, ◌≤◌, ◌^◌, List, IfOk, IfSome, IfNone, IsTrue};
+ghost use Rattle.digit_tuple.specs.Deterministic.{states_of};
+ghost use Rattle.digit_tuple.specs.TransitionCounts.{transition_count};
 ghost use Rattle.digit_tuple.specs.FirstWords.{IsNumberedByFirsts};
 ghost use Rattle.minimise.specs.Residuals.{SameLanguage};
 ghost use Rattle.minimise.specs.Canonical.{IsCanonical};
 
-use crate::canonical_classes::canonical_classes;
+use crate::canonical_classes::{canonical_classes, canonical_classes_counted};
 use crate::classes::residual_classes;
 use crate::leaders::are_alone;
+use crate::looks::Looks;
 use crate::machine::{Machine, accepting_outputs};
 use crate::minimal::minimal;
 use digit_tuple::dfa::Dfa;
 use digit_tuple::faults::OutOfMemory;
 use std::alloc::Global;
+use std::sync::ledger::Ledger;
 
 /// The canonical automaton with the same language: its states are the residual languages that words lead to, the empty
 /// one only where the language is empty, numbered in the order of the first words that lead to them. OutOfMemory comes
@@ -24,6 +28,23 @@ pub fn canonical(alloc: Global, d: &Dfa) -> Result<Dfa, OutOfMemory>
 {
     let outputs = accepting_outputs(alloc, d)?;
     let (minimal, _) = canonical_classes(alloc, d, &outputs)?;
+    Ok(minimal)
+}
+
+/// The automaton that `canonical` gives, with a count of looks at transitions: at most the binary digits of the number of
+/// states for each, also where memory runs out. A look is a transition that a round or Hopcroft's algorithm reads.
+pub fn canonical_counted<L: Ledger>(
+    alloc: Global,
+    d: &Dfa,
+    looks: &mut Looks<L>,
+) -> Result<Dfa, OutOfMemory>
+    ensures sizes { IfOk result (λ minimal. minimal.sizes ≡ d.now.sizes) }
+    ensures language { IfOk result (λ minimal. SameLanguage d.now minimal) }
+    ensures canonical { IfOk result (λ minimal. IsCanonical minimal) }
+    ensures looks { (b : ℕ) → states_of d.now < 2 ^ b → looks.new ≤ looks.old + transition_count d.now * b }
+{
+    let outputs = accepting_outputs(alloc, d)?;
+    let (minimal, _) = canonical_classes_counted(alloc, d, &outputs, looks)?;
     Ok(minimal)
 }
 

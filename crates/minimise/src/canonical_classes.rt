@@ -1,16 +1,19 @@
 //! The canonical automaton of a function from words to classes.
 
-ghost use Rattle.std.specs.Prelude.{◌≡◌, length, IfOk};
+ghost use Rattle.std.specs.Prelude.{◌≡◌, ℕ, ◌+◌, ◌*◌, ◌<◌, ◌≤◌, ◌^◌, length, IfOk};
 ghost use Rattle.digit_tuple.specs.Deterministic.{states_of};
+ghost use Rattle.digit_tuple.specs.TransitionCounts.{transition_count};
 ghost use Rattle.minimise.specs.Canonical.{IsCanonicalWithClasses};
 ghost use Rattle.minimise.specs.ClassFunctions.{SameClassFunction};
 
-use crate::classes::residual_classes;
+use crate::classes::{counted_classes, residual_classes};
+use crate::looks::Looks;
 use crate::machine::Machine;
 use crate::minimal::minimal;
 use digit_tuple::dfa::Dfa;
 use digit_tuple::faults::OutOfMemory;
 use std::alloc::Global;
+use std::sync::ledger::Ledger;
 
 /// The canonical automaton of the function from a word to the class of the state that it leads to, with the class of
 /// each of its states. There is a class for each state. Class 0 says that a word has none, as a missing transition
@@ -31,5 +34,27 @@ pub fn canonical_classes(
         outputs: classes,
     };
     let residuals = residual_classes(alloc, &machine)?;
+    minimal(alloc, &machine, &residuals)
+}
+
+/// What `canonical_classes` gives, with a count of looks at transitions: at most the binary digits of the number of states
+/// for each.
+pub fn canonical_classes_counted<L: Ledger>(
+    alloc: Global,
+    d: &Dfa,
+    classes: &[u32],
+    looks: &mut Looks<L>,
+) -> Result<(Dfa, Vec<u32>), OutOfMemory>
+    requires { length classes.now ≡ states_of d.now }
+    ensures sizes { IfOk result (λ made. made.0.sizes ≡ d.now.sizes) }
+    ensures function { IfOk result (λ made. SameClassFunction d.now classes.now made.0 made.1.items) }
+    ensures canonical { IfOk result (λ made. IsCanonicalWithClasses made.0 made.1.items) }
+    ensures looks { (b : ℕ) → states_of d.now < 2 ^ b → looks.new ≤ looks.old + transition_count d.now * b }
+{
+    let machine = Machine {
+        dfa: d,
+        outputs: classes,
+    };
+    let residuals = counted_classes(alloc, &machine, looks)?;
     minimal(alloc, &machine, &residuals)
 }

@@ -1,35 +1,39 @@
 //! Sets of states, gathered by the letters that lead to others, and by their classes.
 
-ghost use Rattle.std.specs.Prelude.{◌<◌, length, OnOk};
+ghost use Rattle.std.specs.Prelude.{◌+◌, ◌<◌, ◌≤◌, length, sum_by, OnOk};
 ghost use Rattle.std.specs.List.{All, flat_map};
 ghost use Rattle.minimise.specs.Gathering.{HaveLetters, IsGathered, transitions_by_class};
-ghost use Rattle.minimise.specs.ReversedTransitions.{transitions_into};
+ghost use Rattle.minimise.specs.ReversedTransitions.{in_degree, transitions_into};
 
+use crate::looks::Looks;
 use crate::reversed_transitions::ReversedTransitions;
 use digit_tuple::faults::OutOfMemory;
 use digit_tuple::groups::group_into;
 use digit_tuple::key_transitions::KeyTransitions;
 use digit_tuple::transitions::Transition;
+use std::sync::ledger::Ledger;
 
-/// Writes from where transitions lead to the states of the set, for each letter that one of these transitions has. The
-/// buffer of transitions may hold anything.
-pub fn sources_by_letter(
+/// Writes from where transitions lead to the states of the set, for each letter that one of these transitions has, and
+/// looks at each once. The buffer of transitions may hold anything.
+pub fn sources_by_letter<L: Ledger>(
     reversed: &ReversedTransitions,
     set: &[u32],
     transitions: &mut Vec<Transition>,
     out: &mut KeyTransitions,
+    looks: &mut Looks<L>,
 ) -> Result<(), OutOfMemory>
+    ensures looks { looks.new ≤ looks.old + sum_by (in_degree reversed.now) set.now }
     ensures gathered { OnOk result (All (λ part. IsGathered (flat_map (transitions_into reversed.now) set.now) part.letter part.key) out.new) }
     ensures letters { OnOk result (HaveLetters out.new (flat_map (transitions_into reversed.now) set.now)) }
 {
     transitions.clear();
     for state in set {
-        reversed.add_transitions_to(*state, transitions)?;
+        reversed.add_transitions_to(*state, transitions, looks)?;
     }
     gather(transitions, out)
 }
 
-/// Writes the states of the set by their classes, which stand for letters. The buffer of transitions may hold anything.
+/// Writes the states of the set by their classes, in place of letters. The buffer of transitions may hold anything.
 pub fn states_by_class(
     classes: &[u32],
     set: &[u32],

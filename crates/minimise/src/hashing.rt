@@ -8,11 +8,14 @@ ghost use Rattle.minimise.specs.TransitionLetters.{listed};
 ghost use Rattle.minimise.specs.FlatTransitions.{AreLaidOut};
 ghost use Rattle.minimise.specs.ClassTransitions.{class_transitions};
 ghost use Rattle.minimise.specs.Hashes.{hash_transitions, hash_of};
+ghost use Rattle.minimise.specs.LookCounts.{looked_at};
 
+use crate::looks::Looks;
 use crate::transition_letters::TransitionLetters;
 use digit_tuple::dfa::Dfa;
 use digit_tuple::key_hashes::mix;
 use digit_tuple::transitions::Transition;
+use std::sync::ledger::Ledger;
 
 /// The letters from a first one on to before an end.
 #[derive(Clone, Copy)]
@@ -36,39 +39,42 @@ pub struct RoundPart<'a> {
 impl RoundPart<'_> {
     /// The hash of a state or the sink: of the hash that it had, and of the letters and the targets' hashes of the
     /// transitions that are looked at and lead to states that had another hash than the sink.
-    pub fn state_hash(&self, state: u32) -> u64
+    pub fn state_hash<L: Ledger>(&self, state: u32, looks: &mut Looks<L>) -> u64
         requires flat { AreLaidOut self.now.dfa.now self.now.starts.now (listed self.now.letters.now) self.now.targets.now (states_of self.now.dfa.now) }
         requires width { length self.now.hashes.now ≡ states_of self.now.dfa.now + 1 }
         requires state { state ≤ states_of self.now.dfa.now }
-        ensures { result ≡ hash_of self.now.dfa.now self.now.span.first self.now.span.end self.now.hashes.now state }
+        ensures looks { looks.new ≤ looks.old + looked_at self.now.span.first self.now.span.end (transitions_of self.now.dfa.now state) }
+        ensures hash { result ≡ hash_of self.now.dfa.now self.now.span.first self.now.span.end self.now.hashes.now state }
     {
         let own = self.hashes[state as usize];
         if state as usize + 1 == self.hashes.len() {
             return own;
         }
-        self.mix_transitions(own, state)
+        self.mix_transitions(own, state, looks)
     }
 
     // The hash with the transitions of a state.
-    fn mix_transitions(&self, start: u64, state: u32) -> u64
+    fn mix_transitions<L: Ledger>(&self, start: u64, state: u32, looks: &mut Looks<L>) -> u64
         requires flat { AreLaidOut self.now.dfa.now self.now.starts.now (listed self.now.letters.now) self.now.targets.now (states_of self.now.dfa.now) }
         requires width { length self.now.hashes.now ≡ states_of self.now.dfa.now + 1 }
         requires state { state < states_of self.now.dfa.now }
-        ensures { result ≡ hash_transitions self.now.span.first self.now.span.end start (class_transitions self.now.hashes.now (dead_class self.now.dfa.now self.now.hashes.now) (transitions_of self.now.dfa.now state)) }
+        ensures looks { looks.new ≤ looks.old + looked_at self.now.span.first self.now.span.end (transitions_of self.now.dfa.now state) }
+        ensures hash { result ≡ hash_transitions self.now.span.first self.now.span.end start (class_transitions self.now.hashes.now (dead_class self.now.dfa.now self.now.hashes.now) (transitions_of self.now.dfa.now state)) }
     {
         match self.letters {
-            TransitionLetters::Full => self.mix_full(start, state),
-            TransitionLetters::Listed(_) => self.mix_listed(start, state),
+            TransitionLetters::Full => self.mix_full(start, state, looks),
+            TransitionLetters::Listed(_) => self.mix_listed(start, state, looks),
         }
     }
 
     // The hash with the transitions of a state whose letters are their places.
-    fn mix_full(&self, start: u64, state: u32) -> u64
+    fn mix_full<L: Ledger>(&self, start: u64, state: u32, looks: &mut Looks<L>) -> u64
         requires flat { AreLaidOut self.now.dfa.now self.now.starts.now (listed self.now.letters.now) self.now.targets.now (states_of self.now.dfa.now) }
         requires width { length self.now.hashes.now ≡ states_of self.now.dfa.now + 1 }
         requires state { state < states_of self.now.dfa.now }
         requires full { listed self.now.letters.now ≡ None }
-        ensures { result ≡ hash_transitions self.now.span.first self.now.span.end start (class_transitions self.now.hashes.now (dead_class self.now.dfa.now self.now.hashes.now) (transitions_of self.now.dfa.now state)) }
+        ensures looks { looks.new ≤ looks.old + looked_at self.now.span.first self.now.span.end (transitions_of self.now.dfa.now state) }
+        ensures hash { result ≡ hash_transitions self.now.span.first self.now.span.end start (class_transitions self.now.hashes.now (dead_class self.now.dfa.now self.now.hashes.now) (transitions_of self.now.dfa.now state)) }
     {
         // That the states and transitions are a table.
         let _states = self.dfa.states();
@@ -80,17 +86,18 @@ impl RoundPart<'_> {
                 letter: letter as u32,
                 target: self.targets[first + letter],
             };
-            hash = self.mix_target(hash, transition);
+            hash = self.mix_target(hash, transition, looks);
         }
         hash
     }
 
     // The hash with the transitions of a state whose letters may be any.
-    fn mix_listed(&self, start: u64, state: u32) -> u64
+    fn mix_listed<L: Ledger>(&self, start: u64, state: u32, looks: &mut Looks<L>) -> u64
         requires flat { AreLaidOut self.now.dfa.now self.now.starts.now (listed self.now.letters.now) self.now.targets.now (states_of self.now.dfa.now) }
         requires width { length self.now.hashes.now ≡ states_of self.now.dfa.now + 1 }
         requires state { state < states_of self.now.dfa.now }
-        ensures { result ≡ hash_transitions self.now.span.first self.now.span.end start (class_transitions self.now.hashes.now (dead_class self.now.dfa.now self.now.hashes.now) (transitions_of self.now.dfa.now state)) }
+        ensures looks { looks.new ≤ looks.old + looked_at self.now.span.first self.now.span.end (transitions_of self.now.dfa.now state) }
+        ensures hash { result ≡ hash_transitions self.now.span.first self.now.span.end start (class_transitions self.now.hashes.now (dead_class self.now.dfa.now self.now.hashes.now) (transitions_of self.now.dfa.now state)) }
     {
         // That the states and transitions are a table.
         let _states = self.dfa.states();
@@ -103,20 +110,22 @@ impl RoundPart<'_> {
                 return hash;
             }
             if letter >= self.span.first {
-                hash = self.mix_target(hash, Transition { letter, target });
+                hash = self.mix_target(hash, Transition { letter, target }, looks);
             }
         }
         hash
     }
 
     // The hash with a transition that is looked at, where it leads to a state that had another hash than the sink.
-    fn mix_target(&self, hash: u64, transition: Transition) -> u64
+    fn mix_target<L: Ledger>(&self, hash: u64, transition: Transition, looks: &mut Looks<L>) -> u64
         requires width { length self.now.hashes.now ≡ states_of self.now.dfa.now + 1 }
         requires target { transition.target ≤ states_of self.now.dfa.now }
         requires from { self.now.span.first ≤ transition.letter }
         requires before { transition.letter < self.now.span.end }
-        ensures { result ≡ hash_transitions self.now.span.first self.now.span.end hash (class_transitions self.now.hashes.now (dead_class self.now.dfa.now self.now.hashes.now) (transition ∷ [])) }
+        ensures looks { looks.new ≡ looks.old + 1 }
+        ensures hash { result ≡ hash_transitions self.now.span.first self.now.span.end hash (class_transitions self.now.hashes.now (dead_class self.now.dfa.now self.now.hashes.now) (transition ∷ [])) }
     {
+        looks.tick();
         let target = self.hashes[transition.target as usize];
         if target == self.hashes[self.hashes.len() - 1] {
             return hash;

@@ -1,4 +1,4 @@
-//! States that stand for their classes.
+//! A state of each class.
 
 ghost use Rattle.std.specs.Prelude.{◌<◌, ◌≤◌, ◌^◌, ◌↔◌, length, IfOk, IsTrue};
 ghost use Rattle.std.specs.List.{All};
@@ -8,7 +8,7 @@ use digit_tuple::faults::OutOfMemory;
 use std::alloc::Global;
 
 /// The last of the first `count` states that has a class, at the class. The numbers of classes that
-/// none of them has stand for nothing.
+/// none of them has mean nothing.
 pub fn leaders(alloc: Global, classes: &[u32], count: usize) -> Result<Vec<u32>, OutOfMemory>
     requires count { count ≤ length classes.now }
     requires small { length classes.now ≤ 2 ^ 32 }

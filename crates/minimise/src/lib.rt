@@ -1,4 +1,14 @@
 //! The minimal automaton of a language, in its one numbered form.
+//!
+//! For m transitions and b binary digits of the number of states, transitions are looked at no more than m b times,
+//! whatever the automaton, and whichever hashes are equal by chance: this is a clause of `canonical_counted`. Rounds
+//! (Edward Moore, "Gedanken-experiments on sequential machines") look at each transition once, and end where one more
+//! could cost too much. From classes of s states at most Hopcroft's algorithm then takes m + (m / 2) log2 s looks: of two
+//! parts it goes on with the one that fewer transitions lead to (John Hopcroft, "An n log n algorithm for minimizing
+//! states in a finite automaton"; Antti Valmari and Petri Lehtinen, "Efficient minimization of DFAs with partial
+//! transition functions"). Of k + l states that v + w transitions lead to, v no more than w, the part with v pays for its
+//! looks, since 4^v k^v l^w is at most (k + l)^(v + w). A comparison, which parts nothing, is no look. Not proved: the
+//! time of sorting, and of all that is no look.
 #![tactic(auto)]
 
 /// Laws of canonical automata.
@@ -25,7 +35,7 @@ mod partition;
 /// The transitions of a state between classes.
 mod class_row;
 
-/// States that stand for their classes.
+/// A state of each class.
 mod leaders;
 
 /// Whether letters keep classes.
@@ -42,6 +52,9 @@ mod reversed_transitions;
 
 /// The first place of each number of a list.
 mod first_places;
+
+/// How many times transitions are looked at.
+pub mod looks;
 
 /// Hashes of states.
 mod hashing;

@@ -3,7 +3,7 @@
 ghost use Rattle.std.specs.Prelude.{◌≡◌, ℕ, ◌+◌, ◌*◌, ◌/◌, ◌<◌, ◌≤◌, ◌^◌, length, IfOk};
 ghost use Rattle.digit_tuple.specs.Deterministic.{states_of};
 ghost use Rattle.minimise.specs.Classes.{class_of};
-ghost use Rattle.minimise.specs.CoarseClasses.{AreCoarseClasses, TellOutputs};
+ghost use Rattle.minimise.specs.CoarseClasses.{AreCoarseClasses, HaveOneOutput};
 ghost use Rattle.minimise.specs.Outputs.{HasOutputs};
 ghost use Rattle.minimise.specs.OutputParts.{part_number};
 
@@ -22,7 +22,8 @@ pub fn parted_by_outputs(
     requires outputs { HasOutputs machine.now }
     requires classes { AreCoarseClasses machine.now.dfa.now machine.now.outputs.now classes.now }
     ensures coarse { IfOk result (λ parts. AreCoarseClasses machine.now.dfa.now machine.now.outputs.now parts.items) }
-    ensures told { IfOk result (λ parts. TellOutputs machine.now.dfa.now machine.now.outputs.now parts.items) }
+    ensures finer { IfOk result (λ parts. (q : ℕ) → q ≤ states_of machine.now.dfa.now → class_of classes.now q ≡ class_of classes.now (class_of parts.items q)) }
+    ensures one_output { IfOk result (λ parts. HaveOneOutput machine.now.dfa.now machine.now.outputs.now parts.items) }
 {
     let numbers = part_numbers(alloc, machine, classes)?;
     first_places(alloc, &numbers)
@@ -32,6 +33,7 @@ pub fn parted_by_outputs(
 // half of the bits.
 fn part_numbers(alloc: Global, machine: &Machine, classes: &[u32]) -> Result<Vec<u64>, OutOfMemory>
     requires { AreCoarseClasses machine.now.dfa.now machine.now.outputs.now classes.now }
+    ensures states { states_of machine.now.dfa.now < 2 ^ 32 }
     ensures width { IfOk result (λ numbers. length numbers.items ≡ length classes.now) }
     ensures outputs { IfOk result (λ _. (q : ℕ) → q < length classes.now → class_of machine.now.outputs.now q < 2 ^ 32) }
     ensures are { IfOk result (λ numbers. (q : ℕ) → q < length classes.now → class_of numbers.items q ≡ part_number (states_of machine.now.dfa.now) (class_of classes.now q) (class_of machine.now.outputs.now q)) }

@@ -22,18 +22,24 @@
 //!
 //! Besides the transitions these lists take 13 bytes a state, and up to 16 bytes a class in vectors that grow.
 
-ghost use Rattle.std.specs.Prelude.{◌≡◌, ◌≢◌, ℕ, ◌+◌, ◌-◌, ◌<◌, ◌≤◌, ◌^◌, ◌↔◌, ◌∷◌, ◌++◌, [], List, length, IfOk, OnOk};
+ghost use Rattle.std.specs.Prelude.{◌≡◌, ◌≢◌, ℕ, ◌+◌, ◌-◌, ◌*◌, ◌<◌, ◌≤◌, ◌^◌, ◌↔◌, ◌∷◌, ◌++◌, [], List, length, sum_by, IfOk, OnOk};
 ghost use Rattle.std.specs.List.{All, Contains};
 ghost use Rattle.digit_tuple.specs.Deterministic.{states_of};
+ghost use Rattle.digit_tuple.specs.Keys.{transition_at};
+ghost use Rattle.digit_tuple.specs.TransitionCounts.{transition_count};
 ghost use Rattle.minimise.specs.Classes.{class_of};
-ghost use Rattle.minimise.specs.CoarseClasses.{AreCoarseClasses, AreResidualClasses, TellOutputs};
+ghost use Rattle.minimise.specs.CoarseClasses.{AreCoarseClasses, AreResidualClasses, HaveOneOutput};
 ghost use Rattle.minimise.specs.FlatTransitions.{AreFlat};
 ghost use Rattle.minimise.specs.Outputs.{HasOutputs};
+ghost use Rattle.minimise.specs.PaidPartition.{AreAtMost, AreFew, IsCountCut, IsPaidFor};
+ghost use Rattle.minimise.specs.ReversedTransitions.{in_degree};
+ghost use Rattle.minimise.specs.Weights.{class_size, class_sum};
 ghost use Rattle.minimise.specs.Partition.{HasGrown, IsCut, IsGiven, IsPartition, IsSplit, IsUnion};
 ghost use Rattle.minimise.specs.Settled.{AreAllPending, AreApart, AreLiveParts, IsSettled};
 
 use crate::flat_transitions::FlatTransitions;
 use crate::gathering::{sources_by_letter, states_by_class};
+use crate::looks::Looks;
 use crate::machine::Machine;
 use crate::pending_classes::PendingClasses;
 use crate::reversed_transitions::ReversedTransitions;
@@ -42,20 +48,24 @@ use digit_tuple::faults::OutOfMemory;
 use digit_tuple::key_transitions::KeyTransitions;
 use digit_tuple::transitions::Transition;
 use std::alloc::Global;
+use std::sync::ledger::Ledger;
 
 /// The class of each state, and last that of the sink, where missing transitions lead, after classes of one output each
 /// are parted: states have one class if and only if all words lead from them to the same outputs.
-pub fn parted(
+pub fn parted<L: Ledger>(
     alloc: Global,
     machine: &Machine,
     flat: &FlatTransitions,
     classes: Vec<u32>,
+    looks: &mut Looks<L>,
 ) -> Result<Vec<u32>, OutOfMemory>
     requires outputs { HasOutputs machine.now }
     requires flat { AreFlat machine.now.dfa.now flat.now }
     requires classes { AreCoarseClasses machine.now.dfa.now machine.now.outputs.now classes.items }
-    requires told { TellOutputs machine.now.dfa.now machine.now.outputs.now classes.items }
-    ensures { IfOk result (λ classes. AreResidualClasses machine.now.dfa.now machine.now.outputs.now classes.items) }
+    requires one_output { HaveOneOutput machine.now.dfa.now machine.now.outputs.now classes.items }
+    ensures residuals { IfOk result (λ classes. AreResidualClasses machine.now.dfa.now machine.now.outputs.now classes.items) }
+    ensures looks { (largest digits : ℕ) → AreAtMost (states_of machine.now.dfa.now) classes.items largest → largest ≤ 2 ^ digits
+        → 2 * looks.new ≤ 2 * looks.old + (2 + digits) * transition_count machine.now.dfa.now }
 {
     let parts = live_parts(alloc, machine, &classes)?;
     // Memory goes before more is taken.
@@ -65,7 +75,7 @@ pub fn parted(
     drop(parts);
     let mut buffers = Buffers::new(alloc);
     'part: while let Some(class) = partition.pending.pop() {
-        partition.part_by_letters(machine, class, &mut buffers)?;
+        partition.part_by_letters(machine, class, &mut buffers, looks)?;
     }
     Ok(partition.classes)
 }
@@ -102,6 +112,7 @@ impl Partition {
         requires { AreFlat machine.now.dfa.now flat.now }
         ensures partition { IfOk result (IsPartition machine.now) }
         ensures one { IfOk result (λ made. length made.spans.items ≡ 1) }
+        ensures paid { IfOk result (λ made. (largest : ℕ) → 0 < largest → IsPaidFor machine.now (transition_count machine.now.dfa.now) largest 0 made) }
     {
         let reversed = ReversedTransitions::new(alloc, machine.dfa, flat)?;
         let states = machine.dfa.states();
@@ -132,6 +143,8 @@ impl Partition {
         requires one { length self.old.spans.items ≡ 1 }
         ensures partition { OnOk result (IsPartition machine.now self.new) }
         ensures pending { OnOk result (AreAllPending (length self.new.spans.items) self.new.pending) }
+        ensures paid { OnOk result ((edges largest looks : ℕ) → IsPaidFor machine.now edges largest looks self.old → ((place : ℕ) → place < length parts.now → AreFew machine.now largest self.old.classes.items (transition_at parts.now place).key)
+            → IsPaidFor machine.now edges largest looks self.new) }
         ensures parted { OnOk result ((classes : List ℕ) → AreLiveParts machine.now.dfa.now classes parts.now → (p q : ℕ) → p ≤ states_of machine.now.dfa.now → q ≤ states_of machine.now.dfa.now
             → class_of self.new.classes.items p ≡ class_of self.new.classes.items q → class_of classes p ≡ class_of classes q) }
     {
@@ -142,11 +155,12 @@ impl Partition {
     }
 
     // Parts classes by whether letters lead into a class, which is no longer pending.
-    fn part_by_letters(
+    fn part_by_letters<L: Ledger>(
         &mut self,
         machine: &Machine,
         class: u32,
         buffers: &mut Buffers,
+        looks: &mut Looks<L>,
     ) -> Result<(), OutOfMemory>
         requires partition { IsPartition machine.now self.old }
         requires outputs { HasOutputs machine.now }
@@ -156,6 +170,8 @@ impl Partition {
         ensures partition { OnOk result (IsPartition machine.now self.new) }
         ensures grown { OnOk result (HasGrown self.old self.new) }
         ensures settled { OnOk result (IsSettled machine.now.dfa.now machine.now.outputs.now self.new.classes.items self.new.pending) }
+        ensures looks { looks.new ≤ looks.old + class_sum (states_of machine.now.dfa.now) (in_degree self.old.reversed) self.old.classes.items class }
+        ensures paid { OnOk result ((edges largest paid : ℕ) → IsPaidFor machine.now edges largest paid self.old → class_size (states_of machine.now.dfa.now) self.old.classes.items 0 ≤ largest → IsPaidFor machine.now edges largest paid self.new) }
     {
         let Buffers {
             transitions,
@@ -164,7 +180,7 @@ impl Partition {
         } = buffers;
         let span = self.spans[class as usize];
         let states = &self.states[span.start as usize..span.end as usize];
-        sources_by_letter(&self.reversed, states, transitions, sources)?;
+        sources_by_letter(&self.reversed, states, transitions, sources, looks)?;
         for place in 0..sources.len() {
             self.part(machine, sources.key(place), transitions, parts)?;
         }
@@ -184,6 +200,7 @@ impl Partition {
         ensures partition { OnOk result (IsPartition machine.now self.new) }
         ensures grown { OnOk result (HasGrown self.old self.new) }
         ensures apart { OnOk result (AreApart self.new.classes.items set.now) }
+        ensures paid { OnOk result ((edges largest looks : ℕ) → IsPaidFor machine.now edges largest looks self.old → class_size (states_of machine.now.dfa.now) self.old.classes.items 0 ≤ largest → IsPaidFor machine.now edges largest looks self.new) }
     {
         states_by_class(&self.classes, set, transitions, parts)?;
         for place in 0..parts.len() {
@@ -200,6 +217,7 @@ impl Partition {
         ensures partition { OnOk result (IsPartition machine.now self.new) }
         ensures grown { OnOk result (HasGrown self.old self.new) }
         ensures split { OnOk result (IsSplit self.old self.new class states.now) }
+        ensures paid { OnOk result ((edges largest looks : ℕ) → IsPaidFor machine.now edges largest looks self.old → (class ≡ 0 → AreFew machine.now largest self.old.classes.items states.now) → IsPaidFor machine.now edges largest looks self.new) }
     {
         // That states, and so classes, are numbered by 32 bits.
         let _states = machine.dfa.states();
@@ -229,7 +247,8 @@ fn cut(
     transitions: u32,
 ) -> Result<u32, OutOfMemory>
     requires { class < length spans.old.items }
-    ensures { OnOk result (IsCut spans.old.items spans.new.items class middle) }
+    ensures cut { OnOk result (IsCut spans.old.items spans.new.items class middle) }
+    ensures counted { IfOk result (IsCountCut spans.old.items spans.new.items class transitions) }
 {
     let span = spans[class as usize];
     let rest = span.transitions.saturating_sub(transitions);
@@ -311,10 +330,12 @@ fn give(classes: &mut Vec<u32>, states: &[u32], class: u32)
 }
 
 // How many transitions lead to the states.
-fn transitions_to(reversed: &ReversedTransitions, states: &[u32]) -> u32 {
+fn transitions_to(reversed: &ReversedTransitions, states: &[u32]) -> u32
+    ensures { sum_by (in_degree reversed.now) states.now < 2 ^ 32 → result ≡ sum_by (in_degree reversed.now) states.now }
+{
     let mut transitions: usize = 0;
     for state in states {
         transitions = transitions.saturating_add(reversed.count_to(*state));
     }
-    u32::try_from(transitions).unwrap_or(u32::MAX)
+    transitions.min(u32::MAX as usize) as u32
 }

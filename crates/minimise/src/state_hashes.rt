@@ -2,20 +2,24 @@
 
 ghost use Rattle.std.specs.Prelude.{◌≡◌, ℕ, ◌+◌, ◌<◌, ◌≤◌, ◌^◌, length, IfOk, OnOk};
 ghost use Rattle.digit_tuple.specs.Deterministic.{states_of};
+ghost use Rattle.digit_tuple.specs.TransitionCounts.{transition_count};
 ghost use Rattle.minimise.specs.Classes.{class_of};
 ghost use Rattle.minimise.specs.CoarseClasses.{AreCoarseClasses, AreCoarseNumbers};
-ghost use Rattle.minimise.specs.FlatTransitions.{AreFlat};
+ghost use Rattle.minimise.specs.FlatTransitions.{AreFlat, AreLaidOut};
 ghost use Rattle.minimise.specs.Hashes.{AreHashed, output_hash};
+ghost use Rattle.minimise.specs.LookCounts.{all_looked_at};
 ghost use Rattle.minimise.specs.Outputs.{HasOutputs};
+ghost use Rattle.minimise.specs.TransitionLetters.{listed};
 
 use crate::first_places::first_places;
 use crate::flat_transitions::FlatTransitions;
 use crate::hashing::{LetterSpan, RoundPart};
+use crate::looks::Looks;
 use crate::machine::Machine;
-use digit_tuple::dfa::Dfa;
 use digit_tuple::faults::OutOfMemory;
 use digit_tuple::key_hashes::mix;
 use std::alloc::Global;
+use std::sync::ledger::Ledger;
 
 // What outputs are mixed with, so that their hashes are spread over all bits.
 const SEED: u64 = 0x8000_0000_0000_0000;
@@ -50,32 +54,48 @@ impl StateHashes {
     /// of the letters are looked at before the others, which lead to what is distinguished by then, so that few rounds say of
     /// long words. Gives whether it is seen to part states, which may stay unseen where it parts few. Its time follows the
     /// transitions, and 8 bytes a state are free again at its end.
-    pub fn advance(
+    pub fn advance<L: Ledger>(
         &mut self,
         alloc: Global,
         machine: &Machine,
         flat: &FlatTransitions,
+        looks: &mut Looks<L>,
     ) -> Result<bool, OutOfMemory>
         requires outputs { HasOutputs machine.now }
         requires flat { AreFlat machine.now.dfa.now flat.now }
         requires hashes { AreCoarseNumbers machine.now.dfa.now machine.now.outputs.now self.old.hashes.items }
-        ensures { OnOk result (AreCoarseNumbers machine.now.dfa.now machine.now.outputs.now self.new.hashes.items) }
+        ensures coarse { OnOk result (AreCoarseNumbers machine.now.dfa.now machine.now.outputs.now self.new.hashes.items) }
+        ensures looks { looks.new ≤ looks.old + transition_count machine.now.dfa.now }
     {
         let dfa = machine.dfa;
         let letters = dfa.alphabet().letters();
         let middle = letters - letters / 2;
-        let lower = LetterSpan {
-            first: 0,
-            end: middle,
-        };
-        let upper = LetterSpan {
-            first: middle,
-            end: letters,
-        };
         let mut between = vec![in alloc; 0; self.hashes.len()]?;
-        write_hashes(dfa, flat, &self.hashes, lower, &mut between);
+        let lower = RoundPart {
+            dfa,
+            starts: &flat.starts,
+            letters: &flat.letters,
+            targets: &flat.targets,
+            hashes: &self.hashes,
+            span: LetterSpan {
+                first: 0,
+                end: middle,
+            },
+        };
+        write_hashes(&lower, &mut between, looks);
         let parts = is_seen_to_part(&self.hashes, &between, &mut self.sample);
-        write_hashes(dfa, flat, &between, upper, &mut self.hashes);
+        let upper = RoundPart {
+            dfa,
+            starts: &flat.starts,
+            letters: &flat.letters,
+            targets: &flat.targets,
+            hashes: &between,
+            span: LetterSpan {
+                first: middle,
+                end: letters,
+            },
+        };
+        write_hashes(&upper, &mut self.hashes, looks);
         Ok(parts || is_seen_to_part(&between, &self.hashes, &mut self.sample))
     }
 
@@ -102,30 +122,17 @@ fn output_hashes(alloc: Global, machine: &Machine, count: usize) -> Result<Vec<u
 }
 
 // Writes the hashes that a part of a round makes of the old ones.
-fn write_hashes(
-    dfa: &Dfa,
-    flat: &FlatTransitions,
-    old: &[u64],
-    span: LetterSpan,
-    out: &mut Vec<u64>,
-)
-    requires flat { AreFlat dfa.now flat.now }
-    requires width { length old.now ≡ states_of dfa.now + 1 }
-    requires out { length out.old.items ≡ length old.now }
-    ensures { AreHashed dfa.now span.first span.end old.now out.new.items }
+fn write_hashes<L: Ledger>(part: &RoundPart, out: &mut Vec<u64>, looks: &mut Looks<L>)
+    requires flat { AreLaidOut part.now.dfa.now part.now.starts.now (listed part.now.letters.now) part.now.targets.now (states_of part.now.dfa.now) }
+    requires width { length part.now.hashes.now ≡ states_of part.now.dfa.now + 1 }
+    requires out { length out.old.items ≡ length part.now.hashes.now }
+    ensures hashed { AreHashed part.now.dfa.now part.now.span.first part.now.span.end part.now.hashes.now out.new.items }
+    ensures looks { looks.new ≤ looks.old + all_looked_at part.now.span.first part.now.span.end part.now.dfa.now }
 {
     // That states are numbered by 32 bits.
-    let _states = dfa.states();
-    let part = RoundPart {
-        dfa,
-        starts: &flat.starts,
-        letters: &flat.letters,
-        targets: &flat.targets,
-        hashes: old,
-        span,
-    };
-    for state in 0..old.len() {
-        out[state] = part.state_hash(state as u32);
+    let _states = part.dfa.states();
+    for state in 0..part.hashes.len() {
+        out[state] = part.state_hash(state as u32, looks);
     }
 }
 

@@ -1,17 +1,21 @@
 use Rattle.std.proofs.Common.{◌≡◌, List, OnOk, ap, ◌∙◌, subst, arith}
 use Rattle.std.specs.List.{All, flat_map}
 use Rattle.std.proofs.lemmas.List.{take_all}
+use Rattle.std.proofs.lemmas.List.Sums.{sum_by_more_le}
 use Rattle.digit_tuple.specs.declared.transitions.Transition.{Transition}
 use Rattle.minimise.specs.Gathering.{HaveLetters, IsGathered}
-use Rattle.minimise.specs.ReversedTransitions.{transitions_into}
+use Rattle.minimise.specs.ReversedTransitions.{in_degree, transitions_into}
 use Rattle.minimise.proofs.gathering.sources_by_letter.Goals as goal
 
 pub returns-clause-gathered : goal.returns-clause-gathered
-returns-clause-gathered c =
-    let all : c.loop-state.transitions.items ≡ flat_map (transitions_into c.args.reversed.now) c.args.set.now = c.loop-state.invariant ∙ ap (flat_map (transitions_into c.args.reversed.now)) (take_all c.loop-state.state-index c.args.set.now (omega arith)) in
+returns-clause-gathered g c =
+    let all : c.loop-state.transitions.items ≡ flat_map (transitions_into c.args.reversed.now) c.args.set.now = c.loop-state.invariant.transitions ∙ ap (flat_map (transitions_into c.args.reversed.now)) (take_all c.loop-state.state-index c.args.set.now (omega arith)) in
     subst (λ (es : List Transition). OnOk c.gather.result (All (λ part. IsGathered es part.letter part.key) c.gather.new.out)) all c.gather.ensures.gathered
 
 pub returns-clause-letters : goal.returns-clause-letters
-returns-clause-letters c =
-    let all : c.loop-state.transitions.items ≡ flat_map (transitions_into c.args.reversed.now) c.args.set.now = c.loop-state.invariant ∙ ap (flat_map (transitions_into c.args.reversed.now)) (take_all c.loop-state.state-index c.args.set.now (omega arith)) in
+returns-clause-letters g c =
+    let all : c.loop-state.transitions.items ≡ flat_map (transitions_into c.args.reversed.now) c.args.set.now = c.loop-state.invariant.transitions ∙ ap (flat_map (transitions_into c.args.reversed.now)) (take_all c.loop-state.state-index c.args.set.now (omega arith)) in
     subst (λ (es : List Transition). OnOk c.gather.result (HaveLetters c.gather.new.out es)) all c.gather.ensures.letters
+
+pub returns-in_err-add_transitions_to-clause-looks : goal.returns-in_err-add_transitions_to-clause-looks
+returns-in_err-add_transitions_to-clause-looks g c = omega (arith, c.add_transitions_to.ensures.looks, c.loop-state.invariant.looks, sum_by_more_le (in_degree c.args.reversed.now) c.args.set.now c.loop-state.state-index 0 (omega (arith, c.loop-state-test.true)))

@@ -1,19 +1,42 @@
-use Rattle.std.proofs.Common.{◌≡◌, ◌+◌, ◌≤◌, List, ℕ, length, take, sym, subst, arith}
-use Rattle.std.specs.List.{All}
-use Rattle.std.proofs.lemmas.List.{length-take-le}
-use Rattle.std.proofs.lemmas.List.Elements.{All-take}
+use Rattle.std.proofs.Common.{subst, sym, arith}
 use Rattle.digit_tuple.specs.Deterministic.{states_of}
+use Rattle.digit_tuple.specs.TransitionCounts.{transition_count}
+use Rattle.minimise.specs.RoundCosts.{IsCheap}
+use Rattle.minimise.proofs.RoundLemmas.{HasRoom-cheap, IsCheap-fewer, IsCheap-none, next_round_within}
 use Rattle.minimise.proofs.rounds.classes_after_rounds.Goals as goal
 
--- the first states' classes are below their number
-first_below : (count : ℕ) (classes : List ℕ) → length classes ≡ count + 1 → All (λ class. class ≤ count) classes → All (λ class. class ≤ length (take count classes)) (take count classes)
-first_below count classes width below k z within =
-    let first = length-take-le count classes (omega (arith, width)) in
-    omega (arith, first, All-take (λ class. class ≤ count) count classes below k z within)
+pub loop-round-init : goal.loop-round-init
+loop-round-init g c =
+    let n = states_of c.args.machine.now.dfa.now in
+    let is = c.states-states.ensures.value in
+    let digits = c.binary_digits-round-end.result in
+    record {
+      hashes = c.requires.hashes;
+      counted = c.in_ok-counted.ensures.counted;
+      cheap = subst (IsCheap n 0) (sym c.in_ok-counted.ensures.largest) (IsCheap-none n digits c.states-states.ensures.table.initial (omega (arith, c.binary_digits-round-end.ensures.enough, is)) (λ b less. c.binary_digits-round-end.ensures.least b (omega (arith, less, is))));
+      looks = omega arith;
+    }
 
-pub largest_class-requires-clause-below : goal.largest_class-requires-clause-below
-largest_class-requires-clause-below c =
-    let d = c.args.machine.now.dfa.now in
-    let coarse = c.in_ok-classes.ensures in
-    subst (λ (n : ℕ). All (λ class. class ≤ length (take n c.deref.result.now)) (take n c.deref.result.now)) (sym c.states-states.ensures.value)
-    (subst (λ (xs : List ℕ). All (λ class. class ≤ length (take (states_of d) xs)) (take (states_of d) xs)) (sym c.deref.ensures.value) (first_below (states_of d) c.in_ok-classes.classes.items coarse.width coarse.below))
+pub returns-then-is_last-clause-room : goal.returns-then-is_last-clause-room
+returns-then-is_last-clause-room g c unstable =
+    let m = c.args.machine.now in
+    let counted = c.is_last.new.self in
+    let round = c.loop-round.round in
+    HasRoom-cheap m.dfa.now m.outputs.now counted c.args.looks.now c.loop-round.looks round c.in_ok-is_last.ensures.counted
+    (IsCheap-fewer (states_of m.dfa.now) round c.loop-round.counted.largest counted.largest c.in_ok-is_last.ensures.largest c.loop-round.invariant.cheap) c.loop-round.invariant.looks
+
+pub returns-in_err-advance-clause-looks : goal.returns-in_err-advance-clause-looks
+returns-in_err-advance-clause-looks g c b less = next_round_within (transition_count c.args.machine.now.dfa.now) b c.binary_digits-round-end.result c.loop-round.round c.args.looks.now c.loop-round.looks c.advance.new.looks
+    (c.binary_digits-round-end.ensures.least b (omega (arith, less, c.states-states.ensures.value))) c.loop-round-test.true c.loop-round.invariant.looks c.advance.ensures.looks
+
+pub returns-in_err-classes-clause-looks : goal.returns-in_err-classes-clause-looks
+returns-in_err-classes-clause-looks g c b less = next_round_within (transition_count c.args.machine.now.dfa.now) b c.binary_digits-round-end.result c.loop-round.round c.args.looks.now c.loop-round.looks c.advance.new.looks
+    (c.binary_digits-round-end.ensures.least b (omega (arith, less, c.states-states.ensures.value))) c.loop-round-test.true c.loop-round.invariant.looks c.advance.ensures.looks
+
+pub returns-in_err-is_stable-clause-looks : goal.returns-in_err-is_stable-clause-looks
+returns-in_err-is_stable-clause-looks g c b less = next_round_within (transition_count c.args.machine.now.dfa.now) b c.binary_digits-round-end.result c.loop-round.round c.args.looks.now c.loop-round.looks c.advance.new.looks
+    (c.binary_digits-round-end.ensures.least b (omega (arith, less, c.states-states.ensures.value))) c.loop-round-test.true c.loop-round.invariant.looks c.advance.ensures.looks
+
+pub returns-then-branch-clause-looks : goal.returns-then-branch-clause-looks
+returns-then-branch-clause-looks g c b less = next_round_within (transition_count c.args.machine.now.dfa.now) b c.binary_digits-round-end.result c.loop-round.round c.args.looks.now c.loop-round.looks c.advance.new.looks
+    (c.binary_digits-round-end.ensures.least b (omega (arith, less, c.states-states.ensures.value))) c.loop-round-test.true c.loop-round.invariant.looks c.advance.ensures.looks

@@ -2,7 +2,7 @@ use Rattle.std.proofs.Common.{◌≡◌, ℕ, [], refl, sym, ◌∙◌, subst, b
 use Rattle.std.proofs.lemmas.Bool.{false≢true}
 use Rattle.minimise.specs.Classes.{class_of}
 use Rattle.minimise.specs.Alike.{AreAlike}
-use Rattle.minimise.proofs.StabilityLemmas.{AreAlike-refl, IsStable-led, TellOutputs-led}
+use Rattle.minimise.proofs.StabilityLemmas.{AreAlike-refl, IsStable-led, HaveOneOutput-led}
 use Rattle.minimise.proofs.ResidualLemmas.{AreAlike-residuals, AreResidualClasses-stable}
 use Rattle.minimise.proofs.stability.are_like_leaders.Goals as goal
 use Rattle.minimise.proofs.stability.are_like_leaders.Goals.{else-leader-state-via-then-leader-state+then-not-lead_alike+in_ok-are_alike+else-not-branch, else-leader-state-via-then-leader-state+else-not-lead_alike, else-leader-state-via-else-leader-state}
@@ -19,10 +19,10 @@ loop-place-preserved c =
       | else-leader-state-via-then-leader-state+else-not-lead_alike w ↦ w.lead_alike.ensures w.if-not-lead_alike.false
       | else-leader-state-via-else-leader-state w ↦ subst (AreAlike d classes place) (sym w.if-leader-state.false) (AreAlike-refl d classes place)
     ] in
-    let told : class_of outputs place ≡ class_of outputs leader = sym c.output.ensures ∙ c.if-output.false ∙ c.output-in-loop-place.ensures in
+    let one_output : class_of outputs place ≡ class_of outputs leader = sym c.output.ensures ∙ c.if-output.false ∙ c.output-in-loop-place.ensures in
     record {
       alike = below_more _ _ c.loop-place.invariant.alike here;
-      outputs = below_more _ _ c.loop-place.invariant.outputs told;
+      outputs = below_more _ _ c.loop-place.invariant.outputs one_output;
     }
 
 pub returns-then-output : goal.returns-then-output
@@ -60,6 +60,6 @@ returns c =
     let classes = c.args.classes.now in
     let leaders = c.args.leaders.now in (
       (λ yes. AreResidualClasses-stable d outputs c.requires.outputs c.states.ensures.table classes c.requires.classes
-          (IsStable-led d classes leaders (λ q less. c.loop-place.invariant.alike q (omega arith))) (TellOutputs-led d classes outputs leaders (λ q less. c.loop-place.invariant.outputs q (omega arith)))),
+          (IsStable-led d classes leaders (λ q less. c.loop-place.invariant.alike q (omega arith))) (HaveOneOutput-led d classes outputs leaders (λ q less. c.loop-place.invariant.outputs q (omega arith)))),
       (λ are. refl),
     )

@@ -2,6 +2,7 @@ use Rattle.std.proofs.Common.{◌<◌, List, ℕ, length, sym, subst, arith}
 use Rattle.digit_tuple.specs.Keys.{transition_at, no_transition}
 use Rattle.minimise.specs.Gathering.{HaveLetters, IsGathered, transitions_by_class}
 use Rattle.minimise.specs.Partition.{IsSplit, IsUnion}
+use Rattle.minimise.proofs.FewLemmas.{AreFew-grown}
 use Rattle.minimise.proofs.PartedLemmas.{AreApart-parts, ArePartedTo-more, ArePartedTo-none, HasGrown-more, HasGrown-none}
 use Rattle.minimise.proofs.PartitionLemmas.{IsUnion-class, class_below}
 use Rattle.minimise.proofs.partition.Partition.part.Goals as goal
@@ -34,6 +35,7 @@ loop-place-init c = record {
   partition = c.requires.partition;
   grown = HasGrown-none c.args.self.now;
   parted = ArePartedTo-none c.args.self.now.classes.items c.args.set.now c.states_by_class.new.out;
+  paid = λ edges largest looks before low. before;
 }
 
 pub loop-place-preserved : goal.loop-place-preserved
@@ -53,6 +55,8 @@ loop-place-preserved c =
       partition = c.in_ok-split.ensures.partition;
       grown = HasGrown-more old mid new c.loop-place.invariant.grown c.in_ok-split.ensures.grown;
       parted = ArePartedTo-more m.dfa.now m.outputs.now old.classes.items c.requires.partition.parted.coarse set c.requires.set parts mid new place gathers c.in_ok-split.ensures.grown split c.loop-place.invariant.parted;
+      paid = λ edges largest looks before low. c.in_ok-split.ensures.paid edges largest looks (c.loop-place.invariant.paid edges largest looks before low)
+          (λ sink. AreFew-grown m old mid c.key.result.now largest c.loop-place.invariant.grown c.requires.partition.parted.sink c.loop-place.invariant.partition.parted.sink low);
     }
 
 pub returns-clause-apart : goal.returns-clause-apart

@@ -1,3 +1,7 @@
+use Rattle.std.proofs.Common.{ℕ, ◌≤◌}
+use Rattle.digit_tuple.specs.Deterministic.{states_of}
+use Rattle.minimise.specs.PaidPartition.{IsPaidFor}
+use Rattle.minimise.specs.Weights.{class_size}
 use Rattle.minimise.specs.Partition.{HasGrown, IsPartition}
 use Rattle.minimise.proofs.PartedLemmas.{ArePartedTo}
 use Rattle.minimise.proofs.partition.Partition.part.Given as goal
@@ -7,4 +11,5 @@ invariant-loop-place l = record {
   partition : IsPartition l.machine l.self;
   grown : HasGrown l.fn.self l.self;
   parted : ArePartedTo l.fn.self.classes.items l.self.classes.items l.set l.parts l.place;
+  paid : (edges largest looks : ℕ) → IsPaidFor l.machine edges largest looks l.fn.self → class_size (states_of l.machine.dfa.now) l.fn.self.classes.items 0 ≤ largest → IsPaidFor l.machine edges largest looks l.self;
 }

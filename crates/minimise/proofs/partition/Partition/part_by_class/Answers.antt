@@ -1,6 +1,8 @@
 use Rattle.std.proofs.Common.{◌<◌, length, refl, sym, subst, arith}
 use Rattle.digit_tuple.specs.Keys.{transition_at, no_transition}
+use Rattle.minimise.specs.PaidPartition.{AreFew}
 use Rattle.minimise.specs.Partition.{IsSplit, IsUnion}
+use Rattle.minimise.proofs.FewLemmas.{AreFew-all}
 use Rattle.minimise.proofs.PartedLemmas.{AreTakenOut-more, AreTakenOut-none, parted_before}
 use Rattle.minimise.proofs.SettledLemmas.{class_made}
 use Rattle.minimise.proofs.partition.Partition.part_by_class.Goals as goal
@@ -14,6 +16,7 @@ loop-place-init c =
       partition = c.requires.partition;
       pending = λ class live small. absurd (omega (arith, live, small, c.requires.one));
       taken = AreTakenOut-none m.dfa.now p.classes.items c.args.parts.now (λ q. omega (arith, made q, c.requires.one));
+      paid = λ edges largest looks before few. before;
     }
 
 pub split-requires-clause-states : goal.split-requires-clause-states
@@ -23,9 +26,12 @@ split-requires-clause-states c =
 
 pub loop-place-preserved : goal.loop-place-preserved
 loop-place-preserved c =
+    let m = c.args.machine.now in
     let d = c.args.machine.now.dfa.now in
     let parts = c.args.parts.now in
     let place = c.loop-place.place in
+    let old = c.args.self.now in
+    let made = class_made m.dfa.now m.outputs.now old.classes.items old.states.items old.places.items old.spans.items old.pending c.requires.partition.parted in
     let mid = c.loop-place.self in
     let new = c.split.new.self in
     let split : IsSplit mid new 0 (transition_at parts place).key = subst (IsSplit mid new 0) c.key.ensures c.in_ok-split.ensures.split in
@@ -33,6 +39,9 @@ loop-place-preserved c =
       partition = c.in_ok-split.ensures.partition;
       pending = split.waiting refl c.loop-place.invariant.pending;
       taken = AreTakenOut-more d parts mid new place (omega (arith, c.loop-place-test.true, c.len-place-end.ensures)) c.in_ok-split.ensures.grown split c.loop-place.invariant.taken;
+      paid = λ edges largest looks before few. c.in_ok-split.ensures.paid edges largest looks (c.loop-place.invariant.paid edges largest looks before few)
+          (λ sink. subst (AreFew m largest mid.classes.items) (sym c.key.ensures)
+          (AreFew-all m old.classes.items mid.classes.items (transition_at parts place).key largest (λ q. omega (arith, made q, c.requires.one)) (few place (omega (arith, c.loop-place-test.true, c.len-place-end.ensures)))));
     }
 
 pub returns-clause-parted : goal.returns-clause-parted

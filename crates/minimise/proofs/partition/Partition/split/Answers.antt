@@ -1,5 +1,5 @@
-use Rattle.std.proofs.Common.{◌≡◌, ◌≢◌, ◌+◌, ◌<◌, ◌≤◌, ◌⊎◌, inl, inr, List, ℕ, length, refl, sym, ap, ◌∙◌, subst, true≢false, eq-eqb, arith}
-use Rattle.std.specs.List.{All, Contains, slice_range}
+use Rattle.std.proofs.Common.{◌≡◌, ◌≢◌, ◌+◌, ◌^◌, ◌<◌, ◌≤◌, ◌⊎◌, inl, inr, List, ℕ, length, refl, sym, ap, ◌∙◌, subst, true≢false, eq-eqb, leb-true, leb-false, arith}
+use Rattle.std.specs.List.{All, Contains, slice_range, sum_by}
 use Rattle.std.proofs.lemmas.Bool.{cases_lt}
 use Rattle.std.proofs.lemmas.List.{get_or_default, length_push}
 use Rattle.std.proofs.lemmas.List.Elements.{All-contains}
@@ -8,9 +8,11 @@ use Rattle.digit_tuple.specs.Deterministic.{states_of}
 use Rattle.minimise.specs.declared.machine.Machine.{Machine}
 use Rattle.minimise.specs.declared.partition.ClassSpan.{ClassSpan}
 use Rattle.minimise.specs.declared.partition.Partition.{Partition}
+use Rattle.minimise.specs.ReversedTransitions.{in_degree}
 use Rattle.minimise.specs.StateOrder.{AreAtEnd, AreInverse}
 use Rattle.minimise.specs.Partition.{AreParted, IsGiven, IsPartition, IsUnion, no_span, span_of}
 use Rattle.minimise.proofs.PartitionLemmas.{AreParted-moved, AreParted-cut, IsUnion-leaving}
+use Rattle.minimise.proofs.SpanSumLemmas.{Decision, counted_cut, leaving_count, paid_cut}
 use Rattle.minimise.proofs.SettledLemmas.{all_waiting, apart_already, apart_now, has_room, others_stay, outside_stays, parted_more, settled_more}
 use Rattle.minimise.proofs.partition.Partition.split.Goals as goal
 use Rattle.minimise.proofs.partition.Partition.split.Goals.{then-leave, else-leave, then-has, else-has, then-class-eq0, else-class-eq0, then-middle-end-via-then-middle-end, then-middle-end-via-else-middle-end+then-class-gt0}
@@ -226,8 +228,8 @@ returns-clause-partition c =
     on_ok_weaker c.push.result
     (λ pushed. record {
       reversed = c.requires.partition.reversed;
-      parted = AreParted-cut m.dfa.now m.outputs.now p.classes.items new.states.items new.places.items p.spans.items p.pending (parted c.args.machine.now c.args.self.now c.args.class c.args.states.now c.index.result.now c.move_to_end-middle.new.states.items c.move_to_end-middle.new.places.items c.move_to_end-middle.result v) c.args.class c.requires.class p.states.items c.args.states.now c.move_to_end-middle.result (moved c.args.machine.now c.args.self.now c.args.class c.args.states.now c.index.result.now c.move_to_end-middle.new.states.items c.move_to_end-middle.new.places.items c.move_to_end-middle.result v) c.requires.states c.give.new.classes.items c.cut.new.spans.items (given c) (few c.args.machine.now c.args.self.now c.args.class c.args.states.now c.index.result.now c.move_to_end-middle.new.states.items c.move_to_end-middle.new.places.items c.move_to_end-middle.result v some rest) c.in_ok-rest.ensures some rest c.if-leave.push c.push.new.self
-          (live p.pending (length p.spans.items) c.args.class c.if-leave.push c.requires.class part) (omega (arith, c.in_ok-rest.ensures.width, among p.pending (length p.spans.items) c.args.class c.if-leave.push c.requires.class part)) pushed;
+      parted = AreParted-cut m.dfa.now m.outputs.now p.classes.items new.states.items new.places.items p.spans.items p.pending (parted c.args.machine.now c.args.self.now c.args.class c.args.states.now c.index.result.now c.move_to_end-middle.new.states.items c.move_to_end-middle.new.places.items c.move_to_end-middle.result v) c.args.class c.requires.class p.states.items c.args.states.now c.move_to_end-middle.result (moved c.args.machine.now c.args.self.now c.args.class c.args.states.now c.index.result.now c.move_to_end-middle.new.states.items c.move_to_end-middle.new.places.items c.move_to_end-middle.result v) c.requires.states c.give.new.classes.items c.cut.new.spans.items (given c) (few c.args.machine.now c.args.self.now c.args.class c.args.states.now c.index.result.now c.move_to_end-middle.new.states.items c.move_to_end-middle.new.places.items c.move_to_end-middle.result v some rest) c.in_ok-rest.ensures.cut some rest c.if-leave.push c.push.new.self
+          (live p.pending (length p.spans.items) c.args.class c.if-leave.push c.requires.class part) (omega (arith, c.in_ok-rest.ensures.cut.width, among p.pending (length p.spans.items) c.args.class c.if-leave.push c.requires.class part)) pushed;
     })
     c.push.ensures
 
@@ -240,8 +242,8 @@ returns-clause-grown c =
     let part = which_last c in
     on_ok_weaker c.push.result
     (λ pushed. record {
-      classes = omega (arith, c.in_ok-rest.ensures.width);
-      pending = omega (arith, c.in_ok-rest.ensures.width, ap length pushed, length_push p.pending c.if-leave.push);
+      classes = omega (arith, c.in_ok-rest.ensures.cut.width);
+      pending = omega (arith, c.in_ok-rest.ensures.cut.width, ap length pushed, length_push p.pending c.if-leave.push);
       parted = parted_more m.dfa.now m.outputs.now p.classes.items new.states.items new.places.items p.spans.items p.pending (parted c.args.machine.now c.args.self.now c.args.class c.args.states.now c.index.result.now c.move_to_end-middle.new.states.items c.move_to_end-middle.new.places.items c.move_to_end-middle.result v) c.args.class c.requires.class p.states.items c.args.states.now c.move_to_end-middle.result (moved c.args.machine.now c.args.self.now c.args.class c.args.states.now c.index.result.now c.move_to_end-middle.new.states.items c.move_to_end-middle.new.places.items c.move_to_end-middle.result v) c.requires.states c.give.new.classes.items (given c);
       settled = settled_more m.dfa.now m.outputs.now p.classes.items new.states.items new.places.items p.spans.items p.pending (parted c.args.machine.now c.args.self.now c.args.class c.args.states.now c.index.result.now c.move_to_end-middle.new.states.items c.move_to_end-middle.new.places.items c.move_to_end-middle.result v) c.args.class c.requires.class p.states.items c.args.states.now c.move_to_end-middle.result (moved c.args.machine.now c.args.self.now c.args.class c.args.states.now c.index.result.now c.move_to_end-middle.new.states.items c.move_to_end-middle.new.places.items c.move_to_end-middle.result v) c.requires.states c.give.new.classes.items (given c) c.if-leave.push c.push.new.self pushed
           (one_of p.pending (length p.spans.items) c.args.class c.if-leave.push c.requires.class part) (both p.pending (length p.spans.items) c.args.class c.if-leave.push c.requires.class part);
@@ -262,6 +264,60 @@ returns-clause-split c =
       outside = outside_stays m.dfa.now m.outputs.now p.classes.items new.states.items new.places.items p.spans.items p.pending (parted c.args.machine.now c.args.self.now c.args.class c.args.states.now c.index.result.now c.move_to_end-middle.new.states.items c.move_to_end-middle.new.places.items c.move_to_end-middle.result v) c.args.class c.requires.class p.states.items c.args.states.now c.move_to_end-middle.result (moved c.args.machine.now c.args.self.now c.args.class c.args.states.now c.index.result.now c.move_to_end-middle.new.states.items c.move_to_end-middle.new.places.items c.move_to_end-middle.result v) c.requires.states c.give.new.classes.items (given c);
       waiting = λ sink. all_waiting m.dfa.now m.outputs.now p.classes.items new.states.items new.places.items p.spans.items p.pending (parted c.args.machine.now c.args.self.now c.args.class c.args.states.now c.index.result.now c.move_to_end-middle.new.states.items c.move_to_end-middle.new.places.items c.move_to_end-middle.result v) c.args.class c.requires.class p.states.items c.args.states.now c.move_to_end-middle.result (moved c.args.machine.now c.args.self.now c.args.class c.args.states.now c.index.result.now c.move_to_end-middle.new.states.items c.move_to_end-middle.new.places.items c.move_to_end-middle.result v) c.requires.states c.give.new.classes.items (given c) c.if-leave.push c.push.new.self pushed
           (one_of p.pending (length p.spans.items) c.args.class c.if-leave.push c.requires.class part) (both p.pending (length p.spans.items) c.args.class c.if-leave.push c.requires.class part)
-          (length c.cut.new.spans.items) c.in_ok-rest.ensures.width (of_sink p.pending (length p.spans.items) c.args.class c.if-leave.push c.requires.class part sink);
+          (length c.cut.new.spans.items) c.in_ok-rest.ensures.cut.width (of_sink p.pending (length p.spans.items) c.args.class c.if-leave.push c.requires.class part sink);
+    })
+    c.push.ensures
+
+-- which part is pending, by the counts
+decision : (c : goal.After-push) → Decision c.args.self.now.pending (length c.args.self.now.spans.items) c.args.class c.if-leave.push c.transitions_to-transitions.result c.in_ok-rest.rest
+decision c =
+    elim c.if-leave.branch [
+      | then-leave w ↦
+          elim c.if-has.branch [
+            | then-has v ↦
+                elim c.if-class-eq0.branch [
+                  | then-class-eq0 u ↦ Decision.at_sink u.if-class-eq0.true (omega (arith, w.push-is, c.len-count.ensures))
+                  | else-class-eq0 u ↦ Decision.both_parts (omega (arith, u.if-class-eq0.false)) (u.has.ensures.0 (sym u.value-is ∙ v.if-has.true)) (omega (arith, w.push-is, c.len-count.ensures))
+                ]
+            | else-has v ↦
+                elim c.if-class-eq0.branch [
+                  | then-class-eq0 u ↦ absurd (true≢false (sym (eq-eqb c.args.class 0 u.if-class-eq0.true) ∙ sym u.value-is ∙ v.if-has.false))
+                  | else-class-eq0 u ↦ Decision.leaving_part (omega (arith, u.if-class-eq0.false)) (λ there. true≢false (sym (u.has.ensures.1 there) ∙ sym u.value-is ∙ v.if-has.false)) (omega (arith, w.push-is, c.len-count.ensures))
+                      (leb-true c.transitions_to-transitions.result c.in_ok-rest.rest (sym v.leave-is ∙ w.if-leave.true))
+                ]
+          ]
+      | else-leave w ↦
+          elim c.if-has.branch [
+            | then-has v ↦ absurd (true≢false (sym v.if-has.true ∙ sym v.leave-is ∙ w.if-leave.false))
+            | else-has v ↦
+                elim c.if-class-eq0.branch [
+                  | then-class-eq0 u ↦ absurd (true≢false (sym (eq-eqb c.args.class 0 u.if-class-eq0.true) ∙ sym u.value-is ∙ v.if-has.false))
+                  | else-class-eq0 u ↦ Decision.staying_part (omega (arith, u.if-class-eq0.false)) (λ there. true≢false (sym (u.has.ensures.1 there) ∙ sym u.value-is ∙ v.if-has.false)) w.push-is
+                      (omega (arith, leb-false c.transitions_to-transitions.result c.in_ok-rest.rest (sym v.leave-is ∙ w.if-leave.false)))
+                ]
+          ]
+    ]
+
+pub returns-clause-paid : goal.returns-clause-paid
+returns-clause-paid c =
+    let p = c.args.self.now in
+    let m = c.args.machine.now in
+    let new = c.move_to_end-middle.new in
+    let middle = c.move_to_end-middle.result in
+    let v = moved_last c in
+    let after = parted m p c.args.class c.args.states.now c.index.result.now new.states.items new.places.items middle v in
+    let at_end = moved m p c.args.class c.args.states.now c.index.result.now new.states.items new.places.items middle v in
+    let leaving = part_is m p c.args.class c.args.states.now c.index.result.now new.states.items new.places.items middle v c.deref.result.now c.deref.ensures.value in
+    let count = subst (λ (xs : List ℕ). sum_by (in_degree p.reversed) xs < 2 ^ 32 → c.transitions_to-transitions.result ≡ sum_by (in_degree p.reversed) xs) leaving c.transitions_to-transitions.ensures in
+    on_ok_weaker c.push.result
+    (λ pushed edges largest looks before few.
+    let exact = leaving_count m p p.states.items new.states.items new.places.items c.args.states.now c.args.class middle c.requires.class after at_end c.give.new.classes.items (given c) edges largest looks before few c.transitions_to-transitions.result count in
+    record {
+      few = before.few;
+      small = before.small;
+      counted = counted_cut m p p.states.items new.states.items new.places.items c.args.states.now c.args.class middle c.requires.class after at_end c.give.new.classes.items (given c) edges largest looks before few
+          c.cut.new.spans.items c.push.new.self c.transitions_to-transitions.result c.in_ok-rest.rest c.if-leave.push c.in_ok-rest.ensures.cut c.in_ok-rest.ensures.counted exact pushed (decision c);
+      paid = paid_cut m p p.states.items new.states.items new.places.items c.args.states.now c.args.class middle c.requires.class after at_end c.give.new.classes.items (given c) edges largest looks before few
+          c.cut.new.spans.items c.push.new.self c.transitions_to-transitions.result c.in_ok-rest.rest c.if-leave.push c.in_ok-rest.ensures.cut c.in_ok-rest.ensures.counted exact pushed (decision c);
     })
     c.push.ensures

@@ -11,7 +11,7 @@ returns c =
     let q = c.args.q in
     let one = c.as_slice.ensures ∙ c.in_ok-read.ensures in
     let other = c.as_slice-2.ensures ∙ c.in_ok-read-2.ensures in
-    let told = rows_tell c.as_slice.result.now c.as_slice-2.result.now c.eq.result c.eq.ensures in (
-      (λ is. alike_from_rows d classes c.requires.table p q c.requires.own (sym one ∙ told.0 is ∙ other)),
-      (λ alike. told.1 (one ∙ rows_from_alike d classes c.requires.table p q alike ∙ sym other)),
+    let alike_if = rows_tell c.as_slice.result.now c.as_slice-2.result.now c.eq.result c.eq.ensures in (
+      (λ is. alike_from_rows d classes c.requires.table p q c.requires.own (sym one ∙ alike_if.0 is ∙ other)),
+      (λ alike. alike_if.1 (one ∙ rows_from_alike d classes c.requires.table p q alike ∙ sym other)),
     )

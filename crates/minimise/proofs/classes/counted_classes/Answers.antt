@@ -1,0 +1,15 @@
+use Rattle.std.proofs.Common.{◌≡◌, ◌≤◌, ℕ, List, subst}
+use Rattle.digit_tuple.specs.Deterministic.{states_of}
+use Rattle.minimise.specs.Classes.{class_of}
+use Rattle.minimise.proofs.RoundLemmas.{AreAtMost-finer, all_looks}
+use Rattle.minimise.proofs.classes.counted_classes.Goals as goal
+
+pub returns-clause-looks : goal.returns-clause-looks
+returns-clause-looks g c b less =
+    let d = c.args.machine.now.dfa.now in
+    let counted = c.in_ok-rounds.rounds.counted in
+    let parts = c.in_ok-classes.classes.items in
+    let room = c.in_ok-rounds.ensures.room c.if-rounds.false in
+    let finer = subst (λ (xs : List ℕ). (q : ℕ) → q ≤ states_of d → class_of xs q ≡ class_of xs (class_of parts q)) c.deref.ensures.value c.in_ok-classes.ensures.finer in
+    all_looks d counted c.args.looks.now c.classes_by_rounds.new.looks c.parted.new.looks b room less
+    (c.parted.ensures.looks counted.largest room.digits (AreAtMost-finer (states_of d) counted.classes.items parts counted.largest finer room.most) room.within)
