@@ -24,13 +24,13 @@ use Rattle.product_op.specs.LeadingLetters.{letters_on, AreLeading}
 use Rattle.product_op.proofs.SinkKeyLemmas.{are_sinks-all}
 
 module _ (r : Reading) (state : ℕ) where
-  letters_on-below : (a : ℕ) → Contains (letters_on r state) a → a < length r.parts
+  pub letters_on-below : (a : ℕ) → Contains (letters_on r state) a → a < length r.parts
   letters_on-below a there =
       let found = Contains-from_flat_map (λ (e : Transition). letters_with r.parts e.letter) (transitions_of r.automaton state) a there in
       (Contains-from_letters r.parts found.0.letter a found.2).0
 
   -- another letter leads to the sink
-  letters_on-missing : (a : ℕ) → a < length r.parts → ¬ Contains (letters_on r state) a → next_of r.automaton state (part_read r a) ≡ states_of r.automaton
+  pub letters_on-missing : (a : ℕ) → a < length r.parts → ¬ Contains (letters_on r state) a → next_of r.automaton state (part_read r a) ≡ states_of r.automaton
   letters_on-missing a less missing =
       ap (λ o. unwrap_or o (states_of r.automaton)) (target_by-none (transitions_of r.automaton state) (part_read r a)
       (All-weaker (Contains (transitions_of r.automaton state)) (λ e. e.letter ≢ part_read r a)

@@ -24,13 +24,13 @@ module _ (rs : List Reading) where
   abbrev pub lead_key : List ℕ → List ℕ → List ℕ
   lead_key key w = map (λ i. lead (reading_at rs i).automaton (state_at key i) (word_read (reading_at rs i) w)) (range_with_len 0 (length rs))
 
-  length-next_key : (key : List ℕ) (a : ℕ) → length (next_key rs key a) ≡ length rs
+  pub length-next_key : (key : List ℕ) (a : ℕ) → length (next_key rs key a) ≡ length rs
   length-next_key key a = length-map-range_with_len (λ i. next_of (reading_at rs i).automaton (state_at key i) (part_read (reading_at rs i) a)) 0 (length rs)
 
   pub length-first_key : length (first_key rs) ≡ length rs
   length-first_key = length-map rs (λ r. first_of r.automaton)
 
-  lead_key-next : (key : List ℕ) (a : ℕ) (w : List ℕ) → lead_key (next_key rs key a) w ≡ lead_key key (a ∷ w)
+  pub lead_key-next : (key : List ℕ) (a : ℕ) (w : List ℕ) → lead_key (next_key rs key a) w ≡ lead_key key (a ∷ w)
   lead_key-next key a w = map-range-same
       (λ i. lead (reading_at rs i).automaton (state_at (next_key rs key a) i) (word_read (reading_at rs i) w))
       (λ i. lead (reading_at rs i).automaton (state_at key i) (word_read (reading_at rs i) (a ∷ w)))
@@ -48,7 +48,7 @@ module _ (rs : List Reading) where
   state_at-first i within = get_or-map (λ r. first_of r.automaton) rs i no_reading 0 within
 
   -- the state of one of them
-  state_at-lead : (i : ℕ) (w : List ℕ) → i < length rs → state_at (lead_key (first_key rs) w) i ≡ lead (reading_at rs i).automaton (first_of (reading_at rs i).automaton) (word_read (reading_at rs i) w)
+  pub state_at-lead : (i : ℕ) (w : List ℕ) → i < length rs → state_at (lead_key (first_key rs) w) i ≡ lead (reading_at rs i).automaton (first_of (reading_at rs i).automaton) (word_read (reading_at rs i) w)
   state_at-lead i w within =
       get_or-map-range_with_len (λ j. lead (reading_at rs j).automaton (state_at (first_key rs) j) (word_read (reading_at rs j) w)) 0 (length rs) i i 0 within (omega arith)
       ∙ ap (λ q. lead (reading_at rs i).automaton q (word_read (reading_at rs i) w)) (state_at-first i within)

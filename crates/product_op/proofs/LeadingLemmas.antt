@@ -77,7 +77,7 @@ module _ (after : ℕ → Option (List ℕ)) where
       by (Some key) is cases rest = first key is (b == a) refl cases rest
 
 -- a number is in a list, or is not
-contained : (some : List ℕ) (a : ℕ) → Contains some a ⊎ ¬ Contains some a
+pub contained : (some : List ℕ) (a : ℕ) → Contains some a ⊎ ¬ Contains some a
 contained [] a = inr (Contains-none a)
 contained (b ∷ some) a = by (cases_eq b a) (contained some a)
   where

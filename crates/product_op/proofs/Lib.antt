@@ -13,3 +13,8 @@ pub mod RuleLemmas
 pub mod WidthLaws
 pub mod TupleLemmas
 pub mod ResultLemmas
+pub mod DeadPairLemmas
+pub mod PairListLemmas
+pub mod DeadExitLemmas
+pub mod LiveLetterLemmas
+pub mod PairWidths

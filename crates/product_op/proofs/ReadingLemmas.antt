@@ -93,7 +93,7 @@ module _ (sizes : List ℕ) (languages : List Automaton) (w v : List ℕ) (over 
       (sym (word_read-part sizes (track ∷ []) (language_at languages track) w over)) (sym (word_read-part sizes (track ∷ []) (language_at languages track) v there))
       (same track less))
 
--- one more automaton in front
+-- one more automaton before the others
 pub alike_cons : (r : Reading) (rs : List Reading) (w v : List ℕ) → SameAfter r.automaton (word_read r w) (word_read r v) → AreAlike rs w v → AreAlike (r ∷ rs) w v
 alike_cons r rs w v first rest zero inside = first
 alike_cons r rs w v first rest (suc i) inside = rest i (omega (arith, inside))

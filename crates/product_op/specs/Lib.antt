@@ -11,3 +11,7 @@ pub mod LeadingLetters
 pub mod NextRows
 pub mod NextTables
 pub mod Tuples
+pub mod DeadPairs
+pub mod DeadExits
+pub mod PairLists
+pub mod PairLaws

@@ -25,7 +25,7 @@ module _ (letters : ℕ) (readings : List Reading) (are : AreReadings letters re
         subst (λ q. q ≤ states_of (reading_at readings i).automaton) (sym (get_or-map (λ r. first_of r.automaton) readings i no_reading 0 inside)) (first_within (reading_at readings i).automaton);
   }
 
-  next_is_key : (key : List ℕ) (a : ℕ) → AreStates readings (next_key readings key a)
+  pub next_is_key : (key : List ℕ) (a : ℕ) → AreStates readings (next_key readings key a)
   next_is_key key a = record {
     count = length-map-range_with_len (λ i. next_of (reading_at readings i).automaton (state_at key i) (part_read (reading_at readings i) a)) 0 (length readings);
     within = λ i inside.

@@ -27,7 +27,7 @@ readings_in readers = map reading_in readers
 abbrev pub automata_in : List Reading → List Automaton
 automata_in readings = map (λ r. r.automaton) readings
 
--- what stands for an automaton that is not there
+-- the reading that is taken where there is none
 abbrev pub no_reading : Reading
 no_reading = record { automaton = record { sizes = []; states = [] }; parts = [] }
 

@@ -13,13 +13,15 @@ use crate::reader::Reader;
 use digit_tuple::alphabet::Alphabet;
 use digit_tuple::dfa::Dfa;
 use digit_tuple::faults::OutOfMemory;
-use digit_tuple::letter_parts::letter_parts;
 use digit_tuple::name::Name;
 use digit_tuple::names::places_in;
-use digit_tuple::part_index::PartIndex;
 use minimise::tracked::Tracked;
 use std::alloc::Global;
 use std::rc::Rc;
+use track_parts::track_parts::TrackParts;
+
+// The parts of so many letters are listed at any rate, in 48 KiB, since a part is looked up faster than it is found.
+const LISTED_LETTERS: u64 = 4_096;
 
 /// The reader of an automaton on the tracks of its names.
 pub fn argument_reader<'a>(
@@ -64,7 +66,8 @@ pub fn add_track_readers<'a>(
     Ok(())
 }
 
-/// The reader of an automaton on the tracks at these places, counted from 0.
+/// The reader of an automaton on the tracks at these places, counted from 0. Time and memory follow the tracks and the
+/// automaton's transitions.
 pub fn reader_on<'a>(
     alloc: Global,
     alphabet: &Alphabet,
@@ -75,10 +78,7 @@ pub fn reader_on<'a>(
     requires sizes { picked places.now alphabet.now ≡ dfa.now.sizes }
     ensures { IfOk result (λ reader. reading_in reader ≡ read_on alphabet.now dfa.now places.now) }
 {
-    // The numbers of letters fit 32 bits.
-    let _letters = alphabet.letters();
-    let own = dfa.alphabet();
-    let parts = letter_parts(alloc, alphabet, places, own)?;
-    let parts = PartIndex::new(alloc, parts, own.letters())?;
+    let mut parts = TrackParts::new(alloc, alphabet, places, dfa.alphabet())?;
+    parts.list_within(alloc, dfa.transitions().max(LISTED_LETTERS))?;
     Ok(Reader { dfa, parts })
 }

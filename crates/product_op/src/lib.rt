@@ -31,6 +31,18 @@ pub mod reader_states;
 /// The graph of the states that letters lead automata to that read side by side.
 mod reader_graph;
 
+/// The graph of the pairs of states from which a connective may accept.
+mod live_pairs;
+
+/// Letters by which pairs of states lead to dead ones.
+mod dead_exits;
+
+/// The dead pairs of states that words lead to.
+mod dead_pairs;
+
+/// The automaton of a connective that needs its first argument.
+mod needing;
+
 /// The automaton whose states are tuples of residuals.
 mod side_by_side;
 

@@ -9,6 +9,7 @@ ghost use Rattle.product_op.specs.Readings.{AreReadings, automata_in, next_key, 
 
 use crate::next_table::{NextTable, next_row};
 use crate::reader::Reader;
+use crate::reader_states::next_states;
 use digit_tuple::faults::OutOfMemory;
 use digit_tuple::transitions::Transition;
 use std::alloc::Global;
@@ -97,5 +98,25 @@ pub fn next_by_rows(readers: &[Reader<'_>], rows: &[NextRow<'_>], letter: u32, n
 {
     for (place, reader) in readers.iter().enumerate() {
         next[place] = rows[place].next(reader.parts.part(letter));
+    }
+}
+
+/// Writes where the letter leads from each state of a key, by its rows if there are any.
+pub fn next_states_by(
+    readers: &[Reader<'_>],
+    key: &[u32],
+    rows: &Option<Vec<NextRow<'_>>>,
+    letter: u32,
+    next: &mut [u32],
+)
+    requires readers { (letters : ℕ) × AreReadings letters (readings_in readers.now) × (letter < letters) }
+    requires key { length key.now ≡ length readers.now }
+    requires rows { IfSome rows.now (λ all. AreNextRows (automata_in (readings_in readers.now)) key.now all.items) }
+    requires room { length next.old ≡ length readers.now }
+    ensures { next.new ≡ next_key (readings_in readers.now) key.now letter }
+{
+    match rows {
+        Some(rows) => next_by_rows(readers, rows, letter, next),
+        None => next_states(readers, key, letter, next),
     }
 }

@@ -2,6 +2,7 @@
 
 ghost use Rattle.std.specs.Prelude.{◌≡◌};
 ghost use Rattle.product_op.specs.Connectives.{connective, among_valid};
+ghost use Rattle.product_op.specs.DeadPairs.{needs_first, needs_second};
 
 /// A connective of two arguments.
 #[derive(Clone, Copy, Debug, PartialEq, Eq)]
@@ -38,5 +39,19 @@ impl Op {
         ensures { result ≡ among_valid self }
     {
         !matches!(self, Op::And | Op::AndNot)
+    }
+
+    /// Whether the connective refuses wherever the first argument does: `And` and `AndNot`.
+    pub fn needs_first(self) -> bool
+        ensures { result ≡ needs_first self }
+    {
+        !self.holds(false, true) && !self.holds(false, false)
+    }
+
+    /// Whether the connective refuses wherever the second argument does: `And`.
+    pub fn needs_second(self) -> bool
+        ensures { result ≡ needs_second self }
+    {
+        !self.holds(true, false) && !self.holds(false, false)
     }
 }

@@ -39,8 +39,9 @@ use std::rc::Rc;
 /// languages. `Letters` comes if and only if there are more than 16 tracks or more than 65,536 letters, and is looked
 /// at first; `States` if and only if the width passes the limit. The result has at most as many states as the width.
 /// Memory may also run out where 2^32 - 1 states are not enough. Time and memory follow the width and the letters by
-/// which some residual leads to one that is not empty, or all letters where they are at most 32; the residuals of the
-/// arguments; and the number of all letters once.
+/// which some residual leads to one that is not empty, or all letters where they are at most 32, but under `And` and
+/// `AndNot` the letters by which the first does, from pairs without an empty residual that is needed; and the residuals
+/// of the arguments with their transitions.
 pub fn product(
     alloc: Global,
     a: &Tracked,

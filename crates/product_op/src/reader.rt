@@ -8,16 +8,16 @@ ghost use Rattle.product_op.specs.LeadingLetters.{letters_on};
 
 use digit_tuple::dfa::Dfa;
 use digit_tuple::faults::OutOfMemory;
-use digit_tuple::part_index::PartIndex;
 use digit_tuple::transitions::Transition;
 use minimise::sink::{initial_state, is_accepting, next_state};
+use track_parts::track_parts::TrackParts;
 
 /// An automaton, and the part of each letter that it reads. The number past its states is its sink, where missing
 /// transitions lead: the empty residual.
 #[derive(Drop)]
 pub struct Reader<'a> {
     pub dfa: &'a Dfa,
-    pub parts: PartIndex,
+    pub parts: TrackParts,
 }
 
 impl Reader<'_> {
@@ -65,7 +65,7 @@ impl Reader<'_> {
         }
         self.dfa.transitions_into(state, row)?;
         for transition in row.iter() {
-            letters.extend_from_slice(self.parts.letters(transition.letter))?;
+            self.parts.add_letters(transition.letter, letters)?;
         }
         Ok(())
     }

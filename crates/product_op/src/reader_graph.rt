@@ -3,17 +3,16 @@
 ghost use Rattle.std.specs.Prelude.{◌≡◌, ◌++◌, ◌<◌, ℕ, List, [], length, IfOk, IfSome, OnOk};
 ghost use Rattle.std.specs.Option.{option_map, option_to_list};
 ghost use Rattle.digit_tuple.specs.Keys.{AreKeyTransitions};
-ghost use Rattle.product_op.specs.NextRows.{AreNextRows};
 ghost use Rattle.product_op.specs.Readings.{readings_in, automata_in, AreSideBySide, AreStates, first_key, next_key, flags_at, combined};
 ghost use Rattle.product_op.specs.ReadingLaws.{first_is_key, live_key_is_key};
 ghost use Rattle.product_op.specs.SinkKeys.{is_dead_key, live_key, live_key_after};
 ghost use Rattle.product_op.specs.LeadingLetters.{AreFewLetters, AreLeading, key_transition};
 
-use crate::next_row::{NextRow, next_by_rows, next_rows};
+use crate::next_row::{next_rows, next_states_by};
 use crate::next_table::NextTable;
 use crate::numbers_below::numbers_below;
 use crate::reader::Reader;
-use crate::reader_states::{all_accept, are_sinks, initial_states, next_states};
+use crate::reader_states::{all_accept, are_sinks, initial_states};
 use crate::rule::Rule;
 use digit_tuple::faults::OutOfMemory;
 use digit_tuple::key_graph::KeyGraph;
@@ -166,32 +165,11 @@ impl SideBySide<'_> {
         states.resize(self.readers.len(), 0)?;
         let next = states.as_mut_slice();
         for letter in letters {
-            self.write_next(key, &rows, *letter, next);
+            next_states_by(self.readers, key, &rows, *letter, next);
             self.push_live(*letter, next, out)?;
         }
         out.give_spare(states);
         Ok(())
-    }
-
-    // Writes where the letter leads from each state of the key, by its rows if there are any.
-    fn write_next(
-        &self,
-        key: &[u32],
-        rows: &Option<Vec<NextRow<'_>>>,
-        letter: u32,
-        next: &mut [u32],
-    )
-        requires graph { AreSideBySide self.now.letters (readings_in self.now.readers.now) self.now.rule }
-        requires letter { letter < self.now.letters }
-        requires key { length key.now ≡ length self.now.readers.now }
-        requires rows { IfSome rows.now (λ all. AreNextRows (automata_in (readings_in self.now.readers.now)) key.now all.items) }
-        requires room { length next.old ≡ length self.now.readers.now }
-        ensures { next.new ≡ next_key (readings_in self.now.readers.now) key.now letter }
-    {
-        match rows {
-            Some(rows) => next_by_rows(self.readers, rows, letter, next),
-            None => next_states(self.readers, key, letter, next),
-        }
     }
 
     // Adds a transition to these states, unless no word is accepted from them.

@@ -2,6 +2,7 @@
 
 ghost use Rattle.std.specs.Prelude.{◌≡◌, ◌<◌, ◌≤◌, ℕ, length, drop, IfOk};
 ghost use Rattle.product_op.specs.Readings.{readings_in, AreReadings, first_key, next_key, flags_at, all_true};
+ghost use Rattle.product_op.specs.DeadPairs.{is_sink_at};
 ghost use Rattle.product_op.specs.SinkKeys.{are_sinks};
 
 use crate::reader::Reader;
@@ -29,6 +30,15 @@ pub fn next_states(readers: &[Reader<'_>], key: &[u32], letter: u32, next: &mut 
     for (place, reader) in readers.iter().enumerate() {
         next[place] = reader.next(key[place], letter);
     }
+}
+
+/// Whether the state at a place is the sink of its reader.
+pub fn is_sink_at(readers: &[Reader<'_>], key: &[u32], place: usize) -> bool
+    requires readers { place < length readers.now }
+    requires key { place < length key.now }
+    ensures { result ≡ is_sink_at (readings_in readers.now) key.now place }
+{
+    readers[place].is_sink(key[place])
 }
 
 /// Whether each state is the sink of its reader.

@@ -7,8 +7,13 @@ ghost use Rattle.digit_tuple.specs.Letters.{product, IsWord};
 ghost use Rattle.digit_tuple.specs.Names.{AreDistinct};
 ghost use Rattle.digit_tuple.specs.Width.{HasApart, HasWidth};
 ghost use Rattle.minimise.specs.Canonical.{IsCanonical};
+ghost use Rattle.product_op.specs.DeadPairs.{ArePair};
 ghost use Rattle.product_op.specs.Readings.{readings_in, AreSideBySide, AreCanonical, AreAlike, flags_of, combined};
+ghost use Rattle.product_op.specs.declared.rule.Rule.TheVariants.{Both};
 
+use crate::live_pairs::LivePairs;
+use crate::needing::pairs_needing_first;
+use crate::op::Op;
 use crate::reader::Reader;
 use crate::reader_graph::{SideBySide, few_letters, next_tables};
 use crate::reader_states::initial_states;
@@ -50,7 +55,7 @@ pub fn tracked_side_by_side(
     ensures states { IsErrOf result OpFault.States → HasApart (AreAlike (readings_in readers.now)) (product alphabet) (limit + 1) }
     ensures no_letters { ¬ IsErrOf result OpFault.Letters }
 {
-    let explored = side_by_side(alloc, alphabet, readers, rule, limit)?;
+    let explored = combined_side_by_side(alloc, alphabet, readers, rule, limit)?;
     Ok(Stepped {
         result: Tracked::of_canonical(explored.result, names),
         width: explored.width,
@@ -58,6 +63,72 @@ pub fn tracked_side_by_side(
 }
 
 // The canonical automaton, without the names. What comes is as for `tracked_side_by_side`.
+fn combined_side_by_side(
+    alloc: Global,
+    alphabet: Alphabet,
+    readers: &[Reader<'_>],
+    rule: Rule,
+    limit: u32,
+) -> Result<Stepped<Dfa>, OpFault>
+    requires readers { AreSideBySide (product alphabet) (readings_in readers.now) rule }
+    requires canonical { AreCanonical (readings_in readers.now) }
+    ensures sizes { IfOk result (λ stepped. stepped.result.sizes ≡ alphabet) }
+    ensures canonical { IfOk result (λ stepped. IsCanonical stepped.result) }
+    ensures language { IfOk result (λ stepped. (w : List ℕ) → IsWord (product alphabet) w
+        → accepts_of stepped.result w ≡ combined rule (flags_of (readings_in readers.now) w)) }
+    ensures width { IfOk result (λ stepped. HasWidth (AreAlike (readings_in readers.now)) (product alphabet) stepped.width) }
+    ensures size { IfOk result (λ stepped. states_of stepped.result ≤ stepped.width) }
+    ensures within { IfOk result (λ stepped. stepped.width ≤ limit) }
+    ensures states { IsErrOf result OpFault.States → HasApart (AreAlike (readings_in readers.now)) (product alphabet) (limit + 1) }
+    ensures no_letters { ¬ IsErrOf result OpFault.Letters }
+{
+    if let Rule::Both(op) = rule {
+        if op.needs_first() && readers.len() == 2 {
+            return pair_by_pair(alloc, alphabet, readers, op, limit);
+        }
+    }
+    side_by_side(alloc, alphabet, readers, rule, limit)
+}
+
+// That of two readers by a connective that needs the first. Pairs from which it accepts no word, since a state that it
+// needs is a sink, have no transitions.
+fn pair_by_pair(
+    alloc: Global,
+    alphabet: Alphabet,
+    readers: &[Reader<'_>],
+    op: Op,
+    limit: u32,
+) -> Result<Stepped<Dfa>, OpFault>
+    requires pair { ArePair (product alphabet) op (readings_in readers.now) }
+    requires canonical { AreCanonical (readings_in readers.now) }
+    ensures sizes { IfOk result (λ stepped. stepped.result.sizes ≡ alphabet) }
+    ensures canonical { IfOk result (λ stepped. IsCanonical stepped.result) }
+    ensures language { IfOk result (λ stepped. (w : List ℕ) → IsWord (product alphabet) w
+        → accepts_of stepped.result w ≡ combined (Both op) (flags_of (readings_in readers.now) w)) }
+    ensures width { IfOk result (λ stepped. HasWidth (AreAlike (readings_in readers.now)) (product alphabet) stepped.width) }
+    ensures size { IfOk result (λ stepped. states_of stepped.result ≤ stepped.width) }
+    ensures within { IfOk result (λ stepped. stepped.width ≤ limit) }
+    ensures states { IsErrOf result OpFault.States → HasApart (AreAlike (readings_in readers.now)) (product alphabet) (limit + 1) }
+    ensures no_letters { ¬ IsErrOf result OpFault.Letters }
+{
+    let letters = alphabet.letters();
+    let few = few_letters(alloc, letters)?;
+    let tables = next_tables(alloc, readers)?;
+    let graph = LivePairs {
+        readers: &*readers,
+        tables: tables.as_slice(),
+        op,
+        letters,
+        few: few.as_slice(),
+    };
+    let first = initial_states(alloc, readers)?;
+    if graph.is_dead(&first) {
+        return side_by_side(alloc, alphabet, readers, Rule::Both(op), limit);
+    }
+    pairs_needing_first(alloc, &graph, alphabet, limit)
+}
+
+// That of all rules. The states are tuples of which not all are sinks, unless the rule accepts there.
 fn side_by_side(
     alloc: Global,
     alphabet: Alphabet,

@@ -22,7 +22,7 @@ use digit_tuple::numbering::Numbering;
 use digit_tuple::stepped::Stepped;
 use std::alloc::Global;
 
-/// The automaton whose states stand for the tuples of states, one of each reader, that words lead to, the number past a
+/// The automaton whose states are the tuples of states, one of each reader, that words lead to, the number past a
 /// reader's states being its sink, where missing transitions lead. A word that leads each reader to its sink leads to
 /// no state, but for the empty one, which leads to the initial state. The states are numbered in the order of the first
 /// words that lead to them, and what accepts is not said. The width is the number of tuples that words lead to, that of

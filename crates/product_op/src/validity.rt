@@ -33,7 +33,7 @@ use std::rc::Rc;
 /// empty residual counted too. `States` comes if and only if it passes the limit, and `Letters` never. The result has
 /// at most as many states as the width. Memory may also run out where 2^32 - 1 states are not enough. Time and memory
 /// follow the width and the letters by which some residual leads to one that is not empty, or all letters where they
-/// are at most 32; the residuals of the arguments; and the number of all letters once.
+/// are at most 32, and the residuals of the arguments with their transitions.
 pub fn complement_in(
     alloc: Global,
     a: &Tracked,

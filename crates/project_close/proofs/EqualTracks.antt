@@ -52,7 +52,7 @@ module _ (a : NamedAutomaton) (kept dropped : List ℕ) (two : HaveTwoTracks a k
   abbrev place : List ℕ → ℕ
   place name = place_of a.names name
 
-  -- what is the same on both tracks is read again where the kept one stands for the dropped one
+  -- what is the same on both tracks is read again where the kept one takes the place of the dropped one
   picked_for : (vs : List ℕ) → length vs ≡ length a.names → get_or vs (place kept) 0 ≡ get_or vs (place dropped) 0 → picked (places_of a.names under) vs ≡ vs
   picked_for vs count same = ext_get_or 0 (picked (places_of a.names under) vs) vs (long ∙ sym count) at
     where
@@ -96,7 +96,7 @@ module _ (a : NamedAutomaton) (kept dropped : List ℕ) (two : HaveTwoTracks a k
   kept_places = subst (λ n. All (λ p. p < n) (places_of a.names rest)) two.tracked.count
       (places_of-within a.names rest (λ i d within. (Contains-from_filter (λ n. not (bytes_eq n dropped)) a.names (get_or rest i d) (Contains-get_or rest i d within)).0))
 
-  -- the places of the names that stand for the tracks'
+  -- the indices of the names that take the place of the tracks'
   read_places : (count : ℕ) → length rest ≡ count → All (λ p. p < count) (places_of rest under)
   read_places count is = subst (λ n. All (λ p. p < n) (places_of rest under)) is (places_of-within rest under (IsSubstitution-restriction a kept dropped two).there)
 

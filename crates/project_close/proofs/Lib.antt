@@ -21,3 +21,4 @@ pub mod RenamingLemmas
 pub mod RestrictionLemmas
 pub mod EqualTracks
 pub mod WidthLaws
+pub mod FlagLemmas

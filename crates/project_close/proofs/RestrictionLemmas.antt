@@ -26,7 +26,7 @@ passes name dropped other = by (bytes_eq name dropped) refl
     by true is = absurd (other ((bytes_eq-Decides name dropped).0 is))
     by false is = refl
 
--- a name that passes stands for itself
+-- a name that passes stays
 pub name_for-other : (kept dropped name : List ℕ) → not (bytes_eq name dropped) ≡ true → name_for kept dropped name ≡ name
 name_for-other kept dropped name = by (bytes_eq name dropped)
   where
@@ -71,7 +71,7 @@ module _ (a : NamedAutomaton) (kept dropped : List ℕ) (two : HaveTwoTracks a k
   abbrev under : List (List ℕ)
   under = names_for a.names kept dropped
 
-  -- the name that stands for a track's name is there when the dropped one is not
+  -- the name that takes the place of a track's name is there when the dropped one is not
   stands : (name : List ℕ) → Contains a.names name → Contains rest (name_for kept dropped name)
   stands name there = by (bytes_eq name dropped) refl
     where
@@ -96,7 +96,7 @@ module _ (a : NamedAutomaton) (kept dropped : List ℕ) (two : HaveTwoTracks a k
       ∙ sym (size_for (get_or a.names i []))
       ∙ ap (size_of a) (sym (get_or-map (name_for kept dropped) a.names i [] [] within))
 
-  -- the names that stay are names that stand for others
+  -- the names that stay take the place of names
   stays : All (Contains under) rest
   stays i d within =
       let found = Contains-from_filter (λ n. not (bytes_eq n dropped)) a.names (get_or rest i d) (Contains-get_or rest i d within) in
@@ -128,7 +128,7 @@ module _ (a : NamedAutomaton) (kept dropped : List ℕ) (two : HaveTwoTracks a k
       ∙ sym (get_or-map (size_of a) rest i [] 0 within))
       ∙ sym (sizes_under-map a.automaton.sizes a.names rest)
 
--- the automaton is a's, and the names are those that stand for a's, and those that stay
+-- the automaton is a's, and the names are those that take the place of a's, and those that stay
 pub record IsRead (a : NamedAutomaton) (kept dropped : List ℕ) (d : Automaton) (us rs : List (List ℕ)) : Type 0 where
   pub two : HaveTwoTracks a kept dropped
   pub automaton_is : d ≡ a.automaton

@@ -87,7 +87,7 @@ module _ (d : Automaton) (canonical : IsCanonical d) where
     next_zero : next_of d 0 0 ≡ 0
     next_zero = ap (λ (o : Option ℕ). unwrap_or o (states_of d)) stay
 
-    -- zeros in front of a word change nothing
+    -- zeros before a word change nothing
     lead-zeros : (k : ℕ) (w : List ℕ) → lead d 0 (zeros k ++ w) ≡ lead d 0 w
     lead-zeros zero w = refl
     lead-zeros (suc k) w = ap (λ q. lead d q (zeros k ++ w)) next_zero ∙ lead-zeros k w

@@ -1,17 +1,17 @@
--- Words without their trailing zeros, from the front.
+-- Words without their trailing zeros, from the first letter on.
 use Rattle.std.proofs.Common.{◌≡◌, ℕ, zero, suc, List, [], ◌∷◌, ◌++◌, reverse, refl, sym, ap, ◌∙◌}
 use Rattle.std.proofs.lemmas.List.{reverse-append}
 use Rattle.digit_tuple.specs.Paddings.{without_zeros, strip}
 use Rattle.digit_tuple.specs.declared.direction.Direction.TheVariants.{Lsd}
 use Rattle.digit_tuple.proofs.PaddingLemmas.{reverse-cons}
 
--- a letter in front of a word without trailing zeros
+-- a letter before a word without trailing zeros
 abbrev pub with_prefix : ℕ → List ℕ → List ℕ
 with_prefix zero [] = []
 with_prefix zero (b ∷ u) = 0 ∷ b ∷ u
 with_prefix (suc a) u = suc a ∷ u
 
--- the word without its trailing zeros, from the front
+-- the word without its trailing zeros, from the first letter on
 abbrev pub trimmed : List ℕ → List ℕ
 trimmed [] = []
 trimmed (a ∷ w) = with_prefix a (trimmed w)

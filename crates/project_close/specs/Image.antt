@@ -1,5 +1,5 @@
 -- Automata read on some of their tracks.
-use Rattle.std.specs.Prelude.{◌≡◌, ℕ, ◌<◌, Bool, true, List, [], ◌∷◌, Some, ◌↔◌, slice_index_or}
+use Rattle.std.specs.Prelude.{◌≡◌, ℕ, ◌<◌, Bool, true, List, [], ◌∷◌, Some, ◌↔◌, length, slice_index_or}
 use Rattle.std.specs.List.{AllPairs, Contains}
 use Rattle.digit_tuple.specs.Automaton as branching
 use Rattle.digit_tuple.specs.Automaton.{Branching, IsBefore, IsBranchTable, Leads}
@@ -12,7 +12,13 @@ use Rattle.digit_tuple.specs.declared.direction.Direction.TheVariants.{Msd, Lsd}
 use Rattle.digit_tuple.specs.declared.transitions.Transition.{Transition}
 use Rattle.project_close.specs.ZeroClosure.{AreAfterZeros, flag_at}
 
--- the letter that stands for a letter
+-- so many flags, of which those at the first so many places are set
+pub record AreFlagsAt (count : ℕ) (flags : List Bool) (places : List ℕ) (first : ℕ) : Type 0 where
+  pub long : length flags ≡ count
+  pub set : (i : ℕ) → i < first → flag_at flags (slice_index_or places i 0) ≡ true
+  pub only : (k : ℕ) → flag_at flags k ≡ true → (i : ℕ) × (i < first) × (slice_index_or places i 0 ≡ k)
+
+-- the part of a letter
 abbrev pub part_at : List ℕ → ℕ → ℕ
 part_at parts letter = slice_index_or parts letter 0
 

@@ -1,4 +1,4 @@
--- Sets of states as keys of the closure under leading zeros. The empty list stands for the first set, after zeros alone.
+-- Sets of states as keys of the closure under leading zeros. The empty list is the first set, after zeros alone.
 use Rattle.std.specs.Prelude.{◌≡◌, ◌==◌, ℕ, zero, suc, ◌<◌, ◌↔◌, Bool, not, List, [], ◌∷◌, Option, None, Some, MatchOption, ⊤}
 use Rattle.std.proofs.Common.{arith}
 use Rattle.std.specs.List.{All, AllPairs, Contains}

@@ -9,7 +9,7 @@ use Rattle.digit_tuple.specs.Parts.{part}
 use Rattle.minimise.specs.Tracked.{NamedAutomaton, size_of}
 use Rattle.project_close.specs.StayingTracks.{staying_places, staying_sizes}
 
--- the name that stands for a name: the kept one for the dropped one
+-- the name that takes a name's place: the kept one for the dropped one
 abbrev pub name_for : List ℕ → List ℕ → List ℕ → List ℕ
 name_for kept dropped name = if bytes_eq name dropped then kept else name
 

@@ -7,7 +7,7 @@ ghost use Rattle.digit_tuple.specs.Automaton.{IsBranchTable};
 ghost use Rattle.digit_tuple.specs.Deterministic.{accepting_of, letters_of, states_of};
 ghost use Rattle.digit_tuple.specs.Letters.{product};
 ghost use Rattle.digit_tuple.specs.Parts.{parts_of_letters, picked};
-ghost use Rattle.project_close.specs.Image.{AreFirst, AreRelabelled, IsEnd, IsImage, ReadsProjection};
+ghost use Rattle.project_close.specs.Image.{AreFirst, AreFlagsAt, AreRelabelled, IsEnd, IsImage, ReadsProjection};
 ghost use Rattle.project_close.specs.ZeroClosure.{flag_at};
 
 use crate::zero_closure::{reached, zero_closure};
@@ -16,11 +16,11 @@ use digit_tuple::alphabet::Alphabet;
 use digit_tuple::dfa::Dfa;
 use digit_tuple::direction::Direction;
 use digit_tuple::faults::OutOfMemory;
-use digit_tuple::letter_parts::letter_parts;
 use digit_tuple::nfa::Nfa;
 use digit_tuple::reversed::reversed;
 use digit_tuple::transitions::{NfaState, Transition};
 use std::alloc::Global;
+use track_parts::track_parts::TrackParts;
 
 /// An automaton read on some of its tracks, and the states at which reading begins.
 #[derive(Drop)]
@@ -43,20 +43,20 @@ pub fn reading_on(
     requires alphabet { alphabet.now ≡ picked places.now d.now.sizes }
     ensures { IfOk result (λ reading. ReadsProjection d.now places.now direction reading.image reading.first.items) }
 {
-    let parts = letter_parts(alloc, d.alphabet(), places, alphabet)?;
+    let parts = TrackParts::new(alloc, d.alphabet(), places, alphabet)?;
     let ends = ends(alloc, d, &parts, direction)?;
     let image = image(alloc, d, &ends, &parts, alphabet.copy(alloc)?)?;
     let first = initial_states(alloc, &image, direction)?;
     Ok(Reading { image, first })
 }
 
-// The automaton with another letter in place of each of its own: a letter of `alphabet`, from the
-// list `parts` by letters. A letter may then lead to several states. The flagged states accept.
+// The automaton with its part, a letter of `alphabet`, in place of each letter. A letter may then lead
+// to several states. The flagged states accept.
 fn image(
     alloc: Global,
     d: &Dfa,
     accepting: &[bool],
-    parts: &[u32],
+    parts: &TrackParts,
     alphabet: Alphabet,
 ) -> Result<Nfa, OutOfMemory>
     requires accepting { length accepting.now ≡ states_of d.now }
@@ -82,7 +82,7 @@ fn image(
 fn relabelled(
     alloc: Global,
     transitions: &[Transition],
-    parts: &[u32],
+    parts: &TrackParts,
 ) -> Result<Vec<Transition>, OutOfMemory>
     requires { All (λ transition. transition.letter < length parts.now) transitions.now }
     ensures { IfOk result (λ new. AreRelabelled parts.now transitions.now new.items) }
@@ -90,7 +90,7 @@ fn relabelled(
     let mut new = Vec::with_capacity(alloc, transitions.len())?;
     for transition in transitions {
         new.push(Transition {
-            letter: parts[transition.letter as usize],
+            letter: parts.part(transition.letter),
             target: transition.target,
         })?;
     }
@@ -105,7 +105,7 @@ fn relabelled(
 fn ends(
     alloc: Global,
     d: &Dfa,
-    parts: &[u32],
+    parts: &TrackParts,
     direction: Direction,
 ) -> Result<Vec<bool>, OutOfMemory>
     ensures size { IfOk result (λ flags. length flags.items ≡ states_of d.now) }
@@ -123,11 +123,25 @@ fn ends(
     }
 }
 
-// For each number whether it is 0.
-fn zero_flags(alloc: Global, numbers: &[u32]) -> Result<Vec<bool>, OutOfMemory>
-    ensures { IfOk result (λ flags. flags.items ≡ map (λ n. n == 0) numbers.now) }
+// For each letter whether its part is 0.
+fn zero_flags(alloc: Global, parts: &TrackParts) -> Result<Vec<bool>, OutOfMemory>
+    ensures { IfOk result (λ flags. flags.items ≡ map (λ part. part == 0) parts.now) }
 {
-    Ok(numbers.iter().map(|number| *number == 0).collect(alloc)?)
+    let mut zeros = Vec::new(alloc);
+    parts.add_letters(0, &mut zeros)?;
+    flags_at(alloc, parts.letters(), &zeros)
+}
+
+// So many flags, of which those at these places are set.
+fn flags_at(alloc: Global, count: u32, places: &[u32]) -> Result<Vec<bool>, OutOfMemory>
+    requires { All (λ place. place < count) places.now }
+    ensures { IfOk result (λ flags. AreFlagsAt count flags.items places.now (length places.now)) }
+{
+    let mut flags = vec![in alloc; false; count as usize]?;
+    for place in places {
+        flags[*place as usize] = true;
+    }
+    Ok(flags)
 }
 
 // The states at which reading begins: with the most significant digit first those that some number

@@ -17,7 +17,7 @@ use digit_tuple::stepped::Stepped;
 use std::alloc::Global;
 
 /// The words that a canonical automaton accepts, with any number of zero letters more or fewer at the
-/// end of the most significant ones: those in front where the most significant digit comes first,
+/// end of the most significant ones: those before the word where the most significant digit comes first,
 /// else those at the back. The zero letter has the digit 0 on each track. The result is canonical.
 ///
 /// The width counts kinds of words, over all words. Where the most significant digit comes first two words are alike

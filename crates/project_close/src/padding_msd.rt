@@ -31,7 +31,7 @@ use minimise::canonical_exploration::explore_canonical;
 use std::alloc::Global;
 
 /// The sets of states that words without their leading zeros lead to, from the states of a first set,
-/// each as the list of its states in order. The empty list stands for the first set, after zeros
+/// each as the list of its states in order. The empty list is the first set, after zeros
 /// alone; else the empty set is no key.
 #[derive(Clone, Copy)]
 struct PaddedSets<'a> {

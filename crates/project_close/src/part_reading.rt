@@ -12,10 +12,9 @@ ghost use Rattle.project_close.specs.PartReading.{AreTransitionsByParts, AreRead
 use digit_tuple::alphabet::Alphabet;
 use digit_tuple::dfa::{Dfa, DfaState};
 use digit_tuple::faults::OutOfMemory;
-use digit_tuple::letter_parts::letter_parts;
-use digit_tuple::part_index::PartIndex;
 use digit_tuple::transitions::Transition;
 use std::alloc::Global;
+use track_parts::track_parts::TrackParts;
 
 /// The automaton that accepts a word of the alphabet if and only if `dfa` accepts its part on the tracks at these
 /// places, counted from 0, one for each track of `dfa` and of its size. A place may be there more than once.
@@ -31,17 +30,18 @@ pub fn read_parts(
     ensures language { IfOk result (λ reader. (w : List ℕ) → IsWord (product alphabet) w
         → accepts_of reader w ≡ accepts_of dfa.now (part alphabet places.now w)) }
 {
-    // The numbers of letters fit 32 bits.
-    let _letters = alphabet.letters();
-    let own = dfa.alphabet();
-    let parts = letter_parts(alloc, &alphabet, places, own)?;
-    let index = PartIndex::new(alloc, parts, own.letters())?;
-    let states = states_reading(alloc, dfa, &index)?;
+    let mut parts = TrackParts::new(alloc, &alphabet, places, dfa.alphabet())?;
+    parts.list_within(alloc, dfa.transitions())?;
+    let states = states_reading(alloc, dfa, &parts)?;
     Dfa::from_states(alloc, alphabet, states)
 }
 
 // The states of the automaton, each with the transitions by the letters of which these parts lead on.
-fn states_reading(alloc: Global, dfa: &Dfa, parts: &PartIndex) -> Result<Vec<DfaState>, OutOfMemory>
+fn states_reading(
+    alloc: Global,
+    dfa: &Dfa,
+    parts: &TrackParts,
+) -> Result<Vec<DfaState>, OutOfMemory>
     ensures { IfOk result (λ states. AreReading dfa.now parts.now (states_of dfa.now) (states_in states.items)) }
 {
     let count = dfa.states();
@@ -58,7 +58,7 @@ fn state_reading(
     alloc: Global,
     dfa: &Dfa,
     state: u32,
-    parts: &PartIndex,
+    parts: &TrackParts,
     row: &mut Vec<Transition>,
 ) -> Result<DfaState, OutOfMemory>
     requires { state < states_of dfa.now }
@@ -75,18 +75,17 @@ fn state_reading(
 fn transitions_by_parts(
     alloc: Global,
     row: &[Transition],
-    parts: &PartIndex,
+    parts: &TrackParts,
 ) -> Result<Vec<Transition>, OutOfMemory>
     requires { AllPairs IsByEarlier row.now }
     ensures { IfOk result (λ transitions. AreTransitionsByParts parts.now row.now transitions.items) }
 {
     let mut transitions = Vec::new(alloc);
+    let mut letters = Vec::new(alloc);
     for transition in row {
-        add_transitions(
-            parts.letters(transition.letter),
-            transition.target,
-            &mut transitions,
-        )?;
+        letters.clear();
+        parts.add_letters(transition.letter, &mut letters)?;
+        add_transitions(&letters, transition.target, &mut transitions)?;
     }
     transitions.sort_unstable_by_key(|transition| transition.letter);
     Ok(transitions)

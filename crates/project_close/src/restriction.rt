@@ -71,7 +71,7 @@ fn names_for(
     Ok(under)
 }
 
-// The name that stands for a name.
+// The name that takes a name's place.
 fn name_for<'a>(kept: &'a Name, dropped: &Name, name: &'a Name) -> &'a Name
     ensures { result.now ≡ name_for_of kept.now dropped.now name.now }
 {

@@ -10,32 +10,22 @@ use Rattle.project_close.proofs.ImageLemmas.{length-parts, parts-below}
 use Rattle.project_close.proofs.PartReadingLemmas.{IsTable-reading, accepts-reading}
 use Rattle.project_close.proofs.part_reading.read_parts.Goals as goal
 
-pub new-requires-clause-below : goal.new-requires-clause-below
-new-requires-clause-below c =
-    let sizes = c.args.alphabet in
-    let places = c.args.places.now in
-    let count = c.letters.ensures.value ∙ ap product (c.alphabet-own.ensures.sizes ∙ sym c.requires.sizes) in
-    subst (λ ps. All (λ p. p < c.letters.result) ps) (sym c.in_ok-parts.ensures)
-    (subst (λ n. All (λ p. p < n) (parts_of_letters sizes places)) (sym count) (parts-below sizes places c.requires.places))
-
-pub new-requires-clause-few : goal.new-requires-clause-few
-new-requires-clause-few c =
-    let long = ap (λ (ps : List ℕ). length ps) c.in_ok-parts.ensures ∙ length-parts c.args.alphabet c.args.places.now in
-    omega (arith, long, c.letters-letters.ensures.value, c.letters-letters.type_inv)
+pub new-requires-clause-own : goal.new-requires-clause-own
+new-requires-clause-own c = c.alphabet-2.ensures.sizes ∙ sym c.requires.sizes
 
 pub from_states-requires : goal.from_states-requires
 from_states-requires c =
     let d = c.args.dfa.now in
     let e : Automaton = record { sizes = c.args.alphabet; states = states_in c.in_ok-states.states.items } in
-    IsTable-reading d e c.args.alphabet c.args.places.now c.alphabet-own.ensures.table
-    (subst (λ ps. AreReading d ps (states_of d) e.states) (c.in_ok-index.ensures ∙ c.in_ok-parts.ensures) c.in_ok-states.ensures)
+    IsTable-reading d e c.args.alphabet c.args.places.now c.alphabet-2.ensures.table
+    (subst (λ ps. AreReading d ps (states_of d) e.states) (c.in_ok-list_within.ensures ∙ c.in_ok-parts.ensures) c.in_ok-states.ensures)
 
 pub returns-clause-language : goal.returns-clause-language
 returns-clause-language c =
     let d = c.args.dfa.now in
     let e : Automaton = record { sizes = c.args.alphabet; states = states_in c.in_ok-states.states.items } in
-    let reads = accepts-reading d e c.args.alphabet c.args.places.now c.alphabet-own.ensures.table
-    (subst (λ ps. AreReading d ps (states_of d) e.states) (c.in_ok-index.ensures ∙ c.in_ok-parts.ensures) c.in_ok-states.ensures) in
+    let reads = accepts-reading d e c.args.alphabet c.args.places.now c.alphabet-2.ensures.table
+    (subst (λ ps. AreReading d ps (states_of d) e.states) (c.in_ok-list_within.ensures ∙ c.in_ok-parts.ensures) c.in_ok-states.ensures) in
     IfOk-weaker c.from_states.result _ _
     (λ reader is. subst (λ (r : Automaton). (w : List ℕ) → IsWord (product c.args.alphabet) w → accepts_of r w ≡ accepts_of d (part c.args.alphabet c.args.places.now w)) (sym is) reads)
     c.from_states.ensures

@@ -8,6 +8,9 @@ use Rattle.product_op.specs.LeadingLetters.{key_transition}
 use Rattle.product_op.proofs.LeadingLemmas.{transitions_by, transitions_by_more, AreKeyTransitions-leading}
 use Rattle.product_op.proofs.reader_graph.SideBySide.push_transitions.Goals as goal
 
+pub next_states_by-requires-clause-readers : goal.next_states_by-requires-clause-readers
+next_states_by-requires-clause-readers c = (c.args.self.now.letters, c.requires.graph.readings_are, c.requires.letters.in_range c.loop-letter.letter-index 0 c.loop-letter-test.true)
+
 pub loop-letter-preserved : goal.loop-letter-preserved
 loop-letter-preserved c =
     let s = c.args.self.now in
@@ -18,8 +21,8 @@ loop-letter-preserved c =
     let letter = get_or letters place 0 in
     record {
       transitions = c.in_ok-push_live.ensures
-          ∙ ap (λ es. es ++ option_to_list (option_map (key_transition letter) (live_key s.rule rs c.write_next.new.next))) c.loop-letter.invariant.transitions
-          ∙ ap (λ key. transitions_by after (take place letters) ++ option_to_list (option_map (key_transition letter) (live_key s.rule rs key))) c.write_next.ensures
+          ∙ ap (λ es. es ++ option_to_list (option_map (key_transition letter) (live_key s.rule rs c.next_states_by.new.next))) c.loop-letter.invariant.transitions
+          ∙ ap (λ key. transitions_by after (take place letters) ++ option_to_list (option_map (key_transition letter) (live_key s.rule rs key))) c.next_states_by.ensures
           ∙ sym (transitions_by_more after letters place c.loop-letter-test.true);
       rows = c.loop-letter.invariant.rows;
     }

@@ -1,0 +1,25 @@
+use Rattle.std.proofs.Common.{◌≡◌, List, ℕ, ◌++◌, ap, ◌∙◌, arith}
+use Rattle.digit_tuple.specs.Explored.{key_at}
+use Rattle.product_op.specs.Readings.{readings_in}
+use Rattle.product_op.proofs.PairListLemmas.{AreTriedTo-more, HasWidth-tried}
+use Rattle.product_op.proofs.dead_pairs.add_dead_pairs.Goals as goal
+
+pub loop-place-preserved : goal.loop-place-preserved
+loop-place-preserved c =
+    let g = c.args.graph.now in
+    let rs = readings_in g.readers.now in
+    let place = c.loop-place.place in
+    let key : c.deref.result.now ≡ key_at c.loop-place.keys place = c.deref.ensures.value ∙ c.in_ok-extend_from_slice.ensures.items ∙ ap (λ (ks : List ℕ). ks ++ c.key.result.now) c.clear.ensures.items ∙ c.key.ensures in
+    record {
+      live = c.in_ok-add_dead_after.ensures.live;
+      few = c.in_ok-add_dead_after.ensures.few;
+      tried = AreTriedTo-more g.letters rs c.loop-place.keys c.add_dead_after.new.keys place c.deref.result.now (omega (arith, c.loop-place-test.true, c.len.ensures.len)) key
+          c.in_ok-add_dead_after.ensures.begins c.in_ok-add_dead_after.ensures.after c.loop-place.invariant.tried;
+    }
+
+pub returns-clause-width : goal.returns-clause-width
+returns-clause-width c =
+    let g = c.args.graph.now in
+    let rs = readings_in g.readers.now in
+    let live = c.loop-place.invariant.live in
+    HasWidth-tried g.letters rs c.loop-place.keys c.loop-place.place c.len.ensures.apart live.reached live.first (omega (arith, c.loop-place-test.false, c.len.ensures.len)) c.loop-place.invariant.tried

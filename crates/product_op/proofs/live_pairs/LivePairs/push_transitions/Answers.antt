@@ -1,0 +1,36 @@
+use Rattle.std.proofs.Common.{◌++◌, get_or, take, sym, ap, ◌∙◌, subst}
+use Rattle.std.specs.Option.{option_map, option_to_list}
+use Rattle.std.proofs.lemmas.List.{take_all}
+use Rattle.digit_tuple.specs.Keys.{AreKeyTransitions}
+use Rattle.product_op.specs.Readings.{readings_in}
+use Rattle.product_op.specs.DeadPairs.{live_pair, live_pair_after}
+use Rattle.product_op.specs.LeadingLetters.{key_transition}
+use Rattle.product_op.proofs.LeadingLemmas.{transitions_by, transitions_by_more, AreKeyTransitions-leading}
+use Rattle.product_op.proofs.live_pairs.LivePairs.push_transitions.Goals as goal
+
+pub next_states_by-requires-clause-readers : goal.next_states_by-requires-clause-readers
+next_states_by-requires-clause-readers c = (c.args.self.now.letters, c.requires.pair.readings_are, c.requires.letters.in_range c.loop-letter.letter-index 0 c.loop-letter-test.true)
+
+pub loop-letter-preserved : goal.loop-letter-preserved
+loop-letter-preserved c =
+    let s = c.args.self.now in
+    let rs = readings_in s.readers.now in
+    let after = live_pair_after s.op rs c.args.key.now in
+    let letters = c.args.letters.now in
+    let place = c.loop-letter.letter-index in
+    let letter = get_or letters place 0 in
+    record {
+      transitions = c.in_ok-push_live.ensures
+          ∙ ap (λ es. es ++ option_to_list (option_map (key_transition letter) (live_pair s.op rs c.next_states_by.new.next))) c.loop-letter.invariant.transitions
+          ∙ ap (λ key. transitions_by after (take place letters) ++ option_to_list (option_map (key_transition letter) (live_pair s.op rs key))) c.next_states_by.ensures
+          ∙ sym (transitions_by_more after letters place c.loop-letter-test.true);
+      rows = c.loop-letter.invariant.rows;
+    }
+
+pub returns : goal.returns
+returns c =
+    let s = c.args.self.now in
+    let after = live_pair_after s.op (readings_in s.readers.now) c.args.key.now in
+    let letters = c.args.letters.now in
+    let all = c.give_spare.ensures ∙ c.loop-letter.invariant.transitions ∙ ap (transitions_by after) (take_all c.loop-letter.letter-index letters c.loop-letter-test.false) in
+    subst (AreKeyTransitions s.letters after) (sym all) (AreKeyTransitions-leading s.letters after letters c.requires.letters)

@@ -1,0 +1,5 @@
+pub mod DivisionLemmas
+pub mod RunLemmas
+pub mod SpanLemmas
+pub mod LettersInLemmas
+pub mod FoundLetters
