@@ -65,7 +65,8 @@ module _ (parts : List PartValue) (systems : List SystemValue) where
           let here : IsWord (letters_in (systems_of systems)) w = subst (λ (ss : List ℕ). IsWord (product ss) w) (sizes word one) over in
           same_option (letter_after word.function w) (letter_after other.function w) (λ letter. (carried word other one two w here letter, carried other word two one w here letter)))
 
-  step_outcome : HasOneOutcome (combine_step parts systems)
+  -- the step has one answer
+  pub step_outcome : HasOneOutcome (combine_step parts systems)
   step_outcome = step_one (combine_step parts systems) (combine_alike parts systems) one_word
 
   -- the places of a shape's fault are one pair

@@ -1,5 +1,5 @@
 -- Where a run is between two items, whatever may still come of the script.
-use Rattle.std.proofs.Common.{◌≡◌, ◌≢◌, ℕ, ◌+◌, ◌<◌, ◌≤◌, ◌⊎◌, Bool, true, false, List, [], ◌∷◌, ◌++◌, length, Result, Ok, Err, Vec, Global, refl, sym, ◌∙◌, ap, subst, inl, inr, arith, append_assoc, length-append}
+use Rattle.std.proofs.Common.{◌≡◌, ◌≢◌, ℕ, ◌+◌, ◌<◌, ◌≤◌, ◌⊎◌, Bool, true, false, List, [], ◌∷◌, ◌++◌, length, IfSome, Result, Ok, Err, Vec, Global, refl, sym, ◌∙◌, ap, subst, inl, inr, arith, append_assoc, length-append}
 use Rattle.std.specs.List.{concat}
 use Rattle.std.specs.Io.KnownBytes.{Consumes, IsAtEnd as HasGivenAll}
 use Rattle.wal_outside.specs.Causes.{Rose}
@@ -17,10 +17,10 @@ use Rattle.session_cli.specs.declared.tally.Tally.{Tally}
 use Rattle.session_cli.specs.declared.status.Status.{Status}
 use Rattle.session_cli.specs.declared.status.Status.TheVariants as status
 use Rattle.wal_outside.specs.Views.{SourceView, StoreView, SinkView}
-use Rattle.session_cli.specs.Views.{IsTold}
-use Rattle.session_cli.specs.Whole.{HasGiven, SourceFailed, WantedMemory, Ran, HasRun}
+use Rattle.session_cli.specs.Whole.{HasGiven, SourceFailed, WantedMemory, HasRun}
 use Rattle.session_cli.specs.Tallies.{tally_status}
 use Rattle.session_cli.specs.Ending.{Finishes}
+use Rattle.session_cli.proofs.CheckNames.{Ran}
 use Rattle.session_cli.proofs.Coming.{some_more, may_come_before, told_of, told_when}
 use Rattle.session_cli.proofs.Standing.{Stands, begins, ends_there, open_step, limit_step, none_left, finishes}
 
@@ -62,7 +62,7 @@ few_next kept next to now result few c = few_by kept next c.pieces few c.within 
 
 -- what was given up to a cut, and what may come after it
 given_next : (limit : ℕ) (from to now : SourceView) (kept next : Kept) (result : Result Cut CutFault) (old mid : StoreView) (held told : SinkView) (tally : Tally) (more : List ℕ)
-    → (b : IsBetween limit from to kept old mid held told tally) → (c : HasCut kept to result next now) → IsTold now.left more → HasGiven from now (b.gave ++ concat c.pieces) more
+    → (b : IsBetween limit from to kept old mid held told tally) → (c : HasCut kept to result next now) → IfSome now.left (λ left. more ≡ left) → HasGiven from now (b.gave ++ concat c.pieces) more
 given_next limit from to now kept next result old mid held told tally more b c is = record {
   taken = consumes-then from.left to.left now.left b.gave (concat c.pieces) b.taken c.given.taken;
   within = omega (arith, room_next kept next to now result b.gave b.room c, few_next kept next to now result b.few c);
@@ -94,7 +94,7 @@ pub between_ends : (limit : ℕ) (from to now : SourceView) (kept next : Kept) (
 between_ends limit from to now kept next result old mid new held told then tally state begun b c source step =
     let more : (more : List ℕ) × MayCome next.over now.left more = some_more next.over now.left in
     let may : MayCome kept.over to.left (concat c.pieces ++ more.0) = came kept next to now result more.0 begun c more.1 in
-    let is : IsTold now.left more.0 = told_when next.over now.left more.0 (c.ended begun) more.1 in
+    let is : IfSome now.left (λ left. more.0 ≡ left) = told_when next.over now.left more.0 (c.ended begun) more.1 in
     let P : List ℕ → Type 0 = λ script. Stands limit script old mid held told (place_of kept (concat c.pieces ++ more.0)) tally in (
       b.gave ++ concat c.pieces,
       more.0,

@@ -10,10 +10,11 @@ use Rattle.session_cli.specs.declared.fault.Fault.TheVariants as faults
 use Rattle.session_cli.specs.declared.plan.Made.{Made}
 use Rattle.session_cli.specs.Accepting.{stored}
 use Rattle.session_cli.specs.Checks.{Fails}
-use Rattle.session_cli.specs.CombineOutcomes.{WordTracks, combine_success, parts_from}
+use Rattle.session_cli.specs.CombineOutcomes.{WordTracks, parts_from}
 use Rattle.session_cli.specs.Lines.{shown_steps}
 use Rattle.session_cli.specs.Plans.{Makes}
 use Rattle.session_cli.specs.WordPrinting.{IsWordTextOf, HasNoWordText, named_text}
+use Rattle.session_cli.proofs.CheckNames.{combine_success}
 
 module _ (ledger : Ledger) (head : CombineHead) (tracks : WordTracks) (names : List (List ℕ)) (word : WordValue) (lines : List StepLine)
     (has : HasTreeText (custom_of ledger) (Combine tracks.direction tracks.named (parts_from ledger 0 head.automata)) (named_text names word)) where

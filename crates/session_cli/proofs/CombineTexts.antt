@@ -35,12 +35,13 @@ use Rattle.definitions.proofs.WordTexts.{word_text_means}
 use Rattle.definitions.proofs.WordValueTexts.{IsWordNamed, HasLettersOf, combined_word_text}
 use Rattle.system_files.specs.SystemFiles.{Custom}
 use Rattle.session_cli.specs.CombineMakes.{first_names}
-use Rattle.session_cli.specs.CombineOutcomes.{WordTracks, HaveSystemsOfFirst, WordTracksAnswers, first_plain, listed_files, listed_names, listed_systems, parts_from}
+use Rattle.session_cli.specs.CombineOutcomes.{WordTracks, HaveSystemsOfFirst, first_plain, listed_files, listed_names, listed_systems, parts_from}
 use Rattle.session_cli.specs.CombineSteps.{ArePartsFrom, AreCombineSteps}
 use Rattle.session_cli.specs.FormulaPlans.{HasSystems}
 use Rattle.session_cli.specs.FormulaSteps.{AreMeant}
 use Rattle.session_cli.specs.TableReads.{relations_in}
 use Rattle.session_cli.specs.WordPrinting.{HaveNames, tracks_named, named_text}
+use Rattle.session_cli.proofs.CheckNames.{WordTracksAnswers}
 use Rattle.session_cli.proofs.ListedTables.{listed_readable, listed_under}
 use Rattle.session_cli.proofs.MeantNames.{found_meant, named_digits}
 use Rattle.session_cli.proofs.TableMeanings.{HoldsAs, named_holds_as, tables_mean_as}
@@ -105,7 +106,7 @@ module _ (automata : List ValuedName) (tables : List Loaded) (files : Files) (li
   h = headers_of tables
 
   combination : IsCombination steps.before.parts steps.before.tracks word
-  combination = steps.done.1.step.made_is
+  combination = steps.done.step.made_is
 
   under_first : (vs : List ValuedName) (ps : List PartValue) → HaveSystemsOfFirst h (listed_names vs) → ArePartsFrom (relations_in steps.before.reads) 0 vs ps → AreSystemsFor ps steps.before.tracks
       → ((name : List ℕ) (r : RelationValue) → relation_named (relations_in steps.before.reads) name ≡ Some r → AreUnder steps.before.systems (automaton_tracks h name) r.systems) → AreUnder steps.before.systems (first_names h (listed_names vs)) steps.before.tracks

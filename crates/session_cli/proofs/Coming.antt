@@ -1,8 +1,7 @@
 -- The bytes of a script that a source gave, and those that may still come.
-use Rattle.std.proofs.Common.{◌≡◌, ℕ, Bool, true, false, List, [], ◌++◌, Option, None, Some, refl, sym, ◌∙◌, ap}
+use Rattle.std.proofs.Common.{◌≡◌, ℕ, Bool, true, false, List, [], ◌++◌, Option, None, Some, IfSome, refl, sym, ◌∙◌, ap}
 use Rattle.std.specs.Io.KnownBytes.{Consumes, IsAtEnd as HasGivenAll}
 use Rattle.script_cut.specs.Cutting.{MayCome}
-use Rattle.session_cli.specs.Views.{IsTold}
 
 -- there are some that may come
 pub some_more : (over : Bool) (told : Option (List ℕ)) → (more : List ℕ) × MayCome over told more
@@ -18,11 +17,11 @@ may_come_before true (Some left) (Some rest) given more taken ended may = sym (t
 may_come_before false (Some left) (Some rest) given more taken ended may = sym (taken ∙ ap (λ (xs : List ℕ). given ++ xs) (sym may))
 
 -- all that may come is what is reported
-pub told_of : (told : Option (List ℕ)) (more : List ℕ) → MayCome false told more → IsTold told more
+pub told_of : (told : Option (List ℕ)) (more : List ℕ) → MayCome false told more → IfSome told (λ left. more ≡ left)
 told_of None more may = tt
 told_of (Some left) more may = may
 
-pub told_when : (over : Bool) (told : Option (List ℕ)) (more : List ℕ) → (over ≡ true → HasGivenAll told) → MayCome over told more → IsTold told more
+pub told_when : (over : Bool) (told : Option (List ℕ)) (more : List ℕ) → (over ≡ true → HasGivenAll told) → MayCome over told more → IfSome told (λ left. more ≡ left)
 told_when over None more ended may = tt
 told_when true (Some left) more ended may = may ∙ sym (ended refl)
 told_when false (Some left) more ended may = may

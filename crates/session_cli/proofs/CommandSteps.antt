@@ -14,14 +14,14 @@ use Rattle.definitions.specs.Texts.{HasTextAt, Stores}
 use Rattle.definitions.specs.Trees.{Bytes, Ledger, ledger_of, custom_of}
 use Rattle.system_files.specs.SystemFiles.{Custom}
 use Rattle.session_cli.specs.Outcomes.{checks_of}
-use Rattle.session_cli.specs.Runs.{IsAnswer, IsKnownLedger, StoresTold, is_store_fault, failed_after}
+use Rattle.session_cli.specs.Runs.{IsAnswer, is_store_fault, failed_after}
 use Rattle.session_cli.specs.Plans.{IsPlan}
 use Rattle.session_cli.specs.Commands.{Stored, Commands, WritesPlan}
 use Rattle.session_cli.specs.StoreReads.{IsReadFault, HasRead}
 use Rattle.session_cli.proofs.StoreReads.{rises}
 
 -- where the ledger is the one by which a command is answered, it is so whatever the store reports
-pub own_ledger : (told : Option Files) (ledger : Ledger) → IsKnownLedger told ledger ledger
+pub own_ledger : (told : Option Files) (ledger : Ledger) → IfSome told (λ files. ledger ≡ ledger)
 own_ledger None ledger = tt
 own_ledger (Some files) ledger = refl
 
@@ -62,7 +62,7 @@ kept_store custom store fault other = record { files = refl; later = omega arith
 -- a ledger by which a command over these files is answered: that of the files where they are reported, and else that of what was found
 pub record IsAnswering (told : Option Files) (ledger : Ledger) (found : Files) : Type 0 where
   known : Ledger
-  known_is : IsKnownLedger told ledger known
+  known_is : IfSome told (λ files. known ≡ ledger)
   stores : Stores known found
 
 entry_stores : (custom : Custom) (folder : Folder) (found : Option (List ℕ)) → HasTextAt custom folder (option_map (λ (bytes : List ℕ). Bytes bytes) found) found
@@ -73,7 +73,7 @@ entry_stores custom folder (Some text) = (tt, refl)
 pub files_store : (found : Files) → Stores (ledger_of found) found
 files_store found = λ folder name. entry_stores (custom_of (ledger_of found)) folder (found folder name)
 
-pub answering : (told : Option Files) (ledger : Ledger) (found : Files) → StoresTold ledger told → IfSome told (λ files. found ≡ files) → IsAnswering told ledger found
+pub answering : (told : Option Files) (ledger : Ledger) (found : Files) → IfSome told (Stores ledger) → IfSome told (λ files. found ≡ files) → IsAnswering told ledger found
 answering None ledger found stores is = record { known = ledger_of found; known_is = tt; stores = files_store found }
 answering (Some files) ledger found stores is = record { known = ledger; known_is = refl; stores = subst (Stores ledger) (sym is) stores }
 

@@ -5,7 +5,7 @@ use Rattle.wal_outside.specs.declared.folder.Folder.{Folder}
 use Rattle.digit_tuple.specs.Steps.{StepLog}
 use Rattle.digit_tuple.specs.declared.steps.StepLine.{StepLine}
 use Rattle.command_head.specs.Heads.{NamedHead}
-use Rattle.command_head.specs.Grammar.{SpellsNamed}
+use Rattle.command_head.specs.Grammar.{DerivesNamed}
 use Rattle.command_head.specs.Breaks.{HasHead}
 use Rattle.command_head.specs.declared.fault.HeadFault.TheVariants as head_faults
 use Rattle.formula_parse.specs.Trees as trees
@@ -19,18 +19,19 @@ use Rattle.definitions.specs.Trees.{Variable, Ledger, custom_of}
 use Rattle.dfa_loading.specs.declared.loaded.Loaded.{Loaded}
 use Rattle.session_cli.specs.Accepting.{Success}
 use Rattle.session_cli.specs.HeadAnswers.{HeadAnswers}
-use Rattle.session_cli.specs.FormulaOutcomes.{FormulaAnswers, loaded, mentioned_systems, ResolvedAnswers, BuiltAnswers, VariablesAnswers, bindings_now, after_variables, after_steps, after_resolution, after_systems, after_tables, after_formula, after_text, after_named_head, formula_checks}
+use Rattle.session_cli.specs.FormulaOutcomes.{FormulaAnswers, ResolvedAnswers, BuiltAnswers, bindings_now, after_systems, after_tables, after_text, after_named_head, formula_checks}
 use Rattle.session_cli.specs.MacroChecks.{ExpandedAnswers, expanded}
 use Rattle.session_cli.specs.SystemChecks.{SystemsAnswers, systems_known}
 use Rattle.session_cli.specs.Plans.{Makes, Plans}
+use Rattle.session_cli.proofs.CheckNames.{loaded, mentioned_systems, VariablesAnswers, after_variables, after_steps, after_resolution, after_formula}
 use Rattle.session_cli.proofs.CheckSteps.{fails_first, fails_after, makes_after, plans_after}
 
 -- where the head breaks the grammar
-pub named_syntax : (word : List ℕ) (folder : Folder) (limit : ℕ) (ledger : Ledger) (text : List ℕ) (at : ℕ) → HasHead (SpellsNamed word) (λ (h : NamedHead). h) text (Err (head_faults.Syntax at)) → Fails (formula_checks word folder limit ledger text) (faults.Syntax grammars.Command at)
-named_syntax word folder limit ledger text at breaks = fails_first (Pure (HeadAnswers (SpellsNamed word) text)) (λ head. after_named_head limit ledger folder head) (faults.Syntax grammars.Command at) breaks
+pub named_syntax : (word : List ℕ) (folder : Folder) (limit : ℕ) (ledger : Ledger) (text : List ℕ) (at : ℕ) → HasHead (DerivesNamed word) (λ (h : NamedHead). h) text (Err (head_faults.Syntax at)) → Fails (formula_checks word folder limit ledger text) (faults.Syntax grammars.Command at)
+named_syntax word folder limit ledger text at breaks = fails_first (Pure (HeadAnswers (DerivesNamed word) text)) (λ head. after_named_head limit ledger folder head) (faults.Syntax grammars.Command at) breaks
 
-pub named_number : (word : List ℕ) (folder : Folder) (limit : ℕ) (ledger : Ledger) (text : List ℕ) (at : ℕ) → HasHead (SpellsNamed word) (λ (h : NamedHead). h) text (Err (head_faults.Number at)) → Fails (formula_checks word folder limit ledger text) (faults.Number grammars.Command at)
-named_number word folder limit ledger text at breaks = fails_first (Pure (HeadAnswers (SpellsNamed word) text)) (λ head. after_named_head limit ledger folder head) (faults.Number grammars.Command at) breaks
+pub named_number : (word : List ℕ) (folder : Folder) (limit : ℕ) (ledger : Ledger) (text : List ℕ) (at : ℕ) → HasHead (DerivesNamed word) (λ (h : NamedHead). h) text (Err (head_faults.Number at)) → Fails (formula_checks word folder limit ledger text) (faults.Number grammars.Command at)
+named_number word folder limit ledger text at breaks = fails_first (Pure (HeadAnswers (DerivesNamed word) text)) (λ head. after_named_head limit ledger folder head) (faults.Number grammars.Command at) breaks
 
 -- what is accepted is under the head's name
 record IsAt (folder : Folder) (head : NamedHead) (success : Success) : Type 0 where
@@ -44,15 +45,15 @@ stands_at limit ledger folder head success (expansion, expands, (formula, reads,
 }
 
 -- a command whose head is this one
-pub named_planned : (word : List ℕ) (folder : Folder) (limit : ℕ) (ledger : Ledger) (text : List ℕ) (shown : Bool) (head : NamedHead) (plan : Plan) → HasHead (SpellsNamed word) (λ (h : NamedHead). h) text (Ok head) → plan.folder ≡ folder → plan.name ≡ head.name
+pub named_planned : (word : List ℕ) (folder : Folder) (limit : ℕ) (ledger : Ledger) (text : List ℕ) (shown : Bool) (head : NamedHead) (plan : Plan) → HasHead (DerivesNamed word) (λ (h : NamedHead). h) text (Ok head) → plan.folder ≡ folder → plan.name ≡ head.name
     → Makes (custom_of ledger) (after_named_head limit ledger folder head) shown (Ok plan.made) → Plans (custom_of ledger) (formula_checks word folder limit ledger text) shown (Ok plan)
 named_planned word folder limit ledger text shown head plan spells folder_is name_is made =
     let at : IsAt folder head made.success = stands_at limit ledger folder head made.success made.answers in
-    plans_after (custom_of ledger) (Pure (HeadAnswers (SpellsNamed word) text)) (λ h. after_named_head limit ledger folder h) head shown (Ok plan) spells (record { made = made; folder_is = folder_is ∙ at.folder_is; name_is = name_is ∙ at.name_is })
+    plans_after (custom_of ledger) (Pure (HeadAnswers (DerivesNamed word) text)) (λ h. after_named_head limit ledger folder h) head shown (Ok plan) spells (record { made = made; folder_is = folder_is ∙ at.folder_is; name_is = name_is ∙ at.name_is })
 
-pub named_failed : (word : List ℕ) (folder : Folder) (limit : ℕ) (ledger : Ledger) (text : List ℕ) (shown : Bool) (head : NamedHead) (fault : Fault) → HasHead (SpellsNamed word) (λ (h : NamedHead). h) text (Ok head)
+pub named_failed : (word : List ℕ) (folder : Folder) (limit : ℕ) (ledger : Ledger) (text : List ℕ) (shown : Bool) (head : NamedHead) (fault : Fault) → HasHead (DerivesNamed word) (λ (h : NamedHead). h) text (Ok head)
     → Fails (after_named_head limit ledger folder head) fault → Plans (custom_of ledger) (formula_checks word folder limit ledger text) shown (Err fault)
-named_failed word folder limit ledger text shown head fault spells refused = plans_after (custom_of ledger) (Pure (HeadAnswers (SpellsNamed word) text)) (λ h. after_named_head limit ledger folder h) head shown (Err fault) spells refused
+named_failed word folder limit ledger text shown head fault spells refused = plans_after (custom_of ledger) (Pure (HeadAnswers (DerivesNamed word) text)) (λ h. after_named_head limit ledger folder h) head shown (Err fault) spells refused
 
 -- a call of a macro is not expanded
 pub head_unexpanded : (limit : ℕ) (ledger : Ledger) (folder : Folder) (head : NamedHead) (fault : Fault) → Fails (expanded ledger head.body) fault → Fails (after_named_head limit ledger folder head) fault

@@ -55,7 +55,7 @@ module _ (formula : trees.Formula) (tables : List Loaded) (files : Files) (liste
       pub ground_fits : Fits (library_with reads systems) (plan_headers (headers_of tables)) direction_named
       ground_fits = tables_fit table_holds systems sealed custom tables reads old new meant (files_apart files (first_files (mentions formula)) tables (first_once (mentions formula)) listed) ground_readable made
 
-      -- each name of the formula stands for something
+      -- each name of the formula means something
       pub ground_known : ((text : List ℕ) × Reads (tokens (spots text)) formula) → AreKnownIn (library_with reads systems) formula
       ground_known (text, spelled) =
           read_known (library_with reads systems) (headers_of tables) text formula spelled (files_known systems files (first_files (mentions formula)) tables reads old new listed made) has.default has.mentioned

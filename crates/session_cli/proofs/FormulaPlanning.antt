@@ -20,11 +20,11 @@ use Rattle.system_files.specs.SystemFiles.{Custom}
 use Rattle.session_cli.specs.Accepting.{FitsFile, stored}
 use Rattle.definitions.specs.FormulaTexts.{truth_text, IsSolutionText, IsFormulaText, HasVerdict}
 use Rattle.session_cli.specs.FormulaSteps.{AreMeant}
-use Rattle.session_cli.specs.FormulaOutcomes.{VerdictAnswers, formula_success, after_variables}
 use Rattle.session_cli.specs.FormulaPlans.{automaton_text, IsTextOf, HasNoTextOf}
 use Rattle.session_cli.specs.Lines.{shown_steps, verdict_line}
 use Rattle.session_cli.specs.Plans.{Makes}
 use Rattle.session_cli.specs.VariablesOver.{variables_over}
+use Rattle.session_cli.proofs.CheckNames.{VerdictAnswers, formula_success, after_variables}
 use Rattle.session_cli.proofs.CheckSteps.{fails_after, makes_after}
 use Rattle.session_cli.proofs.FormulaSolutions.{solution_text, no_variables, some_variables, sentence_truth}
 

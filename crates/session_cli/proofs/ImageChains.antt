@@ -6,7 +6,7 @@ use Rattle.wal_outside.specs.declared.folder.Folder.TheVariants.{Words}
 use Rattle.digit_tuple.specs.Steps.{StepLog}
 use Rattle.digit_tuple.specs.declared.steps.StepLine.{StepLine}
 use Rattle.command_head.specs.Breaks.{HasHead}
-use Rattle.command_head.specs.Grammar.{SpellsImage}
+use Rattle.command_head.specs.Grammar.{DerivesImage}
 use Rattle.command_head.specs.HeadViews.{image_view}
 use Rattle.command_head.specs.Heads.{ImageHead}
 use Rattle.command_head.specs.declared.fault.HeadFault.{HeadFault}
@@ -32,10 +32,11 @@ use Rattle.session_cli.specs.Checks.{Pure, Fails}
 use Rattle.session_cli.specs.FileChecks.{FilesAnswers, files_loaded}
 use Rattle.session_cli.specs.HeadAnswers.{HeadAnswers, fault_of_head}
 use Rattle.session_cli.specs.ImageMakes.{IsReadImage, MakesAfterOldSystems, head_of}
-use Rattle.session_cli.specs.ImageOutcomes.{WordTrack, OneTrackAnswers, LengthsAnswers, TrackAnswers, ImagedAnswers, OldAnswers, old_mentions, image_success, after_image_steps, after_track, after_lengths, after_one_track, after_old_systems, after_old_table, after_image_morphism, after_image_head, image_checks}
+use Rattle.session_cli.specs.ImageOutcomes.{WordTrack, OneTrackAnswers, LengthsAnswers, ImagedAnswers, old_mentions, after_old_systems, after_old_table, after_image_head, image_checks}
 use Rattle.session_cli.specs.MorphismChecks.{MorphismAnswers, morphism_loaded}
 use Rattle.session_cli.specs.Plans.{Makes, Plans}
 use Rattle.session_cli.specs.SystemChecks.{SystemsAnswers, systems_known}
+use Rattle.session_cli.proofs.CheckNames.{TrackAnswers, OldAnswers, image_success, after_image_steps, after_track, after_lengths, after_one_track, after_image_morphism}
 use Rattle.session_cli.proofs.CheckSteps.{fails_first, fails_after, makes_after, plans_after}
 use Rattle.session_cli.proofs.CommandSteps.{files_store}
 use Rattle.session_cli.proofs.FilesElsewhere.{listed_elsewhere}
@@ -43,9 +44,9 @@ use Rattle.session_cli.proofs.StoreReads.{IsOwn, own_made}
 use Rattle.session_cli.proofs.TextReads.{with_bases}
 
 -- where the head breaks the grammar
-pub image_broken : (limit : ℕ) (ledger : Ledger) (text : List ℕ) (fault : HeadFault) → HasHead {X = ImageParts} SpellsImage image_view text (Err fault) → Fails (image_checks limit ledger text) (fault_of_head fault)
-image_broken limit ledger text (head_faults.Syntax at) breaks = fails_first (Pure (HeadAnswers SpellsImage text)) (λ head. after_image_head limit ledger head) (faults.Syntax grammars.Command at) breaks
-image_broken limit ledger text (head_faults.Number at) breaks = fails_first (Pure (HeadAnswers SpellsImage text)) (λ head. after_image_head limit ledger head) (faults.Number grammars.Command at) breaks
+pub image_broken : (limit : ℕ) (ledger : Ledger) (text : List ℕ) (fault : HeadFault) → HasHead {X = ImageParts} DerivesImage image_view text (Err fault) → Fails (image_checks limit ledger text) (fault_of_head fault)
+image_broken limit ledger text (head_faults.Syntax at) breaks = fails_first (Pure (HeadAnswers DerivesImage text)) (λ head. after_image_head limit ledger head) (faults.Syntax grammars.Command at) breaks
+image_broken limit ledger text (head_faults.Number at) breaks = fails_first (Pure (HeadAnswers DerivesImage text)) (λ head. after_image_head limit ledger head) (faults.Number grammars.Command at) breaks
 image_broken limit ledger text head_faults.Memory breaks = tt
 
 -- what is accepted is among words, under the name of the head
@@ -58,14 +59,14 @@ image_at limit ledger head success (rules, read, (tables, files, (admitted, syst
     record { folder_is = sym (ap (λ (s : Success). s.folder) is); name_is = sym (ap (λ (s : Success). s.name) is) }
 
 -- a command whose head is this one
-pub image_planned : (limit : ℕ) (ledger : Ledger) (text : List ℕ) (shown : Bool) (head : ImageHead) (plan : Plan) → HeadAnswers SpellsImage text (Ok head) → plan.folder ≡ Words → plan.name ≡ head.word
+pub image_planned : (limit : ℕ) (ledger : Ledger) (text : List ℕ) (shown : Bool) (head : ImageHead) (plan : Plan) → HeadAnswers DerivesImage text (Ok head) → plan.folder ≡ Words → plan.name ≡ head.word
     → Makes (custom_of ledger) (after_image_head limit ledger head) shown (Ok plan.made) → Plans (custom_of ledger) (image_checks limit ledger text) shown (Ok plan)
 image_planned limit ledger text shown head plan spells folder_is name_is made =
     let at : IsImageAt head made.success = image_at limit ledger head made.success made.answers in
-    plans_after (custom_of ledger) (Pure (HeadAnswers SpellsImage text)) (λ h. after_image_head limit ledger h) head shown (Ok plan) spells (record { made = made; folder_is = folder_is ∙ at.folder_is; name_is = name_is ∙ at.name_is })
+    plans_after (custom_of ledger) (Pure (HeadAnswers DerivesImage text)) (λ h. after_image_head limit ledger h) head shown (Ok plan) spells (record { made = made; folder_is = folder_is ∙ at.folder_is; name_is = name_is ∙ at.name_is })
 
-pub image_failed : (limit : ℕ) (ledger : Ledger) (text : List ℕ) (shown : Bool) (head : ImageHead) (fault : Fault) → HeadAnswers SpellsImage text (Ok head) → Fails (after_image_head limit ledger head) fault → Plans (custom_of ledger) (image_checks limit ledger text) shown (Err fault)
-image_failed limit ledger text shown head fault spells refused = plans_after (custom_of ledger) (Pure (HeadAnswers SpellsImage text)) (λ h. after_image_head limit ledger h) head shown (Err fault) spells refused
+pub image_failed : (limit : ℕ) (ledger : Ledger) (text : List ℕ) (shown : Bool) (head : ImageHead) (fault : Fault) → HeadAnswers DerivesImage text (Ok head) → Fails (after_image_head limit ledger head) fault → Plans (custom_of ledger) (image_checks limit ledger text) shown (Err fault)
+image_failed limit ledger text shown head fault spells refused = plans_after (custom_of ledger) (Pure (HeadAnswers DerivesImage text)) (λ h. after_image_head limit ledger h) head shown (Err fault) spells refused
 
 module _ (limit : ℕ) (ledger : Ledger) (head : ImageHead) where
   -- its morphism is not loaded

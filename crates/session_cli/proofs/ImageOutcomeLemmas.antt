@@ -1,21 +1,26 @@
 -- The image of a word has one outcome.
-use Rattle.std.proofs.Common.{◌≡◌, ◌≢◌, ℕ, zero, suc, ◌<ℤ◌, ℤ, pos, List, [], ◌∷◌, ◌++◌, get_or, length, Some, Result, Ok, Err, ◌⊎◌, inl, inr, refl, sym, ap, ◌∙◌, subst, arith}
+use Rattle.std.proofs.Common.{◌≡◌, ◌≢◌, ℕ, zero, suc, ◌<ℤ◌, ℤ, pos, List, [], ◌∷◌, get_or, length, Some, Result, Ok, Err, ◌⊎◌, inl, inr, refl, sym, ap, ◌∙◌, subst, arith}
 use Rattle.std.specs.List.{AllByRecursion}
 use Rattle.std.specs.Map.{keys_of}
 use Rattle.std.proofs.lemmas.Int.{ints}
 use Rattle.std.proofs.lemmas.Option.{same_Some}
 use Rattle.digit_tuple.specs.Letters.{IsWord, product}
+use Rattle.digit_tuple.specs.StepResults.{Then}
 use Rattle.digit_tuple.specs.Steps.{StepLog}
 use Rattle.digit_tuple.specs.declared.step_fault.StepFault.{StepFault}
 use Rattle.digit_tuple.specs.declared.step_fault.StepFault.TheVariants as faults
-use Rattle.automaton_steps.proofs.AnswerCases.{memory_alone, one_result, one_value, same_fault}
+use Rattle.automaton_steps.specs.Makings.{DoesStep, Gives, WithSome}
+use Rattle.automaton_steps.specs.OneAnswers.{AreOneAnswer, HasOneAnswer}
+use Rattle.automaton_steps.proofs.AnswerCases.{memory_alone, one_value, raised_one}
+use Rattle.automaton_steps.proofs.ThenAnswers.{gives_one, some_one, then_one}
 use Rattle.minimise.proofs.OrderLemmas.{same_in_order}
 use Rattle.numeration.specs.Representation.{letters_in, sizes_of}
 use Rattle.num_system.specs.Sealed.{IsSealed, SystemValue}
 use Rattle.num_system.specs.Tracks.{absent_system, systems_of}
 use Rattle.morph_words.specs.Rules.{IsMorphism, Rules}
-use Rattle.morph_words.specs.Uniform.{IsImageLength}
+use Rattle.morph_words.specs.Uniform.{IsImageLength, IsLengthRefused}
 use Rattle.morph_words.specs.UniformLaws.{HasOneLength}
+use Rattle.morph_words.specs.declared.morphism_kind.MorphismKind.{MorphismKind}
 use Rattle.morph_words.proofs.RuleLemmas.{first_least, one_least}
 use Rattle.morph_words.proofs.UniformLemmas.{one_length, one_lengths}
 use Rattle.word_output.specs.LetterFunctions.{letter_after}
@@ -30,18 +35,14 @@ use Rattle.formula_build.specs.OneBuilding.{Agree}
 use Rattle.formula_build.specs.Solutions.{BuildsFormula}
 use Rattle.formula_build.proofs.OneBuildingLemmas.{one_building}
 use Rattle.combinations.specs.Parts.{PartValue}
-use Rattle.combinations.specs.CombineSteps.{DoesCombine}
-use Rattle.combinations.specs.declared.combine_fault.CombineFault.{CombineFault}
-use Rattle.combinations.specs.declared.combine_fault.CombineFault.TheVariants as combining
-use Rattle.combinations.proofs.OutcomeLemmas as combinations
+use Rattle.combinations.specs.CombineSteps.{combine_step}
+use Rattle.combinations.proofs.OutcomeLemmas.{step_outcome}
 use Rattle.word_images.specs.ImageFormula.{word_name}
-use Rattle.session_cli.specs.ImageSteps.{AreBuilt, IsCombined, IsCombiningStopped, IsImageDone, IsImageRefused, IsImageStopped, IsLetterStopped, letter_plan}
+use Rattle.session_cli.specs.ImageSteps.{DoesImage, DoesLetters, DoesMapped, IsLetterMissing, letter_plan}
 use Rattle.word_images.specs.ImageWords.{AreOutputs, IsMapped, IsMissing}
-use Rattle.session_cli.specs.OneImage.{ImagesHaveOneOutcome}
 use Rattle.session_cli.specs.OneImage.{ImagesHaveOneOutcome}
 use Rattle.word_images.specs.Recoded.{IsRecoded}
 use Rattle.session_cli.specs.RecodedWords.{AreRecoded, IsImageLibrary}
-use Rattle.session_cli.specs.declared.image_fault.ImageFault.{ImageFault}
 use Rattle.session_cli.specs.declared.image_fault.ImageFault.TheVariants.{Morphism, Missing, Step}
 
 module _ (rules : Rules) (word : WordValue) where
@@ -100,182 +101,94 @@ module _ (rules : Rules) (word : WordValue) where
   one_outputs xs ys one two =
       same_in_order (λ b c. b <ℤ c) (λ b c less more. omega (arith, ints, less, more)) xs ys one.ascending two.ascending (λ b at. (two.members b).1 ((one.members b).0 at)) (λ b at. (one.members b).1 ((two.members b).0 at))
 
--- what an outcome gives, where it is one
-abbrev err_or : Result RelationValue StepFault → StepFault → StepFault
-err_or (Ok r) d = d
-err_or (Err fault) d = fault
+-- a letter's relation before those of others
+abbrev with_letter : ℤ → RelationValue → List PartValue → List PartValue
+with_letter b relation parts = record { relation = relation; value = b } ∷ parts
 
-abbrev step_or : CombineFault → StepFault → StepFault
-step_or (combining.Shape i j) d = d
-step_or (combining.Step f) d = f
+-- the steps of the letters, and the one that combines their relations
+abbrev DoesCombined : LibraryValue → Name → ℕ → WordValue → List ℤ → StepLog → Result WordValue StepFault → StepLog → Type 0
+DoesCombined l s k word letters = Then (DoesLetters l s k letters) (λ parts. DoesStep (combine_step parts word.systems))
 
 module _ (l : LibraryValue) (is : IsLibrary l) (s : Name) (k : ℕ) where
   agree : Agree l l
   agree = record { relations = refl; words = refl; systems = λ y a b first second. same_Some a b (sym first ∙ second) }
 
-  one_built : (b : ℤ) (old new next : StepLog) (r q : RelationValue) → BuildsFormula l (letter_plan s k b) old (Ok r) new → BuildsFormula l (letter_plan s k b) old (Ok q) next → (r ≡ q) × (new ≡ next)
-  one_built b old new next r q one two =
-      one_value faults.Memory new next r q (one_building l l old new next (letter_plan s k b) (Ok r) (Ok q) is is agree one two)
+  letter_one : (b : ℤ) → HasOneAnswer faults.Memory (BuildsFormula l (letter_plan s k b))
+  letter_one b old new next result other one two = one_building l l old new next (letter_plan s k b) result other is is agree one two
 
-  not_both : (b : ℤ) (old new next : StepLog) (r : RelationValue) (fault : StepFault) → BuildsFormula l (letter_plan s k b) old (Ok r) new → BuildsFormula l (letter_plan s k b) old (Err fault) next → fault ≢ faults.Memory → ⊥
-  not_both b old new next r fault one two apart =
-      apart (memory_alone faults.Memory new next r fault (one_building l l old new next (letter_plan s k b) (Ok r) (Err fault) is is agree one two))
+  letters_one : (bs : List ℤ) → HasOneAnswer faults.Memory (DoesLetters l s k bs)
+  letters_one [] = gives_one []
+  letters_one (b ∷ bs) =
+      then_one faults.Memory (BuildsFormula l (letter_plan s k b)) (λ relation. Then (DoesLetters l s k bs) (λ parts. Gives (with_letter b relation parts))) (letter_one b)
+      (λ relation. then_one faults.Memory (DoesLetters l s k bs) (λ parts. Gives (with_letter b relation parts)) (letters_one bs) (λ parts. gives_one (with_letter b relation parts)))
 
-  one_stopped : (b : ℤ) (old new next : StepLog) (fault other : StepFault) → BuildsFormula l (letter_plan s k b) old (Err fault) new → BuildsFormula l (letter_plan s k b) old (Err other) next → fault ≢ faults.Memory → other ≢ faults.Memory → (fault ≡ other) × (new ≡ next)
-  one_stopped b old new next fault other one two apart away =
-      let both = one_result faults.Memory new next (Err fault) (Err other) (one_building l l old new next (letter_plan s k b) (Err fault) (Err other) is is agree one two) (λ e. apart (ap (λ x. err_or x faults.Memory) e))
-      (λ e. away (ap (λ x. err_or x faults.Memory) e)) in
-      (ap (λ x. err_or x fault) both.0, both.1)
+  combined_one : (word : WordValue) (letters : List ℤ) → HasOneAnswer faults.Memory (DoesCombined l s k word letters)
+  combined_one word letters = then_one faults.Memory (DoesLetters l s k letters) (λ parts. DoesStep (combine_step parts word.systems)) (letters_one letters) (λ parts. step_outcome parts word.systems)
 
-  all_built : (bs : List ℤ) (old new next : StepLog) (parts others : List PartValue) → AreBuilt l s k old bs parts new → AreBuilt l s k old bs others next → (parts ≡ others) × (new ≡ next)
-  all_built [] old new next [] [] one two = (refl, one ∙ sym two)
-  all_built [] old new next [] (p ∷ ps) one two = absurd two
-  all_built [] old new next (p ∷ ps) others one two = absurd one
-  all_built (b ∷ bs) old new next [] others one two = absurd one
-  all_built (b ∷ bs) old new next (p ∷ ps) [] one two = absurd two
-  all_built (b ∷ bs) old new next (p ∷ ps) (q ∷ qs) (value, (middle, here, rest)) (other, (between, there, more)) =
-      let first = one_built b old middle between p.relation q.relation here there in
-      let later = all_built bs middle new next ps qs rest (subst (λ m. AreBuilt l s k m bs qs next) (sym first.1) more) in
-      ((λ i. record { relation = first.0 i; value = (value ∙ sym other) i } ∷ later.0 i), later.1)
+module _ (rules : Rules) (word : WordValue) (s : Name) (is : IsWordValue word) where
+  abbrev DoesOver : ℕ → LibraryValue → StepLog → Result WordValue StepFault → StepLog → Type 0
+  DoesOver k l = WithSome (AreOutputs rules word) (λ letters. DoesCombined l s k word letters)
 
-  -- the steps stop at a letter, read from the first
-  abbrev StopsAt : StepLog → List ℤ → StepFault → StepLog → Type 0
-  StopsAt old [] fault new = ⊥
-  StopsAt old (b ∷ bs) fault new = BuildsFormula l (letter_plan s k b) old (Err fault) new ⊎ ((r : RelationValue) × (middle : StepLog) × BuildsFormula l (letter_plan s k b) old (Ok r) middle × StopsAt middle bs fault new)
+  over_one : (k : ℕ) (l : LibraryValue) → IsImageLibrary rules word s k l → HasOneAnswer faults.Memory (DoesOver k l)
+  over_one k l library = some_one (AreOutputs rules word) (λ letters. DoesCombined l s k word letters) (one_outputs rules word) (λ letters. combined_one l (library_is rules word s k l is library) s k word letters)
 
-  stops_at : (prefix rest : List ℤ) (here : ℤ) (old middle new : StepLog) (parts : List PartValue) (fault : StepFault) → AreBuilt l s k old prefix parts middle → BuildsFormula l (letter_plan s k here) middle (Err fault) new → StopsAt old (prefix ++ here ∷ rest) fault new
-  stops_at [] rest here old middle new [] fault built stopped = inl (subst (λ m. BuildsFormula l (letter_plan s k here) m (Err fault) new) built stopped)
-  stops_at [] rest here old middle new (p ∷ ps) fault built stopped = absurd built
-  stops_at (b ∷ prefix) rest here old middle new [] fault built stopped = absurd built
-  stops_at (b ∷ prefix) rest here old middle new (p ∷ ps) fault (value, (between, first, more)) stopped = inr (p.relation, between, first, stops_at prefix rest here between middle new ps fault more stopped)
+  library_one : (k : ℕ) → HasOneAnswer faults.Memory (WithSome (IsImageLibrary rules word s k) (DoesOver k))
+  library_one k old new next result other (inl out) b = inr (inl out)
+  library_one k old new next result other (inr a) (inl out) = inr (inr out)
+  library_one k old new next result other (inr (l, library, done)) (inr (m, also, did)) =
+      over_one k m also old new next result other (subst (λ (x : LibraryValue). DoesOver k x old result new) (one_library rules word s k l m library also) done) did
 
-  stop_of : (letters : List ℤ) (old new : StepLog) (fault : StepFault) → IsLetterStopped l s k old letters fault new → StopsAt old letters fault new
-  stop_of letters old new fault h = subst (λ bs. StopsAt old bs fault new) (sym h.letters_are) (stops_at h.prefix h.rest h.here old h.middle new h.parts fault h.built h.stopped)
+  module _ (morphism : IsMorphism rules) where
+    lengths : HasOneLength IsImageLength rules
+    lengths = one_lengths 1 40 rules morphism
 
-  one_stop : (bs : List ℤ) (old new next : StepLog) (fault other : StepFault) → StopsAt old bs fault new → StopsAt old bs other next → fault ≢ faults.Memory → other ≢ faults.Memory → (fault ≡ other) × (new ≡ next)
-  one_stop [] old new next fault other one two apart away = absurd one
-  one_stop (b ∷ bs) old new next fault other (inl one) (inl two) apart away = one_stopped b old new next fault other one two apart away
-  one_stop (b ∷ bs) old new next fault other (inl one) (inr (r, middle, built, rest)) apart away = absurd (not_both b old middle new r fault built one apart)
-  one_stop (b ∷ bs) old new next fault other (inr (r, middle, built, rest)) (inl two) apart away = absurd (not_both b old middle next r other built two away)
-  one_stop (b ∷ bs) old new next fault other (inr (r, middle, built, rest)) (inr (q, between, also, more)) apart away =
-      let first = one_built b old middle between r q built also in
-      one_stop bs middle new next fault other rest (subst (λ m. StopsAt m bs other next) (sym first.1) more) apart away
+    one_k : (j k : ℕ) → IsMapped rules word j → IsMapped rules word k → j ≡ k
+    one_k j k one two = one_length rules (get_or (keys_of rules) 0 (pos 0)) j k (first_least rules morphism).holds one.length_is.uniform two.length_is.uniform
 
-  not_stopped : (bs : List ℤ) (old new next : StepLog) (parts : List PartValue) (fault : StepFault) → AreBuilt l s k old bs parts new → StopsAt old bs fault next → fault ≢ faults.Memory → ⊥
-  not_stopped [] old new next parts fault built stopped apart = stopped
-  not_stopped (b ∷ bs) old new next [] fault built stopped apart = built
-  not_stopped (b ∷ bs) old new next (p ∷ ps) fault (value, (middle, here, rest)) (inl stopped) apart = not_both b old middle next p.relation fault here stopped apart
-  not_stopped (b ∷ bs) old new next (p ∷ ps) fault (value, (middle, here, rest)) (inr (r, between, also, more)) apart =
-      let first = one_built b old middle between p.relation r here also in
-      not_stopped bs middle new next ps fault rest (subst (λ m. StopsAt m bs fault next) (sym first.1) more) apart
+    mapped_one : HasOneAnswer faults.Memory (DoesMapped rules word s)
+    mapped_one old new next result other (j, one, done) (k, two, did) =
+        library_one k old new next result other (subst (λ (n : ℕ). WithSome (IsImageLibrary rules word s n) (DoesOver n) old result new) (one_k j k one two) done) did
 
-  module _ (word : WordValue) (old : StepLog) (letters : List ℤ) where
-    abbrev Stops : StepFault → StepLog → Type 0
-    Stops fault new = IsLetterStopped l s k old letters fault new ⊎ IsCombiningStopped l word s k old letters fault new
+    ruled_not : (k : ℕ) (letter : ℤ) → IsMapped rules word k → IsMissing rules word letter → ⊥
+    ruled_not k letter mapped missing = missing.lacks (mapped.ruled letter missing.occurs)
 
-    one_combined : (v u : WordValue) (new next : StepLog) → IsCombined l word s k old letters v new → IsCombined l word s k old letters u next → (v ≡ u) × (new ≡ next)
-    one_combined v u new next one two =
-        let same = all_built letters old one.middle two.middle one.parts two.parts one.built two.built in
-        one_value (combining.Step faults.Memory) new next v u (combinations.one_outcome one.parts word.systems one.middle new next (Ok v) (Ok u) one.done
-        (subst (λ m. DoesCombine one.parts word.systems m (Ok u) next) (sym same.1) (subst (λ (ps : List PartValue). DoesCombine ps word.systems two.middle (Ok u) next) (sym same.0) two.done)))
+    -- beside a step there is no other fault
+    step_alone : (old new next : StepLog) (v : WordValue) (fault : StepFault) → DoesMapped rules word s old (Ok v) new → (fault ≡ faults.Memory) ⊎ DoesMapped rules word s old (Err fault) next → fault ≡ faults.Memory
+    step_alone old new next v fault done (inl memory) = memory
+    step_alone old new next v fault done (inr stopped) = memory_alone faults.Memory new next v fault (mapped_one old new next (Ok v) (Err fault) done stopped)
 
-    one_end : (fault other : StepFault) (new next : StepLog) → Stops fault new → Stops other next → fault ≢ faults.Memory → other ≢ faults.Memory → (fault ≡ other) × (new ≡ next)
-    one_end fault other new next (inl one) (inl two) apart away = one_stop letters old new next fault other (stop_of letters old new fault one) (stop_of letters old next other two) apart away
-    one_end fault other new next (inl one) (inr two) apart away = absurd (not_stopped letters old two.middle new two.parts fault two.built (stop_of letters old new fault one) apart)
-    one_end fault other new next (inr one) (inl two) apart away = absurd (not_stopped letters old one.middle next one.parts other one.built (stop_of letters old next other two) away)
-    one_end fault other new next (inr one) (inr two) apart away =
-        let same = all_built letters old one.middle two.middle one.parts two.parts one.built two.built in
-        let moved = subst (λ m. DoesCombine one.parts word.systems m (Err (combining.Step other)) next) (sym same.1)
-        (subst (λ (ps : List PartValue). DoesCombine ps word.systems two.middle (Err (combining.Step other)) next) (sym same.0) two.stopped) in
-        let fault_is : combining.Step fault ≡ combining.Step other = same_fault (combining.Step faults.Memory) new next (combining.Step fault) (combining.Step other)
-        (combinations.one_outcome one.parts word.systems one.middle new next (Err (combining.Step fault)) (Err (combining.Step other)) one.stopped moved) (λ e. apart (step_in e)) (λ e. away (step_in e)) in
-        (ap (λ e. step_or e fault) fault_is, one.stopped.1.1 ∙ sym moved.1.1)
-      where
-        step_in : {f : StepFault} → combining.Step f ≡ combining.Step faults.Memory → f ≡ faults.Memory
-        step_in {f} e = ap (λ x. step_or x f) e
+    steps_one : (old new next : StepLog) (fault other : StepFault) → (fault ≡ faults.Memory) ⊎ DoesMapped rules word s old (Err fault) new → (other ≡ faults.Memory) ⊎ DoesMapped rules word s old (Err other) next
+        → AreOneAnswer {Made = WordValue} (Step faults.Memory) (Err (Step fault)) (Err (Step other)) new next
+    steps_one old new next fault other (inl memory) two = inr (inl (ap Err (ap Step memory)))
+    steps_one old new next fault other (inr one) (inl memory) = inr (inr (ap Err (ap Step memory)))
+    steps_one old new next fault other (inr one) (inr two) = raised_one Step faults.Memory new next fault other (mapped_one old new next (Err fault) (Err other) one two)
 
-    done_not_stopped : (v : WordValue) (fault : StepFault) (new next : StepLog) → IsCombined l word s k old letters v new → Stops fault next → fault ≢ faults.Memory → ⊥
-    done_not_stopped v fault new next done (inl stop) apart = not_stopped letters old done.middle next done.parts fault done.built (stop_of letters old next fault stop) apart
-    done_not_stopped v fault new next done (inr stop) apart =
-        let same = all_built letters old done.middle stop.middle done.parts stop.parts done.built stop.built in
-        let moved = subst (λ m. DoesCombine done.parts word.systems m (Err (combining.Step fault)) next) (sym same.1)
-        (subst (λ (ps : List PartValue). DoesCombine ps word.systems stop.middle (Err (combining.Step fault)) next) (sym same.0) stop.stopped) in
-        let is_memory : combining.Step fault ≡ combining.Step faults.Memory = memory_alone (combining.Step faults.Memory) new next v (combining.Step fault)
-        (combinations.one_outcome done.parts word.systems done.middle new next (Ok v) (Err (combining.Step fault)) done.done moved) in
-        apart (ap (λ x. step_or x fault) is_memory)
+    -- images of one length are of no other kind, and letters that have rules are not missing
+    kind_or_memory : (old new : StepLog) (kind : MorphismKind) (fault : StepFault) → IsLengthRefused IsImageLength rules kind → (fault ≡ faults.Memory) ⊎ DoesMapped rules word s old (Err fault) new → fault ≡ faults.Memory
+    kind_or_memory old new kind fault refused (inl memory) = memory
+    kind_or_memory old new kind fault refused (inr (k, mapped, done)) = absurd (lengths.apart k kind mapped.length_is refused)
 
-module _ (old : StepLog) (rules : Rules) (word : WordValue) (s : Name) (morphism : IsMorphism rules) (is : IsWordValue word) where
-  lengths : HasOneLength IsImageLength rules
-  lengths = one_lengths 1 40 rules morphism
+    letter_or_memory : (old new : StepLog) (letter : ℤ) (fault : StepFault) → IsLetterMissing rules word letter → (fault ≡ faults.Memory) ⊎ DoesMapped rules word s old (Err fault) new → fault ≡ faults.Memory
+    letter_or_memory old new letter fault missing (inl memory) = memory
+    letter_or_memory old new letter fault missing (inr (k, mapped, done)) = absurd (ruled_not k letter mapped missing.missing.holds)
 
-  one_k : (j k : ℕ) → IsMapped rules word j → IsMapped rules word k → j ≡ k
-  one_k j k one two = one_length rules (get_or (keys_of rules) 0 (pos 0)) j k (first_least rules morphism).holds one.length_is.uniform two.length_is.uniform
-
-  words : (v u : WordValue) (new next : StepLog) → IsImageDone old rules word s v new → IsImageDone old rules word s u next → (v ≡ u) × (new ≡ next)
-  words v u new next h g =
-      let k_same = one_k h.k g.k h.mapped g.mapped in
-      let library = subst (λ j. IsImageLibrary rules word s j g.l) (sym k_same) g.library in
-      let l_same = one_library rules word s h.k h.l g.l h.library library in
-      let letters = one_outputs rules word h.letters g.letters h.outputs g.outputs in
-      one_combined h.l (library_is rules word s h.k h.l is h.library) s h.k word old h.letters v u new next h.combined
-      (subst (λ bs. IsCombined h.l word s h.k old bs u next) (sym letters) (subst (λ (m : LibraryValue). IsCombined m word s h.k old g.letters u next) (sym l_same) (subst (λ j. IsCombined g.l word s j old g.letters u next) (sym k_same) g.combined)))
-
-  one_end_of : (fault other : StepFault) (new next : StepLog) → IsImageStopped old rules word s fault new → IsImageStopped old rules word s other next → fault ≢ faults.Memory → other ≢ faults.Memory → (fault ≡ other) × (new ≡ next)
-  one_end_of fault other new next h g =
-      let k_same = one_k h.k g.k h.mapped g.mapped in
-      let library = subst (λ j. IsImageLibrary rules word s j g.l) (sym k_same) g.library in
-      let l_same = one_library rules word s h.k h.l g.l h.library library in
-      let letters = one_outputs rules word h.letters g.letters h.outputs g.outputs in
-      one_end h.l (library_is rules word s h.k h.l is h.library) s h.k word old h.letters fault other new next h.stopped
-      (subst (λ bs. IsLetterStopped h.l s h.k old bs other next ⊎ IsCombiningStopped h.l word s h.k old bs other next) (sym letters)
-      (subst (λ (m : LibraryValue). IsLetterStopped m s h.k old g.letters other next ⊎ IsCombiningStopped m word s h.k old g.letters other next) (sym l_same)
-      (subst (λ j. IsLetterStopped g.l s j old g.letters other next ⊎ IsCombiningStopped g.l word s j old g.letters other next) (sym k_same) g.stopped)))
-
-  not_done : (v : WordValue) (fault : StepFault) (new next : StepLog) → IsImageDone old rules word s v new → IsImageStopped old rules word s fault next → fault ≢ faults.Memory → ⊥
-  not_done v fault new next h g =
-      let k_same = one_k h.k g.k h.mapped g.mapped in
-      let library = subst (λ j. IsImageLibrary rules word s j g.l) (sym k_same) g.library in
-      let l_same = one_library rules word s h.k h.l g.l h.library library in
-      let letters = one_outputs rules word h.letters g.letters h.outputs g.outputs in
-      done_not_stopped h.l (library_is rules word s h.k h.l is h.library) s h.k word old h.letters v fault new next h.combined
-      (subst (λ bs. IsLetterStopped h.l s h.k old bs fault next ⊎ IsCombiningStopped h.l word s h.k old bs fault next) (sym letters)
-      (subst (λ (m : LibraryValue). IsLetterStopped m s h.k old g.letters fault next ⊎ IsCombiningStopped m word s h.k old g.letters fault next) (sym l_same)
-      (subst (λ j. IsLetterStopped g.l s j old g.letters fault next ⊎ IsCombiningStopped g.l word s j old g.letters fault next) (sym k_same) g.stopped)))
-
-  by_memory : (fault : StepFault) → (fault ≡ faults.Memory) ⊎ (fault ≢ faults.Memory)
-  by_memory faults.Memory = inl refl
-  by_memory (faults.Letters step) = inr (λ e. cc)
-  by_memory (faults.States step) = inr (λ e. cc)
-
-  ruled_not : (k : ℕ) (letter : ℤ) → IsMapped rules word k → IsMissing rules word letter → ⊥
-  ruled_not k letter mapped missing = missing.lacks (mapped.ruled letter missing.occurs)
-
-  apart : (v : WordValue) (fault : ImageFault) (new next : StepLog) → IsImageDone old rules word s v new → IsImageRefused old rules word s fault next → fault ≡ Step faults.Memory
-  apart v (Morphism kind) new next done refused = absurd (lengths.apart done.k kind done.mapped.length_is refused.0)
-  apart v (Missing letter) new next done refused = absurd (ruled_not done.k letter done.mapped refused.0.missing.holds)
-  apart v (Step fault) new next done (inl memory) = ap Step memory
-  apart v (Step fault) new next done (inr stopped) = by (by_memory fault)
-    where
-      by : (fault ≡ faults.Memory) ⊎ (fault ≢ faults.Memory) → Step fault ≡ Step faults.Memory
-      by (inl memory) = ap Step memory
-      by (inr away) = absurd (not_done v fault new next done stopped away)
-
-  all_faults : (fault other : ImageFault) (new next : StepLog) → IsImageRefused old rules word s fault new → IsImageRefused old rules word s other next → fault ≢ Step faults.Memory → other ≢ Step faults.Memory → (fault ≡ other) × (new ≡ next)
-  all_faults (Morphism a) (Morphism b) new next one two away far = (ap Morphism (lengths.one_kind a b one.0 two.0), one.1 ∙ sym two.1)
-  all_faults (Morphism a) (Missing b) new next one two away far = absurd (lengths.apart two.0.k a two.0.length_is one.0)
-  all_faults (Morphism a) (Step fault) new next one (inl memory) away far = absurd (far (ap Step memory))
-  all_faults (Morphism a) (Step fault) new next one (inr stopped) away far = absurd (lengths.apart stopped.k a stopped.mapped.length_is one.0)
-  all_faults (Missing a) (Morphism b) new next one two away far = absurd (lengths.apart one.0.k b one.0.length_is two.0)
-  all_faults (Missing a) (Missing b) new next one two away far = (ap Missing (one_least (IsMissing rules word) a b one.0.missing two.0.missing), one.1 ∙ sym two.1)
-  all_faults (Missing a) (Step fault) new next one (inl memory) away far = absurd (far (ap Step memory))
-  all_faults (Missing a) (Step fault) new next one (inr stopped) away far = absurd (ruled_not stopped.k a stopped.mapped one.0.missing.holds)
-  all_faults (Step fault) other new next (inl memory) two away far = absurd (away (ap Step memory))
-  all_faults (Step fault) (Morphism b) new next (inr stopped) two away far = absurd (lengths.apart stopped.k b stopped.mapped.length_is two.0)
-  all_faults (Step fault) (Missing b) new next (inr stopped) two away far = absurd (ruled_not stopped.k b stopped.mapped two.0.missing.holds)
-  all_faults (Step fault) (Step other) new next (inr one) (inl memory) away far = absurd (far (ap Step memory))
-  all_faults (Step fault) (Step other) new next (inr one) (inr two) away far =
-      let same = one_end_of fault other new next one two (λ e. away (ap Step e)) (λ e. far (ap Step e)) in
-      (ap Step same.0, same.1)
+    image_one : HasOneAnswer (Step faults.Memory) (DoesImage rules word s)
+    image_one old new next (Ok v) (Ok u) one two = let same = one_value faults.Memory new next v u (mapped_one old new next (Ok v) (Ok u) one two) in inl (ap Ok same.0, same.1)
+    image_one old new next (Ok v) (Err (Morphism kind)) (k, mapped, done) two = absurd (lengths.apart k kind mapped.length_is two.0)
+    image_one old new next (Ok v) (Err (Missing letter)) (k, mapped, done) two = absurd (ruled_not k letter mapped two.0.missing.holds)
+    image_one old new next (Ok v) (Err (Step fault)) one two = inr (inr (ap Err (ap Step (step_alone old new next v fault one two))))
+    image_one old new next (Err (Morphism kind)) (Ok v) one (k, mapped, done) = absurd (lengths.apart k kind mapped.length_is one.0)
+    image_one old new next (Err (Morphism a)) (Err (Morphism b)) one two = inl (ap Err (ap Morphism (lengths.one_kind a b one.0 two.0)), one.1 ∙ sym two.1)
+    image_one old new next (Err (Morphism a)) (Err (Missing b)) one two = absurd (lengths.apart two.0.k a two.0.length_is one.0)
+    image_one old new next (Err (Morphism a)) (Err (Step fault)) one two = inr (inr (ap Err (ap Step (kind_or_memory old next a fault one.0 two))))
+    image_one old new next (Err (Missing letter)) (Ok v) one (k, mapped, done) = absurd (ruled_not k letter mapped one.0.missing.holds)
+    image_one old new next (Err (Missing a)) (Err (Morphism b)) one two = absurd (lengths.apart one.0.k b one.0.length_is two.0)
+    image_one old new next (Err (Missing a)) (Err (Missing b)) one two = inl (ap Err (ap Missing (one_least (IsMissing rules word) a b one.0.missing two.0.missing)), one.1 ∙ sym two.1)
+    image_one old new next (Err (Missing a)) (Err (Step fault)) one two = inr (inr (ap Err (ap Step (letter_or_memory old next a fault one.0 two))))
+    image_one old new next (Err (Step fault)) (Ok v) one two = inr (inl (ap Err (ap Step (step_alone old next new v fault two one))))
+    image_one old new next (Err (Step fault)) (Err (Morphism b)) one two = inr (inl (ap Err (ap Step (kind_or_memory old new b fault two.0 one))))
+    image_one old new next (Err (Step fault)) (Err (Missing b)) one two = inr (inl (ap Err (ap Step (letter_or_memory old new b fault two.0 one))))
+    image_one old new next (Err (Step fault)) (Err (Step other)) one two = steps_one old new next fault other one two
 
 pub one_outcome : ImagesHaveOneOutcome
-one_outcome old rules word s morphism is = record { words = words old rules word s morphism is; faults = all_faults old rules word s morphism is; apart = apart old rules word s morphism is }
+one_outcome rules word s morphism is = image_one rules word s is morphism

@@ -28,11 +28,12 @@ use Rattle.session_cli.specs.Checks.{Pure, Fails}
 use Rattle.session_cli.specs.FormulaPlans.{HasSystems}
 use Rattle.session_cli.specs.FormulaSteps.{AreMeant}
 use Rattle.session_cli.specs.ImageMakes.{AreTablesOf, IsImaged, IsReadBy, MakesAfterOld, head_of, old_system_of, old_systems_of, old_tracks_of}
-use Rattle.session_cli.specs.ImageOutcomes.{WordTrack, TrackAnswers, ImagedAnswers, old_mentions, after_image_head, after_old_systems, after_old_table}
+use Rattle.session_cli.specs.ImageOutcomes.{WordTrack, ImagedAnswers, old_mentions, after_image_head, after_old_systems, after_old_table}
 use Rattle.session_cli.specs.Lines.{shown_steps}
 use Rattle.session_cli.specs.Plans.{Makes}
 use Rattle.session_cli.specs.SealedSystems.{HasSystemIn}
 use Rattle.session_cli.specs.WordPrinting.{IsWordTextOf, HasNoWordText, named_text}
+use Rattle.session_cli.proofs.CheckNames.{TrackAnswers}
 use Rattle.session_cli.proofs.ImageChains.{image_loaded, image_tracked, image_stopped, image_done}
 use Rattle.session_cli.proofs.ImageTexts.{image_stored, image_text, image_track, image_unstored, old_entry, old_word, only_name, system, track_over}
 use Rattle.session_cli.proofs.MeantNames.{found_meant}

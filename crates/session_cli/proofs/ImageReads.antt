@@ -42,7 +42,7 @@ with_morphisms files others Commands = files Commands
 module _ (files others : Files) where
   -- the morphism is the same there
   morphism_with : (name : List ℕ) (rules : Rules) → IsMorphismIn others name rules → IsMorphismIn (with_morphisms files others) name rules
-  morphism_with name rules is = record { text = is.text; there = is.there; short = is.short; spells = is.spells }
+  morphism_with name rules is = record { text = is.text; there = is.there; short = is.short; derives = is.derives }
 
   -- and so are tables
   one_with : (file : File) (table : Loaded) → IsListedBy files file table → IsListedBy (with_morphisms files others) file table

@@ -26,11 +26,12 @@ use Rattle.session_cli.specs.declared.plan.Made.{Made}
 use Rattle.session_cli.specs.Accepting.{stored}
 use Rattle.session_cli.specs.Checks.{Fails}
 use Rattle.session_cli.specs.ImageMakes.{AreTablesOf, IsImaged, old_system_of, old_tracks_of}
-use Rattle.session_cli.specs.ImageOutcomes.{WordTrack, TrackAnswers, image_success}
+use Rattle.session_cli.specs.ImageOutcomes.{WordTrack}
 use Rattle.session_cli.specs.Lines.{shown_steps}
 use Rattle.session_cli.specs.Plans.{Makes}
 use Rattle.session_cli.specs.TableReads.{library_with}
 use Rattle.session_cli.specs.WordPrinting.{HaveNames, IsWordTextOf, HasNoWordText, named_text}
+use Rattle.session_cli.proofs.CheckNames.{TrackAnswers, image_success}
 use Rattle.session_cli.proofs.MeantNames.{found_meant, named_digits}
 use Rattle.session_cli.proofs.OldWords.{old_means, old_over}
 use Rattle.session_cli.proofs.TableMeanings.{HasLettersAs}

@@ -1,5 +1,5 @@
 -- The steps by which the image of a word is made, and why they are refused, from what the code of each part answers.
-use Rattle.std.proofs.Common.{◌≡◌, ℕ, List, Some, inl, inr, refl, sym, subst}
+use Rattle.std.proofs.Common.{◌≡◌, ℕ, List, Some, Ok, Err, inl, inr, refl, sym, subst}
 use Rattle.digit_tuple.specs.Steps.{StepLog}
 use Rattle.digit_tuple.specs.declared.step_fault.StepFault.{StepFault}
 use Rattle.digit_tuple.specs.declared.step_fault.StepFault.TheVariants as step_faults
@@ -10,7 +10,7 @@ use Rattle.morph_words.specs.Uniform.{HasLength, IsImageLength, IsLengthRefused}
 use Rattle.morph_words.specs.declared.morphism_kind.MorphismKind.{MorphismKind}
 use Rattle.morph_words.specs.declared.morphism_kind.MorphismKind.TheVariants as kinds
 use Rattle.morph_words.proofs.UniformLemmas.{not_uniform, one_length}
-use Rattle.session_cli.specs.ImageSteps.{IsImageDone, IsImageRefused}
+use Rattle.session_cli.specs.ImageSteps.{DoesImage}
 use Rattle.word_images.specs.ImageWords.{IsImageWord}
 use Rattle.session_cli.specs.declared.image_fault.ImageFault.{ImageFault}
 use Rattle.session_cli.specs.declared.image_fault.ImageFault.TheVariants as images
@@ -56,15 +56,15 @@ module _ (admitted : StepLog) (custom : Custom) (tables : List Loaded) (old name
     before = record { systems = systems; sealed = sealed; meant = meant; reads = reads; reading = reading; read = made; word = word; word_is = word_is }
 
     -- the steps are refused
-    pub steps_unimaged : (k : ℕ) → HasLength IsImageLength rules k → (fault : ImageFault) (log : StepLog) → IsImageRefused reading rules word name fault log → Fails (Pure (ImagedAnswers admitted custom tables old name rules)) (fault_of_imaging fault)
+    pub steps_unimaged : (k : ℕ) → HasLength IsImageLength rules k → (fault : ImageFault) (log : StepLog) → DoesImage rules word name reading (Err fault) log → Fails (Pure (ImagedAnswers admitted custom tables old name rules)) (fault_of_imaging fault)
     steps_unimaged k has (images.Morphism kind) log (refused, same) = absurd (of_one_kind rules k kind has refused)
     steps_unimaged k has (images.Missing letter) log refused = record { before = before; log = log; refused = refused }
     steps_unimaged k has (images.Step fault) log (inl memory) = subst (λ (f : StepFault). Fails (Pure (ImagedAnswers admitted custom tables old name rules)) (fault_of f)) (sym memory) tt
     steps_unimaged k has (images.Step fault) log (inr stopped) = unimaged fault (inr (record { before = before; log = log; refused = inr stopped }))
 
--- the image is made over systems for which the names stand that the old word mentions
+-- the image is made over systems that the names that the old word mentions mean
 pub imaged_here : (admitted : StepLog) (custom : Custom) (read : ReadImage) (systems : List NamedSystem) → AreSealed systems → (reads : List TableRead) (reading : StepLog) → AreTablesRead systems admitted read.tables.items reads reading
-    → (word : WordValue) → word_named (words_in reads) read.old ≡ Some word → AreMeant custom systems → HasSystems (old_systems_of read) systems → (v : WordValue) (log : StepLog) → IsImageDone reading read.morphism word (old_system_of read) v log
+    → (word : WordValue) → word_named (words_in reads) read.old ≡ Some word → AreMeant custom systems → HasSystems (old_systems_of read) systems → (v : WordValue) (log : StepLog) → DoesImage read.morphism word (old_system_of read) reading (Ok v) log
     → IsImageWord read.morphism word v → IsImaged admitted custom read v log.lines
 imaged_here admitted custom read systems sealed reads reading made word word_is meant has v log done image = record {
   steps = record {

@@ -10,7 +10,7 @@ use Rattle.std.specs.FinMap.{empty, entries, entries-insert, from_entries, len-e
 use Rattle.std.proofs.lemmas.List.{length-append, nil_from_length}
 use Rattle.std.proofs.lemmas.Slice.Eq.{bytes_eq-Decides}
 use Rattle.std.proofs.lemmas.Option.{none-some}
-use Rattle.morph_words.proofs.ListSteps.{all_append}
+use Rattle.digit_tuple.proofs.AllLemmas.{all_append}
 use Rattle.formula_parse.specs.Tokens.{Name}
 use Rattle.formula_parse.specs.Trees.{no_names, names, no_terms, terms, variable}
 use Rattle.formula_plan.specs.Linear.{AreLinearOperands, IsLinearFormula}

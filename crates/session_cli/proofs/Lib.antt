@@ -1,6 +1,7 @@
 -- Lemmas, in reading order.
 pub mod StepLines
 pub mod RepresentationSends
+pub mod CheckNames
 pub mod CheckSteps
 pub mod WordSteps
 pub mod StoreReads

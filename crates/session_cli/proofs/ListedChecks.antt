@@ -50,7 +50,7 @@ relation_at relations [] i d within all = absurd (omega (arith, within))
 relation_at relations (v ∷ automata) zero d within all = λ none. let both : None ≡ Some all.0.0 = sym none ∙ all.0.1 in cc
 relation_at relations (v ∷ automata) (suc i) d within all = relation_at relations automata i d (omega (arith, within)) all.1
 
--- one more relation after those of the automata in front
+-- one more relation after those of the automata before it
 parts_taken : (relations : List NamedRelation) (place : ℕ) (automata : List valued.ValuedName) (i : ℕ) (d : valued.ValuedName) (parts : List PartValue) (p : PartValue) → i < length automata → ArePartsFrom relations place (automata_in (take i automata)) parts
     → relation_named relations (get_or automata i d).name ≡ Some p.relation → p.value ≡ value_at (place + i) (get_or automata i d).value → ArePartsFrom relations place (automata_in (take (suc i) automata)) (parts ++ p ∷ [])
 parts_taken relations place [] i d parts p within are is value = absurd (omega (arith, within))

@@ -62,9 +62,9 @@ module _ (admitted : StepLog) (read : ListedAutomata) (systems : List NamedSyste
   -- the step that combines them is done
   pub list_done : (custom : Custom) → AreMeant custom systems → (word : WordValue) (log : StepLog) → DoesCombine parts (systems_at parts 0) reading (Ok word) log → AreStepsOver admitted custom systems read word log.lines
   unfolding before
-  list_done custom meant word log done = record { steps = record { before = before custom meant; log = log; done = done; lines_are = refl }; systems_are = refl }
+  list_done custom meant word log done = record { steps = record { before = before custom meant; log = log; done = done.1; lines_are = refl }; systems_are = refl }
 
   -- or it is refused
   pub list_refused : (custom : Custom) → AreMeant custom systems → (fault : StepFault) (log : StepLog) → DoesCombine parts (systems_at parts 0) reading (Err (combines.Step fault)) log → Fails (Pure (CombinedAnswers admitted custom read.tables.items (automata_of read))) (fault_of fault)
   unfolding before
-  list_refused custom meant fault log refused = uncombined admitted custom read.tables.items (automata_of read) fault (inr (record { before = before custom meant; log = log; refused = refused }))
+  list_refused custom meant fault log refused = uncombined admitted custom read.tables.items (automata_of read) fault (inr (record { before = before custom meant; log = log; refused = refused.1 }))

@@ -64,7 +64,7 @@ no_gap systems old [] name representation all gap = gap
 no_gap systems old (table ∷ tables) name representation all (inl gap) = subst IsAutomaton gap.file_is all.0
 no_gap systems old (table ∷ tables) name representation all (inr (r, mid, first, rest)) = no_gap systems mid tables name representation all.1 rest
 
--- a relation is under each listed name, where something stands for each file
+-- a relation is under each listed name, where each file has a meaning
 named_relations : (systems : List NamedSystem) (reads : List TableRead) (automata : List ValuedName) → AllByRecursion (IsFileIn (library_with reads systems)) (flat_map mentioned_files (listed_mentions automata)) → HasRelations (relations_in reads) automata
 named_relations systems reads [] all = tt
 named_relations systems reads (v ∷ automata) all = (all.0, named_relations systems reads automata all.1)

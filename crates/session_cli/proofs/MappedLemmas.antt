@@ -1,8 +1,9 @@
 -- The relations of all letters, combined.
-use Rattle.std.proofs.Common.{◌≡◌, ℕ, List, [], ◌∷◌, length, ℤ, Ok, Err, inr, refl, sym, ap, ◌∙◌, subst, arith}
+use Rattle.std.proofs.Common.{◌≡◌, ℕ, List, [], ◌∷◌, length, ℤ, Ok, Err, ◌⊎◌, inl, inr, refl, sym, ap, ◌∙◌, subst, arith}
 use Rattle.std.specs.Prelude.{slice_index_or}
 use Rattle.digit_tuple.specs.Steps.{StepLog}
 use Rattle.digit_tuple.specs.declared.step_fault.StepFault.{StepFault}
+use Rattle.digit_tuple.specs.declared.step_fault.StepFault.TheVariants.{Memory}
 use Rattle.num_system.specs.Sealed.{SystemValue}
 use Rattle.num_system.specs.Tracks.{absent_system, direction_of}
 use Rattle.morph_words.specs.Rules.{Rules}
@@ -13,13 +14,13 @@ use Rattle.combinations.specs.CombineSteps.{DoesCombine}
 use Rattle.combinations.specs.Parts.{PartValue}
 use Rattle.combinations.specs.declared.combine_fault.CombineFault.{CombineFault}
 use Rattle.combinations.specs.declared.combine_fault.CombineFault.TheVariants.{Shape, Step}
-use Rattle.session_cli.specs.ImageSteps.{AreBuilt, IsImageStopped}
+use Rattle.session_cli.specs.ImageSteps.{DoesMapped}
 use Rattle.word_images.specs.ImageWords.{AreOutputs, IsImageWord, IsMapped}
-use Rattle.session_cli.specs.LetterParts.{AreLetterParts, IsUsable}
+use Rattle.session_cli.specs.LetterParts.{AreBuilt, AreLetterParts, IsLetterStopped, IsUsable}
 use Rattle.session_cli.specs.LetterSettings.{IsSetting, library_in}
 use Rattle.session_cli.specs.declared.setting.Setting.{Setting}
 use Rattle.session_cli.proofs.LetterPlaces.{image_word, no_shape_fault}
-use Rattle.session_cli.proofs.PartLemmas.{built_values}
+use Rattle.session_cli.proofs.PartLemmas.{built_values, letters_done, letters_stopped}
 
 one_track : (ss : List SystemValue) → length ss ≡ 1 → ss ≡ slice_index_or ss 0 absent_system ∷ []
 one_track [] one = absurd (omega (arith, one))
@@ -43,6 +44,14 @@ module _ (rules : Rules) (word : WordValue) (s : Name) (k : ℕ) (t : Setting) (
     few = mapped.length_is.allowed.1;
   }
 
+  -- the steps of a letter were refused
+  pub letters_unmapped : (letters given : List ℤ) → AreOutputs rules word letters → given ≡ letters → (old new : StepLog) (fault : StepFault) → (fault ≡ Memory) ⊎ IsLetterStopped (library_in t) s k old given fault new
+      → (fault ≡ Memory) ⊎ DoesMapped rules word s old (Err fault) new
+  letters_unmapped letters given outputs given_are old new fault (inl memory) = inl memory
+  letters_unmapped letters given outputs given_are old new fault (inr stopped) =
+      let here : IsLetterStopped (library_in t) s k old letters fault new = subst (λ (bs : List ℤ). IsLetterStopped (library_in t) s k old bs fault new) given_are stopped in
+      inr (k, mapped, inr (library_in t, setting.library, inr (letters, outputs, inr (fault, letters_stopped (library_in t) s k letters old new fault here, refl))))
+
   module _ (is : IsWordValue word) (letters given : List ℤ) (outputs : AreOutputs rules word letters) (given_are : given ≡ letters) (parts read : List PartValue) (read_are : read ≡ parts) (ss : List SystemValue) (ss_are : ss ≡ word.systems) (old middle : StepLog)
       (built : AreBuilt (library_in t) s k old given parts middle) (are : AreLetterParts t s k parts) where
     built_here : AreBuilt (library_in t) s k old letters read middle
@@ -61,13 +70,14 @@ module _ (rules : Rules) (word : WordValue) (s : Name) (k : ℕ) (t : Setting) (
         let moved = subst (λ (ts : List SystemValue). DoesCombine read ts middle (Ok v) new) ss_are done in
         image_word rules word s k t is track mapped setting.library letters outputs read are_here (built_values (library_in t) s k letters read old middle built_here) v moved.1.step.made_is
 
-    pub combining_stopped : (f : CombineFault) (fault : StepFault) (new : StepLog) → f ≡ Step fault → DoesCombine read ss middle (Err f) new → IsImageStopped old rules word s fault new
-    combining_stopped f fault new is_step refused = record {
-      k = k;
-      mapped = mapped;
-      l = library_in t;
-      library = setting.library;
-      letters = letters;
-      outputs = outputs;
-      stopped = inr (record { parts = read; middle = middle; built = built_here; stopped = subst (λ (ts : List SystemValue). DoesCombine read ts middle (Err (Step fault)) new) ss_are (subst (λ e. DoesCombine read ss middle (Err e) new) is_step refused) });
-    }
+    -- the steps are those of the image
+    pub image_done : (v : WordValue) (new : StepLog) → DoesCombine read ss middle (Ok v) new → DoesMapped rules word s old (Ok v) new
+    image_done v new done =
+        let moved = subst (λ (ts : List SystemValue). DoesCombine read ts middle (Ok v) new) ss_are done in
+        (k, mapped, inr (library_in t, setting.library, inr (letters, outputs, inl (read, middle, letters_done (library_in t) s k letters read old middle built_here, moved.1))))
+
+    -- or the one that combines them is refused
+    pub combining_stopped : (f : CombineFault) (fault : StepFault) (new : StepLog) → f ≡ Step fault → DoesCombine read ss middle (Err f) new → DoesMapped rules word s old (Err fault) new
+    combining_stopped f fault new is_step refused =
+        let moved = subst (λ (ts : List SystemValue). DoesCombine read ts middle (Err (Step fault)) new) ss_are (subst (λ e. DoesCombine read ss middle (Err e) new) is_step refused) in
+        (k, mapped, inr (library_in t, setting.library, inr (letters, outputs, inl (read, middle, letters_done (library_in t) s k letters read old middle built_here, moved.1))))

@@ -57,7 +57,7 @@ word_pushed (w ∷ ws) nm u name = by (word_pushed ws nm u name) (bytes_eq w.nam
     by rest false = rest
 
 module _ (rules : Rules) (word : WordValue) where
-  -- a name that is that of no place stands for no word
+  -- a name that is that of no place means no word
   absent : (n : ℕ) (ws : List NamedWord) (name : Name) → AreRecoded rules word n ws → ((r : ℕ) → r < n → ¬ (word_name r ≡ name)) → word_named ws name ≡ None
   absent zero ws name none apart = ap (λ (xs : List NamedWord). word_named xs name) none
   absent (suc n) ws name (prefix, u, before, is, all) apart =
@@ -185,7 +185,7 @@ module _ (rules : Rules) (word : WordValue) (s : Name) (k : ℕ) (l : LibraryVal
             (subst (IsSystemIn l s) (sym (ap (λ (ss : List SystemValue). get_or ss 0 absent_system) (recoded.systems ∙ systems))) has_system);
       })
 
-  -- the names of the formula stand for something
+  -- the names of the formula mean something
   place_known : (b : ℤ) (r : ℕ) → r < k → AreKnownIn l (at_place s k b r)
   place_known b r less = let u = found rules word k l.words r few is.words less in ((tt, (system, has_system)), (u.0, u.1))
 

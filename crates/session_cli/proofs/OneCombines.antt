@@ -4,11 +4,11 @@ use Rattle.std.specs.List.{AllByRecursion}
 use Rattle.wal_outside.specs.Files.{Files}
 use Rattle.combinations.specs.Combined.{AreSystemsFor}
 use Rattle.automaton_steps.proofs.AnswerCases.{memory_alone, one_value, same_fault}
-use Rattle.combinations.specs.CombineSteps.{DoesCombine}
+use Rattle.automaton_steps.specs.Makings.{DoesStep}
+use Rattle.combinations.specs.CombineSteps.{combine_step}
 use Rattle.combinations.specs.Parts.{PartValue}
-use Rattle.combinations.specs.declared.combine_fault.CombineFault.TheVariants as combines
-use Rattle.combinations.proofs.OutcomeLemmas.{one_outcome}
-use Rattle.command_head.specs.Grammar.{SpellsCombine}
+use Rattle.combinations.proofs.OutcomeLemmas.{step_outcome}
+use Rattle.command_head.specs.Grammar.{DerivesCombine}
 use Rattle.command_head.specs.Heads.{ValuedName}
 use Rattle.command_head.proofs.CombineHeads.{one_combine}
 use Rattle.command_head.proofs.OneFault.{one_head}
@@ -35,13 +35,14 @@ use Rattle.session_cli.specs.declared.fault.Fault.{Fault}
 use Rattle.session_cli.specs.declared.fault.Fault.TheVariants as faults
 use Rattle.session_cli.specs.Accepting.{stored}
 use Rattle.session_cli.specs.Checks.{Pure}
-use Rattle.session_cli.specs.CombineOutcomes.{WordTracks, PlainAnswers, ShapeAnswers, WordTracksAnswers, CombinedAnswers, AreTracksOfFirst, HaveSystemsOfFirst, HaveShapeFault, IsFirstOver, combine_success, first_plain, listed_files, listed_names, listed_systems, after_combined, after_shape, after_plain, after_listed_systems, after_listed_tables, after_combine_head, combine_checks}
+use Rattle.session_cli.specs.CombineOutcomes.{WordTracks, PlainAnswers, ShapeAnswers, CombinedAnswers, AreTracksOfFirst, HaveSystemsOfFirst, HaveShapeFault, IsFirstOver, first_plain, listed_files, listed_names, listed_systems, after_listed_systems, after_listed_tables, after_combine_head, combine_checks}
 use Rattle.session_cli.specs.CombineSteps.{ArePartsFrom, AreListedParts, AreCombineSteps, IsCombiningStopped}
 use Rattle.session_cli.specs.FileChecks.{files_loaded}
 use Rattle.session_cli.specs.HeadAnswers.{HeadAnswers}
 use Rattle.session_cli.specs.SystemChecks.{systems_known}
 use Rattle.session_cli.specs.TableReads.{TableRead, relations_in}
 use Rattle.session_cli.specs.TrackSystems.{fault_of}
+use Rattle.session_cli.proofs.CheckNames.{WordTracksAnswers, combine_success, after_combined, after_shape, after_plain}
 use Rattle.session_cli.proofs.CheckSteps.{IsSingle, then_single}
 use Rattle.session_cli.proofs.OneHeads.{head_single}
 use Rattle.session_cli.proofs.OneLoadings.{files_single}
@@ -291,16 +292,13 @@ module _ (admitted : StepLog) (custom : Custom) (tables : List Loaded) (automata
       let same : AreSame a b = same_before a b in
       subst (λ (ts : List SystemValue). P a.reading a.parts ts) (sym same.tracks_same) (subst (λ (ps : List PartValue). P a.reading ps b.tracks) (sym same.parts) (subst (λ (old : StepLog). P old b.parts b.tracks) (sym same.reading) p))
 
-  step_fault_same : (f g : StepFault) → combines.Step f ≡ combines.Step g → f ≡ g
-  step_fault_same f g same = cc
-
   both_made : (r s : Result (List StepLine) Fault) → IsWordMade admitted custom tables automata r → IsWordMade admitted custom tables automata s → r ≡ s
   both_made r s p q =
       let a = p.done.before in
       let b = q.done.before in
-      let there = moved (λ old ps ts. DoesCombine ps ts old (Ok q.word) q.done.log) a b q.done.done in
-      let same : p.done.log ≡ q.done.log = (one_value (combines.Step steps.Memory) p.done.log q.done.log p.word q.word
-      (one_outcome a.parts a.tracks a.reading p.done.log q.done.log (Ok p.word) (Ok q.word) p.done.done there)).1 in
+      let there = moved (λ old ps ts. DoesStep (combine_step ps ts) old (Ok q.word) q.done.log) a b q.done.done in
+      let same : p.done.log ≡ q.done.log = (one_value steps.Memory p.done.log q.done.log p.word q.word
+      (step_outcome a.parts a.tracks a.reading p.done.log q.done.log (Ok p.word) (Ok q.word) p.done.done there)).1 in
       let lines : p.lines ≡ q.lines = p.done.lines_are ∙ (ap (λ (log : StepLog). log.lines) same ∙ sym q.done.lines_are) in
       p.is ∙ (ap (λ (ls : List StepLine). let x : Result (List StepLine) Fault = Ok ls in x) lines ∙ sym q.is)
 
@@ -308,20 +306,17 @@ module _ (admitted : StepLog) (custom : Custom) (tables : List Loaded) (automata
   made_refused r s p q =
       let a = p.done.before in
       let b = q.stops.before in
-      let there = moved (λ old ps ts. DoesCombine ps ts old (Err (combines.Step q.fault)) q.stops.log) a b q.stops.refused in
-      let e : combines.Step q.fault ≡ combines.Step steps.Memory =
-      memory_alone (combines.Step steps.Memory) p.done.log q.stops.log p.word (combines.Step q.fault) (one_outcome a.parts a.tracks a.reading p.done.log q.stops.log (Ok p.word) (Err (combines.Step q.fault)) p.done.done there) in
-      q.told (step_fault_same q.fault steps.Memory e)
+      let there = moved (λ old ps ts. DoesStep (combine_step ps ts) old (Err q.fault) q.stops.log) a b q.stops.refused in
+      q.told (memory_alone steps.Memory p.done.log q.stops.log p.word q.fault (step_outcome a.parts a.tracks a.reading p.done.log q.stops.log (Ok p.word) (Err q.fault) p.done.done there))
 
   both_refused : (r s : Result (List StepLine) Fault) → IsWordRefused admitted custom tables automata r → IsWordRefused admitted custom tables automata s → r ≡ s
   both_refused r s p q =
       let a = p.stops.before in
       let b = q.stops.before in
-      let there = moved (λ old ps ts. DoesCombine ps ts old (Err (combines.Step q.fault)) q.stops.log) a b q.stops.refused in
-      let e : combines.Step p.fault ≡ combines.Step q.fault =
-      same_fault (combines.Step steps.Memory) p.stops.log q.stops.log (combines.Step p.fault) (combines.Step q.fault)
-      (one_outcome a.parts a.tracks a.reading p.stops.log q.stops.log (Err (combines.Step p.fault)) (Err (combines.Step q.fault)) p.stops.refused there) (λ is. p.told (step_fault_same p.fault steps.Memory is)) (λ is. q.told (step_fault_same q.fault steps.Memory is)) in
-      p.is ∙ (ap (λ (f : StepFault). let x : Result (List StepLine) Fault = Err (fault_of f) in x) (step_fault_same p.fault q.fault e) ∙ sym q.is)
+      let there = moved (λ old ps ts. DoesStep (combine_step ps ts) old (Err q.fault) q.stops.log) a b q.stops.refused in
+      let same : p.fault ≡ q.fault =
+      same_fault steps.Memory p.stops.log q.stops.log p.fault q.fault (step_outcome a.parts a.tracks a.reading p.stops.log q.stops.log (Err p.fault) (Err q.fault) p.stops.refused there) p.told q.told in
+      p.is ∙ (ap (λ (f : StepFault). let x : Result (List StepLine) Fault = Err (fault_of f) in x) same ∙ sym q.is)
 
   not_both : (a : AreListedParts admitted custom tables automata) (s : Result (List StepLine) Fault) → IsStopped admitted custom tables s → ⊥
   not_both a s q = read_stopped admitted custom tables files named listed a.systems a.reading a.reads s a.sealed a.meant a.read q
@@ -347,7 +342,7 @@ some_listed h (v ∷ automata) one = λ none. let e : suc (length automata) ≡ 
 pub combine_single : (limit : ℕ) (ledger : Ledger) (text : List ℕ) → IsSingle (combine_checks limit ledger text)
 combine_single limit ledger text =
     let custom : Custom = custom_of ledger in
-    then_single (Pure (HeadAnswers SpellsCombine text)) (λ head. after_combine_head limit ledger head) (head_single SpellsCombine (one_head SpellsCombine one_combine) text) (λ head spells.
+    then_single (Pure (HeadAnswers DerivesCombine text)) (λ head. after_combine_head limit ledger head) (head_single DerivesCombine (one_head DerivesCombine one_combine) text) (λ head spells.
     then_single (files_loaded ledger (listed_files head.automata)) (λ ts. after_listed_tables limit ledger head ts) (files_single ledger (listed_files head.automata)) (λ ts there.
     then_single (systems_known limit custom (listed_systems ts head.automata)) (λ admitted. after_listed_systems ledger head ts admitted) (systems_single limit custom (listed_systems ts head.automata)) (λ admitted known.
     then_single (Pure (PlainAnswers (headers_of ts) (listed_names head.automata))) (λ none. after_plain ledger head ts admitted) (plain_single (headers_of ts) (listed_names head.automata)) (λ none plain.

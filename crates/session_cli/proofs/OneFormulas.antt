@@ -1,7 +1,7 @@
 -- An `eval` or a `def` has one outcome.
 use Rattle.std.proofs.Common.{◌≡◌, ℕ, Bool, List, [], ◌∷◌, ◌⊎◌, Option, None, Some, Result, Ok, Err, inl, inr, refl, sym, ap, ◌∙◌, subst}
 use Rattle.wal_outside.specs.declared.folder.Folder.{Folder}
-use Rattle.command_head.specs.Grammar.{SpellsNamed}
+use Rattle.command_head.specs.Grammar.{DerivesNamed}
 use Rattle.command_head.proofs.NamedHeads.{one_named}
 use Rattle.command_head.proofs.OneFault.{one_head}
 use Rattle.formula_parse.specs.Trees as trees
@@ -25,8 +25,9 @@ use Rattle.dfa_loading.specs.declared.loaded.Loaded.{Loaded}
 use Rattle.formula_resolve.specs.FirstMentions.{first_files}
 use Rattle.formula_resolve.specs.Mentions.{mentions}
 use Rattle.session_cli.specs.Accepting.{stored}
-use Rattle.session_cli.specs.FormulaOutcomes.{FormulaAnswers, loaded, mentioned_systems, IsVariable, AreVariables, ResolvedAnswers, BuiltAnswers, VariablesAnswers, VerdictAnswers, bindings_now, formula_success, after_variables, after_steps, after_resolution, after_systems, after_tables, after_formula, after_text, after_named_head, formula_checks}
+use Rattle.session_cli.specs.FormulaOutcomes.{FormulaAnswers, IsVariable, ResolvedAnswers, BuiltAnswers, bindings_now, after_systems, after_tables, after_text, after_named_head, formula_checks}
 use Rattle.session_cli.specs.SystemChecks.{systems_known}
+use Rattle.session_cli.proofs.CheckNames.{loaded, mentioned_systems, AreVariables, VariablesAnswers, VerdictAnswers, formula_success, after_variables, after_steps, after_resolution, after_formula}
 use Rattle.session_cli.proofs.CheckSteps.{IsSingle, then_single}
 use Rattle.definitions.proofs.NameLemmas.{one_meaning}
 use Rattle.definitions.proofs.OneTexts.{one_verdict}
@@ -132,7 +133,7 @@ verdict_single custom bindings variables formula r s a b =
 pub formula_single : (word : List ℕ) (folder : Folder) (limit : ℕ) (ledger : Ledger) (text : List ℕ) → IsSingle (formula_checks word folder limit ledger text)
 formula_single word folder limit ledger text =
     let custom : Custom = custom_of ledger in
-    then_single (Pure (HeadAnswers (SpellsNamed word) text)) (λ head. after_named_head limit ledger folder head) (head_single (SpellsNamed word) (one_head (SpellsNamed word) (one_named word)) text) (λ head spells.
+    then_single (Pure (HeadAnswers (DerivesNamed word) text)) (λ head. after_named_head limit ledger folder head) (head_single (DerivesNamed word) (one_head (DerivesNamed word) (one_named word)) text) (λ head spells.
     then_single (expanded ledger head.body) (λ text. after_text limit ledger (folder, head.name) text) (expanded_single ledger head.body) (λ text expands.
     then_single (Pure (FormulaAnswers text)) (λ formula. after_formula limit ledger (folder, head.name) formula) (reading_single text) (λ formula reads.
     then_single (loaded ledger formula) (λ tables. after_tables limit ledger (folder, head.name) formula tables) (files_single ledger (first_files (mentions formula))) (λ tables there.

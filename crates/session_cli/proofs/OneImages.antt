@@ -3,7 +3,7 @@ use Rattle.std.proofs.Common.{◌≡◌, ◌≢◌, ◌⊎◌, ℕ, Bool, true, 
 use Rattle.std.proofs.lemmas.Option.{none-some}
 use Rattle.wal_outside.specs.Files.{Files}
 use Rattle.wal_outside.specs.declared.folder.Folder.TheVariants.{Words}
-use Rattle.command_head.specs.Grammar.{SpellsImage}
+use Rattle.command_head.specs.Grammar.{DerivesImage}
 use Rattle.command_head.proofs.OneFault.{one_head}
 use Rattle.command_head.proofs.WordHeads.{one_image}
 use Rattle.digit_tuple.specs.Steps.{StepLog}
@@ -20,10 +20,12 @@ use Rattle.formula_resolve.specs.declared.file.File.{File}
 use Rattle.morph_words.specs.Rules.{Rules, IsMorphism}
 use Rattle.morph_words.specs.Uniform.{HasLength, IsImageLength, IsLengthRefused}
 use Rattle.morph_words.specs.declared.morphism_kind.MorphismKind.{MorphismKind}
-use Rattle.morph_words.proofs.MorphismShape.{spells_morphisms}
+use Rattle.morph_words.proofs.MorphismShape.{derives_morphisms}
 use Rattle.morph_words.proofs.UniformLemmas.{one_lengths}
-use Rattle.session_cli.specs.ImageSteps.{IsImageDone, IsImageRefused}
-use Rattle.session_cli.specs.OneImage.{HasOneImage, ImagesHaveOneOutcome}
+use Rattle.automaton_steps.proofs.AnswerCases.{memory_alone, one_value, same_fault}
+use Rattle.automaton_steps.specs.OneAnswers.{HasOneAnswer}
+use Rattle.session_cli.specs.ImageSteps.{DoesImage}
+use Rattle.session_cli.specs.OneImage.{ImagesHaveOneOutcome}
 use Rattle.session_cli.specs.declared.image_fault.ImageFault.{ImageFault}
 use Rattle.session_cli.specs.declared.image_fault.ImageFault.TheVariants as images
 use Rattle.word_output.specs.Words.{IsWordValue, WordValue}
@@ -39,10 +41,11 @@ use Rattle.session_cli.specs.Checks.{Pure}
 use Rattle.session_cli.specs.FileChecks.{files_loaded}
 use Rattle.session_cli.specs.HeadAnswers.{HeadAnswers}
 use Rattle.session_cli.specs.ImageFaults.{fault_of_imaging}
-use Rattle.session_cli.specs.ImageOutcomes.{WordTrack, IsOldWordRead, AreImageSteps, IsImagingStopped, OneTrackAnswers, LengthsAnswers, TrackAnswers, ImagedAnswers, OldAnswers, old_mentions, image_success, after_image_steps, after_track, after_lengths, after_one_track, after_old_systems, after_old_table, after_image_morphism, after_image_head, image_checks}
+use Rattle.session_cli.specs.ImageOutcomes.{WordTrack, IsOldWordRead, AreImageSteps, IsImagingStopped, OneTrackAnswers, LengthsAnswers, ImagedAnswers, old_mentions, after_old_systems, after_old_table, after_image_head, image_checks}
 use Rattle.session_cli.specs.MorphismChecks.{morphism_loaded}
 use Rattle.session_cli.specs.SystemChecks.{systems_known}
 use Rattle.session_cli.specs.TableReads.{TableRead, words_in}
+use Rattle.session_cli.proofs.CheckNames.{TrackAnswers, OldAnswers, image_success, after_image_steps, after_track, after_lengths, after_one_track, after_image_morphism}
 use Rattle.session_cli.proofs.CheckSteps.{IsSingle, then_single}
 use Rattle.session_cli.proofs.ImagedSteps.{of_one_kind}
 use Rattle.session_cli.proofs.OneHeads.{head_single}
@@ -240,10 +243,10 @@ found_word (w ∷ words) name v are found = by (bytes_eq w.name name) (λ (there
 
 module _ (law : ImagesHaveOneOutcome) (admitted : StepLog) (custom : Custom) (tables : List Loaded) (old name : List ℕ) (rules : Rules) (morphism : IsMorphism rules) (files : Files) (named : List File) (listed : AreListedBy files named tables) where
   -- one word is read, and so one image is made
-  one_at : (a : IsOldWordRead admitted custom tables old) → HasOneImage a.reading rules a.word name
+  one_at : (a : IsOldWordRead admitted custom tables old) → HasOneAnswer (images.Step steps.Memory) (DoesImage rules a.word name)
   one_at a =
       let readable = were_readable admitted custom tables files named listed a.systems a.reading a.reads a.meant a.read in
-      law a.reading rules a.word name morphism (found_word (words_in a.reads) old a.word (are_words table_holds a.systems a.sealed tables a.reads admitted a.reading readable a.read) a.word_is)
+      law rules a.word name morphism (found_word (words_in a.reads) old a.word (are_words table_holds a.systems a.sealed tables a.reads admitted a.reading readable a.read) a.word_is)
 
   word_same : (u v : WordValue) → Some u ≡ Some v → u ≡ v
   word_same u v same = cc
@@ -263,22 +266,22 @@ module _ (law : ImagesHaveOneOutcome) (admitted : StepLog) (custom : Custom) (ta
   both_made : (r s : Result (List StepLine) Fault) → IsImageMade admitted custom tables old name rules r → IsImageMade admitted custom tables old name rules s → r ≡ s
   both_made r s p q =
       let a = p.done.before in
-      let there = moved (λ l w. IsImageDone l rules w name q.word q.done.log) a q.done.before q.done.done in
-      let same : p.done.log ≡ q.done.log = ((one_at a).words p.word q.word p.done.log q.done.log p.done.done there).1 in
+      let there = moved (λ l w. DoesImage rules w name l (Ok q.word) q.done.log) a q.done.before q.done.done in
+      let same : p.done.log ≡ q.done.log = (one_value (images.Step steps.Memory) p.done.log q.done.log p.word q.word (one_at a a.reading p.done.log q.done.log (Ok p.word) (Ok q.word) p.done.done there)).1 in
       let lines : p.lines ≡ q.lines = p.done.lines_are ∙ (ap (λ (log : StepLog). log.lines) same ∙ sym q.done.lines_are) in
       p.is ∙ (ap (λ (ls : List StepLine). let x : Result (List StepLine) Fault = Ok ls in x) lines ∙ sym q.is)
 
   made_refused : (r s : Result (List StepLine) Fault) → IsImageMade admitted custom tables old name rules r → IsImageStoppedBy admitted custom tables old name rules s → ⊥
   made_refused r s p q =
       let a = p.done.before in
-      let there = moved (λ l w. IsImageRefused l rules w name q.fault q.stops.log) a q.stops.before q.stops.refused in
-      q.told ((one_at a).apart p.word q.fault p.done.log q.stops.log p.done.done there)
+      let there = moved (λ l w. DoesImage rules w name l (Err q.fault) q.stops.log) a q.stops.before q.stops.refused in
+      q.told (memory_alone (images.Step steps.Memory) p.done.log q.stops.log p.word q.fault (one_at a a.reading p.done.log q.stops.log (Ok p.word) (Err q.fault) p.done.done there))
 
   both_refused : (r s : Result (List StepLine) Fault) → IsImageStoppedBy admitted custom tables old name rules r → IsImageStoppedBy admitted custom tables old name rules s → r ≡ s
   both_refused r s p q =
       let a = p.stops.before in
-      let there = moved (λ l w. IsImageRefused l rules w name q.fault q.stops.log) a q.stops.before q.stops.refused in
-      let same : p.fault ≡ q.fault = ((one_at a).faults p.fault q.fault p.stops.log q.stops.log p.stops.refused there p.told q.told).0 in
+      let there = moved (λ l w. DoesImage rules w name l (Err q.fault) q.stops.log) a q.stops.before q.stops.refused in
+      let same : p.fault ≡ q.fault = same_fault (images.Step steps.Memory) p.stops.log q.stops.log p.fault q.fault (one_at a a.reading p.stops.log q.stops.log (Err p.fault) (Err q.fault) p.stops.refused there) p.told q.told in
       p.is ∙ (ap (λ (f : ImageFault). let x : Result (List StepLine) Fault = Err (fault_of_imaging f) in x) same ∙ sym q.is)
 
   not_both : (a : IsOldWordRead admitted custom tables old) (s : Result (List StepLine) Fault) → IsStopped admitted custom tables s → ⊥
@@ -301,14 +304,14 @@ module _ (law : ImagesHaveOneOutcome) (admitted : StepLog) (custom : Custom) (ta
 pub image_single : ImagesHaveOneOutcome → (limit : ℕ) (ledger : Ledger) (text : List ℕ) → IsSingle (image_checks limit ledger text)
 image_single law limit ledger text =
     let custom : Custom = custom_of ledger in
-    then_single (Pure (HeadAnswers SpellsImage text)) (λ head. after_image_head limit ledger head) (head_single SpellsImage (one_head SpellsImage one_image) text) (λ head spells.
+    then_single (Pure (HeadAnswers DerivesImage text)) (λ head. after_image_head limit ledger head) (head_single DerivesImage (one_head DerivesImage one_image) text) (λ head spells.
     then_single (morphism_loaded ledger head.morphism) (λ rules. after_image_morphism limit ledger head rules) (loading_single ledger head.morphism) (λ rules read.
     then_single (files_loaded ledger (first_files (old_mentions head.old))) (λ ts. after_old_table limit ledger head rules ts) (files_single ledger (first_files (old_mentions head.old))) (λ ts there.
     then_single (systems_known limit custom (first_systems (headers_of ts) (old_mentions head.old))) (λ admitted. after_old_systems ledger head rules ts admitted) (systems_single limit custom (first_systems (headers_of ts) (old_mentions head.old))) (λ admitted known.
     then_single (Pure (OneTrackAnswers (headers_of ts) head.old)) (λ one. after_one_track ledger head rules ts admitted) (one_track_single (headers_of ts) head.old) (λ one has.
-    then_single (Pure (LengthsAnswers rules)) (λ uniform. after_lengths ledger head rules ts admitted) (lengths_single rules (spells_morphisms read.2.text rules read.2.spells)) (λ uniform lengths.
+    then_single (Pure (LengthsAnswers rules)) (λ uniform. after_lengths ledger head rules ts admitted) (lengths_single rules (derives_morphisms read.2.text rules read.2.derives)) (λ uniform lengths.
     then_single (Pure (TrackAnswers custom (headers_of ts) head.old)) (λ track. after_track ledger head rules ts admitted track) (tracks_single custom (headers_of ts) head.old) (λ track over.
     then_single (Pure (ImagedAnswers admitted custom ts head.old track.system.name rules)) (λ lines. after_image_steps ledger head rules track lines)
-    (imaged_single law admitted custom ts head.old track.system.name rules (spells_morphisms read.2.text rules read.2.spells) there.0 (first_files (old_mentions head.old)) there.2) (λ lines imaged.
+    (imaged_single law admitted custom ts head.old track.system.name rules (derives_morphisms read.2.text rules read.2.derives) there.0 (first_files (old_mentions head.old)) there.2) (λ lines imaged.
     then_single (Pure (OldAnswers ledger head.old)) (λ entry. stored custom (image_success head track rules entry lines)) (old_single ledger head.old) (λ entry stands.
     stored_single custom (image_success head track rules entry lines))))))))))

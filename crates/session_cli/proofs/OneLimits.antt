@@ -35,13 +35,13 @@ one_limit words limit other (value, names, is) (value', names', is') =
     let P : Option (List ℕ) → Type 0 = λ v. IsLimit v other in
     limit_of_value value limit other is (subst P (one_value words value' value names' names) is')
 
--- a text that no number is read from spells no limit
+-- a text that no number is read from denotes no limit
 pub not_read : {E : Type 0} (text : List ℕ) (e : E) → ParsesUnsigned 32 10 text (Err e) → (limit : ℕ) → IsLimit (Some text) limit → ⊥
 not_read {E} text e parses limit (is, least, most) =
     let r : Result ℕ E = Err e in
     let same : r ≡ Ok limit = parse-decimal 32 limit text r (omega arith) (omega arith) is parses in cc
 
--- and the number that is read is the limit that the text spells
+-- and the number that is read is the limit that the text denotes
 pub limit_read : {E : Type 0} (text : List ℕ) (number : ℕ) (r : Result ℕ E) → r ≡ Ok number → ParsesUnsigned 32 10 text r → (limit : ℕ) → IsLimit (Some text) limit → number ≡ limit
 limit_read {E} text number r was parses limit (is, least, most) =
     let same : r ≡ Ok limit = parse-decimal 32 limit text r (omega arith) (omega arith) is parses in

@@ -10,7 +10,7 @@ use Rattle.minimise.specs.Tracked.{NamedAutomaton}
 use Rattle.automaton_steps.proofs.AnswerCases.{one_result}
 use Rattle.command_head.specs.Heads as heads
 use Rattle.command_head.specs.Parts.{first_word_of}
-use Rattle.command_head.specs.Grammar.{SpellsReg}
+use Rattle.command_head.specs.Grammar.{DerivesReg}
 use Rattle.command_head.proofs.OneFault.{one_head, one_reg}
 use Rattle.fixed_points.specs.Laws.{PromotionsHaveOneOutcome}
 use Rattle.regex_build.specs.declared.fault.RegexFault.{RegexFault}
@@ -31,11 +31,12 @@ use Rattle.system_files.specs.SystemFiles.{Custom}
 use Rattle.session_cli.specs.HeadTracks.{AreTracksOf}
 use Rattle.session_cli.specs.HeadAnswers.{HeadAnswers}
 use Rattle.session_cli.specs.Accepting.{Answer, stored}
-use Rattle.session_cli.specs.RegOutcomes.{systems_named, TracksAnswers, ParsedAnswers, StepsAnswers, regex_success, after_expression, after_tracks, after_admission, after_head, reg_checks}
+use Rattle.session_cli.specs.RegOutcomes.{systems_named, TracksAnswers, ParsedAnswers, StepsAnswers, after_tracks, after_head, reg_checks}
 use Rattle.session_cli.specs.SystemChecks.{systems_known}
 use Rattle.session_cli.specs.TrackSteps.{DoesExpression}
 use Rattle.session_cli.specs.TrackSystems.{fault_of}
-use Rattle.session_cli.specs.Outcomes.{LengthAnswers, WordAnswers, word_text, checks_by, after_length, Outcome}
+use Rattle.session_cli.specs.Outcomes.{LengthAnswers, WordAnswers, word_text, checks_by, Outcome}
+use Rattle.session_cli.proofs.CheckNames.{regex_success, after_expression, after_admission, after_length}
 use Rattle.session_cli.proofs.CheckSteps.{IsSingle, then_single}
 use Rattle.session_cli.proofs.OneExpression.{expression_one}
 use Rattle.session_cli.proofs.NameLemmas.{one_list_of_systems, not_parted, same_part}
@@ -250,7 +251,7 @@ tracks_single custom (heads.Systems names) r s a b = by_names custom names r s (
 reg_single : (limit : ℕ) (ledger : Ledger) (text : List ℕ) → IsSingle (reg_checks limit ledger text)
 reg_single limit ledger text =
     let custom : Custom = custom_of ledger in
-    then_single (Pure (HeadAnswers SpellsReg text)) (λ head. after_head limit custom head) (head_single SpellsReg (one_head SpellsReg one_reg) text) (λ head spells.
+    then_single (Pure (HeadAnswers DerivesReg text)) (λ head. after_head limit custom head) (head_single DerivesReg (one_head DerivesReg one_reg) text) (λ head spells.
     then_single (systems_known limit custom (systems_named head.alphabets)) (λ admitted. after_admission custom head admitted) (systems_single limit custom (systems_named head.alphabets)) (λ admitted known.
     then_single (Pure (TracksAnswers custom head.alphabets)) (λ tracks. after_tracks admitted custom head.name head.body tracks) (tracks_single custom head.alphabets) (λ tracks means.
     then_single (Pure (ParsedAnswers (letter_sets tracks) head.body)) (λ (pattern : Pattern). after_expression admitted custom head.name tracks pattern.tree) (parsed_single (letter_sets tracks) head.body) (λ pattern parses.

@@ -45,7 +45,7 @@ module _ (text : List ℕ) (formula : trees.Formula) (reads : Reads (tokens (spo
   not_flawed flaw is =
       let whole : WholeDerived (tokens (spots text)) formula None = derived text formula reads in
       let other : WholeDerived (tokens (spots text)) (tree_of is.text) (Some flaw) = flawed text flaw is in
-      let same : whole.text ≡ other.text = one_derivation whole.text other.text (whole.derives.spells ∙ sym other.derives.spells) in
+      let same : whole.text ≡ other.text = one_derivation whole.text other.text (whole.derives.derived_is ∙ sym other.derives.derived_is) in
       let none : None ≡ Some flaw = sym whole.flaw_is ∙ (ap (λ (f : derivations.Formula). formula_flaw None f) same ∙ other.flaw_is) in cc
 
   -- and does not stop at a token

@@ -1,5 +1,5 @@
 -- Runs over one script end alike, unless the store, the sink or memory fails.
-use Rattle.std.proofs.Common.{◌≡◌, ℕ, ◌+◌, ◌-◌, ◌^◌, ◌<◌, ◌≤◌, min, ◌⊎◌, Bool, true, false, ◌||◌, if◌then◌else◌, List, [], ◌∷◌, ◌++◌, length, Option, None, Some, Ok, Err, refl, sym, ap, ◌∙◌, subst, inl, inr, arith}
+use Rattle.std.proofs.Common.{◌≡◌, ℕ, ◌+◌, ◌-◌, ◌^◌, ◌<◌, ◌≤◌, min, ◌⊎◌, Bool, true, false, ◌||◌, if◌then◌else◌, List, [], ◌∷◌, ◌++◌, length, Option, None, Some, IfSome, Ok, Err, refl, sym, ap, ◌∙◌, subst, inl, inr, arith}
 use Rattle.std.specs.Io.KnownBytes.{Consumes}
 use Rattle.std.specs.Option.{option_map}
 use Rattle.wal_outside.specs.Files.{Files, put}
@@ -17,8 +17,7 @@ use Rattle.system_files.specs.SystemFiles.{Custom}
 use Rattle.session_cli.specs.Accepting.{Answer, after}
 use Rattle.session_cli.specs.Outcomes.{checks_of, Outcome, OpenOutcome}
 use Rattle.wal_outside.specs.Views.{SourceView, SinkView, StoreView}
-use Rattle.session_cli.specs.Views.{IsTold}
-use Rattle.session_cli.specs.Runs.{IsAnswer, IsAnswerOf, IsKnownLedger, Changes, Run, first_ledger, of_fault, is_store_fault, is_memory_fault, is_refusal, some_of, status_by, status_of, printed}
+use Rattle.session_cli.specs.Runs.{IsAnswer, IsAnswerOf, Changes, Run, first_ledger, of_fault, is_store_fault, is_memory_fault, is_refusal, some_of, status_by, status_of, printed}
 use Rattle.session_cli.specs.Whole.{stop_status, RanThrough, SourceFailed, WantedMemory, HasRun, HasCalled}
 use Rattle.session_cli.specs.Laws.{IsClean, EndAlike, store_faults}
 use Rattle.session_cli.specs.Words.{GivesLimit}
@@ -117,7 +116,7 @@ same_open text answer other a b = by_cases (open_is text answer a) (open_is text
     by_cases (inr (short, is)) (inr (short', is')) = is ∙ sym is'
 
 -- where the files are reported, an item is answered by its ledger
-known_same : (told : Option Files) (files : Files) (ledger known : Ledger) → told ≡ Some files → IsKnownLedger told ledger known → known ≡ ledger
+known_same : (told : Option Files) (files : Files) (ledger known : Ledger) → told ≡ Some files → IfSome told (λ files. known ≡ ledger) → known ≡ ledger
 known_same None files ledger known is same = cc
 known_same (Some others) files ledger known is same = same
 
@@ -246,7 +245,7 @@ module _ (promotions : PromotionsHaveOneOutcome) where
   no_fault from to gave suffix state (inr memory) clean = not_memory state memory.state_is clean
 
   -- all of the script is what was given and what is left
-  whole_script : (from to : Option (List ℕ)) (gave more script : List ℕ) → Consumes from to gave → IsTold to more → from ≡ Some script → gave ++ more ≡ script
+  whole_script : (from to : Option (List ℕ)) (gave more script : List ℕ) → Consumes from to gave → IfSome to (λ left. more ≡ left) → from ≡ Some script → gave ++ more ≡ script
   whole_script None to gave more script taken told is = cc
   whole_script (Some left) None gave more script taken told is = absurd taken
   whole_script (Some left) (Some rest) gave more script taken told is = let same : left ≡ script = cc in ap (λ (xs : List ℕ). gave ++ xs) told ∙ (sym taken ∙ same)

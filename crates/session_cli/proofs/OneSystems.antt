@@ -13,7 +13,7 @@ use Rattle.system_admission.specs.declared.system_fault.SystemFault.TheVariants 
 use Rattle.system_admission.proofs.OneNames.{names_one}
 use Rattle.session_cli.specs.declared.fault.Fault.{Fault}
 use Rattle.session_cli.specs.declared.fault.Fault.TheVariants as faults
-use Rattle.session_cli.specs.SystemChecks.{no_steps, AreSystemsRefused, SystemsAnswers, systems_known}
+use Rattle.session_cli.specs.SystemChecks.{no_steps, SystemsAnswers, systems_known}
 use Rattle.session_cli.specs.SystemFaults.{fault_of_system}
 use Rattle.session_cli.proofs.CheckSteps.{IsSingle}
 
@@ -29,7 +29,7 @@ record IsAdmission (limit : ℕ) (custom : Custom) (names : List (List ℕ)) (r 
   told : result ≢ Err (systems.Step steps.Memory)
   is : r ≡ of_names result log
 
-refused_by : (limit : ℕ) (custom : Custom) (names : List (List ℕ)) (fault : SystemFault) → fault ≢ systems.Step steps.Memory → AreSystemsRefused limit custom names fault → IsAdmission limit custom names (Err (fault_of_system fault))
+refused_by : (limit : ℕ) (custom : Custom) (names : List (List ℕ)) (fault : SystemFault) → fault ≢ systems.Step steps.Memory → ((log : StepLog) × AdmitsNames custom names (no_steps limit) (Err fault) log) → IsAdmission limit custom names (Err (fault_of_system fault))
 refused_by limit custom names fault told (log, admits) = record { result = Err fault; log = log; admits = admits; told = λ is. told cc; is = refl }
 
 systems_is : (limit : ℕ) (custom : Custom) (names : List (List ℕ)) (r : Result StepLog Fault) → SystemsAnswers limit custom names r → IsAdmission limit custom names r

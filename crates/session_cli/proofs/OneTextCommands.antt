@@ -6,7 +6,7 @@ use Rattle.digit_tuple.specs.Steps.{StepLog}
 use Rattle.digit_tuple.specs.declared.step_fault.StepFault.TheVariants as steps
 use Rattle.digit_tuple.specs.declared.steps.StepLine.{StepLine}
 use Rattle.automaton_steps.proofs.AnswerCases.{one_result}
-use Rattle.command_head.specs.Grammar.{SpellsNamed, SpellsPromote}
+use Rattle.command_head.specs.Grammar.{DerivesNamed, DerivesPromote}
 use Rattle.command_head.specs.Heads.{NamedHead}
 use Rattle.command_head.proofs.NamedHeads.{one_named}
 use Rattle.command_head.proofs.OneFault.{one_head}
@@ -38,9 +38,10 @@ use Rattle.session_cli.specs.FormulaFaults.{fault_of_loading}
 use Rattle.session_cli.specs.HeadAnswers.{HeadAnswers}
 use Rattle.session_cli.specs.MorphismChecks.{MorphismAnswers, morphism_loaded}
 use Rattle.session_cli.specs.MorphismFaults.{fault_of_promotion, fault_of_rules}
-use Rattle.session_cli.specs.PromoteOutcomes.{PromotedAnswers, fixed_success, after_morphism, after_promote_head, promote_checks}
+use Rattle.session_cli.specs.PromoteOutcomes.{PromotedAnswers, after_morphism, promote_checks}
 use Rattle.session_cli.specs.SystemChecks.{no_steps}
-use Rattle.session_cli.specs.TextOutcomes.{RulesAnswers, text_success, after_rules_head, macro_checks, morphism_checks}
+use Rattle.session_cli.specs.TextOutcomes.{RulesAnswers, after_rules_head, macro_checks, morphism_checks}
+use Rattle.session_cli.proofs.CheckNames.{fixed_success, after_promote_head, text_success}
 use Rattle.session_cli.proofs.CheckSteps.{IsSingle, then_single}
 use Rattle.session_cli.proofs.OneHeads.{head_single}
 use Rattle.session_cli.proofs.OneLoadings.{same_there}
@@ -49,7 +50,7 @@ use Rattle.session_cli.proofs.OneTexts.{stored_single}
 -- a `macro` stores what is in its quotes
 pub macro_single : (ledger : Ledger) (text : List ℕ) → IsSingle (macro_checks ledger text)
 macro_single ledger text =
-    then_single (Pure (HeadAnswers (SpellsNamed (codes "macro")) text)) (λ (head : NamedHead). stored (custom_of ledger) (text_success Macros head.name head.body)) (head_single (SpellsNamed (codes "macro")) (one_head (SpellsNamed (codes "macro")) (one_named (codes "macro"))) text)
+    then_single (Pure (HeadAnswers (DerivesNamed (codes "macro")) text)) (λ (head : NamedHead). stored (custom_of ledger) (text_success Macros head.name head.body)) (head_single (DerivesNamed (codes "macro")) (one_head (DerivesNamed (codes "macro")) (one_named (codes "macro"))) text)
     (λ head spells. stored_single (custom_of ledger) (text_success Macros head.name head.body))
 
 -- the fault of rules
@@ -111,7 +112,7 @@ rules_single body r s a b =
 pub morphism_single : (ledger : Ledger) (text : List ℕ) → IsSingle (morphism_checks ledger text)
 morphism_single ledger text =
     let custom : Custom = custom_of ledger in
-    then_single (Pure (HeadAnswers (SpellsNamed (codes "morphism")) text)) (λ head. after_rules_head custom head) (head_single (SpellsNamed (codes "morphism")) (one_head (SpellsNamed (codes "morphism")) (one_named (codes "morphism"))) text) (λ head spells.
+    then_single (Pure (HeadAnswers (DerivesNamed (codes "morphism")) text)) (λ head. after_rules_head custom head) (head_single (DerivesNamed (codes "morphism")) (one_head (DerivesNamed (codes "morphism")) (one_named (codes "morphism"))) text) (λ head spells.
     then_single (Pure (RulesAnswers head.body)) (λ (rules : Rules). stored custom (text_success Morphisms head.name (printed rules))) (rules_single head.body) (λ rules parses.
     stored_single custom (text_success Morphisms head.name (printed rules))))
 
@@ -219,7 +220,7 @@ promoted_single promotions limit rules r s a b = by (promotion_is limit rules r 
 pub promote_single : PromotionsHaveOneOutcome → (limit : ℕ) (ledger : Ledger) (text : List ℕ) → IsSingle (promote_checks limit ledger text)
 promote_single promotions limit ledger text =
     let custom : Custom = custom_of ledger in
-    then_single (Pure (HeadAnswers SpellsPromote text)) (λ head. after_promote_head limit ledger head) (head_single SpellsPromote (one_head SpellsPromote one_promote) text) (λ head spells.
+    then_single (Pure (HeadAnswers DerivesPromote text)) (λ head. after_promote_head limit ledger head) (head_single DerivesPromote (one_head DerivesPromote one_promote) text) (λ head spells.
     then_single (morphism_loaded ledger head.morphism) (λ rules. after_morphism limit custom head.word rules) (loading_single ledger head.morphism) (λ rules there.
     then_single (Pure (PromotedAnswers limit rules)) (λ lines. stored custom (fixed_success head.word rules lines)) (promoted_single promotions limit rules) (λ lines promoted.
     stored_single custom (fixed_success head.word rules lines))))

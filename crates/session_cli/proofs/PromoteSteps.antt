@@ -7,7 +7,7 @@ use Rattle.std.proofs.lemmas.List.{append-nil}
 use Rattle.wal_outside.specs.Places.{Place}
 use Rattle.wal_outside.specs.declared.folder.Folder.TheVariants.{Words}
 use Rattle.command_head.specs.Breaks.{HasHead}
-use Rattle.command_head.specs.Grammar.{SpellsPromote}
+use Rattle.command_head.specs.Grammar.{DerivesPromote}
 use Rattle.command_head.specs.Heads.{PromoteHead}
 use Rattle.digit_tuple.specs.Steps.{StepLog}
 use Rattle.digit_tuple.specs.declared.step_fault.StepFault.TheVariants as steps
@@ -30,9 +30,10 @@ use Rattle.session_cli.specs.Lines.{shown_steps}
 use Rattle.session_cli.specs.MorphismChecks.{MorphismAnswers, morphism_loaded}
 use Rattle.session_cli.specs.MorphismFaults.{fault_of_promotion}
 use Rattle.session_cli.specs.Plans.{IsMade, Makes, Plans}
-use Rattle.session_cli.specs.PromoteOutcomes.{PromotedAnswers, fixed_success, after_morphism, after_promote_head, promote_checks}
+use Rattle.session_cli.specs.PromoteOutcomes.{PromotedAnswers, after_morphism, promote_checks}
 use Rattle.session_cli.specs.SystemChecks.{no_steps}
 use Rattle.session_cli.specs.WordPrinting.{IsWordTextOf, HasNoWordText, named_text}
+use Rattle.session_cli.proofs.CheckNames.{fixed_success, after_promote_head}
 use Rattle.session_cli.proofs.BaseTexts.{fixed_text}
 use Rattle.session_cli.proofs.CheckSteps.{fails_first, fails_after, plans_after}
 use Rattle.session_cli.proofs.StoringTexts.{unstored, word_refused}
@@ -78,23 +79,23 @@ stands_at : (limit : ℕ) (custom : Custom) (name : List ℕ) (rules : Rules) (s
 stands_at limit custom name rules success (lines, promoted, (is, text)) = (sym (ap (λ (s : Success). s.folder) is), sym (ap (λ (s : Success). s.name) is))
 
 module _ (limit : ℕ) (ledger : Ledger) (text : List ℕ) where
-  pub promote_unread : (fault : Fault) → Fails (Pure (HeadAnswers SpellsPromote text)) fault → Fails (promote_checks limit ledger text) fault
-  promote_unread fault refused = fails_first (Pure (HeadAnswers SpellsPromote text)) (λ h. after_promote_head limit ledger h) fault refused
+  pub promote_unread : (fault : Fault) → Fails (Pure (HeadAnswers DerivesPromote text)) fault → Fails (promote_checks limit ledger text) fault
+  promote_unread fault refused = fails_first (Pure (HeadAnswers DerivesPromote text)) (λ h. after_promote_head limit ledger h) fault refused
 
-  module _ (head : PromoteHead) (spells : HasHead SpellsPromote (λ (h : PromoteHead). h) text (Ok head)) where
+  module _ (head : PromoteHead) (spells : HasHead DerivesPromote (λ (h : PromoteHead). h) text (Ok head)) where
     pub promote_unloaded : (fault : Fault) → Fails (morphism_loaded ledger head.morphism) fault → Fails (promote_checks limit ledger text) fault
     promote_unloaded fault refused =
-        fails_after (Pure (HeadAnswers SpellsPromote text)) (λ h. after_promote_head limit ledger h) head fault spells
+        fails_after (Pure (HeadAnswers DerivesPromote text)) (λ h. after_promote_head limit ledger h) head fault spells
         (fails_first (morphism_loaded ledger head.morphism) (λ rules. after_morphism limit (custom_of ledger) head.word rules) fault refused)
 
     pub promote_failed : (rules : Rules) (fault : Fault) → MorphismAnswers ledger head.morphism (Ok rules) → Fails (after_morphism limit (custom_of ledger) head.word rules) fault → Fails (promote_checks limit ledger text) fault
     promote_failed rules fault there refused =
-        fails_after (Pure (HeadAnswers SpellsPromote text)) (λ h. after_promote_head limit ledger h) head fault spells
+        fails_after (Pure (HeadAnswers DerivesPromote text)) (λ h. after_promote_head limit ledger h) head fault spells
         (fails_after (morphism_loaded ledger head.morphism) (λ rs. after_morphism limit (custom_of ledger) head.word rs) rules fault there refused)
 
     pub promote_planned : (rules : Rules) (shown : Bool) (plan : Plan) → MorphismAnswers ledger head.morphism (Ok rules) → plan.folder ≡ Words → plan.name ≡ head.word → Makes (custom_of ledger) (after_morphism limit (custom_of ledger) head.word rules) shown (Ok plan.made)
         → Plans (custom_of ledger) (promote_checks limit ledger text) shown (Ok plan)
     promote_planned rules shown plan there folder name made =
         let at : (Words ≡ made.success.folder) × (head.word ≡ made.success.name) = stands_at limit (custom_of ledger) head.word rules made.success made.answers in
-        plans_after (custom_of ledger) (Pure (HeadAnswers SpellsPromote text)) (λ h. after_promote_head limit ledger h) head shown (Ok plan) spells
+        plans_after (custom_of ledger) (Pure (HeadAnswers DerivesPromote text)) (λ h. after_promote_head limit ledger h) head shown (Ok plan) spells
         (plans_after (custom_of ledger) (morphism_loaded ledger head.morphism) (λ rs. after_morphism limit (custom_of ledger) head.word rs) rules shown (Ok plan) there (record { made = made; folder_is = folder ∙ at.0; name_is = name ∙ at.1 }))

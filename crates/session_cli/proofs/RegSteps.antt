@@ -4,10 +4,10 @@ use Rattle.wal_outside.specs.declared.folder.Folder.TheVariants.{Automata}
 use Rattle.digit_tuple.specs.Steps.{StepLog}
 use Rattle.command_head.specs.Heads.{RegHead, AtWord, reg_at}
 use Rattle.command_head.specs.Parts.{parts_of, texts_of}
-use Rattle.command_head.specs.Grammar.{SpellsReg}
+use Rattle.command_head.specs.Grammar.{DerivesReg}
 use Rattle.command_head.specs.declared.fault.HeadFault.TheVariants as head_faults
 use Rattle.command_head.proofs.Walks.{run_goes}
-use Rattle.command_head.proofs.ReadHeads.{reg_spelled}
+use Rattle.command_head.proofs.ReadHeads.{reg_derived}
 use Rattle.command_head.proofs.Breaking.{syntax_breaks, number_breaks}
 use Rattle.session_cli.specs.declared.fault.Grammar.TheVariants as grammars
 use Rattle.session_cli.specs.declared.fault.Fault.{Fault}
@@ -21,21 +21,22 @@ use Rattle.system_files.specs.SystemFiles.{Custom}
 use Rattle.session_cli.specs.HeadTracks.{AreTracksOf}
 use Rattle.session_cli.specs.Accepting.{Success}
 use Rattle.session_cli.specs.HeadAnswers.{HeadAnswers}
-use Rattle.session_cli.specs.RegOutcomes.{systems_named, TracksAnswers, after_tracks, after_admission, after_head, reg_checks}
+use Rattle.session_cli.specs.RegOutcomes.{systems_named, TracksAnswers, after_tracks, after_head, reg_checks}
 use Rattle.session_cli.specs.SystemChecks.{SystemsAnswers, systems_known}
 use Rattle.session_cli.specs.Plans.{Makes, Plans}
+use Rattle.session_cli.proofs.CheckNames.{after_admission}
 use Rattle.session_cli.proofs.CheckSteps.{fails_first, fails_after, makes_after, plans_after}
 
--- what is read of a text is what its parts spell, or where they break the grammar
-spelled : (text : List ℕ) (head : RegHead) → reg_at text ≡ Ok head → SpellsReg (texts_of (parts_of text)) head
+-- what is read of a text is what its parts derive, or where they break the grammar
+spelled : (text : List ℕ) (head : RegHead) → reg_at text ≡ Ok head → DerivesReg (texts_of (parts_of text)) head
 unfolding reg_at
-spelled text head read = reg_spelled (texts_of (parts_of text)) head (run_goes (length text) AtWord (parts_of text) head read)
+spelled text head read = reg_derived (texts_of (parts_of text)) head (run_goes (length text) AtWord (parts_of text) head read)
 
 pub head_syntax : (limit : ℕ) (ledger : Ledger) (text : List ℕ) (at : ℕ) → length text ≤ 65536 → reg_at text ≡ Err (head_faults.Syntax at) → Fails (reg_checks limit ledger text) (faults.Syntax grammars.Command at)
-head_syntax limit ledger text at short read = fails_first (Pure (HeadAnswers SpellsReg text)) (λ head. after_head limit (custom_of ledger) head) (faults.Syntax grammars.Command at) (syntax_breaks text at (omega (arith, short)) read)
+head_syntax limit ledger text at short read = fails_first (Pure (HeadAnswers DerivesReg text)) (λ head. after_head limit (custom_of ledger) head) (faults.Syntax grammars.Command at) (syntax_breaks text at (omega (arith, short)) read)
 
 pub head_number : (limit : ℕ) (ledger : Ledger) (text : List ℕ) (at : ℕ) → length text ≤ 65536 → reg_at text ≡ Err (head_faults.Number at) → Fails (reg_checks limit ledger text) (faults.Number grammars.Command at)
-head_number limit ledger text at short read = fails_first (Pure (HeadAnswers SpellsReg text)) (λ head. after_head limit (custom_of ledger) head) (faults.Number grammars.Command at) (number_breaks text at (omega (arith, short)) read)
+head_number limit ledger text at short read = fails_first (Pure (HeadAnswers DerivesReg text)) (λ head. after_head limit (custom_of ledger) head) (faults.Number grammars.Command at) (number_breaks text at (omega (arith, short)) read)
 
 -- a system of a head is refused
 pub head_refused : (limit : ℕ) (custom : Custom) (head : RegHead) (fault : Fault) → Fails (systems_known limit custom (systems_named head.alphabets)) fault → Fails (after_head limit custom head) fault
@@ -66,7 +67,7 @@ pub reg_planned : (limit : ℕ) (ledger : Ledger) (text : List ℕ) (shown : Boo
     → Plans (custom_of ledger) (reg_checks limit ledger text) shown (Ok plan)
 reg_planned limit ledger text shown head plan read folder name made =
     let at : IsAt head made.success = stands_at limit (custom_of ledger) head made.success made.answers in
-    plans_after (custom_of ledger) (Pure (HeadAnswers SpellsReg text)) (λ h. after_head limit (custom_of ledger) h) head shown (Ok plan) (spelled text head read) (record { made = made; folder_is = folder ∙ at.folder; name_is = name ∙ at.name })
+    plans_after (custom_of ledger) (Pure (HeadAnswers DerivesReg text)) (λ h. after_head limit (custom_of ledger) h) head shown (Ok plan) (spelled text head read) (record { made = made; folder_is = folder ∙ at.folder; name_is = name ∙ at.name })
 
 pub reg_failed : (limit : ℕ) (ledger : Ledger) (text : List ℕ) (shown : Bool) (head : RegHead) (fault : Fault) → reg_at text ≡ Ok head → Fails (after_head limit (custom_of ledger) head) fault → Fails (reg_checks limit ledger text) fault
-reg_failed limit ledger text shown head fault read refused = plans_after (custom_of ledger) (Pure (HeadAnswers SpellsReg text)) (λ h. after_head limit (custom_of ledger) h) head shown (Err fault) (spelled text head read) refused
+reg_failed limit ledger text shown head fault read refused = plans_after (custom_of ledger) (Pure (HeadAnswers DerivesReg text)) (λ h. after_head limit (custom_of ledger) h) head shown (Err fault) (spelled text head read) refused

@@ -35,8 +35,9 @@ use Rattle.session_cli.specs.declared.plan.Made.{Made}
 use Rattle.definitions.specs.Texts.{IsTrackText}
 use Rattle.session_cli.specs.TrackSteps.{DoesExpression}
 use Rattle.session_cli.specs.Accepting.{Success, stored}
-use Rattle.session_cli.specs.RegOutcomes.{ParsedAnswers, StepsAnswers, regex_success, after_expression, after_tracks}
+use Rattle.session_cli.specs.RegOutcomes.{ParsedAnswers, StepsAnswers, after_tracks}
 use Rattle.session_cli.specs.Plans.{Prints, Makes}
+use Rattle.session_cli.proofs.CheckNames.{regex_success, after_expression}
 use Rattle.session_cli.proofs.CheckSteps.{fails_first, fails_after, makes_after}
 use Rattle.definitions.proofs.NameLemmas.{named_are_systems}
 use Rattle.definitions.proofs.RegexTexts.{regex_text}
@@ -120,7 +121,7 @@ unstepped custom admitted name tracks body pattern f parses refused =
     fails_after (Pure (ParsedAnswers (letter_sets tracks) body)) (λ (p : Pattern). after_expression admitted custom name tracks p.tree) pattern f parses
     (fails_first (Pure (StepsAnswers admitted tracks pattern.tree)) (λ (ls : List StepLine). stored custom (regex_success name tracks pattern.tree ls)) f refused)
 
--- its number is told, unless memory ran out
+-- its number is said, unless memory ran out
 stopped_at : (admitted : StepLog) (tracks : Tracks) (e : Expression (List ℤ)) (log : StepLog) (fault : StepFault) → DoesExpression tracks e admitted (Err fault) log → Fails (Pure (StepsAnswers admitted tracks e)) (fault_of fault)
 stopped_at admitted tracks e log (step_faults.Letters step) refused = (log, refused)
 stopped_at admitted tracks e log (step_faults.States step) refused = (log, refused)

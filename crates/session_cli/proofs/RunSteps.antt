@@ -1,17 +1,17 @@
 -- A run that grows by one item.
-use Rattle.std.proofs.Common.{◌≡◌, ℕ, Bool, true, false, ◌||◌, if◌then◌else◌, List, [], ◌∷◌, ◌++◌, Option, None, Some, Ok, Err, refl, sym, ap, subst, append_assoc, append-nil}
+use Rattle.std.proofs.Common.{◌≡◌, ℕ, Bool, true, false, ◌||◌, if◌then◌else◌, List, [], ◌∷◌, ◌++◌, Option, None, Some, IfSome, Ok, Err, refl, sym, ap, subst, append_assoc, append-nil}
 use Rattle.std.specs.Option.{option_map}
 use Rattle.wal_outside.specs.Files.{Files, same_file, put}
 use Rattle.wal_outside.specs.declared.folder.Folder.{Folder}
 use Rattle.script_cut.specs.Cuts.{Item, Rest, Next, CutsTo}
 use Rattle.definitions.proofs.CustomTexts.{entered_custom}
-use Rattle.definitions.specs.Texts.{HasText, HasTextIn, HasTextAt}
+use Rattle.definitions.specs.Texts.{HasText, HasTextIn, HasTextAt, Stores}
 use Rattle.definitions.specs.Trees.{Entry, Bytes, Ledger, tree_of, entered, custom_of, ledger_of}
 use Rattle.system_files.specs.SystemFiles.{Custom}
 use Rattle.session_cli.specs.Accepting.{Answer, after}
 use Rattle.wal_outside.specs.Views.{StoreView}
 use Rattle.session_cli.proofs.StoredEntries.{MayStore, stands_there}
-use Rattle.session_cli.specs.Runs.{IsKnownLedger, Changes, Answers, Run, first_ledger, StoresTold, line_of, printed, some_of}
+use Rattle.session_cli.specs.Runs.{Changes, Answers, Run, first_ledger, line_of, printed, some_of}
 
 -- bytes are stored as they are
 text_of_bytes : (custom : Custom) (folder : Folder) (there : Option (List ℕ)) → HasTextAt custom folder (option_map (λ bytes. Bytes bytes) there) there
@@ -19,7 +19,7 @@ text_of_bytes custom folder None = tt
 text_of_bytes custom folder (Some text) = (tt, refl)
 
 -- at first the files are those of the ledger
-pub stores_first : (files : Option Files) → StoresTold (first_ledger files) files
+pub stores_first : (files : Option Files) → IfSome files (Stores (first_ledger files))
 stores_first None = tt
 stores_first (Some files) = λ folder name. text_of_bytes (custom_of (ledger_of files)) folder (files folder name)
 
@@ -28,17 +28,17 @@ one_entered custom folder true entry stored there text new old = new refl
 one_entered custom folder false entry stored there text new old = old
 
 -- and stay so with each answer
-pub stores_after : (ledger known : Ledger) (answer : Answer) (old new : Option Files) → MayStore answer → StoresTold ledger old → IsKnownLedger old ledger known → Changes (custom_of known) old answer new → StoresTold (after ledger answer) new
-stores_after ledger known (Ok success) None new may stores known_is (stored, has, is) = let P : Option Files → Type 0 = λ files. StoresTold (after ledger (Ok success)) files in subst P (sym is) tt
+pub stores_after : (ledger known : Ledger) (answer : Answer) (old new : Option Files) → MayStore answer → IfSome old (Stores ledger) → IfSome old (λ files. known ≡ ledger) → Changes (custom_of known) old answer new → IfSome new (Stores (after ledger answer))
+stores_after ledger known (Ok success) None new may stores known_is (stored, has, is) = let P : Option Files → Type 0 = λ files. IfSome files (Stores (after ledger (Ok success))) in subst P (sym is) tt
 stores_after ledger known (Ok success) (Some files) new may stores known_is (stored, has, is) =
     let own : HasText (custom_of ledger) success.entry stored = subst (λ (l : Ledger). HasText (custom_of l) success.entry stored) known_is has in
-    let P : Option Files → Type 0 = λ told. StoresTold (after ledger (Ok success)) told in
+    let P : Option Files → Type 0 = λ told. IfSome told (Stores (after ledger (Ok success))) in
     let there : (folder : Folder) (name : List ℕ) → HasTextAt (custom_of ledger) folder (entered ledger success.folder success.name success.entry folder name) (put files success.folder success.name stored folder name) = λ folder name.
     one_entered (custom_of ledger) folder (same_file success.folder success.name folder name) success.entry stored (ledger folder name) (files folder name)
     (λ same. (stands_there success.folder folder success.name name (tree_of success.entry) same may.1, own)) (stores folder name) in
     let Q : Custom → Type 0 = λ custom. (folder : Folder) (name : List ℕ) → HasTextAt custom folder (entered ledger success.folder success.name success.entry folder name) (put files success.folder success.name stored folder name) in
     subst P (sym is) (subst Q (sym (entered_custom ledger success.folder success.name success.entry may.0)) there)
-stores_after ledger known (Err fault) old new may stores known_is is = let P : Option Files → Type 0 = λ files. StoresTold ledger files in subst P (sym is) stores
+stores_after ledger known (Err fault) old new may stores known_is is = let P : Option Files → Type 0 = λ files. IfSome files (Stores ledger) in subst P (sym is) stores
 
 -- one item more
 pub run_more : (limit : ℕ) (items : List Item) (answers : List Answer) (ledger last : Ledger) (old mid : StoreView) (item : Item) (answer : Answer) (new : StoreView) → Run limit ledger old items answers last mid → Answers limit last mid item answer new → Run limit ledger old (items ++ item ∷ []) (answers ++ answer ∷ []) (after last answer) new

@@ -1,5 +1,5 @@
 -- Where a run is between two items, and how it goes on and ends.
-use Rattle.std.proofs.Common.{◌≡◌, ℕ, ◌<◌, ◌≤◌, Bool, true, false, ◌||◌, List, [], ◌∷◌, ◌++◌, length, Result, Ok, Err, refl, sym, ap, subst, inl, inr, arith}
+use Rattle.std.proofs.Common.{◌≡◌, ℕ, ◌<◌, ◌≤◌, Bool, true, false, ◌||◌, List, [], ◌∷◌, ◌++◌, length, IfSome, Result, Ok, Err, refl, sym, ap, subst, inl, inr, arith}
 use Rattle.wal_outside.specs.Sending.{Sends, HasSent}
 use Rattle.wal_outside.specs.declared.sink.WriteFault.{WriteFault}
 use Rattle.wal_outside.proofs.SendingSteps.{none_sent, sends_then}
@@ -9,16 +9,18 @@ use Rattle.session_cli.specs.declared.fault.Fault.{Fault}
 use Rattle.session_cli.specs.declared.fault.Fault.TheVariants as faults
 use Rattle.session_cli.specs.declared.tally.Tally.{Tally}
 use Rattle.session_cli.specs.declared.status.Status.{Status}
+use Rattle.definitions.specs.Texts.{Stores}
 use Rattle.definitions.specs.Trees.{Ledger, custom_of}
 use Rattle.session_cli.specs.Lines.{fault_line}
 use Rattle.session_cli.specs.Accepting.{Success, Answer, after}
 use Rattle.wal_outside.specs.Views.{SourceView, StoreView, SinkView}
-use Rattle.session_cli.specs.Runs.{IsAnswerOf, Answers, Run, of_fault, is_refusal, is_store_fault, is_memory_fault, some_of, first_ledger, StoresTold, line_of, printed}
-use Rattle.session_cli.specs.Whole.{stop_status, RanThrough, RanToStop, Ran}
+use Rattle.session_cli.specs.Runs.{IsAnswerOf, Answers, Run, of_fault, is_refusal, is_store_fault, is_memory_fault, some_of, first_ledger, line_of, printed}
+use Rattle.session_cli.specs.Whole.{stop_status, RanThrough, RanToStop}
 use Rattle.session_cli.specs.Commands.{Gives, Stored, Commands}
 use Rattle.session_cli.specs.Tallies.{AddsFault, AddsResult, Counts, tally_status}
 use Rattle.session_cli.specs.Handing.{result_text}
 use Rattle.session_cli.specs.Ending.{ended_status, Finishes}
+use Rattle.session_cli.proofs.CheckNames.{Ran}
 use Rattle.session_cli.proofs.CommandSteps.{own_ledger, kept_store}
 use Rattle.session_cli.proofs.StoredEntries.{answer_stands}
 use Rattle.session_cli.proofs.RunSteps.{stores_first, stores_after, run_more, cuts_more, printed_more, some_of-append}
@@ -30,7 +32,7 @@ pub record Stands (limit : ℕ) (script : List ℕ) (old now : StoreView) (held 
   pub ledger : Ledger
   pub cut : CutsTo (start script) items place
   pub run : Run limit (first_ledger old.files) old items answers ledger now
-  pub stores : StoresTold ledger now.files
+  pub stores : IfSome now.files (Stores ledger)
   pub sent : HasSent held (printed items answers) told
   pub counts : Counts tally answers
 
@@ -106,7 +108,7 @@ step_of limit ledger old new text shown line result printed c = record {
 -- a command was answered and its line handed over
 pub goes_on : (limit : ℕ) (script : List ℕ) (old mid new : StoreView) (held told now : SinkView) (place next : Rest) (tally counted : Tally) (text : List ℕ) (shown : Bool) (line : ℕ)
     → Stands limit script old mid held told place tally → Next place (record { text = text; line = line; ended = Terminated shown }) next
-    → ((ledger : Ledger) → StoresTold ledger mid.files → HasAnswered limit ledger mid text shown line told tally (Ok tt) new now counted)
+    → ((ledger : Ledger) → IfSome mid.files (Stores ledger) → HasAnswered limit ledger mid text shown line told tally (Ok tt) new now counted)
     → Stands limit script old new held now next counted
 goes_on limit script old mid new held told now place next tally counted text shown line stands cut answered =
     let a : HasAnswered limit stands.ledger mid text shown line told tally (Ok tt) new now counted = answered stands.ledger stands.stores in
@@ -128,7 +130,7 @@ goes_on limit script old mid new held told now place next tally counted text sho
 -- a command was answered, and the sink stopped in its line
 pub stops : (limit : ℕ) (script : List ℕ) (from to : SourceView) (old mid new : StoreView) (held told now : SinkView) (place next : Rest) (tally counted : Tally) (text : List ℕ) (shown : Bool) (line : ℕ) (fault : WriteFault) (state : Status)
     → Stands limit script old mid held told place tally → Next place (record { text = text; line = line; ended = Terminated shown }) next
-    → ((ledger : Ledger) → StoresTold ledger mid.files → HasAnswered limit ledger mid text shown line told tally (Err fault) new now counted)
+    → ((ledger : Ledger) → IfSome mid.files (Stores ledger) → HasAnswered limit ledger mid text shown line told tally (Err fault) new now counted)
     → to.faults ≡ from.faults → state ≡ stop_status fault → RanToStop limit script from to old new held now state
 stops limit script from to old mid new held told now place next tally counted text shown line fault state stands cut answered kept state_is =
     let a : HasAnswered limit stands.ledger mid text shown line told tally (Err fault) new now counted = answered stands.ledger stands.stores in

@@ -1,5 +1,5 @@
 -- What an accepted command makes may be in its folder, which is not that of users' systems: no expression and no formula is among words, and
--- what stands for a word is there.
+-- what a word means is there.
 use Rattle.std.proofs.Common.{◌≡◌, ◌≢◌, ℕ, true, eqb, List, Ok, Err, bytes_eq, refl, sym, subst}
 use Rattle.std.proofs.lemmas.Bool.{and_parts}
 use Rattle.wal_outside.specs.Files.{same_file}

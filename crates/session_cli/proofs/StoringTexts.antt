@@ -11,9 +11,9 @@ use Rattle.session_cli.specs.Accepting.{Success, stored}
 use Rattle.session_cli.specs.Checks.{Fails}
 use Rattle.session_cli.specs.Lines.{shown_steps}
 use Rattle.session_cli.specs.Plans.{Makes}
-use Rattle.session_cli.specs.TextOutcomes.{text_success}
 use Rattle.session_cli.specs.TextPlans.{IsTextRefused, StoresText}
 use Rattle.session_cli.specs.WordPrinting.{HasNoWordText, named_text}
+use Rattle.session_cli.proofs.CheckNames.{text_success}
 
 nothing_shown : (shown : Bool) → [] ≡ shown_steps shown [] ++ []
 nothing_shown true = refl

@@ -1,4 +1,4 @@
--- Tables read one after another: the systems under their headers, what those in front make and one more, and the refusal of one.
+-- Tables read one after another: the systems under their headers, what those before it make and one more, and the refusal of one.
 use Rattle.std.proofs.Common.{◌≡◌, ℕ, zero, suc, ◌+◌, ◌<◌, List, [], ◌∷◌, ◌++◌, length, take, map, get_or, Option, None, Some, Result, Ok, Err, Vec, Global, inl, inr, refl, sym, ap, ◌∙◌, subst, arith}
 use Rattle.std.specs.List.{AllZip}
 use Rattle.std.specs.Result.{IsErrAnd}
@@ -158,7 +158,7 @@ read_more reads r = λ i. record { relations = relations_more reads r i; words =
     words_more (AWord y ∷ rs) (ARelation x) = ap (λ (zs : List NamedWord). y ∷ zs) (words_more rs (ARelation x))
     words_more (AWord y ∷ rs) (AWord x) = ap (λ (zs : List NamedWord). y ∷ zs) (words_more rs (AWord x))
 
--- what the tables in front make
+-- what the tables before it make
 abbrev pub AreReadSoFar : List NamedSystem → StepLog → List Loaded → ReadValue → StepLog → Type 0
 AreReadSoFar systems old tables read new = (reads : List TableRead) × AreTablesRead systems old tables reads new × (read ≡ read_of reads)
 

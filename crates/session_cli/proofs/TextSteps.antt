@@ -3,7 +3,7 @@ use Rattle.std.proofs.Common.{◌≡◌, ℕ, Bool, List, codes, Result, Ok, Err
 use Rattle.wal_outside.specs.Places.{Place}
 use Rattle.wal_outside.specs.declared.folder.Folder.TheVariants.{Macros, Morphisms}
 use Rattle.command_head.specs.Breaks.{HasHead}
-use Rattle.command_head.specs.Grammar.{SpellsNamed}
+use Rattle.command_head.specs.Grammar.{DerivesNamed}
 use Rattle.command_head.specs.Heads.{NamedHead}
 use Rattle.morph_words.specs.Faults.{Parses}
 use Rattle.morph_words.specs.Printed.{printed}
@@ -20,26 +20,27 @@ use Rattle.session_cli.specs.Checks.{Pure, Fails}
 use Rattle.session_cli.specs.HeadAnswers.{HeadAnswers}
 use Rattle.session_cli.specs.MorphismFaults.{fault_of_rules}
 use Rattle.session_cli.specs.Plans.{IsMade, Makes, Plans}
-use Rattle.session_cli.specs.TextOutcomes.{RulesAnswers, text_success, after_rules_head, macro_checks, morphism_checks}
+use Rattle.session_cli.specs.TextOutcomes.{RulesAnswers, after_rules_head, macro_checks, morphism_checks}
 use Rattle.session_cli.specs.TextPlans.{IsTextRefused, StoresText}
+use Rattle.session_cli.proofs.CheckNames.{text_success}
 use Rattle.session_cli.proofs.CheckSteps.{fails_first, fails_after, makes_after, plans_after}
 use Rattle.session_cli.proofs.StoringTexts.{text_stored, unstored}
 
 -- what is in the quotes of a `macro` is stored
-pub macro_planned : (ledger : Ledger) (text : List ℕ) (shown : Bool) (head : NamedHead) (plan : Plan) → HasHead (SpellsNamed (codes "macro")) (λ (h : NamedHead). h) text (Ok head) → plan.folder ≡ Macros → plan.name ≡ head.name → StoresText head.body (Ok plan.made)
+pub macro_planned : (ledger : Ledger) (text : List ℕ) (shown : Bool) (head : NamedHead) (plan : Plan) → HasHead (DerivesNamed (codes "macro")) (λ (h : NamedHead). h) text (Ok head) → plan.folder ≡ Macros → plan.name ≡ head.name → StoresText head.body (Ok plan.made)
     → Plans (custom_of ledger) (macro_checks ledger text) shown (Ok plan)
 macro_planned ledger text shown head plan spells folder name stores =
     let made : IsMade (custom_of ledger) (stored (custom_of ledger) (text_success Macros head.name head.body)) shown plan.made = text_stored (custom_of ledger) Macros head.name head.body shown (Ok plan.made) stores in
-    plans_after (custom_of ledger) (Pure (HeadAnswers (SpellsNamed (codes "macro")) text)) (λ (h : NamedHead). stored (custom_of ledger) (text_success Macros h.name h.body)) head shown (Ok plan) spells
+    plans_after (custom_of ledger) (Pure (HeadAnswers (DerivesNamed (codes "macro")) text)) (λ (h : NamedHead). stored (custom_of ledger) (text_success Macros h.name h.body)) head shown (Ok plan) spells
     (record { made = made; folder_is = folder ∙ sym (ap (λ (s : Success). s.folder) made.answers.0); name_is = name ∙ sym (ap (λ (s : Success). s.name) made.answers.0) })
 
-pub macro_failed : (ledger : Ledger) (text : List ℕ) (head : NamedHead) (fault : Fault) → HasHead (SpellsNamed (codes "macro")) (λ (h : NamedHead). h) text (Ok head) → IsTextRefused head.body fault → Fails (macro_checks ledger text) fault
+pub macro_failed : (ledger : Ledger) (text : List ℕ) (head : NamedHead) (fault : Fault) → HasHead (DerivesNamed (codes "macro")) (λ (h : NamedHead). h) text (Ok head) → IsTextRefused head.body fault → Fails (macro_checks ledger text) fault
 macro_failed ledger text head fault spells refused =
-    fails_after (Pure (HeadAnswers (SpellsNamed (codes "macro")) text)) (λ (h : NamedHead). stored (custom_of ledger) (text_success Macros h.name h.body)) head fault spells
+    fails_after (Pure (HeadAnswers (DerivesNamed (codes "macro")) text)) (λ (h : NamedHead). stored (custom_of ledger) (text_success Macros h.name h.body)) head fault spells
     (unstored (custom_of ledger) (text_success Macros head.name head.body) head.body fault refl refused)
 
-pub macro_unread : (ledger : Ledger) (text : List ℕ) (fault : Fault) → Fails (Pure (HeadAnswers (SpellsNamed (codes "macro")) text)) fault → Fails (macro_checks ledger text) fault
-macro_unread ledger text fault refused = fails_first (Pure (HeadAnswers (SpellsNamed (codes "macro")) text)) (λ (h : NamedHead). stored (custom_of ledger) (text_success Macros h.name h.body)) fault refused
+pub macro_unread : (ledger : Ledger) (text : List ℕ) (fault : Fault) → Fails (Pure (HeadAnswers (DerivesNamed (codes "macro")) text)) fault → Fails (macro_checks ledger text) fault
+macro_unread ledger text fault refused = fails_first (Pure (HeadAnswers (DerivesNamed (codes "macro")) text)) (λ (h : NamedHead). stored (custom_of ledger) (text_success Macros h.name h.body)) fault refused
 
 -- it reads no file
 pub macro_reads_none : (ledger : Ledger) (text : List ℕ) (place : Place) → (macro_checks ledger text).reads place → ⊥
@@ -64,17 +65,17 @@ rules_refused custom head fault refused = fails_first (Pure (RulesAnswers head.b
 stands_at : (custom : Custom) (head : NamedHead) (success : Success) → (after_rules_head custom head).answers (Ok success) → (Morphisms ≡ success.folder) × (head.name ≡ success.name)
 stands_at custom head success (rules, parses, (is, text)) = (sym (ap (λ (s : Success). s.folder) is), sym (ap (λ (s : Success). s.name) is))
 
-pub morphism_planned : (ledger : Ledger) (text : List ℕ) (shown : Bool) (head : NamedHead) (plan : Plan) → HasHead (SpellsNamed (codes "morphism")) (λ (h : NamedHead). h) text (Ok head) → plan.folder ≡ Morphisms → plan.name ≡ head.name
+pub morphism_planned : (ledger : Ledger) (text : List ℕ) (shown : Bool) (head : NamedHead) (plan : Plan) → HasHead (DerivesNamed (codes "morphism")) (λ (h : NamedHead). h) text (Ok head) → plan.folder ≡ Morphisms → plan.name ≡ head.name
     → Makes (custom_of ledger) (after_rules_head (custom_of ledger) head) shown (Ok plan.made) → Plans (custom_of ledger) (morphism_checks ledger text) shown (Ok plan)
 morphism_planned ledger text shown head plan spells folder name made =
     let at : (Morphisms ≡ made.success.folder) × (head.name ≡ made.success.name) = stands_at (custom_of ledger) head made.success made.answers in
-    plans_after (custom_of ledger) (Pure (HeadAnswers (SpellsNamed (codes "morphism")) text)) (λ h. after_rules_head (custom_of ledger) h) head shown (Ok plan) spells (record { made = made; folder_is = folder ∙ at.0; name_is = name ∙ at.1 })
+    plans_after (custom_of ledger) (Pure (HeadAnswers (DerivesNamed (codes "morphism")) text)) (λ h. after_rules_head (custom_of ledger) h) head shown (Ok plan) spells (record { made = made; folder_is = folder ∙ at.0; name_is = name ∙ at.1 })
 
-pub morphism_failed : (ledger : Ledger) (text : List ℕ) (head : NamedHead) (fault : Fault) → HasHead (SpellsNamed (codes "morphism")) (λ (h : NamedHead). h) text (Ok head) → Fails (after_rules_head (custom_of ledger) head) fault → Fails (morphism_checks ledger text) fault
-morphism_failed ledger text head fault spells refused = fails_after (Pure (HeadAnswers (SpellsNamed (codes "morphism")) text)) (λ h. after_rules_head (custom_of ledger) h) head fault spells refused
+pub morphism_failed : (ledger : Ledger) (text : List ℕ) (head : NamedHead) (fault : Fault) → HasHead (DerivesNamed (codes "morphism")) (λ (h : NamedHead). h) text (Ok head) → Fails (after_rules_head (custom_of ledger) head) fault → Fails (morphism_checks ledger text) fault
+morphism_failed ledger text head fault spells refused = fails_after (Pure (HeadAnswers (DerivesNamed (codes "morphism")) text)) (λ h. after_rules_head (custom_of ledger) h) head fault spells refused
 
-pub morphism_unread : (ledger : Ledger) (text : List ℕ) (fault : Fault) → Fails (Pure (HeadAnswers (SpellsNamed (codes "morphism")) text)) fault → Fails (morphism_checks ledger text) fault
-morphism_unread ledger text fault refused = fails_first (Pure (HeadAnswers (SpellsNamed (codes "morphism")) text)) (λ h. after_rules_head (custom_of ledger) h) fault refused
+pub morphism_unread : (ledger : Ledger) (text : List ℕ) (fault : Fault) → Fails (Pure (HeadAnswers (DerivesNamed (codes "morphism")) text)) fault → Fails (morphism_checks ledger text) fault
+morphism_unread ledger text fault refused = fails_first (Pure (HeadAnswers (DerivesNamed (codes "morphism")) text)) (λ h. after_rules_head (custom_of ledger) h) fault refused
 
 pub morphism_reads_none : (ledger : Ledger) (text : List ℕ) (place : Place) → (morphism_checks ledger text).reads place → ⊥
 morphism_reads_none ledger text place (inl read) = read

@@ -144,7 +144,7 @@ marked h (name ∷ names) = ap (λ (ns : List (List ℕ)). name ∷ ns) (marked 
 pub first_marks : (h : Headers) (marks : List Mention) (names : List (List ℕ)) → marks ≡ map Marked names → first_systems h marks ≡ each_once bytes_eq names
 first_marks h marks names is = ap (first_systems h) is ∙ ap (each_once bytes_eq) (marked h names)
 
--- the systems of the names in front are admitted
+-- the systems of the names before it are admitted
 pub record AreSoFar (limit : ℕ) (prefix : List (List ℕ)) (users : UserSystems) (old now : StoreView) : Type 0 where
   pub gives : (custom : Custom) → Agrees custom users.texts → AreAdmitted limit prefix custom users
   pub stands : CanStand users.texts

@@ -30,14 +30,10 @@ after ledger (Err fault) = ledger
 abbrev pub FitsFile : List ℕ → Type 0
 FitsFile text = length text ≤ 16777216
 
--- some text of the entry has the property
-abbrev pub SomeText : Custom → Entry → (List ℕ → Type 0) → Type 0
-SomeText custom entry P = (text : List ℕ) × HasText custom entry text × P text
-
 -- whether the text that is to be stored fits
 abbrev pub StoredAnswers : Custom → Success → Answer → Type 0
-StoredAnswers custom made (Ok success) = (success ≡ made) × SomeText custom made.entry FitsFile
-StoredAnswers custom made (Err (faults.Long bytes)) = (bytes ≡ 16777216) × SomeText custom made.entry (λ text. 16777216 < length text)
+StoredAnswers custom made (Ok success) = (success ≡ made) × ((text : List ℕ) × HasText custom made.entry text × FitsFile text)
+StoredAnswers custom made (Err (faults.Long bytes)) = (bytes ≡ 16777216) × ((text : List ℕ) × HasText custom made.entry text × (16777216 < length text))
 StoredAnswers custom made (Err fault) = ⊥
 
 -- the last check of each command: what it makes is stored, unless its text is too long

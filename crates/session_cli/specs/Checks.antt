@@ -1,5 +1,5 @@
 -- Checks of a command, one after another: the first that refuses decides.
-use Rattle.std.specs.Prelude.{◌⊎◌, Result, Ok, Err, ⊤}
+use Rattle.std.specs.Prelude.{◌⊎◌, Result, Ok, Err, MatchResult, ⊤}
 use Rattle.wal_outside.specs.Places.{Place}
 use Rattle.session_cli.specs.declared.fault.Fault.{Fault}
 use Rattle.session_cli.specs.declared.fault.Fault.TheVariants as faults
@@ -12,6 +12,10 @@ pub record Check (Y : Type 0) : Type 1 where
 -- a check that reads no file
 abbrev pub Pure : {Y : Type 0} → (Result Y Fault → Type 0) → Check Y
 Pure answers = record { answers = answers; reads = λ place. ⊥ }
+
+-- a check that refuses nothing
+abbrev pub Passing : {Y : Type 0} → (Y → Type 0) → Check Y
+Passing Is = Pure (λ result. MatchResult result Is (λ fault. ⊥))
 
 -- one check after another: the first refuses, or the next goes on with what it gave
 abbrev pub Then : {Y Z : Type 0} → Check Y → (Y → Check Z) → Check Z

@@ -7,7 +7,7 @@ use Rattle.digit_tuple.specs.declared.direction.Direction.{Direction}
 use Rattle.digit_tuple.specs.declared.step_fault.StepFault.TheVariants as steps
 use Rattle.digit_tuple.specs.declared.steps.StepLine.{StepLine}
 use Rattle.wal_outside.specs.declared.folder.Folder.TheVariants.{Automata, Words}
-use Rattle.command_head.specs.Grammar.{SpellsCombine}
+use Rattle.command_head.specs.Grammar.{DerivesCombine}
 use Rattle.command_head.specs.Heads.{CombineHead, ValuedName}
 use Rattle.command_head.specs.Values.{value_at}
 use Rattle.dfa_loading.specs.Headers.{headers_of}
@@ -25,7 +25,7 @@ use Rattle.system_files.specs.SystemFiles.{Custom}
 use Rattle.session_cli.specs.declared.fault.Fault.{Fault}
 use Rattle.session_cli.specs.declared.fault.Fault.TheVariants as faults
 use Rattle.session_cli.specs.Accepting.{Success, stored}
-use Rattle.session_cli.specs.Checks.{Check, Pure, Then}
+use Rattle.session_cli.specs.Checks.{Check, Passing, Pure, Then}
 use Rattle.session_cli.specs.CombineSteps.{AreCombineSteps, AreCombineStepsRefused}
 use Rattle.session_cli.specs.FileChecks.{files_loaded}
 use Rattle.session_cli.specs.HeadAnswers.{HeadAnswers}
@@ -88,10 +88,6 @@ abbrev pub AreTracksOfFirst : Custom → Headers → List (List ℕ) → WordTra
 AreTracksOfFirst custom h [] tracks = ⊥
 AreTracksOfFirst custom h (name ∷ names) tracks = (automaton_tracks h name ≡ names_of tracks.named) × AreNamed custom tracks.direction tracks.named
 
-abbrev pub WordTracksAnswers : Custom → Headers → List (List ℕ) → Result WordTracks Fault → Type 0
-WordTracksAnswers custom h names (Ok tracks) = AreTracksOfFirst custom h names tracks
-WordTracksAnswers custom h names (Err fault) = ⊥
-
 -- the lines of the steps, or the number of the first one that passes a limit
 abbrev pub CombinedAnswers : StepLog → Custom → List Loaded → List ValuedName → Result (List StepLine) Fault → Type 0
 CombinedAnswers admitted custom tables automata (Ok lines) = (word : WordValue) × AreCombineSteps admitted custom tables automata word lines
@@ -99,28 +95,21 @@ CombinedAnswers admitted custom tables automata (Err (faults.Letters step)) = Ar
 CombinedAnswers admitted custom tables automata (Err (faults.States step)) = AreCombineStepsRefused admitted custom tables automata (steps.States step)
 CombinedAnswers admitted custom tables automata (Err fault) = ⊥
 
--- the definitions for which the listed names stand now, with their values, the first at this place of the list
+-- the definitions that the listed names mean now, with their values, the first at this place of the list
 abbrev pub parts_from : Ledger → ℕ → List ValuedName → Parts
 parts_from ledger place [] = no_parts
 parts_from ledger place (v ∷ automata) = with_part (ledger Automata v.name) (value_at place v.value) (parts_from ledger (suc place) automata)
 
--- what is stored and printed of listed automata
-abbrev pub combine_success : Ledger → CombineHead → WordTracks → List StepLine → Success
-combine_success ledger head tracks lines = record { folder = Words; name = head.word; entry = Defined (Combine tracks.direction tracks.named (parts_from ledger 0 head.automata)); lines = lines; verdict = None }
-
--- the checks after the steps, after the shape, after those of sets, after the systems, after the tables, and after the head
-abbrev pub after_combined : Ledger → CombineHead → List Loaded → List StepLine → Check Success
-after_combined ledger head tables lines = Then (Pure (WordTracksAnswers (custom_of ledger) (headers_of tables) (listed_names head.automata))) (λ tracks. stored (custom_of ledger) (combine_success ledger head tracks lines))
-
-abbrev pub after_shape : Ledger → CombineHead → List Loaded → StepLog → Check Success
-after_shape ledger head tables admitted = Then (Pure (CombinedAnswers admitted (custom_of ledger) tables head.automata)) (λ lines. after_combined ledger head tables lines)
-
-abbrev pub after_plain : Ledger → CombineHead → List Loaded → StepLog → Check Success
-after_plain ledger head tables admitted = Then (Pure (ShapeAnswers (headers_of tables) (listed_names head.automata))) (λ shape. after_shape ledger head tables admitted)
-
+-- the checks after the systems: what is stored is the definitions that the listed names mean
 abbrev pub after_listed_systems : Ledger → CombineHead → List Loaded → StepLog → Check Success
-after_listed_systems ledger head tables admitted = Then (Pure (PlainAnswers (headers_of tables) (listed_names head.automata))) (λ none. after_plain ledger head tables admitted)
+after_listed_systems ledger head tables admitted =
+    Then (Pure (PlainAnswers (headers_of tables) (listed_names head.automata))) (λ none.
+    Then (Pure (ShapeAnswers (headers_of tables) (listed_names head.automata))) (λ shape.
+    Then (Pure (CombinedAnswers admitted (custom_of ledger) tables head.automata)) (λ lines.
+    Then (Passing (AreTracksOfFirst (custom_of ledger) (headers_of tables) (listed_names head.automata))) (λ (tracks : WordTracks).
+    stored (custom_of ledger) (record { folder = Words; name = head.word; entry = Defined (Combine tracks.direction tracks.named (parts_from ledger 0 head.automata)); lines = lines; verdict = None })))))
 
+-- the checks after the tables, and after the head
 abbrev pub after_listed_tables : ℕ → Ledger → CombineHead → List Loaded → Check Success
 after_listed_tables limit ledger head tables = Then (systems_known limit (custom_of ledger) (listed_systems tables head.automata)) (λ admitted. after_listed_systems ledger head tables admitted)
 
@@ -129,4 +118,4 @@ after_combine_head limit ledger head = Then (files_loaded ledger (listed_files h
 
 -- all checks of a `combine`
 abbrev pub combine_checks : ℕ → Ledger → List ℕ → Check Success
-combine_checks limit ledger text = Then (Pure (HeadAnswers SpellsCombine text)) (λ head. after_combine_head limit ledger head)
+combine_checks limit ledger text = Then (Pure (HeadAnswers DerivesCombine text)) (λ head. after_combine_head limit ledger head)

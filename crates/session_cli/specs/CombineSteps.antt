@@ -5,9 +5,9 @@ use Rattle.digit_tuple.specs.Steps.{StepLog}
 use Rattle.digit_tuple.specs.declared.step_fault.StepFault.{StepFault}
 use Rattle.digit_tuple.specs.declared.steps.StepLine.{StepLine}
 use Rattle.combinations.specs.Combined.{AreSystemsFor}
-use Rattle.combinations.specs.CombineSteps.{DoesCombine}
+use Rattle.automaton_steps.specs.Makings.{DoesStep}
+use Rattle.combinations.specs.CombineSteps.{combine_step}
 use Rattle.combinations.specs.Parts.{PartValue}
-use Rattle.combinations.specs.declared.combine_fault.CombineFault.TheVariants.{Step}
 use Rattle.command_head.specs.Heads.{ValuedName}
 use Rattle.command_head.specs.Values.{value_at}
 use Rattle.dfa_loading.specs.declared.loaded.Loaded.{Loaded}
@@ -43,14 +43,14 @@ pub record AreListedParts (admitted : StepLog) (custom : Custom) (tables : List 
 pub record AreCombineSteps (admitted : StepLog) (custom : Custom) (tables : List Loaded) (automata : List ValuedName) (word : WordValue) (lines : List StepLine) : Type 0 where
   pub before : AreListedParts admitted custom tables automata
   pub log : StepLog
-  pub done : DoesCombine before.parts before.tracks before.reading (Ok word) log
+  pub done : DoesStep (combine_step before.parts before.tracks) before.reading (Ok word) log
   pub lines_are : lines ≡ log.lines
 
 -- it is refused by this fault
 pub record IsCombiningStopped (admitted : StepLog) (custom : Custom) (tables : List Loaded) (automata : List ValuedName) (fault : StepFault) : Type 0 where
   pub before : AreListedParts admitted custom tables automata
   pub log : StepLog
-  pub refused : DoesCombine before.parts before.tracks before.reading (Err (Step fault)) log
+  pub refused : DoesStep (combine_step before.parts before.tracks) before.reading (Err fault) log
 
 -- a step that reads a table, or the one that combines, is the first to pass a limit
 abbrev pub AreCombineStepsRefused : StepLog → Custom → List Loaded → List ValuedName → StepFault → Type 0

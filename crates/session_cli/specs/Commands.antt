@@ -1,5 +1,5 @@
 -- One command, and the store before and after it.
-use Rattle.std.specs.Prelude.{◌≡◌, ℕ, ◌≤◌, Bool, List, [], Option, Some, Result, Ok, Err, IsTrue}
+use Rattle.std.specs.Prelude.{◌≡◌, ℕ, ◌≤◌, Bool, List, [], Option, Some, IfSome, Result, Ok, Err, IsTrue}
 use Rattle.std.specs.Option.{option_map}
 use Rattle.wal_outside.specs.Causes.{Rose}
 use Rattle.wal_outside.specs.Files.{Files, put}
@@ -11,7 +11,7 @@ use Rattle.system_files.specs.SystemFiles.{Custom}
 use Rattle.session_cli.specs.Accepting.{Answer}
 use Rattle.session_cli.specs.Outcomes.{checks_of}
 use Rattle.session_cli.specs.Lines.{success_text}
-use Rattle.session_cli.specs.Runs.{IsAnswer, IsKnownLedger, Changes, of_fault, is_store_fault, failed_after}
+use Rattle.session_cli.specs.Runs.{IsAnswer, Changes, of_fault, is_store_fault, failed_after}
 use Rattle.wal_outside.specs.Views.{StoreView}
 
 -- A call's result and the text to print are the answer: accepted, with what it prints; or the same fault, and then the text is empty.
@@ -33,7 +33,7 @@ pub record Commands (limit : ℕ) (ledger : Ledger) (old : StoreView) (text : Li
   pub answer : Answer
   pub gives : Gives shown result printed answer
   pub known : Ledger
-  pub known_is : IsKnownLedger old.files ledger known
+  pub known_is : IfSome old.files (λ files. known ≡ ledger)
   pub answered : IsAnswer (checks_of limit known text) answer
   pub stored : Stored (custom_of known) old answer new
 

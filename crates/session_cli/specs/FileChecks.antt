@@ -1,7 +1,6 @@
 -- The files that a command names, loaded one after another.
 use Rattle.std.specs.Prelude.{List, Result, Ok, Err}
 use Rattle.wal_outside.specs.Files.{Files}
-use Rattle.wal_outside.specs.Places.{Place}
 use Rattle.dfa_loading.specs.Loading.{AreListedBy, FirstRefuses, ReadsAt}
 use Rattle.dfa_loading.specs.declared.fault.LoadFault.TheVariants as loads
 use Rattle.dfa_loading.specs.declared.loaded.Loaded.{Loaded}
@@ -19,9 +18,6 @@ FilesAnswers ledger named (Err (faults.Unknown folder name)) = (files : Files) �
 FilesAnswers ledger named (Err (faults.File folder name flaw)) = (files : Files) × Stores ledger files × FirstRefuses files named (loads.File folder name flaw)
 FilesAnswers ledger named (Err fault) = ⊥
 
--- one of the files is read at this place, and those before it list tables
-abbrev pub FilesAt : Ledger → List File → Place → Type 0
-FilesAt ledger named place = (files : Files) × Stores ledger files × ReadsAt files named place.0 place.1
-
+-- the check of the files: one of them is read at a place, where those before it list tables
 abbrev pub files_loaded : Ledger → List File → Check (List Loaded)
-files_loaded ledger named = record { answers = FilesAnswers ledger named; reads = FilesAt ledger named }
+files_loaded ledger named = record { answers = FilesAnswers ledger named; reads = λ place. (files : Files) × Stores ledger files × ReadsAt files named place.0 place.1 }

@@ -1,6 +1,7 @@
 -- What an `eval` or a `def` does, by its checks in their order: the shape of its head, its calls of macros, its formula, the files of the automata and words that
 -- this names, its systems, its resolution, its steps, and the length of the text that it is to store. Its variables and its verdict refuse nothing.
-use Rattle.std.specs.Prelude.{◌≡◌, ℕ, Bool, List, [], ◌∷◌, Option, None, Some, Result, Ok, Err, ⊤}
+use Rattle.std.specs.Prelude.{◌≡◌, ℕ, List, None, Some, Result, Ok, Err}
+use Rattle.std.specs.List.{AllZip}
 use Rattle.wal_outside.specs.Places.{Place}
 use Rattle.wal_outside.specs.declared.folder.Folder.{Folder}
 use Rattle.dfa_loading.specs.Headers.{headers_of}
@@ -9,7 +10,7 @@ use Rattle.digit_tuple.specs.declared.step_fault.StepFault.TheVariants as steps
 use Rattle.digit_tuple.specs.Steps.{StepLog}
 use Rattle.digit_tuple.specs.declared.steps.StepLine.{StepLine}
 use Rattle.command_head.specs.Heads.{NamedHead}
-use Rattle.command_head.specs.Grammar.{SpellsNamed}
+use Rattle.command_head.specs.Grammar.{DerivesNamed}
 use Rattle.formula_parse.specs.Flaws.{mixed_chain, not_linear}
 use Rattle.formula_parse.specs.Grammar.{Reads, IsFlawed}
 use Rattle.formula_parse.specs.Parsing as parsing
@@ -27,7 +28,7 @@ use Rattle.number_relations.specs.Relations.{RelationValue}
 use Rattle.session_cli.specs.declared.fault.Grammar.TheVariants as grammars
 use Rattle.session_cli.specs.declared.fault.Fault.{Fault}
 use Rattle.session_cli.specs.declared.fault.Fault.TheVariants as faults
-use Rattle.session_cli.specs.Checks.{Check, Pure, Then}
+use Rattle.session_cli.specs.Checks.{Check, Passing, Pure, Then}
 use Rattle.session_cli.specs.FileChecks.{files_loaded}
 use Rattle.definitions.specs.Trees.{Variable, Formula, Bindings, Defined, Ledger, bindings_of, custom_of}
 use Rattle.definitions.specs.Named.{IsSystemNamed}
@@ -49,14 +50,6 @@ FormulaAnswers body (Err (faults.MixedChain at)) = IsFlawed (tokens (spots body)
 FormulaAnswers body (Err (faults.NotLinear at)) = IsFlawed (tokens (spots body)) (not_linear at)
 FormulaAnswers body (Err fault) = ⊥
 
--- the tables of the files that the formula names
-abbrev pub loaded : Ledger → trees.Formula → Check (List Loaded)
-loaded ledger formula = files_loaded ledger (first_files (mentions formula))
-
--- the systems that the formula mentions, those of the tables among them
-abbrev pub mentioned_systems : List Loaded → trees.Formula → List (List ℕ)
-mentioned_systems tables formula = first_systems (headers_of tables) (mentions formula)
-
 -- the formula has a resolution, or this is why it has none
 abbrev pub ResolvedAnswers : List Loaded → trees.Formula → Result (Unit {0}) Fault → Type 0
 ResolvedAnswers tables formula (Ok resolved) = fault_of (headers_of tables) formula ≡ None
@@ -75,68 +68,39 @@ BuiltAnswers admitted custom tables formula (Err (faults.States step)) = AreStep
 BuiltAnswers admitted custom tables formula (Err (faults.WordGap name representation)) = IsLetterMissing admitted custom tables name representation
 BuiltAnswers admitted custom tables formula (Err fault) = ⊥
 
--- a variable over the system that the name of its system means
+-- a free variable over the system that the name of its system means
 pub record IsVariable (custom : Custom) (found : resolved.Variable) (v : Variable) : Type 0 where
   pub name_is : v.name ≡ found.name
   pub system_is : v.system.name ≡ found.system
   pub means : IsSystemNamed custom v.system.name v.direction v.system.system
 
-abbrev pub AreVariables : Custom → List resolved.Variable → List Variable → Type 0
-AreVariables custom [] [] = ⊤
-AreVariables custom [] (v ∷ variables) = ⊥
-AreVariables custom (x ∷ found) [] = ⊥
-AreVariables custom (x ∷ found) (v ∷ variables) = IsVariable custom x v × AreVariables custom found variables
-
--- the free variables in byte order, each over its system
-abbrev pub VariablesAnswers : Custom → List Loaded → trees.Formula → Result (List Variable) Fault → Type 0
-VariablesAnswers custom tables formula (Ok variables) = AreVariables custom (free_variables (all_occurrences (headers_of tables) formula)) variables
-VariablesAnswers custom tables formula (Err fault) = ⊥
-
--- the verdict
-abbrev pub VerdictAnswers : Custom → Bindings → List Variable → trees.Formula → Result (Option Bool) Fault → Type 0
-VerdictAnswers custom bindings variables formula (Ok verdict) = HasVerdict custom bindings variables formula verdict
-VerdictAnswers custom bindings variables formula (Err fault) = ⊥
-
--- the definitions that the names of the formula stand for
+-- the definitions that the names of the formula mean
 abbrev pub bindings_now : Ledger → trees.Formula → Bindings
 bindings_now ledger formula = bindings_of ledger (first_files (mentions formula))
 
--- what is stored and printed of a formula
-abbrev pub formula_success : Place → Bindings → List Variable → trees.Formula → List StepLine → Option Bool → Success
-formula_success place bindings variables formula lines verdict = record {
-  folder = place.0;
-  name = place.1;
-  entry = Defined (Formula variables formula bindings);
-  lines = lines;
-  verdict = verdict;
-}
-
--- the checks after the variables are there, after the steps, after the resolution, after the systems, after the tables, after the formula, after
--- the expansion, and after the head
-abbrev pub after_variables : Custom → Place → Bindings → trees.Formula → List StepLine → List Variable → Check Success
-after_variables custom place bindings formula lines variables = Then (Pure (VerdictAnswers custom bindings variables formula)) (λ verdict. stored custom (formula_success place bindings variables formula lines verdict))
-
-abbrev pub after_steps : Ledger → Place → List Loaded → trees.Formula → List StepLine → Check Success
-after_steps ledger place tables formula lines = Then (Pure (VariablesAnswers (custom_of ledger) tables formula)) (λ variables. after_variables (custom_of ledger) place (bindings_now ledger formula) formula lines variables)
-
-abbrev pub after_resolution : StepLog → Ledger → Place → List Loaded → trees.Formula → Check Success
-after_resolution admitted ledger place tables formula = Then (Pure (BuiltAnswers admitted (custom_of ledger) tables formula)) (λ lines. after_steps ledger place tables formula lines)
-
+-- The checks after the systems. The free variables are in byte order, each over its system. What is stored is the formula, with these and
+-- what its names mean.
 abbrev pub after_systems : Ledger → Place → List Loaded → trees.Formula → StepLog → Check Success
-after_systems ledger place tables formula admitted = Then (Pure (ResolvedAnswers tables formula)) (λ resolved. after_resolution admitted ledger place tables formula)
+after_systems ledger place tables formula admitted =
+    Then (Pure (ResolvedAnswers tables formula)) (λ resolved.
+    Then (Pure (BuiltAnswers admitted (custom_of ledger) tables formula)) (λ lines.
+    Then (Passing (AllZip (IsVariable (custom_of ledger)) (free_variables (all_occurrences (headers_of tables) formula)))) (λ variables.
+    Then (Passing (HasVerdict (custom_of ledger) (bindings_now ledger formula) variables formula)) (λ verdict.
+    stored (custom_of ledger) (record { folder = place.0; name = place.1; entry = Defined (Formula variables formula (bindings_now ledger formula)); lines = lines; verdict = verdict })))))
 
+-- the checks after the tables: the systems are those that the formula and the tables mention
 abbrev pub after_tables : ℕ → Ledger → Place → trees.Formula → List Loaded → Check Success
-after_tables limit ledger place formula tables = Then (systems_known limit (custom_of ledger) (mentioned_systems tables formula)) (λ admitted. after_systems ledger place tables formula admitted)
+after_tables limit ledger place formula tables = Then (systems_known limit (custom_of ledger) (first_systems (headers_of tables) (mentions formula))) (λ admitted. after_systems ledger place tables formula admitted)
 
-abbrev pub after_formula : ℕ → Ledger → Place → trees.Formula → Check Success
-after_formula limit ledger place formula = Then (loaded ledger formula) (λ tables. after_tables limit ledger place formula tables)
-
+-- the checks after the expansion, and after the head
 abbrev pub after_text : ℕ → Ledger → Place → List ℕ → Check Success
-after_text limit ledger place text = Then (Pure (FormulaAnswers text)) (λ formula. after_formula limit ledger place formula)
+after_text limit ledger place text =
+    Then (Pure (FormulaAnswers text)) (λ formula.
+    Then (files_loaded ledger (first_files (mentions formula))) (λ tables. after_tables limit ledger place formula tables))
 
 abbrev pub after_named_head : ℕ → Ledger → Folder → NamedHead → Check Success
 after_named_head limit ledger folder head = Then (expanded ledger head.body) (λ text. after_text limit ledger (folder, head.name) text)
 
 -- all checks of a command of this word, whose texts are in this folder
 abbrev pub formula_checks : List ℕ → Folder → ℕ → Ledger → List ℕ → Check Success
-formula_checks word folder limit ledger text = Then (Pure (HeadAnswers (SpellsNamed word) text)) (λ head. after_named_head limit ledger folder head)
+formula_checks word folder limit ledger text = Then (Pure (HeadAnswers (DerivesNamed word) text)) (λ head. after_named_head limit ledger folder head)

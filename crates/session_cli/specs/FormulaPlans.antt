@@ -34,7 +34,7 @@ AreUnloaded files named fault = ⊥
 abbrev pub LoadsTables : List File → Files → Result (Vec Loaded Global) Fault → Type 0
 LoadsTables named files result = MatchResult result (λ tables. AreListedBy files named tables.items) (AreUnloaded files named)
 
--- each of these names and the default stands for a system
+-- each of these names and the default means a system
 pub record HasSystems (names : List (List ℕ)) (systems : List NamedSystem) : Type 0 where
   pub mentioned : AllByRecursion (HasSystemIn systems) names
   pub default : HasSystemIn systems default_system

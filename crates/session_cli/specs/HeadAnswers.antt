@@ -8,7 +8,7 @@ use Rattle.session_cli.specs.declared.fault.Grammar.TheVariants as grammars
 use Rattle.session_cli.specs.declared.fault.Fault.{Fault}
 use Rattle.session_cli.specs.declared.fault.Fault.TheVariants as faults
 
--- the head that the parts of the text spell by a grammar, or where they first break it
+-- the head that the parts of the text derive by a grammar, or where they first break it
 abbrev pub HeadAnswers : {H : Type 0} → (List (List ℕ) → H → Type 0) → List ℕ → Result H Fault → Type 0
 HeadAnswers grammar text (Ok head) = grammar (texts_of (parts_of text)) head
 HeadAnswers grammar text (Err (faults.Syntax grammars.Command at)) = IsSyntaxAt grammar text at

@@ -83,7 +83,7 @@ pub record HasOldWord (words : List NamedWord) (old system : List ℕ) : Type 0 
   pub track : length word.systems ≡ 1
   pub direction : direction_of word.systems ≡ direction_named system
 
--- the steps make this word, which is the image of the old one, over systems for which the names stand that this mentions
+-- the steps make this word, which is the image of the old one, over systems that the names that this mentions mean
 pub record IsImaged (admitted : StepLog) (custom : Custom) (read : ReadImage) (word : WordValue) (lines : List StepLine) : Type 0 where
   pub steps : AreImageSteps admitted custom read.tables.items read.old (old_system_of read) read.morphism word lines
   pub image : IsImageWord read.morphism steps.before.word word

@@ -7,7 +7,7 @@ use Rattle.digit_tuple.specs.declared.step_fault.StepFault.{StepFault}
 use Rattle.digit_tuple.specs.declared.step_fault.StepFault.TheVariants as steps
 use Rattle.digit_tuple.specs.declared.steps.StepLine.{StepLine}
 use Rattle.wal_outside.specs.declared.folder.Folder.TheVariants.{Words}
-use Rattle.command_head.specs.Grammar.{SpellsImage}
+use Rattle.command_head.specs.Grammar.{DerivesImage}
 use Rattle.command_head.specs.Heads.{ImageHead}
 use Rattle.dfa_loading.specs.Headers.{headers_of}
 use Rattle.dfa_loading.specs.declared.loaded.Loaded.{Loaded}
@@ -19,7 +19,7 @@ use Rattle.formula_resolve.specs.declared.mention.Mention.{Mention}
 use Rattle.formula_resolve.specs.declared.mention.Mention.TheVariants.{Indexed}
 use Rattle.morph_words.specs.Rules.{Rules}
 use Rattle.morph_words.specs.Uniform.{HasLength, IsImageLength, IsLengthRefused}
-use Rattle.session_cli.specs.ImageSteps.{IsImageDone, IsImageRefused}
+use Rattle.session_cli.specs.ImageSteps.{DoesImage}
 use Rattle.session_cli.specs.declared.image_fault.ImageFault.{ImageFault}
 use Rattle.session_cli.specs.declared.image_fault.ImageFault.TheVariants as images
 use Rattle.word_output.specs.Words.{WordValue}
@@ -30,7 +30,7 @@ use Rattle.system_files.specs.SystemFiles.{Custom}
 use Rattle.session_cli.specs.declared.fault.Fault.{Fault}
 use Rattle.session_cli.specs.declared.fault.Fault.TheVariants as faults
 use Rattle.session_cli.specs.Accepting.{Success, stored}
-use Rattle.session_cli.specs.Checks.{Check, Pure, Then}
+use Rattle.session_cli.specs.Checks.{Check, Passing, Pure, Then}
 use Rattle.session_cli.specs.FileChecks.{files_loaded}
 use Rattle.session_cli.specs.FormulaSteps.{AreMeant, IsReadingStopped, IsLetterMissing}
 use Rattle.session_cli.specs.HeadAnswers.{HeadAnswers}
@@ -60,9 +60,8 @@ pub record WordTrack : Type 0 where
   pub system : named_tracks.NamedSystem
 
 -- it is what the name of the track's system means
-abbrev pub TrackAnswers : Custom → Headers → List ℕ → Result WordTrack Fault → Type 0
-TrackAnswers custom h old (Ok track) = (word_tracks h old ≡ track.system.name ∷ []) × IsSystemNamed custom track.system.name track.direction track.system.system
-TrackAnswers custom h old (Err fault) = ⊥
+abbrev pub IsTrackOf : Custom → Headers → List ℕ → WordTrack → Type 0
+IsTrackOf custom h old track = (word_tracks h old ≡ track.system.name ∷ []) × IsSystemNamed custom track.system.name track.direction track.system.system
 
 -- the table is read over sealed systems that names mean, and its steps make this word
 pub record IsOldWordRead (admitted : StepLog) (custom : Custom) (tables : List Loaded) (old : List ℕ) : Type 0 where
@@ -79,14 +78,14 @@ pub record IsOldWordRead (admitted : StepLog) (custom : Custom) (tables : List L
 pub record AreImageSteps (admitted : StepLog) (custom : Custom) (tables : List Loaded) (old name : List ℕ) (rules : Rules) (word : WordValue) (lines : List StepLine) : Type 0 where
   pub before : IsOldWordRead admitted custom tables old
   pub log : StepLog
-  pub done : IsImageDone before.reading rules before.word name word log
+  pub done : DoesImage rules before.word name before.reading (Ok word) log
   pub lines_are : lines ≡ log.lines
 
 -- the image of the word is refused by this fault
 pub record IsImagingStopped (admitted : StepLog) (custom : Custom) (tables : List Loaded) (old name : List ℕ) (rules : Rules) (fault : ImageFault) : Type 0 where
   pub before : IsOldWordRead admitted custom tables old
   pub log : StepLog
-  pub refused : IsImageRefused before.reading rules before.word name fault log
+  pub refused : DoesImage rules before.word name before.reading (Err fault) log
 
 -- a step that reads the table, or one of the image, is the first to pass a limit
 abbrev pub AreImageStepsRefused : StepLog → Custom → List Loaded → List ℕ → List ℕ → Rules → StepFault → Type 0
@@ -102,41 +101,25 @@ ImagedAnswers admitted custom tables old name rules (Err (faults.WordGap word re
 ImagedAnswers admitted custom tables old name rules (Err (faults.LetterMissing letter)) = IsImagingStopped admitted custom tables old name rules (images.Missing letter)
 ImagedAnswers admitted custom tables old name rules (Err fault) = ⊥
 
--- the definition for which the name of the old word is now
-abbrev pub OldAnswers : Ledger → List ℕ → Result Entry Fault → Type 0
-OldAnswers ledger old (Ok entry) = ledger Words old ≡ Some entry
-OldAnswers ledger old (Err fault) = ⊥
-
--- what is stored and printed of an image
-abbrev pub image_success : ImageHead → WordTrack → Rules → Entry → List StepLine → Success
-image_success head track rules entry lines = record { folder = Words; name = head.word; entry = Defined (Image track.direction track.system rules (tree_of entry)); lines = lines; verdict = None }
-
--- the checks after the steps, after the track, after the lengths, after the arity, after the systems, after the table, after the morphism, and
--- after the head
-abbrev pub after_image_steps : Ledger → ImageHead → Rules → WordTrack → List StepLine → Check Success
-after_image_steps ledger head rules track lines = Then (Pure (OldAnswers ledger head.old)) (λ entry. stored (custom_of ledger) (image_success head track rules entry lines))
-
-abbrev pub after_track : Ledger → ImageHead → Rules → List Loaded → StepLog → WordTrack → Check Success
-after_track ledger head rules tables admitted track = Then (Pure (ImagedAnswers admitted (custom_of ledger) tables head.old track.system.name rules)) (λ lines. after_image_steps ledger head rules track lines)
-
-abbrev pub after_lengths : Ledger → ImageHead → Rules → List Loaded → StepLog → Check Success
-after_lengths ledger head rules tables admitted = Then (Pure (TrackAnswers (custom_of ledger) (headers_of tables) head.old)) (λ track. after_track ledger head rules tables admitted track)
-
-abbrev pub after_one_track : Ledger → ImageHead → Rules → List Loaded → StepLog → Check Success
-after_one_track ledger head rules tables admitted = Then (Pure (LengthsAnswers rules)) (λ uniform. after_lengths ledger head rules tables admitted)
-
+-- the checks after the systems: what is stored is the rules and the definition that the old name means
 abbrev pub after_old_systems : Ledger → ImageHead → Rules → List Loaded → StepLog → Check Success
-after_old_systems ledger head rules tables admitted = Then (Pure (OneTrackAnswers (headers_of tables) head.old)) (λ one. after_one_track ledger head rules tables admitted)
+after_old_systems ledger head rules tables admitted =
+    Then (Pure (OneTrackAnswers (headers_of tables) head.old)) (λ one.
+    Then (Pure (LengthsAnswers rules)) (λ uniform.
+    Then (Passing (IsTrackOf (custom_of ledger) (headers_of tables) head.old)) (λ (track : WordTrack).
+    Then (Pure (ImagedAnswers admitted (custom_of ledger) tables head.old track.system.name rules)) (λ lines.
+    Then (Passing (λ entry. ledger Words head.old ≡ Some entry)) (λ (entry : Entry).
+    stored (custom_of ledger) (record { folder = Words; name = head.word; entry = Defined (Image track.direction track.system rules (tree_of entry)); lines = lines; verdict = None }))))))
 
+-- the checks after the table, and after the head
 abbrev pub after_old_table : ℕ → Ledger → ImageHead → Rules → List Loaded → Check Success
 after_old_table limit ledger head rules tables = Then (systems_known limit (custom_of ledger) (first_systems (headers_of tables) (old_mentions head.old))) (λ admitted. after_old_systems ledger head rules tables admitted)
 
-abbrev pub after_image_morphism : ℕ → Ledger → ImageHead → Rules → Check Success
-after_image_morphism limit ledger head rules = Then (files_loaded ledger (first_files (old_mentions head.old))) (λ tables. after_old_table limit ledger head rules tables)
-
 abbrev pub after_image_head : ℕ → Ledger → ImageHead → Check Success
-after_image_head limit ledger head = Then (morphism_loaded ledger head.morphism) (λ rules. after_image_morphism limit ledger head rules)
+after_image_head limit ledger head =
+    Then (morphism_loaded ledger head.morphism) (λ rules.
+    Then (files_loaded ledger (first_files (old_mentions head.old))) (λ tables. after_old_table limit ledger head rules tables))
 
 -- all checks of an `image`
 abbrev pub image_checks : ℕ → Ledger → List ℕ → Check Success
-image_checks limit ledger text = Then (Pure (HeadAnswers SpellsImage text)) (λ head. after_image_head limit ledger head)
+image_checks limit ledger text = Then (Pure (HeadAnswers DerivesImage text)) (λ head. after_image_head limit ledger head)

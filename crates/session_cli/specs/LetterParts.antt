@@ -1,16 +1,19 @@
 -- The relations of letters. Nobody has to believe this: it serves the contracts of functions.
-use Rattle.std.specs.Prelude.{◌≡◌, ◌↔◌, ℕ, ◌≤◌, ℤ, List, [], ◌∷◌}
+use Rattle.std.specs.Prelude.{◌≡◌, ◌↔◌, ℕ, ◌≤◌, ℤ, List, [], ◌∷◌, ◌++◌, Ok, Err}
 use Rattle.std.specs.List.{AllByRecursion}
+use Rattle.digit_tuple.specs.Steps.{StepLog}
+use Rattle.digit_tuple.specs.declared.step_fault.StepFault.{StepFault}
 use Rattle.formula_parse.specs.Tokens.{Name}
 use Rattle.formula_truth.specs.Truth.{Holds}
-use Rattle.formula_build.specs.Libraries.{meanings_of}
-use Rattle.formula_build.specs.Solutions.{direction_named}
+use Rattle.formula_build.specs.Libraries.{LibraryValue, meanings_of}
+use Rattle.formula_build.specs.Solutions.{BuildsFormula, direction_named}
 use Rattle.number_relations.specs.Relations.{RelationValue, IsRelation, RelationHolds}
 use Rattle.num_system.specs.Sealed.{SystemValue}
 use Rattle.morph_words.specs.Rules.{Rules}
 use Rattle.word_output.specs.Words.{WordValue}
 use Rattle.combinations.specs.Parts.{PartValue}
 use Rattle.word_images.specs.ImageFormula.{image_formula}
+use Rattle.session_cli.specs.ImageSteps.{letter_plan}
 use Rattle.session_cli.specs.LetterSettings.{IsSetting, library_in}
 use Rattle.session_cli.specs.declared.setting.Setting.{Setting}
 
@@ -36,3 +39,21 @@ pub record IsLetterRelation (t : Setting) (s : Name) (k : ℕ) (b : ℤ) (r : Re
 -- each part is that of its letter
 abbrev pub AreLetterParts : Setting → Name → ℕ → List PartValue → Type 0
 AreLetterParts t s k parts = AllByRecursion (λ (part : PartValue). IsLetterRelation t s k part.value part.relation) parts
+
+-- the formulas of these letters were built one after another, and gave these relations
+abbrev pub AreBuilt : LibraryValue → Name → ℕ → StepLog → List ℤ → List PartValue → StepLog → Type 0
+AreBuilt l s k old [] [] new = new ≡ old
+AreBuilt l s k old [] (part ∷ parts) new = ⊥
+AreBuilt l s k old (b ∷ bs) [] new = ⊥
+AreBuilt l s k old (b ∷ bs) (part ∷ parts) new = (part.value ≡ b) × ((middle : StepLog) × BuildsFormula l (letter_plan s k b) old (Ok part.relation) middle × AreBuilt l s k middle bs parts new)
+
+-- those before one letter were built, and the steps of its formula stop at one that passes a limit
+pub record IsLetterStopped (l : LibraryValue) (s : Name) (k : ℕ) (old : StepLog) (letters : List ℤ) (fault : StepFault) (new : StepLog) : Type 0 where
+  pub prefix : List ℤ
+  pub here : ℤ
+  pub rest : List ℤ
+  pub letters_are : letters ≡ prefix ++ here ∷ rest
+  pub parts : List PartValue
+  pub middle : StepLog
+  pub built : AreBuilt l s k old prefix parts middle
+  pub stopped : BuildsFormula l (letter_plan s k here) middle (Err fault) new

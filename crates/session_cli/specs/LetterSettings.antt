@@ -1,4 +1,4 @@
--- How what the names of the formulas stand for is kept. Nobody has to believe this: it serves the contracts of functions.
+-- How what the names of the formulas mean is kept. Nobody has to believe this: it serves the contracts of functions.
 use Rattle.std.specs.Prelude.{◌≡◌, ℕ}
 use Rattle.morph_words.specs.Rules.{Rules}
 use Rattle.word_output.specs.Words.{WordValue}
@@ -11,7 +11,7 @@ use Rattle.session_cli.specs.declared.setting.Setting.{Setting}
 abbrev pub library_in : Setting → LibraryValue
 library_in t = record { relations = t.words.relations; words = t.words.words; systems = t.names.systems }
 
--- the headers are those of the words of all places, and the names stand for these words and the system
+-- the headers are those of the words of all places, and the names mean these words and the system
 pub record IsSetting (rules : Rules) (word : WordValue) (s : Name) (k : ℕ) (t : Setting) : Type 0 where
   pub headers : t.names.headers ≡ image_headers s k
   pub library : IsImageLibrary rules word s k (library_in t)

@@ -1,7 +1,6 @@
 -- The text of a formula, with its calls of macros expanded by the texts that are among macros. What is read is a macro of which a call is met.
 use Rattle.std.specs.Prelude.{◌≡◌, ℕ, List, Result, Ok, Err}
 use Rattle.wal_outside.specs.Files.{Files}
-use Rattle.wal_outside.specs.Places.{Place}
 use Rattle.dfa_loading.specs.declared.fault.LoadFault.TheVariants as loads
 use Rattle.macro_expand.specs.Expansion.{expansion}
 use Rattle.macro_loading.specs.MacroFiles as macros
@@ -29,9 +28,6 @@ ExpandedAnswers ledger body (Err (faults.Unknown folder name)) = OfFiles ledger 
 ExpandedAnswers ledger body (Err (faults.File folder name flaw)) = OfFiles ledger (λ files. macros.Fails files body (expansions.Load (loads.File folder name flaw)))
 ExpandedAnswers ledger body (Err fault) = ⊥
 
--- a macro that is met is read at this place
-abbrev pub ExpandsAt : Ledger → List ℕ → Place → Type 0
-ExpandsAt ledger body place = OfFiles ledger (λ files. ReadsMacroAt files body place.0 place.1)
-
+-- the check of the calls: the macros that are met are read
 abbrev pub expanded : Ledger → List ℕ → Check (List ℕ)
-expanded ledger body = record { answers = ExpandedAnswers ledger body; reads = ExpandsAt ledger body }
+expanded ledger body = record { answers = ExpandedAnswers ledger body; reads = λ place. OfFiles ledger (λ files. ReadsMacroAt files body place.0 place.1) }

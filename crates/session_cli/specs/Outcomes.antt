@@ -54,14 +54,12 @@ checks_by words.Promote limit ledger text = promote_checks limit ledger text
 checks_by words.Combine limit ledger text = combine_checks limit ledger text
 checks_by words.Image limit ledger text = image_checks limit ledger text
 
--- the checks after the length
-abbrev pub after_length : ℕ → Ledger → List ℕ → Check Success
-after_length limit ledger text = Then (Pure (WordAnswers text)) (λ word. checks_by word limit ledger text)
-
 -- all checks of a command that has its terminator: its length, its first word, and those of the command of that word. A step may have
 -- `limit` values.
 abbrev pub checks_of : ℕ → Ledger → List ℕ → Check Success
-checks_of limit ledger text = Then (Pure (LengthAnswers text)) (λ short. after_length limit ledger text)
+checks_of limit ledger text =
+    Then (Pure (LengthAnswers text)) (λ short.
+    Then (Pure (WordAnswers text)) (λ word. checks_by word limit ledger text))
 
 -- the proper outcome of a command that has its terminator
 abbrev pub Outcome : ℕ → Ledger → List ℕ → Answer → Type 0

@@ -5,7 +5,7 @@ use Rattle.digit_tuple.specs.Steps.{StepLog}
 use Rattle.digit_tuple.specs.declared.step_fault.StepFault.TheVariants as steps
 use Rattle.digit_tuple.specs.declared.steps.StepLine.{StepLine}
 use Rattle.wal_outside.specs.declared.folder.Folder.TheVariants.{Words}
-use Rattle.command_head.specs.Grammar.{SpellsPromote}
+use Rattle.command_head.specs.Grammar.{DerivesPromote}
 use Rattle.command_head.specs.Heads.{PromoteHead}
 use Rattle.fixed_points.specs.Promotion.{DoesPromote}
 use Rattle.fixed_points.specs.declared.promote_fault.PromoteFault.TheVariants as promotes
@@ -29,17 +29,14 @@ PromotedAnswers limit rules (Err (faults.Letters step)) = (log : StepLog) × Doe
 PromotedAnswers limit rules (Err (faults.States step)) = (log : StepLog) × DoesPromote rules (no_steps limit) (Err (promotes.Step (steps.States step))) log
 PromotedAnswers limit rules (Err fault) = ⊥
 
--- what is stored and printed of a fixed point
-abbrev pub fixed_success : List ℕ → Rules → List StepLine → Success
-fixed_success name rules lines = record { folder = Words; name = name; entry = Defined (Fixed rules); lines = lines; verdict = None }
-
--- the checks after the morphism, and after the head
+-- the checks after the morphism: its fixed point is stored
 abbrev pub after_morphism : ℕ → Custom → List ℕ → Rules → Check Success
-after_morphism limit custom name rules = Then (Pure (PromotedAnswers limit rules)) (λ lines. stored custom (fixed_success name rules lines))
-
-abbrev pub after_promote_head : ℕ → Ledger → PromoteHead → Check Success
-after_promote_head limit ledger head = Then (morphism_loaded ledger head.morphism) (λ rules. after_morphism limit (custom_of ledger) head.word rules)
+after_morphism limit custom name rules =
+    Then (Pure (PromotedAnswers limit rules)) (λ lines.
+    stored custom (record { folder = Words; name = name; entry = Defined (Fixed rules); lines = lines; verdict = None }))
 
 -- all checks of a `promote`
 abbrev pub promote_checks : ℕ → Ledger → List ℕ → Check Success
-promote_checks limit ledger text = Then (Pure (HeadAnswers SpellsPromote text)) (λ head. after_promote_head limit ledger head)
+promote_checks limit ledger text =
+    Then (Pure (HeadAnswers DerivesPromote text)) (λ (head : PromoteHead).
+    Then (morphism_loaded ledger head.morphism) (λ rules. after_morphism limit (custom_of ledger) head.word rules))

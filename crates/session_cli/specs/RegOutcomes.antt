@@ -9,7 +9,7 @@ use Rattle.digit_tuple.specs.declared.steps.StepLine.{StepLine}
 use Rattle.minimise.specs.Tracked.{NamedAutomaton}
 use Rattle.command_head.specs.Heads as heads
 use Rattle.command_head.specs.Heads.{RegHead}
-use Rattle.command_head.specs.Grammar.{SpellsReg}
+use Rattle.command_head.specs.Grammar.{DerivesReg}
 use Rattle.regex_build.specs.declared.fault.RegexFault.TheVariants as regexes
 use Rattle.regex_build.specs.Expression.{Expression}
 use Rattle.regex_build.specs.Patterns.{Pattern}
@@ -54,23 +54,19 @@ StepsAnswers admitted tracks expression (Err (faults.Letters step)) = (log : Ste
 StepsAnswers admitted tracks expression (Err (faults.States step)) = (log : StepLog) × DoesExpression tracks expression admitted (Err (steps.States step)) log
 StepsAnswers admitted tracks expression (Err fault) = ⊥
 
--- what is stored and printed of an expression
-abbrev pub regex_success : List ℕ → Tracks → Expression (List ℤ) → List StepLine → Success
-regex_success name tracks expression lines = record { folder = Automata; name = name; entry = Defined (Regex tracks expression); lines = lines; verdict = None }
-
--- the checks after the expression, after the tracks, after the systems, and after the head
-abbrev pub after_expression : StepLog → Custom → List ℕ → Tracks → Expression (List ℤ) → Check Success
-after_expression admitted custom name tracks expression = Then (Pure (StepsAnswers admitted tracks expression)) (λ lines. stored custom (regex_success name tracks expression lines))
-
+-- the checks after the tracks: an automaton is made of the expression, and its text is stored
 abbrev pub after_tracks : StepLog → Custom → List ℕ → List ℕ → Tracks → Check Success
-after_tracks admitted custom name body tracks = Then (Pure (ParsedAnswers (letter_sets tracks) body)) (λ (pattern : Pattern). after_expression admitted custom name tracks pattern.tree)
+after_tracks admitted custom name body tracks =
+    Then (Pure (ParsedAnswers (letter_sets tracks) body)) (λ (pattern : Pattern).
+    Then (Pure (StepsAnswers admitted tracks pattern.tree)) (λ lines.
+    stored custom (record { folder = Automata; name = name; entry = Defined (Regex tracks pattern.tree); lines = lines; verdict = None })))
 
-abbrev pub after_admission : Custom → RegHead → StepLog → Check Success
-after_admission custom head admitted = Then (Pure (TracksAnswers custom head.alphabets)) (λ tracks. after_tracks admitted custom head.name head.body tracks)
-
+-- the checks after the head
 abbrev pub after_head : ℕ → Custom → RegHead → Check Success
-after_head limit custom head = Then (systems_known limit custom (systems_named head.alphabets)) (λ admitted. after_admission custom head admitted)
+after_head limit custom head =
+    Then (systems_known limit custom (systems_named head.alphabets)) (λ admitted.
+    Then (Pure (TracksAnswers custom head.alphabets)) (λ tracks. after_tracks admitted custom head.name head.body tracks))
 
 -- all checks of a `reg`
 abbrev pub reg_checks : ℕ → Ledger → List ℕ → Check Success
-reg_checks limit ledger text = Then (Pure (HeadAnswers SpellsReg text)) (λ head. after_head limit (custom_of ledger) head)
+reg_checks limit ledger text = Then (Pure (HeadAnswers DerivesReg text)) (λ head. after_head limit (custom_of ledger) head)

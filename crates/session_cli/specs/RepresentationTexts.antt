@@ -14,7 +14,7 @@ digits_text (digit ∷ digits) = decimal digit ++ flat_map digit_after digits
 abbrev pub letter_text : List ℕ → List ℕ
 letter_text digits = codes "[" ++ (digits_text digits ++ codes "]")
 
--- empty brackets stand for the representation of no letter
+-- empty brackets are the representation of no letter
 abbrev pub representation_text : List (List ℕ) → List ℕ
 representation_text [] = codes "[]"
 representation_text (letter ∷ letters) = flat_map letter_text (letter ∷ letters)

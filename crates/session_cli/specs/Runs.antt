@@ -1,5 +1,5 @@
 -- A run: how each item of a script is answered, and what that makes of the ledger and the store.
-use Rattle.std.specs.Prelude.{◌≡◌, ◌⊎◌, ℕ, ◌≤◌, Bool, true, false, ◌||◌, if◌then◌else◌, List, [], ◌∷◌, ◌++◌, Option, None, Some, Ok, Err, ⊤, IsTrue}
+use Rattle.std.specs.Prelude.{◌≡◌, ◌⊎◌, ℕ, ◌≤◌, Bool, true, false, ◌||◌, if◌then◌else◌, List, [], ◌∷◌, ◌++◌, Option, None, Some, IfSome, Ok, Err, IsTrue}
 use Rattle.std.specs.Option.{option_map}
 use Rattle.wal_outside.specs.Causes.{Rose}
 use Rattle.wal_outside.specs.Files.{Files, put}
@@ -10,7 +10,7 @@ use Rattle.session_cli.specs.declared.fault.Fault.TheVariants as faults
 use Rattle.session_cli.specs.declared.status.Status.{Status}
 use Rattle.session_cli.specs.declared.status.Status.TheVariants as status
 use Rattle.definitions.specs.Trees.{Ledger, ledger_of, custom_of}
-use Rattle.definitions.specs.Texts.{HasText, Stores}
+use Rattle.definitions.specs.Texts.{HasText}
 use Rattle.system_files.specs.SystemFiles.{Custom}
 use Rattle.session_cli.specs.Checks.{Check, Fails}
 use Rattle.session_cli.specs.Accepting.{Success, Answer, after}
@@ -56,15 +56,11 @@ abbrev pub failed_after : Option (Option Place) → Answer → Option (Option Pl
 failed_after old (Err (faults.Store folder name)) = option_map (λ _. Some (folder, name)) old
 failed_after old _ = old
 
--- where the store reports its files, a command is answered by the ledger, and else by some ledger
-abbrev pub IsKnownLedger : Option Files → Ledger → Ledger → Type 0
-IsKnownLedger None ledger known = ⊤
-IsKnownLedger (Some files) ledger known = known ≡ ledger
-
--- One item: it has this answer, and the store was so and is so now. A store fault comes only where the store's count of faults rose.
+-- One item: it has this answer, and the store was so and is so now. Where the store reports its files, the command is answered by the ledger,
+-- and else by some ledger. A store fault comes only where the store's count of faults rose.
 pub record Answers (limit : ℕ) (ledger : Ledger) (old : StoreView) (item : Item) (answer : Answer) (new : StoreView) : Type 0 where
   pub known : Ledger
-  pub known_is : IsKnownLedger old.files ledger known
+  pub known_is : IfSome old.files (λ files. known ≡ ledger)
   pub answered : IsAnswerOf limit item.ended known item.text answer
   pub files : Changes (custom_of known) old.files answer new.files
   pub later : old.faults ≤ new.faults
@@ -82,11 +78,6 @@ Run limit ledger old (item ∷ items) [] last new = ⊥
 abbrev pub first_ledger : Option Files → Ledger
 first_ledger None = λ folder name. None
 first_ledger (Some files) = ledger_of files
-
--- the files, where they are reported, are the ledger's texts
-abbrev pub StoresTold : Ledger → Option Files → Type 0
-StoresTold ledger None = ⊤
-StoresTold ledger (Some files) = Stores ledger files
 
 -- whether the steps of an item are shown
 abbrev pub is_shown : Ended → Bool

@@ -5,7 +5,7 @@ use Rattle.wal_outside.specs.Causes.{Rose}
 use Rattle.wal_outside.specs.Files.{Files}
 use Rattle.wal_outside.specs.Views.{StoreView}
 use Rattle.wal_outside.specs.declared.folder.Folder.TheVariants.{Bases}
-use Rattle.dfa_loading.specs.Places.{AreTold}
+use Rattle.dfa_loading.specs.Places.{AreReported}
 use Rattle.system_files.specs.SystemFiles.{Custom}
 use Rattle.system_files.specs.SystemTexts.{FoundText, Agrees, CanStand}
 use Rattle.session_cli.specs.declared.fault.Fault.{Fault}
@@ -25,7 +25,7 @@ pub record HasRead {X : Type 0} (old : StoreView) (result : Result X Fault) (new
 -- what is given by the files that were found
 pub record FromFiles {X : Type 0} (Gives : Files → Result X Fault → Type 0) (old : StoreView) (result : Result X Fault) (new : StoreView) : Type 0 where
   pub found : Files
-  pub told : AreTold old found
+  pub told : AreReported old found
   pub gives : Gives found result
   pub has_read : HasRead old result new
 

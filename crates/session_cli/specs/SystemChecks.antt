@@ -6,7 +6,6 @@ use Rattle.digit_tuple.specs.declared.step_fault.StepFault.TheVariants as steps
 use Rattle.dfa_loading.specs.declared.fault.LoadFault.TheVariants as loads
 use Rattle.system_files.specs.SystemFiles.{Custom}
 use Rattle.system_admission.specs.SystemSteps.{AdmitsNames, ReadsFor}
-use Rattle.system_admission.specs.declared.system_fault.SystemFault.{SystemFault}
 use Rattle.system_admission.specs.declared.system_fault.SystemFault.TheVariants as systems
 use Rattle.wal_outside.specs.declared.folder.Folder.TheVariants.{Bases}
 use Rattle.session_cli.specs.declared.fault.Fault.{Fault}
@@ -17,18 +16,14 @@ use Rattle.session_cli.specs.Checks.{Check}
 abbrev pub no_steps : ℕ → StepLog
 no_steps limit = record { limit = limit; lines = [] }
 
--- the first of the systems that are not there, or are not admitted, is refused by this fault
-abbrev pub AreSystemsRefused : ℕ → Custom → List (List ℕ) → SystemFault → Type 0
-AreSystemsRefused limit custom names fault = (log : StepLog) × AdmitsNames custom names (no_steps limit) (Err fault) log
-
--- the steps of the systems of these names, or why one is refused
+-- the steps of the systems of these names, or why the first that is not there, or not admitted, is refused
 abbrev pub SystemsAnswers : ℕ → Custom → List (List ℕ) → Result StepLog Fault → Type 0
 SystemsAnswers limit custom names (Ok log) = AdmitsNames custom names (no_steps limit) (Ok tt) log
-SystemsAnswers limit custom names (Err (faults.SystemUnknown name)) = AreSystemsRefused limit custom names (systems.Load (loads.Unknown Bases name))
-SystemsAnswers limit custom names (Err (faults.File folder name flaw)) = AreSystemsRefused limit custom names (systems.Load (loads.File folder name flaw))
-SystemsAnswers limit custom names (Err (faults.NotAdmitted name law)) = AreSystemsRefused limit custom names (systems.NotAdmitted name law)
-SystemsAnswers limit custom names (Err (faults.Letters step)) = AreSystemsRefused limit custom names (systems.Step (steps.Letters step))
-SystemsAnswers limit custom names (Err (faults.States step)) = AreSystemsRefused limit custom names (systems.Step (steps.States step))
+SystemsAnswers limit custom names (Err (faults.SystemUnknown name)) = (log : StepLog) × AdmitsNames custom names (no_steps limit) (Err (systems.Load (loads.Unknown Bases name))) log
+SystemsAnswers limit custom names (Err (faults.File folder name flaw)) = (log : StepLog) × AdmitsNames custom names (no_steps limit) (Err (systems.Load (loads.File folder name flaw))) log
+SystemsAnswers limit custom names (Err (faults.NotAdmitted name law)) = (log : StepLog) × AdmitsNames custom names (no_steps limit) (Err (systems.NotAdmitted name law)) log
+SystemsAnswers limit custom names (Err (faults.Letters step)) = (log : StepLog) × AdmitsNames custom names (no_steps limit) (Err (systems.Step (steps.Letters step))) log
+SystemsAnswers limit custom names (Err (faults.States step)) = (log : StepLog) × AdmitsNames custom names (no_steps limit) (Err (systems.Step (steps.States step))) log
 SystemsAnswers limit custom names (Err fault) = ⊥
 
 -- the check of the systems of these names

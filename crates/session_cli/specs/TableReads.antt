@@ -34,7 +34,7 @@ words_in (AWord w ∷ reads) = w ∷ words_in reads
 abbrev pub read_of : List TableRead → ReadValue
 read_of reads = record { relations = relations_in reads; words = words_in reads }
 
--- what names stand for by these and by systems
+-- what names mean by these and by systems
 abbrev pub library_with : List TableRead → List NamedSystem → LibraryValue
 library_with reads systems = record { relations = relations_in reads; words = words_in reads; systems = systems }
 
@@ -44,14 +44,14 @@ AreSystemsUnder systems (Truth value) tracks = tracks ≡ []
 AreSystemsUnder systems (Systems names) tracks = AllZip (λ name s. system_named systems name ≡ Some s) names tracks
 AreSystemsUnder systems (Sets sets) tracks = ⊥
 
--- the steps of an automaton's table make the relation that its name stands for
+-- the steps of an automaton's table make the relation that its name means
 pub record IsRelationRead (systems : List NamedSystem) (old : StepLog) (table : Loaded) (r : NamedRelation) (new : StepLog) : Type 0 where
   pub file_is : table.file ≡ Automaton r.name
   pub tracks : List SystemValue
   pub over : AreSystemsUnder systems table.listed.header tracks
   pub done : DoesTable tracks table.listed old (Ok r.relation) new
 
--- those of a word's table make the word that its name stands for
+-- those of a word's table make the word that its name means
 pub record IsWordRead (systems : List NamedSystem) (old : StepLog) (table : Loaded) (w : NamedWord) (new : StepLog) : Type 0 where
   pub file_is : table.file ≡ Word w.name
   pub tracks : List SystemValue
@@ -82,7 +82,7 @@ pub record IsTableGap (systems : List NamedSystem) (old : StepLog) (table : Load
   pub new : StepLog
   pub gap : DoesWord tracks table.listed old (Err (Gap representation)) new
 
--- the steps of some tables, one after another, make what their names stand for
+-- the steps of some tables, one after another, make what their names mean
 abbrev pub AreTablesRead : List NamedSystem → StepLog → List Loaded → List TableRead → StepLog → Type 0
 AreTablesRead systems old [] [] new = new ≡ old
 AreTablesRead systems old [] (r ∷ reads) new = ⊥

@@ -1,9 +1,8 @@
 -- What a `macro` and a `morphism` do: they store a text, and the printed rules of a morphism. Their checks are the shape of the head, for a
 -- `morphism` its rules, and the length of the text to store.
 use Rattle.std.specs.Prelude.{ℕ, List, [], None, Result, Ok, Err, codes}
-use Rattle.wal_outside.specs.declared.folder.Folder.{Folder}
 use Rattle.wal_outside.specs.declared.folder.Folder.TheVariants.{Macros, Morphisms}
-use Rattle.command_head.specs.Grammar.{SpellsNamed}
+use Rattle.command_head.specs.Grammar.{DerivesNamed}
 use Rattle.command_head.specs.Heads.{NamedHead}
 use Rattle.morph_words.specs.Faults.{Parses}
 use Rattle.morph_words.specs.Printed.{printed}
@@ -18,13 +17,11 @@ use Rattle.session_cli.specs.Accepting.{Success, stored}
 use Rattle.session_cli.specs.Checks.{Check, Pure, Then}
 use Rattle.session_cli.specs.HeadAnswers.{HeadAnswers}
 
--- bytes are stored, and nothing is printed
-abbrev pub text_success : Folder → List ℕ → List ℕ → Success
-text_success folder name bytes = record { folder = folder; name = name; entry = Bytes bytes; lines = []; verdict = None }
-
 -- all checks of a `macro`
 abbrev pub macro_checks : Ledger → List ℕ → Check Success
-macro_checks ledger text = Then (Pure (HeadAnswers (SpellsNamed (codes "macro")) text)) (λ (head : NamedHead). stored (custom_of ledger) (text_success Macros head.name head.body))
+macro_checks ledger text =
+    Then (Pure (HeadAnswers (DerivesNamed (codes "macro")) text)) (λ (head : NamedHead).
+    stored (custom_of ledger) (record { folder = Macros; name = head.name; entry = Bytes head.body; lines = []; verdict = None }))
 
 -- the rules of a quoted text, or where it breaks the grammar
 abbrev pub RulesAnswers : List ℕ → Result Rules Fault → Type 0
@@ -35,8 +32,10 @@ RulesAnswers body (Err fault) = ⊥
 
 -- the checks after the head
 abbrev pub after_rules_head : Custom → NamedHead → Check Success
-after_rules_head custom head = Then (Pure (RulesAnswers head.body)) (λ rules. stored custom (text_success Morphisms head.name (printed rules)))
+after_rules_head custom head =
+    Then (Pure (RulesAnswers head.body)) (λ rules.
+    stored custom (record { folder = Morphisms; name = head.name; entry = Bytes (printed rules); lines = []; verdict = None }))
 
 -- all checks of a `morphism`
 abbrev pub morphism_checks : Ledger → List ℕ → Check Success
-morphism_checks ledger text = Then (Pure (HeadAnswers (SpellsNamed (codes "morphism")) text)) (λ head. after_rules_head (custom_of ledger) head)
+morphism_checks ledger text = Then (Pure (HeadAnswers (DerivesNamed (codes "morphism")) text)) (λ head. after_rules_head (custom_of ledger) head)

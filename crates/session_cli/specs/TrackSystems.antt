@@ -28,7 +28,7 @@ fault_of (steps.Letters step) = faults.Letters step
 fault_of (steps.States step) = faults.States step
 fault_of steps.Memory = faults.Memory
 
--- the system that a name stands for, and the direction in which its words are read
+-- the system that a name means, and the direction in which its words are read
 abbrev pub meant_system : Meaning → System
 meant_system (BuiltIn s) = known.system_of s
 meant_system (Admitted s) = sealed.system_of s.value
@@ -58,11 +58,11 @@ names_in systems = map (λ (s : TrackSystem). s.name) systems
 abbrev pub IsIn : Direction → TrackSystem → Type 0
 IsIn direction s = direction_of s ≡ direction
 
--- the name stands for this, where these users' systems are what their names mean
+-- the name means this, where these users' systems are what their names mean
 abbrev pub IsNameOf : List libraries.NamedSystem → List ℕ → Meaning → Type 0
 IsNameOf users name meaning = (custom : Custom) → AreMeant custom users → IsSystemNamed custom name (meant_direction meaning) (meant_system meaning)
 
--- each system is what its name stands for, and the names are these
+-- each system is what its name means, and the names are these
 pub record AreNamesOf (users : List libraries.NamedSystem) (names : List (List ℕ)) (systems : List TrackSystem) : Type 0 where
   pub names_are : names ≡ names_in systems
   pub are : AllByRecursion (λ (s : TrackSystem). IsNameOf users s.name s.meaning) systems

@@ -1,5 +1,5 @@
 -- The whole call: from the words and the script to the status.
-use Rattle.std.specs.Prelude.{◌≡◌, ◌⊎◌, ℕ, ◌≤◌, List, [], ◌∷◌, ◌++◌, length, codes, Result, Ok, Err}
+use Rattle.std.specs.Prelude.{◌≡◌, ◌⊎◌, ℕ, ◌≤◌, List, [], ◌∷◌, ◌++◌, length, codes, IfSome, Result, Ok, Err}
 use Rattle.std.specs.Io.KnownBytes.{Consumes}
 use Rattle.wal_outside.specs.Causes.{Rose}
 use Rattle.wal_outside.specs.Sending.{Sends, HasSent}
@@ -10,10 +10,10 @@ use Rattle.script_cut.specs.Cuts.{Item, Rest, start, CutsTo, IsAtEnd, HasNoComma
 use Rattle.session_cli.specs.declared.status.Status.{Status}
 use Rattle.session_cli.specs.declared.status.Status.TheVariants as status
 use Rattle.session_cli.specs.Words.{GivesLimit, GivesNone}
+use Rattle.definitions.specs.Texts.{Stores}
 use Rattle.definitions.specs.Trees.{Ledger}
 use Rattle.session_cli.specs.Accepting.{Answer}
-use Rattle.session_cli.specs.Views.{IsTold}
-use Rattle.session_cli.specs.Runs.{Run, first_ledger, StoresTold, line_of, printed, status_of}
+use Rattle.session_cli.specs.Runs.{Run, first_ledger, line_of, printed, status_of}
 
 -- how a run ends that a sink stopped
 abbrev pub stop_status : WriteFault → Status
@@ -24,7 +24,7 @@ stop_status writes.Memory = status.Memory
 pub record HasGiven (from to : SourceView) (gave more : List ℕ) : Type 0 where
   pub taken : Consumes from.left to.left gave
   pub within : length gave ≤ 16777217
-  pub told : IsTold to.left more
+  pub told : IfSome to.left (λ left. more ≡ left)
 
 -- All items were answered and all lines printed. Neither source nor sink failed.
 pub record RanThrough (limit : ℕ) (script : List ℕ) (from to : SourceView) (old new : StoreView) (held now : SinkView) (state : Status) : Type 0 where
@@ -35,7 +35,7 @@ pub record RanThrough (limit : ℕ) (script : List ℕ) (from to : SourceView) (
   pub end : IsAtEnd last
   pub ledger : Ledger
   pub run : Run limit (first_ledger old.files) old items answers ledger new
-  pub stores : StoresTold ledger new.files
+  pub stores : IfSome new.files (Stores ledger)
   pub sent : HasSent held (printed items answers) now
   pub source_kept : to.faults ≡ from.faults
   pub state_is : state ≡ status_of answers
@@ -50,7 +50,7 @@ pub record RanToStop (limit : ℕ) (script : List ℕ) (from to : SourceView) (o
   pub cut : CutsTo (start script) (items ++ item ∷ []) last
   pub ledger : Ledger
   pub run : Run limit (first_ledger old.files) old (items ++ item ∷ []) (answers ++ answer ∷ []) ledger new
-  pub stores : StoresTold ledger new.files
+  pub stores : IfSome new.files (Stores ledger)
   pub mid : SinkView
   pub sent : HasSent held (printed items answers) mid
   pub fault : WriteFault
@@ -81,20 +81,17 @@ pub record RanToFault (limit : ℕ) (gave more : List ℕ) (from to : SourceView
   pub left_is : last.left ≡ suffix ++ more
   pub ledger : Ledger
   pub run : Run limit (first_ledger old.files) old items answers ledger new
-  pub stores : StoresTold ledger new.files
+  pub stores : IfSome new.files (Stores ledger)
   pub sent : HasSent held (printed items answers) now
   pub cause : SourceFailed from to gave suffix state ⊎ WantedMemory from to state
 
--- a run over the bytes that the source gave and those that it has left
-abbrev pub Ran : ℕ → List ℕ → List ℕ → SourceView → SourceView → StoreView → StoreView → SinkView → SinkView → Status → Type 0
-Ran limit gave more from to old new held now state =
-    RanThrough limit (gave ++ more) from to old new held now state
-    ⊎ (RanToStop limit (gave ++ more) from to old new held now state
-    ⊎ RanToFault limit gave more from to old new held now state)
-
--- A run whose steps may have `limit` values each.
+-- A run whose steps may have `limit` values each, over the bytes that the source gave and those that it has left.
 abbrev pub HasRun : ℕ → SourceView → SourceView → StoreView → StoreView → SinkView → SinkView → Status → Type 0
-HasRun limit from to old new held now state = (gave : List ℕ) × (more : List ℕ) × HasGiven from to gave more × Ran limit gave more from to old new held now state
+HasRun limit from to old new held now state =
+    (gave : List ℕ) × (more : List ℕ) × HasGiven from to gave more
+    × (RanThrough limit (gave ++ more) from to old new held now state
+    ⊎ (RanToStop limit (gave ++ more) from to old new held now state
+    ⊎ RanToFault limit gave more from to old new held now state))
 
 abbrev pub usage_line : List ℕ
 usage_line = codes "usage: walnut [--states N] [--stop] [--make SEED]\n"

@@ -18,7 +18,7 @@ ReadsValue words (Ok value) = NamesValue words (option_map (λ text. text.now) v
 ReadsValue words (Err faults.Refused) = GivesNone words
 ReadsValue words (Err faults.Memory) = ⊤
 
--- the limit that a text spells, where it spells one
+-- the limit that a text denotes, where it denotes one
 abbrev pub ReadsNumber : List ℕ → Option ℕ → Type 0
 ReadsNumber text (Some limit) = IsLimit (Some text) limit
 ReadsNumber text None = (limit : ℕ) → IsLimit (Some text) limit → ⊥

@@ -1,9 +1,9 @@
-ghost use Rattle.std.specs.Prelude.{◌≡◌};
+ghost use Rattle.std.specs.Prelude.{◌≡◌, IfSome};
 ghost use Rattle.wal_outside.specs.Sending.{Sends};
 ghost use Rattle.session_cli.specs.Tallies.{AddsFault, AddsResult};
 ghost use Rattle.session_cli.specs.Lines.{fault_line};
+ghost use Rattle.definitions.specs.Texts.{Stores};
 ghost use Rattle.definitions.specs.Trees.{Ledger};
-ghost use Rattle.session_cli.specs.Runs.{StoresTold};
 ghost use Rattle.session_cli.specs.Commands.{Commands};
 ghost use Rattle.session_cli.specs.Handing.{result_text};
 ghost use Rattle.session_cli.specs.Whole.{stop_status as status_of_stop};
@@ -44,7 +44,7 @@ pub(crate) fn answer_command<T: Store>(
     tally: &mut Tally,
 ) -> Answered
     ensures session { session.new ≡ session.old }
-    ensures command { (ledger : Ledger) → StoresTold ledger (T.view store.old).files → Commands session.old.limit ledger (T.view store.old) command.now.text.now command.now.shown result.answer result.printed (T.view store.new) }
+    ensures command { (ledger : Ledger) → IfSome (T.view store.old).files (Stores ledger) → Commands session.old.limit ledger (T.view store.old) command.now.text.now command.now.shown result.answer result.printed (T.view store.new) }
     ensures counts { AddsResult tally.old result.answer tally.new }
 {
     let mut printed = Printed::new(alloc);

@@ -58,7 +58,7 @@ pub enum Fault {
     /// F07: it has more bytes than this, or so has the text that it was to store.
     Long(usize),
     /// F08: the text of the macro of this name has a place of this number, for which a call with so many arguments has none.
-    /// 2^64 - 1 stands for each greater number.
+    /// 2^64 - 1 where the number is greater.
     MacroArgs(Name, u64, usize),
     /// F09: a call of the macro of this name is within 16 others.
     MacroDepth(Name),

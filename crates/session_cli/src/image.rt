@@ -225,7 +225,7 @@ fn image_in(
     steps: &mut Steps,
 ) -> Result<Word, ImageFault>
     requires { HasOldWord library.now.words read.now.old system.now }
-    ensures steps { (word : WordValue) → word_named library.now.words read.now.old ≡ Some word → DoesImage steps.old read.now.morphism word system.now result steps.new }
+    ensures steps { (word : WordValue) → word_named library.now.words read.now.old ≡ Some word → DoesImage read.now.morphism word system.now steps.old result steps.new }
     ensures image { (word : WordValue) → word_named library.now.words read.now.old ≡ Some word → IfOk result (IsImageWord read.now.morphism word) }
 {
     match library.word(&read.old) {

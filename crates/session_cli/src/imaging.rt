@@ -1,10 +1,10 @@
 //! Images of words.
 
-ghost use Rattle.std.specs.Prelude.{◌≡◌, ◌⊎◌, length, IfErr, IfOk};
+ghost use Rattle.std.specs.Prelude.{◌≡◌, ◌⊎◌, length, Ok, Err, IfErr, IfOk};
 ghost use Rattle.digit_tuple.specs.declared.step_fault.StepFault.TheVariants.{Memory};
 ghost use Rattle.num_system.specs.Tracks.{direction_of};
 ghost use Rattle.formula_build.specs.Solutions.{direction_named};
-ghost use Rattle.session_cli.specs.ImageSteps.{DoesImage, IsImageDone, IsImageStopped};
+ghost use Rattle.session_cli.specs.ImageSteps.{DoesImage, DoesMapped};
 ghost use Rattle.word_images.specs.ImageWords.{IsImageWord, IsMapped};
 
 use crate::image_fault::ImageFault;
@@ -42,7 +42,7 @@ pub(crate) fn image(
 ) -> Result<Word, ImageFault>
     requires track { length word.now.systems ≡ 1 }
     requires direction { direction_of word.now.systems ≡ direction_named system.now }
-    ensures steps { DoesImage steps.old morphism.now word.now system.now result steps.new }
+    ensures steps { DoesImage morphism.now word.now system.now steps.old result steps.new }
     ensures image { IfOk result (IsImageWord morphism.now word.now) }
 {
     let length = image_length(morphism)?;
@@ -70,8 +70,8 @@ fn mapped(
     requires mapped { IsMapped morphism.now word.now target.length }
     requires track { length word.now.systems ≡ 1 }
     requires direction { direction_of word.now.systems ≡ direction_named target.system.now }
-    ensures done { IfOk result (λ image. IsImageDone steps.old morphism.now word.now target.entry.system.now image steps.new) }
-    ensures stopped { IfErr result (λ fault. (fault ≡ Memory) ⊎ IsImageStopped steps.old morphism.now word.now target.entry.system.now fault steps.new) }
+    ensures done { IfOk result (λ image. DoesMapped morphism.now word.now target.entry.system.now steps.old (Ok image) steps.new) }
+    ensures stopped { IfErr result (λ fault. (fault ≡ Memory) ⊎ DoesMapped morphism.now word.now target.entry.system.now steps.old (Err fault) steps.new) }
     ensures image { IfOk result (IsImageWord morphism.now word.now) }
 {
     let Target { system, length } = target;

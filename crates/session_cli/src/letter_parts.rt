@@ -3,8 +3,8 @@
 ghost use Rattle.std.specs.Prelude.{◌≡◌, ◌⊎◌, IfErr, IfOk};
 ghost use Rattle.digit_tuple.specs.declared.step_fault.StepFault.TheVariants.{Memory};
 ghost use Rattle.formula_build.specs.Solutions.{BuildsFormula};
-ghost use Rattle.session_cli.specs.ImageSteps.{AreBuilt, IsLetterStopped, letter_plan};
-ghost use Rattle.session_cli.specs.LetterParts.{AreLetterParts, IsLetterRelation, IsUsable};
+ghost use Rattle.session_cli.specs.ImageSteps.{letter_plan};
+ghost use Rattle.session_cli.specs.LetterParts.{AreBuilt, AreLetterParts, IsLetterRelation, IsLetterStopped, IsUsable};
 ghost use Rattle.session_cli.specs.LetterSettings.{library_in};
 
 use crate::setting::Setting;
@@ -22,7 +22,7 @@ use word_images::image_formula::image_formula;
 /// What the formulas of letters are made of.
 #[derive(Clone, Copy)]
 pub(crate) struct Formulas<'a> {
-    /// What their names stand for.
+    /// What their names mean.
     pub(crate) setting: &'a Setting,
     /// The system's name.
     pub(crate) system: &'a Name,

@@ -47,7 +47,7 @@ mod promote;
 mod combine;
 // why a word has no image
 mod image_fault;
-// what the names of the formulas of letters stand for
+// what the names of the formulas of letters mean
 mod setting;
 // the relations of letters, one after another
 mod letter_parts;

@@ -1,7 +1,7 @@
 //! One command after another.
-ghost use Rattle.std.specs.Prelude.{◌≡◌};
+ghost use Rattle.std.specs.Prelude.{◌≡◌, IfSome};
+ghost use Rattle.definitions.specs.Texts.{Stores};
 ghost use Rattle.definitions.specs.Trees.{Ledger};
-ghost use Rattle.session_cli.specs.Runs.{StoresTold};
 ghost use Rattle.session_cli.specs.Views.{SessionView};
 ghost use Rattle.session_cli.specs.Commands.{Commands, WritesPlan};
 
@@ -55,7 +55,7 @@ impl Session {
         printed: &mut Printed,
     ) -> Result<(), Fault>
         ensures session { self.new ≡ self.old }
-        ensures command { (ledger : Ledger) → StoresTold ledger (T.view store.old).files → Commands self.old.limit ledger (T.view store.old) text.now shown result printed.new (T.view store.new) }
+        ensures command { (ledger : Ledger) → IfSome (T.view store.old).files (Stores ledger) → Commands self.old.limit ledger (T.view store.old) text.now shown result printed.new (T.view store.new) }
     {
         printed.clear();
         let options = StepOptions {

@@ -1,4 +1,4 @@
-//! What the names of the formulas stand for.
+//! What the names of the formulas mean.
 
 ghost use Rattle.std.specs.Prelude.{◌≡◌, length, IfOk};
 ghost use Rattle.word_images.specs.ImageWords.{IsMapped};
@@ -15,7 +15,7 @@ use word_images::image_formula::word_name;
 use word_images::recoded;
 use word_output::word::Word;
 
-/// The names of the formulas of letters, and what they stand for.
+/// The names of the formulas of letters, and what they mean.
 #[derive(Drop)]
 pub(crate) struct Setting {
     /// The headers of the words, and the system.

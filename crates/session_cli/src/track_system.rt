@@ -15,7 +15,7 @@ use numeration::num_system::NumSystem;
 use std::alloc::Global;
 use std::rc::Rc;
 
-/// What the name of a track's system stands for.
+/// What the name of a track's system means.
 #[derive(Drop)]
 pub(crate) enum Meaning {
     /// A system that is built in.
@@ -29,7 +29,7 @@ pub(crate) enum Meaning {
 pub(crate) struct TrackSystem {
     /// The name.
     pub(crate) name: Name,
-    /// What it stands for.
+    /// What it means.
     pub(crate) meaning: Meaning,
 }
 

@@ -101,7 +101,7 @@ fn systems_named(
     Ok(systems)
 }
 
-// What a name stands for.
+// What a name means.
 fn meaning(name: &Name, users: &NamedSystems) -> Result<Meaning, OutOfMemory>
     requires { IsThere users.now name.now }
     ensures { IfOk result (IsNameOf users.now name.now) }

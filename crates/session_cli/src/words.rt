@@ -73,7 +73,7 @@ fn words_fault(error: &Error) -> WordsFault
     }
 }
 
-/// The limit that a text spells: a number of the range, in decimal without a sign or a leading zero.
+/// The limit that a text denotes: a number of the range, in decimal without a sign or a leading zero.
 fn number_of(text: &str) -> Option<u32>
     ensures { ReadsNumber text.now result }
 {

@@ -2,6 +2,6 @@ use Rattle.std.proofs.Common.{take}
 use Rattle.session_cli.proofs.ListedChecks.{AreOver}
 use Rattle.session_cli.proofs.combine.first_other.Given as goal
 
--- those in front have the systems
+-- those before it have the systems
 abbrev pub invariant-loop-other : goal.invariant-loop-other
 invariant-loop-other l = AreOver l.headers l.tracks (take l.other-index l.automata)

@@ -2,6 +2,6 @@ use Rattle.std.proofs.Common.{take}
 use Rattle.session_cli.proofs.ListedChecks.{AreNotPlain}
 use Rattle.session_cli.proofs.combine.none_plain.Given as goal
 
--- those in front are not over sets
+-- those before it are not over sets
 abbrev pub invariant-loop-valued : goal.invariant-loop-valued
 invariant-loop-valued l = AreNotPlain l.headers (take l.valued-index l.automata)

@@ -11,7 +11,7 @@ use Rattle.system_files.specs.SystemFiles.{Custom}
 use Rattle.definitions.specs.Trees.{custom_of}
 use Rattle.session_cli.specs.FormulaFaults.{fault_of_reading, fault_of_resolution}
 use Rattle.session_cli.specs.FormulaMakes.{tree_of}
-use Rattle.session_cli.specs.FormulaOutcomes.{AreVariables, bindings_now}
+use Rattle.session_cli.specs.FormulaOutcomes.{bindings_now}
 use Rattle.session_cli.specs.FormulaPlans.{HaveTracks, IsTextOf, HasNoTextOf}
 use Rattle.session_cli.specs.FormulaSteps.{AreMeant}
 use Rattle.session_cli.specs.Lines.{verdict_line}
@@ -19,6 +19,7 @@ use Rattle.session_cli.specs.TableReading.{AreReadable}
 use Rattle.session_cli.specs.TableReads.{library_with}
 use Rattle.session_cli.specs.TrackSystems as track_systems
 use Rattle.session_cli.specs.VariablesOver.{variables_over}
+use Rattle.session_cli.proofs.CheckNames.{AreVariables}
 use Rattle.session_cli.proofs.FormulaChains.{systems_unresolved, resolved_unbuilt, steps_made}
 use Rattle.session_cli.proofs.FormulaGround.{ground_directions, ground_readable, ground_fits, ground_known, ground_means}
 use Rattle.session_cli.proofs.FormulaPlanning.{text_made, text_refused, verdict_is}

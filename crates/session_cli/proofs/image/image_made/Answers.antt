@@ -23,7 +23,7 @@ returns g c =
     then_texts _ _ _ _ _ _ read c.made_of.result c.in_ok-read.ensures c.made_of.ensures
     (λ found custom is. record {
       old = is.old;
-      rules = record { text = is.rules.text; there = is.rules.there; short = is.rules.short; spells = is.rules.spells };
+      rules = record { text = is.rules.text; there = is.rules.there; short = is.rules.short; derives = is.rules.derives };
       listed = listed_elsewhere found custom (first_files (old_mentions read.old)) read.tables.items is.listed;
     })
     (λ found is makes ledger stores. image_read_made c.args.options ledger (image_view c.args.head.now) read found c.made_of.result stores is makes)

@@ -1,9 +1,9 @@
-use Rattle.std.proofs.Common.{◌≡◌, ◌∙◌, ℕ, List, [], length, Some, get_or, sym, ap, subst}
+use Rattle.std.proofs.Common.{◌≡◌, ◌∙◌, ℕ, List, [], length, Some, Ok, Err, get_or, sym, ap, subst}
 use Rattle.std.proofs.lemmas.Result.{err_from_is_err_and}
 use Rattle.dfa_loading.specs.declared.loaded.Loaded.{Loaded}
 use Rattle.formula_build.specs.Libraries.{ReadValue, word_named}
 use Rattle.formula_resolve.specs.Headers.{Headers, word_tracks}
-use Rattle.session_cli.specs.ImageSteps.{IsImageDone, IsImageRefused}
+use Rattle.session_cli.specs.ImageSteps.{DoesImage}
 use Rattle.session_cli.specs.ImageMakes.{HasOldWord, old_system_of}
 use Rattle.session_cli.specs.TableReads.{words_in}
 use Rattle.session_cli.specs.TableReading.{AreReadable}
@@ -55,7 +55,7 @@ returns-in_err-word c =
     old_there read.old tables possible.read_image.files possible.read_image.listed systems c.are_sealed.ensures possible.meant.0 possible.meant.1 possible.systems done.0 c.args.steps.now c.read_tables.new.steps done.1 possible.one_track in
     let system : c.old_system-system.result.now ≡ old_system_of read = c.old_system-system.ensures ∙ ap (λ (h : Headers). get_or (word_tracks h read.old) 0 []) possible.headers in
     let known = subst (λ (l : ReadValue). word_named l.words read.old ≡ Some there.word) (sym done.2) there.word_is in
-    let refused = subst (λ (s : List ℕ). IsImageRefused c.read_tables.new.steps read.morphism there.word s fault c.image_in.new.steps) system (c.in_err-word.ensures.steps there.word known) in
+    let refused = subst (λ (s : List ℕ). DoesImage read.morphism there.word s c.read_tables.new.steps (Err fault) c.image_in.new.steps) system (c.in_err-word.ensures.steps there.word known) in
     λ custom meant.
     rw (p.1, p.2) (steps_unimaged c.args.steps.now custom tables read.old (old_system_of read) read.morphism systems c.are_sealed.ensures done.0 c.read_tables.new.steps done.1 there.word there.word_is meant possible.uniform.0 possible.uniform.1 fault c.image_in.new.steps refused)
 
@@ -71,5 +71,5 @@ returns c =
     old_there read.old tables possible.read_image.files possible.read_image.listed systems c.are_sealed.ensures possible.meant.0 possible.meant.1 possible.systems done.0 c.args.steps.now c.read_tables.new.steps done.1 possible.one_track in
     let system : c.old_system-system.result.now ≡ old_system_of read = c.old_system-system.ensures ∙ ap (λ (h : Headers). get_or (word_tracks h read.old) 0 []) possible.headers in
     let known = subst (λ (l : ReadValue). word_named l.words read.old ≡ Some there.word) (sym done.2) there.word_is in
-    let made = subst (λ (s : List ℕ). IsImageDone c.read_tables.new.steps read.morphism there.word s word c.image_in.new.steps) system (c.in_ok-word.ensures.steps there.word known) in
+    let made = subst (λ (s : List ℕ). DoesImage read.morphism there.word s c.read_tables.new.steps (Ok word) c.image_in.new.steps) system (c.in_ok-word.ensures.steps there.word known) in
     λ custom meant. imaged_here c.args.steps.now custom read systems c.are_sealed.ensures done.0 c.read_tables.new.steps done.1 there.word there.word_is meant possible.systems word c.image_in.new.steps made (c.in_ok-word.ensures.image there.word known)

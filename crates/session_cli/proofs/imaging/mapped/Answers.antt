@@ -1,11 +1,28 @@
-use Rattle.std.proofs.Common.{List, map, inr}
+use Rattle.std.proofs.Common.{◌≡◌, ◌⊎◌, List, map, Err, inr}
+use Rattle.std.specs.Prelude.{IfErr}
 use Rattle.std.specs.Rc.{rc_value}
+use Rattle.digit_tuple.specs.declared.step_fault.StepFault.TheVariants.{Memory}
 use Rattle.num_system.specs.Sealed.{SystemValue}
-use Rattle.session_cli.proofs.MappedLemmas.{combining_stopped, image_made, one_shape, usable}
+use Rattle.num_system.proofs.LineLemmas.{handed_on}
+use Rattle.session_cli.specs.ImageSteps.{DoesMapped}
+use Rattle.session_cli.proofs.MappedLemmas.{combining_stopped, image_done, image_made, letters_unmapped, one_shape, usable}
 use Rattle.session_cli.proofs.imaging.mapped.Goals as goal
 
 pub letter_parts-requires : goal.letter_parts-requires
 letter_parts-requires c = usable c.args.morphism.now c.args.word.now c.args.target.system.now c.args.target.length c.in_ok-setting.setting c.requires.track c.requires.mapped c.in_ok-setting.ensures c.requires.direction
+
+pub returns-in_err-parts-clause-stopped : goal.returns-in_err-parts-clause-stopped
+returns-in_err-parts-clause-stopped c =
+    let fault = c.in_err-parts.field-0.0 in
+    handed_on (λ r. IfErr r (λ f. (f ≡ Memory) ⊎ DoesMapped c.args.morphism.now c.args.word.now c.args.target.system.now c.args.steps.now (Err f) c.letter_parts.new.steps)) c.from_residual-in_err-parts.result fault c.from_residual-in_err-parts.ensures.1
+    (letters_unmapped c.args.morphism.now c.args.word.now c.args.target.system.now c.args.target.length c.in_ok-setting.setting c.requires.track c.requires.mapped c.in_ok-setting.ensures c.in_ok-letters.letters.items c.deref.result.now c.in_ok-letters.ensures c.deref.ensures.value
+    c.args.steps.now c.letter_parts.new.steps fault c.in_err-parts.ensures.stopped)
+
+pub returns-in-Ok-clause-done : goal.returns-in-Ok-clause-done
+returns-in-Ok-clause-done c =
+    let systems : List SystemValue = map rc_value c.systems.result.now in
+    image_done c.args.morphism.now c.args.word.now c.args.target.system.now c.args.target.length c.in_ok-setting.setting c.requires.track c.requires.mapped c.in_ok-setting.ensures c.systems.ensures.word c.in_ok-letters.letters.items c.deref.result.now c.in_ok-letters.ensures c.deref.ensures.value c.in_ok-parts.parts.items c.deref-2.result.now c.deref-2.ensures.value systems c.systems.ensures.value
+    c.args.steps.now c.letter_parts.new.steps c.in_ok-parts.ensures.built c.in_ok-parts.ensures.parts c.in-Ok.image c.combine.new.steps c.in-Ok.ensures
 
 pub returns-in-Ok-clause-image : goal.returns-in-Ok-clause-image
 returns-in-Ok-clause-image c =

@@ -6,8 +6,8 @@ use Rattle.digit_tuple.specs.declared.step_fault.StepFault.TheVariants.{Memory}
 use Rattle.num_system.proofs.LineLemmas.{handed_on}
 use Rattle.formula_build.specs.Solutions.{BuildsFormula}
 use Rattle.combinations.specs.Parts.{PartValue}
-use Rattle.session_cli.specs.ImageSteps.{IsLetterStopped, letter_plan}
-use Rattle.session_cli.specs.LetterParts.{IsLetterRelation}
+use Rattle.session_cli.specs.ImageSteps.{letter_plan}
+use Rattle.session_cli.specs.LetterParts.{IsLetterRelation, IsLetterStopped}
 use Rattle.session_cli.specs.LetterSettings.{library_in}
 use Rattle.session_cli.proofs.PartLemmas.{built_more, parts_more, stops_here}
 use Rattle.session_cli.proofs.letter_parts.letter_parts.Goals as goal

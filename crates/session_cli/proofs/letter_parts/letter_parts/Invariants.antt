@@ -1,6 +1,5 @@
 use Rattle.std.proofs.Common.{take}
-use Rattle.session_cli.specs.ImageSteps.{AreBuilt}
-use Rattle.session_cli.specs.LetterParts.{AreLetterParts}
+use Rattle.session_cli.specs.LetterParts.{AreBuilt, AreLetterParts}
 use Rattle.session_cli.specs.LetterSettings.{library_in}
 use Rattle.session_cli.proofs.letter_parts.letter_parts.Given as goal
 

@@ -1,6 +1,6 @@
 use Rattle.std.proofs.Common.{[], Err, refl, sym, subst}
 use Rattle.std.proofs.lemmas.Result.{err_from_is_err_and}
-use Rattle.command_head.specs.Grammar.{SpellsPromote}
+use Rattle.command_head.specs.Grammar.{DerivesPromote}
 use Rattle.command_head.specs.HeadViews.{promote_view}
 use Rattle.definitions.specs.Trees.{custom_of}
 use Rattle.session_cli.specs.declared.fault.Fault.{Fault}
@@ -21,7 +21,7 @@ returns-in_err-head g c =
     let p = err_from_is_err_and c.from_residual.result c.from_residual.ensures.1 in
     let fault = c.in_err-head.field-0.0 in
     rw (p.1, p.2) (from_none _ _ _ (own_head fault)
-    (λ found ledger stores. promote_unread c.args.options.limit ledger c.args.text.now (fault_of_head fault) (head_unread SpellsPromote promote_view c.args.text.now fault c.in_err-head.ensures)))
+    (λ found ledger stores. promote_unread c.args.options.limit ledger c.args.text.now (fault_of_head fault) (head_unread DerivesPromote promote_view c.args.text.now fault c.in_err-head.ensures)))
 
 pub returns-in_err-morphism : goal.returns-in_err-morphism
 returns-in_err-morphism g c =

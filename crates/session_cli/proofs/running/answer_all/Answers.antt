@@ -1,12 +1,12 @@
-use Rattle.std.proofs.Common.{◌≡◌, true, false, Ok, Err, inl, inr, refl, ◌∙◌, ap}
+use Rattle.std.proofs.Common.{◌≡◌, true, false, IfSome, Ok, Err, inl, inr, refl, ◌∙◌, ap}
 use Rattle.wal_outside.specs.Causes.{CountsFault}
 use Rattle.wal_outside.specs.Views.{SourceView, StoreView, SinkView}
 use Rattle.script_cut.specs.Cutting.{HasCut}
 use Rattle.script_cut.specs.declared.cut.Cut.TheVariants as cuts
 use Rattle.script_cut.specs.declared.cut.CutFault.TheVariants as cut_faults
 use Rattle.session_cli.specs.declared.fault.Fault.TheVariants as faults
+use Rattle.definitions.specs.Texts.{Stores}
 use Rattle.definitions.specs.Trees.{Ledger}
-use Rattle.session_cli.specs.Runs.{StoresTold}
 use Rattle.session_cli.proofs.Standing.{HasAnswered, goes_on, stops, long_step, refuses, refuses_stop}
 use Rattle.session_cli.proofs.Between.{begun_of, between_first, between_next, between_ends, between_end, between_finishes, between_limit, between_failed, between_memory, room_falls, room_falls_long}
 use Rattle.session_cli.proofs.running.answer_all.Goals as goal
@@ -38,7 +38,7 @@ items-preserved-in-Ok-Command g c =
     let cut : HasCut c.items.cutter to (Ok (cuts.Command c.in-Ok-Command.text c.in-Ok-Command.shown c.in-Ok-Command.line)) c.cut.new.self then = rw c.in-Ok-Command.field-0-is at c.in-Ok-Command.ensures.cut in
     let begun : c.items.cutter.over ≡ false = begun_of c.items.cutter.over _ c.in-Ok-Command.ensures.again (λ is. cc) in
     let kept : then.faults ≡ to.faults = c.in-Ok-Command.ensures.faults in
-    let answered : (ledger : Ledger) → StoresTold ledger mid.files → HasAnswered c.args.session.now.limit ledger mid c.in-Ok-Command.text.items c.in-Ok-Command.shown c.in-Ok-Command.line told c.items.tally (Ok tt) new now c.answer_command-answered.new.tally =
+    let answered : (ledger : Ledger) → IfSome mid.files (Stores ledger) → HasAnswered c.args.session.now.limit ledger mid c.in-Ok-Command.text.items c.in-Ok-Command.shown c.in-Ok-Command.line told c.items.tally (Ok tt) new now c.answer_command-answered.new.tally =
     λ ledger is. record {
       result = c.answer_command-answered.result.answer;
       printed = c.answer_command-answered.result.printed;
@@ -66,7 +66,7 @@ returns-in-Err g c =
     let cut : HasCut c.items.cutter to (Ok (cuts.Command c.in-Ok-Command.text c.in-Ok-Command.shown c.in-Ok-Command.line)) c.cut.new.self then = rw c.in-Ok-Command.field-0-is at c.in-Ok-Command.ensures.cut in
     let begun : c.items.cutter.over ≡ false = begun_of c.items.cutter.over _ c.in-Ok-Command.ensures.again (λ is. cc) in
     let kept : then.faults ≡ to.faults = c.in-Ok-Command.ensures.faults in
-    let answered : (ledger : Ledger) → StoresTold ledger mid.files → HasAnswered c.args.session.now.limit ledger mid c.in-Ok-Command.text.items c.in-Ok-Command.shown c.in-Ok-Command.line told c.items.tally (Err c.in-Err.fault) new now c.answer_command-answered.new.tally =
+    let answered : (ledger : Ledger) → IfSome mid.files (Stores ledger) → HasAnswered c.args.session.now.limit ledger mid c.in-Ok-Command.text.items c.in-Ok-Command.shown c.in-Ok-Command.line told c.items.tally (Err c.in-Err.fault) new now c.answer_command-answered.new.tally =
     λ ledger is. record {
       result = c.answer_command-answered.result.answer;
       printed = c.answer_command-answered.result.printed;

@@ -2,6 +2,6 @@ use Rattle.std.proofs.Common.{take}
 use Rattle.session_cli.proofs.TableReads.{AreReadSoFar}
 use Rattle.session_cli.proofs.table_reading.read_tables.Given as goal
 
--- the tables in front are read
+-- the tables before it are read
 abbrev pub invariant-loop-table : goal.invariant-loop-table
 invariant-loop-table l = AreReadSoFar l.systems l.initial.steps (take l.table-index l.tables) l.library l.steps

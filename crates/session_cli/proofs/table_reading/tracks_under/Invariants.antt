@@ -4,6 +4,6 @@ use Rattle.std.specs.Rc.{rc_value}
 use Rattle.session_cli.proofs.TableReads.{StandsUnder}
 use Rattle.session_cli.proofs.table_reading.tracks_under.Given as goal
 
--- the systems under the names in front
+-- the systems under the names before it
 abbrev pub invariant-loop-name : goal.invariant-loop-name
 invariant-loop-name l = AllZip (StandsUnder l.systems) (take l.name-index l.name-items) (map rc_value l.tracks.items)

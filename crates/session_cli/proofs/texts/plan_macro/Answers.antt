@@ -1,5 +1,5 @@
 use Rattle.std.proofs.Common.{codes, refl}
-use Rattle.command_head.specs.Grammar.{SpellsNamed}
+use Rattle.command_head.specs.Grammar.{DerivesNamed}
 use Rattle.command_head.specs.HeadViews.{named_view}
 use Rattle.session_cli.specs.HeadAnswers.{fault_of_head}
 use Rattle.session_cli.proofs.HeadSteps.{head_unread}
@@ -13,4 +13,4 @@ pub returns-in-Err-text_made : goal.returns-in-Err-text_made
 returns-in-Err-text_made c = λ ledger shown. macro_failed ledger c.args.text.now (named_view c.in-Ok.field-0) c.in-Err-text_made.fault c.in-Ok.ensures c.in-Err-text_made.ensures
 
 pub returns-in-Err : goal.returns-in-Err
-returns-in-Err c = rw c.from.ensures (λ ledger shown. macro_unread ledger c.args.text.now (fault_of_head c.in-Err.fault) (head_unread (SpellsNamed (codes "macro")) named_view c.args.text.now c.in-Err.fault c.in-Err.ensures))
+returns-in-Err c = rw c.from.ensures (λ ledger shown. macro_unread ledger c.args.text.now (fault_of_head c.in-Err.fault) (head_unread (DerivesNamed (codes "macro")) named_view c.args.text.now c.in-Err.fault c.in-Err.ensures))

@@ -1,5 +1,5 @@
 use Rattle.std.proofs.Common.{codes, refl}
-use Rattle.command_head.specs.Grammar.{SpellsNamed}
+use Rattle.command_head.specs.Grammar.{DerivesNamed}
 use Rattle.command_head.specs.HeadViews.{named_view}
 use Rattle.definitions.specs.Trees.{custom_of}
 use Rattle.session_cli.specs.HeadAnswers.{fault_of_head}
@@ -14,4 +14,4 @@ pub returns-in-Err-rules_made : goal.returns-in-Err-rules_made
 returns-in-Err-rules_made c = λ ledger shown. morphism_failed ledger c.args.text.now (named_view c.in-Ok.field-0) c.in-Err-rules_made.fault c.in-Ok.ensures (c.in-Err-rules_made.ensures (custom_of ledger) c.in-Ok.field-0.name shown)
 
 pub returns-in-Err : goal.returns-in-Err
-returns-in-Err c = rw c.from.ensures (λ ledger shown. morphism_unread ledger c.args.text.now (fault_of_head c.in-Err.fault) (head_unread (SpellsNamed (codes "morphism")) named_view c.args.text.now c.in-Err.fault c.in-Err.ensures))
+returns-in-Err c = rw c.from.ensures (λ ledger shown. morphism_unread ledger c.args.text.now (fault_of_head c.in-Err.fault) (head_unread (DerivesNamed (codes "morphism")) named_view c.args.text.now c.in-Err.fault c.in-Err.ensures))

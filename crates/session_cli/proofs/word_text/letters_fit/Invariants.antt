@@ -4,6 +4,6 @@ use Rattle.std.specs.List.{All}
 use Rattle.std.specs.Prelude.{FitsSigned}
 use Rattle.session_cli.proofs.word_text.letters_fit.Given as goal
 
--- those in front fit
+-- those before it fit
 abbrev pub invariant-loop-letter : goal.invariant-loop-letter
 invariant-loop-letter l = All (λ letter. FitsSigned w32 letter) (take l.letter-index l.letter-items)
