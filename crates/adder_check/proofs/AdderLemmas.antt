@@ -1,5 +1,5 @@
 -- The valid part of the closure of a file's automaton holds of the file's relation.
-use Rattle.std.proofs.Common.{◌≡◌, ℕ, Bool, List, reverse, Result, Ok, Err, IfOk, refl, sym, ap, ◌∙◌, subst}
+use Rattle.std.proofs.Common.{◌≡◌, ℕ, Bool, List, reverse, Result, Ok, Err, IfOk, inl, refl, sym, ap, ◌∙◌, subst}
 use Rattle.std.proofs.lemmas.List.{reverse-reverse}
 use Rattle.digit_tuple.specs.Automaton.{Branching}
 use Rattle.digit_tuple.specs.Automaton as branching
@@ -24,10 +24,10 @@ use Rattle.num_system.proofs.SuccessorLemmas.{holds_same}
 use Rattle.num_system.proofs.ValidityLinks.{valid_part_represents}
 use Rattle.project_close.specs.Padding.{IsPadded}
 use Rattle.automaton_steps.specs.Makings.{Making, DoesStep}
-use Rattle.automaton_steps.specs.PadSteps.{IsClosure}
+use Rattle.automaton_steps.specs.PadSteps.{IsClosure, pad_step}
 use Rattle.automaton_steps.specs.ValiditySteps.{IsValidPart, valid_step}
-use Rattle.adder_check.specs.LanguageSteps.{IsOfFile}
-use Rattle.adder_check.specs.AdderRelation.{HoldsInFile, three_of, adder_names}
+use Rattle.adder_check.specs.LanguageSteps.{IsOfFile, DoesFile}
+use Rattle.adder_check.specs.AdderRelation.{DoesAdder, HoldsInFile, three_of, adder_names}
 
 -- words are the same but for zeros where they are without these
 same_without_zeros : (direction : Direction) (w v : List ℕ) → strip direction v ≡ strip direction w → without_zeros (in_order direction v) ≡ without_zeros (in_order direction w)
@@ -100,3 +100,9 @@ valid_made old new languages a b (Err e) same done = tt
 -- a step before which memory runs out
 pub runs_out : {Made : Type 0} (making : Making Made) (old : StepLog) (r : Result Made StepFault) → r ≡ Err Memory → DoesStep making old r old
 runs_out {Made = Made} making old r is = subst (λ (x : Result Made StepFault). DoesStep making old x old) (sym is) (tt, refl)
+
+-- the steps of an adder's file: those that read it, then `pad`, then `valid`
+pub adder_done : (direction : Direction) (listed : Branching) (reversed : Bool) (languages : List Automaton) (old mid last new : StepLog) (read closed : Automaton) (r : Result NamedAutomaton StepFault)
+    → DoesFile listed reversed old (Ok read) mid → DoesStep (pad_step direction read) mid (Ok closed) last → DoesStep (valid_step languages (record { names = adder_names; automaton = closed })) last r new
+    → DoesAdder direction listed reversed languages old r new
+adder_done direction listed reversed languages old mid last new read closed r first second third = inl (read, mid, first, inl (closed, last, second, third))

@@ -9,8 +9,8 @@ use Rattle.numeration.specs.Systems.{System, IsSystem, AreSystems}
 use Rattle.numeration.specs.Representation.{Represents, letters_in}
 use Rattle.numeration.specs.Relations.{HoldsOf, IsSum, IsAdderOf}
 use Rattle.numeration.proofs.RepresentLemmas.{representation}
-use Rattle.numeration.proofs.TrackLemmas.{numerals_from_representation}
-use Rattle.numeration.proofs.PartRepresentation.{numerals_only}
+use Rattle.numeration.proofs.TrackLemmas.{tracks_represent}
+use Rattle.numeration.proofs.PartRepresentation.{represented_only}
 use Rattle.num_system.specs.Links.{Passes}
 use Rattle.num_system.proofs.SuccessorLemmas.{holds_same}
 use Rattle.adder_check.specs.declared.admit_fault.AdmitFault.{AdmitFault}
@@ -80,8 +80,8 @@ module _ (direction : Direction) (s : System) (system : IsSystem s) (holds : Lis
   decides (x ∷ y ∷ z ∷ []) = accepts_of d (in_order direction (represented x y z).0)
   decides (x ∷ y ∷ z ∷ w ∷ ns) = false
 
-  told : (x y z : ℕ) → holds (x ∷ y ∷ z ∷ []) ↔ IsTrue (accepts_of d (in_order direction (represented x y z).0))
-  told x y z = ((λ h. (is.accepts w over).1 (x ∷ y ∷ z ∷ [], represents, h)), back)
+  accepted_if : (x y z : ℕ) → holds (x ∷ y ∷ z ∷ []) ↔ IsTrue (accepts_of d (in_order direction (represented x y z).0))
+  accepted_if x y z = ((λ h. (is.accepts w over).1 (x ∷ y ∷ z ∷ [], represents, h)), back)
     where
       w : List ℕ
       w = in_order direction (represented x y z).0
@@ -96,14 +96,14 @@ module _ (direction : Direction) (s : System) (system : IsSystem s) (holds : Lis
       back t =
           let found = (is.accepts w over).0 t in
           subst holds
-          (numerals_only (three_of s) (in_order direction w) found.0 (x ∷ y ∷ z ∷ []) (numerals_from_representation (three_of s) (in_order direction w) found.0 found.1) (numerals_from_representation (three_of s) (in_order direction w) (x ∷ y ∷ z ∷ []) represents)) found.2
+          (represented_only (three_of s) (in_order direction w) found.0 (x ∷ y ∷ z ∷ []) (tracks_represent (three_of s) (in_order direction w) found.0 found.1) (tracks_represent (three_of s) (in_order direction w) (x ∷ y ∷ z ∷ []) represents)) found.2
 
   decided : (ns : List ℕ) → length ns ≡ 3 → holds ns ↔ IsTrue (decides ns)
   unfolding decides
   decided [] long = absurd (omega (arith, long))
   decided (x ∷ []) long = absurd (omega (arith, long))
   decided (x ∷ y ∷ []) long = absurd (omega (arith, long))
-  decided (x ∷ y ∷ z ∷ []) long = told x y z
+  decided (x ∷ y ∷ z ∷ []) long = accepted_if x y z
   decided (x ∷ y ∷ z ∷ w ∷ ns) long = absurd (omega (arith, long))
 
   abbrev adds : ℕ → ℕ → ℕ → Type 0

@@ -32,6 +32,11 @@ next_is m n is =
     let second : n ≡ suc is.0 = ap (λ (ns : List ℕ). get_or ns 1 0) is.1 in
     omega (arith, first, second)
 
+-- two automata were compared, which are these
+pub compared : (same : Bool) (a b d e : Automaton) → a ≡ d → b ≡ e → IsTrue same ↔ SameLanguage a b → IsTrue same ↔ SameLanguage d e
+compared same a b d e first second is =
+    subst (λ (x : Automaton). IsTrue same ↔ SameLanguage x e) first (subst (λ (x : Automaton). IsTrue same ↔ SameLanguage a x) second is)
+
 module _ (s : System) (test : List ℕ → Bool) where
   abbrev pub four_of : List System
   four_of = s ∷ s ∷ s ∷ s ∷ []
@@ -150,8 +155,8 @@ module _ (test : List ℕ → Bool) where
   )
 
   -- both have one language if and only if the law of the successor holds
-  pub successor_law_told : (direction : Direction) (s : System) (d e : Automaton) → IsSystem s → HoldsOf direction (three_of s) (IsSumWithNext test) d → HoldsOf direction (three_of s) (IsNextOfSum test) e
+  pub successor_law_decided : (direction : Direction) (s : System) (d e : Automaton) → IsSystem s → HoldsOf direction (three_of s) (IsSumWithNext test) d → HoldsOf direction (three_of s) (IsNextOfSum test) e
       → SameLanguage d e ↔ SuccessorLaw adds
-  successor_law_told direction s d e system one other =
-      let told = same_holds direction (three_of s) (system, (system, (system, tt))) (IsSumWithNext test) (IsNextOfSum test) d e one other in
-      ((λ same. law_from_triples (told.0 same)), (λ law. told.1 (triples_from_law law)))
+  successor_law_decided direction s d e system one other =
+      let decided = same_holds direction (three_of s) (system, (system, (system, tt))) (IsSumWithNext test) (IsNextOfSum test) d e one other in
+      ((λ same. law_from_triples (decided.0 same)), (λ law. decided.1 (triples_from_law law)))

@@ -1,5 +1,5 @@
 -- What the steps of the successor make.
-use Rattle.std.proofs.Common.{◌≡◌, ℕ, List, [], ◌∷◌, ◌++◌, length, Result, Ok, Err, IfOk, refl, sym, ap, ◌∙◌, arith}
+use Rattle.std.proofs.Common.{◌≡◌, ℕ, List, [], ◌∷◌, ◌++◌, length, Result, Ok, Err, IfOk, refl, sym, ap, ◌∙◌, subst, arith}
 use Rattle.digit_tuple.specs.Deterministic.{Automaton}
 use Rattle.digit_tuple.specs.Names.{names_without}
 use Rattle.digit_tuple.specs.Steps.{StepLog}
@@ -25,11 +25,13 @@ two_of language less one is = let pair = by language.sizes one in (pair.0, is �
     by (d ∷ []) is = (d, refl)
     by (d ∷ e ∷ ns) more = absurd (omega (arith, more))
 
--- a projection step makes a projection
-pub projected : (old new : StepLog) (direction : Direction) (track : List ℕ) (a : NamedAutomaton) (r : Result NamedAutomaton StepFault) → DoesStep (project_step direction track a) old r new → IfOk r (IsProjection direction a track)
-projected old new direction track a (Ok c) done =
-    let made = done.step.made_is in record { names = made.names; sizes = made.sizes; canonical = made.canonical; language = made.language }
-projected old new direction track a (Err e) done = tt
+-- a projection step on the track of a name makes a projection
+pub projected : (old new : StepLog) (direction : Direction) (track name : List ℕ) (a : NamedAutomaton) (r : Result NamedAutomaton StepFault) → track ≡ name → DoesStep (project_step direction track a) old r new
+    → IfOk r (IsProjection direction a name)
+projected old new direction track name a (Ok c) same done =
+    let made = done.step.made_is in
+    subst (λ (t : List ℕ). IsProjection direction a t c) same (record { names = made.names; sizes = made.sizes; canonical = made.canonical; language = made.language })
+projected old new direction track name a (Err e) same done = tt
 
 module _ (direction : Direction) (less : Automaton) (chain between : NamedAutomaton) (d : ℕ) (sizes : less.sizes ≡ d ∷ d ∷ []) (is : IsChain less chain) (made : IsProjection direction chain name_u between) where
   pub between_names : between.names ≡ name_x ∷ name_y ∷ []

@@ -11,8 +11,8 @@ use Rattle.numeration.specs.Systems.{System, AreSystems}
 use Rattle.numeration.specs.Representation.{Represents, letters_in}
 use Rattle.numeration.specs.Relations.{HoldsOf}
 use Rattle.numeration.proofs.RepresentLemmas.{representation}
-use Rattle.numeration.proofs.TrackLemmas.{numerals_from_representation}
-use Rattle.numeration.proofs.PartRepresentation.{numerals_only}
+use Rattle.numeration.proofs.TrackLemmas.{tracks_represent}
+use Rattle.numeration.proofs.PartRepresentation.{represented_only}
 
 module _ (direction : Direction) (ss : List System) (systems : AreSystems ss) (P Q : List ℕ → Type 0) (d e : Automaton) (one : HoldsOf direction ss P d) (other : HoldsOf direction ss Q e) where
   letters : letters_of d ≡ letters_in ss
@@ -26,14 +26,14 @@ module _ (direction : Direction) (ss : List System) (systems : AreSystems ss) (P
       let represents : Represents ss (in_order direction w) ns = subst (λ u. Represents ss u ns) (sym (in_order-twice direction represented.0)) represented.2 in
       let accepted = (one.accepts w over).1 (ns, represents, holds) in
       let found = (other.accepts w over).0 (sym (same w (subst (λ n. IsWord n w) (sym letters) over)) ∙ accepted) in
-      subst Q (numerals_only ss (in_order direction w) found.0 ns (numerals_from_representation ss (in_order direction w) found.0 found.1) (numerals_from_representation ss (in_order direction w) ns represents)) found.2
+      subst Q (represented_only ss (in_order direction w) found.0 ns (tracks_represent ss (in_order direction w) found.0 found.1) (tracks_represent ss (in_order direction w) ns represents)) found.2
 
   languages_same : ((ns : List ℕ) → length ns ≡ length ss → P ns ↔ Q ns) → SameLanguage d e
   languages_same same w over =
       let word = subst (λ n. IsWord n w) letters over in
       same_tests (accepts_of d w) (accepts_of e w) (
-        (λ t. let found = (one.accepts w word).0 t in (other.accepts w word).1 (found.0, found.1, (same found.0 (numerals_from_representation ss (in_order direction w) found.0 found.1).count).0 found.2)),
-        (λ t. let found = (other.accepts w word).0 t in (one.accepts w word).1 (found.0, found.1, (same found.0 (numerals_from_representation ss (in_order direction w) found.0 found.1).count).1 found.2)),
+        (λ t. let found = (one.accepts w word).0 t in (other.accepts w word).1 (found.0, found.1, (same found.0 (tracks_represent ss (in_order direction w) found.0 found.1).count).0 found.2)),
+        (λ t. let found = (other.accepts w word).0 t in (one.accepts w word).1 (found.0, found.1, (same found.0 (tracks_represent ss (in_order direction w) found.0 found.1).count).1 found.2)),
       )
 
 -- both ways

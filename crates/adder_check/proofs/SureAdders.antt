@@ -9,8 +9,8 @@ use Rattle.digit_tuple.specs.declared.direction.Direction.{Direction}
 use Rattle.numeration.specs.Systems.{System}
 use Rattle.numeration.specs.Representation.{Represents, letters_in, sizes_of}
 use Rattle.numeration.specs.Relations.{IsAdderOf, IsSum}
-use Rattle.numeration.proofs.TrackLemmas.{numerals_from_representation, representation_from_numerals}
-use Rattle.numeration.proofs.PartRepresentation.{AreValid, valid_numerals, numerals_valid, numerals_only, ranks}
+use Rattle.numeration.proofs.TrackLemmas.{tracks_represent, represents_from_tracks}
+use Rattle.numeration.proofs.PartRepresentation.{AreValid, represented_valid, valid_represented, represented_only, ranks}
 use Rattle.adder_check.specs.AdderRelation.{three_of}
 use mathlib.Core.Bool.{Bool-set}
 
@@ -33,14 +33,14 @@ surely_adder direction s d known = record {
     valid : (w : List ℕ) → IsWord (letters_in (three_of s)) w → IsTrue (accepts_of d w) → AreValid (three_of s) (in_order direction w)
     valid w over accepted =
         ∥∥₁_elim known (Π_prop (λ i. Π_prop (λ within. Bool-set _ _)))
-        (λ is. let found = (is.accepts w over).0 accepted in valid_numerals (three_of s) (in_order direction w) found.0 (numerals_from_representation (three_of s) (in_order direction w) found.0 found.1))
+        (λ is. let found = (is.accepts w over).0 accepted in represented_valid (three_of s) (in_order direction w) found.0 (tracks_represent (three_of s) (in_order direction w) found.0 found.1))
 
     there : (w : List ℕ) → IsWord (letters_in (three_of s)) w → IsTrue (accepts_of d w) → (ns : List ℕ) × Represents (three_of s) (in_order direction w) ns × IsSum ns
     there w over accepted =
         let ns : List ℕ = ranks (three_of s) (in_order direction w) in
-        let are = numerals_valid (three_of s) (in_order direction w) (valid w over accepted) in
+        let are = valid_represented (three_of s) (in_order direction w) (valid w over accepted) in
         let same : ns ≡ sum_of ns =
         ∥∥₁_elim known (lists_set ns (sum_of ns)) (λ is.
         let found = (is.accepts w over).0 accepted in
-        placed ns (subst IsSum (numerals_only (three_of s) (in_order direction w) found.0 ns (numerals_from_representation (three_of s) (in_order direction w) found.0 found.1) are) found.2)) in
-        (ns, representation_from_numerals (three_of s) (in_order direction w) ns are, (get_or ns 0 0, get_or ns 1 0, same))
+        placed ns (subst IsSum (represented_only (three_of s) (in_order direction w) found.0 ns (tracks_represent (three_of s) (in_order direction w) found.0 found.1) are) found.2)) in
+        (ns, represents_from_tracks (three_of s) (in_order direction w) ns are, (get_or ns 0 0, get_or ns 1 0, same))

@@ -117,7 +117,7 @@ module _ (test : List ℕ → Bool) where
   )
 
   -- the sums with 0 have the language of equal numbers if and only if the law of zero holds
-  pub zero_law_told : (direction : Direction) (s : System) (d e : Automaton) → IsSystem s → HoldsOf direction (s ∷ s ∷ []) (IsZeroSum test) d → IsEqualityOf direction s e → SameLanguage d e ↔ ZeroLaw adds
-  zero_law_told direction s d e system sums equal =
-      let told = same_holds direction (s ∷ s ∷ []) (system, (system, tt)) (IsZeroSum test) IsEqual d e sums equal in
-      ((λ same. law_from_pairs (told.0 same)), (λ law. told.1 (pairs_from_law law)))
+  pub zero_law_decided : (direction : Direction) (s : System) (d e : Automaton) → IsSystem s → HoldsOf direction (s ∷ s ∷ []) (IsZeroSum test) d → IsEqualityOf direction s e → SameLanguage d e ↔ ZeroLaw adds
+  zero_law_decided direction s d e system sums equal =
+      let decided = same_holds direction (s ∷ s ∷ []) (system, (system, tt)) (IsZeroSum test) IsEqual d e sums equal in
+      ((λ same. law_from_pairs (decided.0 same)), (λ law. decided.1 (pairs_from_law law)))

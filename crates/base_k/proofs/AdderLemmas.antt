@@ -7,14 +7,14 @@ use Rattle.digit_tuple.specs.Paddings.{in_order}
 use Rattle.digit_tuple.specs.Deterministic.{Automaton, accepts_of}
 use Rattle.digit_tuple.specs.declared.direction.Direction.{Direction}
 use Rattle.digit_tuple.specs.declared.direction.Direction.TheVariants.{Msd, Lsd}
-use Rattle.numeration.specs.Systems.{System, IsNumeral}
+use Rattle.numeration.specs.Systems.{System, IsRepresentation}
 use Rattle.numeration.specs.Representation.{Represents, letters_in, first_track, other_tracks}
 use Rattle.numeration.specs.Relations.{IsSum, IsAdderOf}
 use Rattle.digit_tuple.proofs.PaddingLemmas.{IsWord-in_order}
 use Rattle.base_k.specs.Positional.{base, value}
 use Rattle.base_k.specs.Carries.{next_carry}
 use Rattle.digit_tuple.proofs.TruthLemmas.{iff_trans}
-use Rattle.base_k.proofs.ValueLemmas.{numeral_value, value_numeral, value_reverse}
+use Rattle.base_k.proofs.ValueLemmas.{value_represents, represented_value, value_reverse}
 use Rattle.base_k.proofs.CarryLemmas.{Tracks, IsCarrying, msd_accepts, lsd_accepts}
 
 -- three tracks in base k
@@ -68,12 +68,12 @@ second_small k a some =
 pub third_small : (k a : ℕ) → 0 < k → (tracks k).third a < k
 third_small k a some = omega (arith, some)
 
--- tracks of a word as numerals
-numeral_on : (k : ℕ) (v u : List ℕ) (n : ℕ) → 2 ≤ k → v ≡ u → IsWord k u → value k u ≡ n → IsNumeral (base k) v n
-numeral_on k v u n some same over is = subst (λ (x : List ℕ). IsNumeral (base k) x n) (sym same) (numeral_value k u n some over is)
+-- tracks of a word represent their values
+represents_on : (k : ℕ) (v u : List ℕ) (n : ℕ) → 2 ≤ k → v ≡ u → IsWord k u → value k u ≡ n → IsRepresentation (base k) v n
+represents_on k v u n some same over is = subst (λ (x : List ℕ). IsRepresentation (base k) x n) (sym same) (value_represents k u n some over is)
 
-value_on : (k : ℕ) (v u : List ℕ) (n : ℕ) → 2 ≤ k → v ≡ u → IsWord k u → IsNumeral (base k) v n → value k u ≡ n
-value_on k v u n some same over numeral = value_numeral k u n some over (subst (λ (x : List ℕ). IsNumeral (base k) x n) same numeral)
+value_on : (k : ℕ) (v u : List ℕ) (n : ℕ) → 2 ≤ k → v ≡ u → IsWord k u → IsRepresentation (base k) v n → value k u ≡ n
+value_on k v u n some same over representation = represented_value k u n some over (subst (λ (x : List ℕ). IsRepresentation (base k) x n) same representation)
 
 -- the values of a word's tracks
 abbrev pub ValuesAdd : ℕ → List ℕ → Type 0
@@ -101,10 +101,10 @@ represents_sum k w some over = (forth, λ all. back all.0 all.1 all.2.0 all.2.1 
         let y = value k (map (tracks k).second w) in (
           x ∷ y ∷ (x + y) ∷ [],
           (
-            numeral_on k _ _ x some (first_is k w) first_over refl,
+            represents_on k _ _ x some (first_is k w) first_over refl,
             (
-              numeral_on k _ _ y some (second_is k w) second_over refl,
-              (numeral_on k _ _ (x + y) some (third_is k w) third_over adds, tt),
+              represents_on k _ _ y some (second_is k w) second_over refl,
+              (represents_on k _ _ (x + y) some (third_is k w) third_over adds, tt),
             ),
           ),
           (x, y, refl),

@@ -7,7 +7,7 @@ use Rattle.digit_tuple.specs.Paddings.{in_order}
 use Rattle.digit_tuple.specs.declared.direction.Direction.{Direction}
 use Rattle.digit_tuple.specs.declared.direction.Direction.TheVariants.{Msd, Lsd}
 use Rattle.numeration.specs.Words.{rank}
-use Rattle.numeration.specs.Systems.{IsNumeral}
+use Rattle.numeration.specs.Systems.{IsRepresentation}
 use Rattle.numeration.proofs.BelowLemmas.{size, below, after, led_below, size-suc, below-cons}
 use Rattle.numeration.proofs.RankLemmas.{rank_is_below}
 use Rattle.base_k.specs.Positional.{are_digits, base, value}
@@ -43,12 +43,12 @@ below_is_value k (b ∷ u) over =
 pub rank_is_value : (k : ℕ) (w : List ℕ) → 2 ≤ k → IsWord k w → rank k (are_digits k) w ≡ value k w
 rank_is_value k w some over = rank_is_below k (are_digits k) w (base_is_system k some) over ∙ below_is_value k w over
 
--- each word over the digits is a numeral of its value alone
-pub numeral_value : (k : ℕ) (w : List ℕ) (n : ℕ) → 2 ≤ k → IsWord k w → value k w ≡ n → IsNumeral (base k) w n
-numeral_value k w n some over is = (over_digits k w over, rank_is_value k w some over ∙ is)
+-- each word over the digits represents its value alone
+pub value_represents : (k : ℕ) (w : List ℕ) (n : ℕ) → 2 ≤ k → IsWord k w → value k w ≡ n → IsRepresentation (base k) w n
+value_represents k w n some over is = (over_digits k w over, rank_is_value k w some over ∙ is)
 
-pub value_numeral : (k : ℕ) (w : List ℕ) (n : ℕ) → 2 ≤ k → IsWord k w → IsNumeral (base k) w n → value k w ≡ n
-value_numeral k w n some over numeral = sym (rank_is_value k w some over) ∙ numeral.1
+pub represented_value : (k : ℕ) (w : List ℕ) (n : ℕ) → 2 ≤ k → IsWord k w → IsRepresentation (base k) w n → value k w ≡ n
+represented_value k w n some over representation = sym (rank_is_value k w some over) ∙ representation.1
 
 -- a digit at the end
 pub value_push : (k : ℕ) (w : List ℕ) (a : ℕ) → value k (w ++ a ∷ []) ≡ k * value k w + a

@@ -14,7 +14,7 @@ digits_over k (a ∷ w) valid =
     let both = and_parts (nat_lt a k) (are_digits k w) valid in
     (ltb-true a k both.0, digits_over k w both.1)
 
--- a digit in front
+-- one more digit, the first
 pub digits_after : (k a : ℕ) (w : List ℕ) → a < k → are_digits k (a ∷ w) ≡ are_digits k w
 digits_after k a w small = ap (λ (t : Bool). t && are_digits k w) (lt-ltb a k small)
 

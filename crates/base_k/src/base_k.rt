@@ -16,7 +16,7 @@ pub const LEAST_BASE: u32 = 2;
 /// The greatest base: in it a letter of three tracks is one of 64,000.
 pub const GREATEST_BASE: u32 = 40;
 
-/// The numeration system in base k: each word over the k digits is valid, and stands for its
+/// The numeration system in base k: each word over the k digits is valid, and represents its
 /// positional value (Allouche and Shallit, "Automatic Sequences").
 #[derive(Clone, Copy)]
 pub struct BaseK {

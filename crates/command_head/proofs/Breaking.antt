@@ -12,12 +12,12 @@ use Rattle.text_grammar.specs.Prefixes.{begins_in}
 use Rattle.text_grammar.specs.Systems.{is_system}
 use Rattle.command_head.specs.Parts.{Part, after_blanks, after_word, texts_of, parts_of, number_place, is_name, is_quoted}
 use Rattle.command_head.specs.Heads.{RegHead, Stage, AtWord, AtName, AfterName, AtNumber, AfterNumber, AfterSet, AfterSystem, AtEnd, body_step, step, ended, run, reg_at}
-use Rattle.command_head.specs.Grammar.{SpellsReg}
+use Rattle.command_head.specs.Grammar.{DerivesReg}
 use Rattle.command_head.specs.Breaks.{part_at, ExceedsAt, IsSyntaxAt, IsNumberAt}
 use Rattle.command_head.proofs.PartSteps.{length-parts, length-after_word}
 use Rattle.command_head.proofs.Walks.{goes_step, goes_first}
-use Rattle.command_head.proofs.ReadHeads.{reg_spelled}
-use Rattle.command_head.proofs.SpelledHeads.{reg_goes}
+use Rattle.command_head.proofs.ReadHeads.{reg_derived}
+use Rattle.command_head.proofs.DerivedHeads.{reg_goes}
 use Rattle.command_head.proofs.Sane.{spent, Sane, step_keeps}
 use Rattle.command_head.proofs.Completions.{GoesAs, completes, IsAtNumber, allowed, number_stage}
 use Rattle.command_head.proofs.ValuedParts.{number_split, valued_split, number_place-number}
@@ -256,24 +256,24 @@ broken limit whole stage (part ∷ parts) at refusal low room sane h = by_step (
         subst (λ (byte : ℕ). IsBroken whole stage (part ∷ parts) byte refusal) p.place (broken_here limit whole stage part parts refusal low (omega arith) sane (e ∙ ap (λ (r : Refusal). Err r) (same_refusal refused refusal p.refused)))
 
 -- the same of the grammar of a `reg`
-reg_begins : (prefix : List (List ℕ)) → Begins (GoesAs AtWord) prefix → Begins SpellsReg prefix
-reg_begins prefix b = (b.0, b.1, reg_spelled (prefix ++ b.0) b.1 b.2)
+reg_begins : (prefix : List (List ℕ)) → Begins (GoesAs AtWord) prefix → Begins DerivesReg prefix
+reg_begins prefix b = (b.0, b.1, reg_derived (prefix ++ b.0) b.1 b.2)
 
-reg_goes_on : (prefix : List (List ℕ)) → Begins SpellsReg prefix → Begins (GoesAs AtWord) prefix
+reg_goes_on : (prefix : List (List ℕ)) → Begins DerivesReg prefix → Begins (GoesAs AtWord) prefix
 reg_goes_on prefix b = (b.0, b.1, reg_goes (prefix ++ b.0) b.1 b.2)
 
-reg_breaks : (parts : List (List ℕ)) (count : ℕ) → BreaksAt (GoesAs AtWord) parts count → BreaksAt SpellsReg parts count
+reg_breaks : (parts : List (List ℕ)) (count : ℕ) → BreaksAt (GoesAs AtWord) parts count → BreaksAt DerivesReg parts count
 reg_breaks parts count b = record {
   within = b.within;
   before = reg_begins (take count parts) b.before;
   there = λ inside goes_on. b.there inside (reg_goes_on (take (count + 1) parts) goes_on);
-  end = λ at_end head spells. b.end at_end head (reg_goes parts head spells);
+  end = λ at_end head derives. b.end at_end head (reg_goes parts head derives);
 }
 
-reg_exceeds : (parts : List (List ℕ)) (count : ℕ) → ExceedsAt (GoesAs AtWord) parts count → ExceedsAt SpellsReg parts count
+reg_exceeds : (parts : List (List ℕ)) (count : ℕ) → ExceedsAt (GoesAs AtWord) parts count → ExceedsAt DerivesReg parts count
 reg_exceeds parts count e = record { within = e.within; number = e.number; long = e.long; other = e.other; other_number = e.other_number; sign = e.sign; allowed = reg_begins (take count parts ++ (take (number_place (part_at parts count)) (part_at parts count) ++ e.other) ∷ []) e.allowed }
 
-exceeds_reg : (parts : List (List ℕ)) (count : ℕ) → ExceedsAt SpellsReg parts count → ExceedsAt (GoesAs AtWord) parts count
+exceeds_reg : (parts : List (List ℕ)) (count : ℕ) → ExceedsAt DerivesReg parts count → ExceedsAt (GoesAs AtWord) parts count
 exceeds_reg parts count e = record { within = e.within; number = e.number; long = e.long; other = e.other; other_number = e.other_number; sign = e.sign; allowed = reg_goes_on (take count parts ++ (take (number_place (part_at parts count)) (part_at parts count) ++ e.other) ∷ []) e.allowed }
 
 few_parts : (text : List ℕ) → spent AtWord + length (parts_of text) ≤ length text + 1
@@ -288,7 +288,7 @@ unfolding reg_at
 reg_broken text at refusal short h = broken (length text + 1) (length text) AtWord (parts_of text) at refusal (omega arith) (few_parts text) tt h
 
 -- the fault that is read is where the parts of the text break the grammar
-pub syntax_breaks : (text : List ℕ) (at : ℕ) → length text < 2 ^ 32 → reg_at text ≡ Err (Syntax at) → IsSyntaxAt SpellsReg text at
+pub syntax_breaks : (text : List ℕ) (at : ℕ) → length text < 2 ^ 32 → reg_at text ≡ Err (Syntax at) → IsSyntaxAt DerivesReg text at
 syntax_breaks text at short h =
     let b = reg_broken text at Form short h in
     record {
@@ -296,7 +296,7 @@ syntax_breaks text at short h =
       form = λ exceeds. b.kind (exceeds_reg (texts_of (parts_of text)) b.count exceeds);
     }
 
-pub number_breaks : (text : List ℕ) (at : ℕ) → length text < 2 ^ 32 → reg_at text ≡ Err (Number at) → IsNumberAt SpellsReg text at
+pub number_breaks : (text : List ℕ) (at : ℕ) → length text < 2 ^ 32 → reg_at text ≡ Err (Number at) → IsNumberAt DerivesReg text at
 number_breaks text at short h =
     let b = reg_broken text at Range short h in
     let first_byte = b.kind.1 in

@@ -8,7 +8,7 @@ use Rattle.text_grammar.specs.Bytes.{is_letter, is_digit}
 use Rattle.text_grammar.specs.Prefixes.{all_in, after_prefix, is_in}
 use Rattle.command_head.specs.Readings.{Form}
 use Rattle.command_head.specs.Members.{has, put}
-use Rattle.command_head.specs.Grammar.{SpellsNumber}
+use Rattle.command_head.specs.Grammar.{DerivesNumber}
 use Rattle.text_grammar.specs.Numbers.{begins_with, is_number, unsigned}
 use Rattle.text_grammar.specs.Systems.{is_system}
 use Rattle.command_head.specs.Parts.{is_name, is_quoted, unquoted}
@@ -18,7 +18,7 @@ use Rattle.command_head.proofs.PartShape.{letter-high, all_in-all, system_read, 
 use Rattle.command_head.proofs.Numerals.{number_part, negative_part, fresh, fresh_below}
 use Rattle.command_head.proofs.Walks.{goes}
 use Rattle.command_head.proofs.ReadHeads.{word_step, first_name_step, name_step, divider_step, set_step, system_step}
-use Rattle.command_head.proofs.SpelledHeads.{member_read, last_number}
+use Rattle.command_head.proofs.DerivedHeads.{member_read, last_number}
 use Rattle.command_head.proofs.Sane.{spent, Sane, end_refused}
 
 -- a stage, as a grammar of what may come after it
@@ -51,7 +51,7 @@ pub record IsAllowed (stage : Stage) (sign : Bool) : Type 0 where
   pub sign_is : begins_with 45 other ≡ sign
   pub begins : Begins (GoesAs stage) (other ∷ [])
 
-member_allowed : (name : List ℕ) (sets : List (List ℤ)) (members : List ℤ) (sign : Bool) (z : ℤ) → has members z ≡ false → (number : List ℕ) × SpellsNumber number z × (begins_with 45 number ≡ sign) → IsAllowed (AtNumber name sets members) sign
+member_allowed : (name : List ℕ) (sets : List (List ℤ)) (members : List ℤ) (sign : Bool) (z : ℤ) → has members z ≡ false → (number : List ℕ) × DerivesNumber number z × (begins_with 45 number ≡ sign) → IsAllowed (AtNumber name sets members) sign
 member_allowed name sets members sign z new number =
     let more = put members z in
     record {

@@ -35,8 +35,8 @@ module _ {H : Type 0} (grammar : List (List ℕ) → H → Type 0) (prefix : Lis
   no_more (part ∷ tail) refused inside begins = refused (expects.only part (subst (Begins grammar) (take_more prefix tail part) begins))
 
   no_head : (tail : List (List ℕ)) → (tail ≡ [] → (head : H) → grammar prefix head → ⊥) → length prefix ≡ length (prefix ++ tail) → (head : H) → grammar (prefix ++ tail) head → ⊥
-  no_head [] unended at_end head spells = unended refl head (subst (λ (l : List (List ℕ)). grammar l head) (append-nil prefix) spells)
-  no_head (part ∷ tail) unended at_end head spells = let more = length-append prefix (part ∷ tail) in absurd (omega arith)
+  no_head [] unended at_end head derives = unended refl head (subst (λ (l : List (List ℕ)). grammar l head) (append-nil prefix) derives)
+  no_head (part ∷ tail) unended at_end head derives = let more = length-append prefix (part ∷ tail) in absurd (omega arith)
 
   -- a part of another kind, or none, breaks the grammar
   breaks_after : (tail : List (List ℕ)) → (kind (get_or tail 0 []) → ⊥) → (tail ≡ [] → (head : H) → grammar prefix head → ⊥) → BreaksAt grammar (prefix ++ tail) (length prefix)

@@ -100,7 +100,7 @@ module _ {H : Type 0} (grammar : List (List ℕ) → H → Type 0) (kinds : List
       }
 
   form_unended : (head : H) → grammar prefix head → ⊥
-  form_unended head spells = fit_unended kinds kind more prefix fits (form.reads prefix head spells)
+  form_unended head derives = fit_unended kinds kind more prefix fits (form.reads prefix head derives)
 
 -- a test that fails, and one that the empty part fails
 pub refuted : (t : Bool) → t ≡ false → t ≡ true → ⊥

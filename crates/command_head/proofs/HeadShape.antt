@@ -46,7 +46,7 @@ pub record IsLeft (text : List ℕ) (stage : Stage) (whole : ℕ) (blank : Bool)
   pub spends : spent stage + length rest ≤ length text + 1
   pub sane : Sane (length text + 2) stage
 
--- what is left behind the first word
+-- what is left after the first word
 pub left_first : (text word suffix rest : List ℕ) (len whole : ℕ) (blank : Bool) (stage : Stage) → len ≡ prefix_len Word text → word ≡ take len text → suffix ≡ drop len text →
     whole ≡ length text → blank ≡ begins_in Blank suffix → rest ≡ after_blanks suffix → placed 0 (step AtWord word) ≡ Ok stage → IsLeft text stage whole blank rest
 left_first text word suffix rest len whole blank stage len_is word_is after_is all blank_is rest_is h =
@@ -82,7 +82,7 @@ shorter : (rest : List ℕ) → 0 < length rest → length (after_blanks (after_
 shorter [] some = absurd (omega arith)
 shorter (b ∷ bs) some = length-after_part b bs
 
--- what is left behind one part more
+-- what is left after one more part
 pub left_more : (text : List ℕ) (stage next : Stage) (whole all : ℕ) (blank new_blank : Bool) (rest part new : List ℕ) (at : ℕ) (empty : Bool) → IsLeft text stage whole blank rest → empty ≡ (length rest == 0) → empty ≡ false →
     at ≡ whole - length rest → part ≡ first_in blank rest → all ≡ whole → new_blank ≡ begins_in Blank (after_first rest) → new ≡ after_blanks (after_first rest) → placed at (step stage part) ≡ Ok next → IsMore text next all new_blank rest new
 left_more text stage next whole all blank new_blank rest part new at empty left empty_is test at_is part_is all_is blank_is new_is h =

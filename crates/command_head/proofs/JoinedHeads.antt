@@ -9,7 +9,7 @@ use Rattle.text_grammar.specs.Prefixes.{all_in, begins_in, prefix_len}
 use Rattle.text_grammar.specs.Numbers.{is_number, number_len, unsigned}
 use Rattle.command_head.specs.Parts.{ending_len, part_len, parts_of, texts_of, is_name}
 use Rattle.command_head.specs.Heads.{ValuedName, PromoteHead, ImageHead, CombineHead}
-use Rattle.command_head.specs.Grammar.{SpellsValue, SpellsValued, SpellEach, SpellsPromote, SpellsImage, SpellsCombine}
+use Rattle.command_head.specs.Grammar.{DerivesValue, DerivesValued, DeriveEach, DerivesPromote, DerivesImage, DerivesCombine}
 use Rattle.command_head.proofs.PrefixSteps.{prefix_len-append, after_prefix-append}
 use Rattle.command_head.proofs.PartShape.{all_in-all, name_bytes, word_name}
 use Rattle.command_head.proofs.JoinedParts.{Stands, stands_name, letter_solid, letter_len, text_of, word_bytes, word_first}
@@ -69,30 +69,30 @@ stands_number_after (b ∷ bs) number named digits = record {
 }
 
 -- a name, alone or with a value
-stands_valued : (part : List ℕ) (valued : ValuedName) → SpellsValued part valued → Stands part
+stands_valued : (part : List ℕ) (valued : ValuedName) → DerivesValued part valued → Stands part
 stands_valued part valued s = by_value valued.value s.value
   where
-    by_value : (value : Option ℤ) → SpellsValue s.suffix value → Stands part
+    by_value : (value : Option ℤ) → DerivesValue s.suffix value → Stands part
     by_value None e = subst Stands (sym (s.part_is ∙ ap (λ (l : List ℕ). valued.name ++ l) e ∙ append-nil valued.name)) (stands_name valued.name s.name)
     by_value (Some n) v = subst Stands (sym (s.part_is ∙ ap (λ (l : List ℕ). valued.name ++ l) v.1)) (stands_number_after valued.name v.0 s.name v.2.number)
 
-stand_each : (parts : List (List ℕ)) (automata : List ValuedName) → SpellEach parts automata → AllByRecursion Stands parts
+stand_each : (parts : List (List ℕ)) (automata : List ValuedName) → DeriveEach parts automata → AllByRecursion Stands parts
 stand_each [] automata each = tt
 stand_each (part ∷ parts) [] each = absurd each
 stand_each (part ∷ parts) (valued ∷ automata) each = (stands_valued part valued each.0, stand_each parts automata each.1)
 
-pub promote_text : (parts : List (List ℕ)) (head : PromoteHead) → SpellsPromote parts head → (text : List ℕ) × (texts_of (parts_of text) ≡ parts)
+pub promote_text : (parts : List (List ℕ)) (head : PromoteHead) → DerivesPromote parts head → (text : List ℕ) × (texts_of (parts_of text) ≡ parts)
 promote_text parts head s =
     let others = head.word ∷ head.morphism ∷ [] in
     (text_of (codes "promote") others, word_first (codes "promote") others (word_bytes (codes "promote") refl) (stands_name head.word (word_name head.word s.word), (stands_name head.morphism s.morphism, tt)) ∙ sym s.parts_are)
 
-pub image_text : (parts : List (List ℕ)) (head : ImageHead) → SpellsImage parts head → (text : List ℕ) × (texts_of (parts_of text) ≡ parts)
+pub image_text : (parts : List (List ℕ)) (head : ImageHead) → DerivesImage parts head → (text : List ℕ) × (texts_of (parts_of text) ≡ parts)
 image_text parts head s =
     let others = head.word ∷ head.morphism ∷ head.old ∷ [] in
     let all : AllByRecursion Stands others = (stands_name head.word (word_name head.word s.word), (stands_name head.morphism s.morphism, (stands_name head.old (word_name head.old s.old), tt))) in
     (text_of (codes "image") others, word_first (codes "image") others (word_bytes (codes "image") refl) all ∙ sym s.parts_are)
 
-pub combine_text : (parts : List (List ℕ)) (head : CombineHead) → SpellsCombine parts head → (text : List ℕ) × (texts_of (parts_of text) ≡ parts)
+pub combine_text : (parts : List (List ℕ)) (head : CombineHead) → DerivesCombine parts head → (text : List ℕ) × (texts_of (parts_of text) ≡ parts)
 combine_text parts head s =
     let others = head.word ∷ s.automata in
     (text_of (codes "combine") others, word_first (codes "combine") others (word_bytes (codes "combine") refl) (stands_name head.word (word_name head.word s.word), stand_each s.automata head.automata s.each) ∙ sym s.parts_are)

@@ -10,7 +10,7 @@ use Rattle.text_grammar.specs.Numbers.{is_number, unsigned}
 use Rattle.text_grammar.specs.Systems.{is_system}
 use Rattle.command_head.specs.Parts.{after_blanks, ending_len, part_len, after_first, first_in, after_word, parts_of_rest, parts_of, texts_of, is_name}
 use Rattle.command_head.specs.Heads.{Alphabets, Sets, Systems, RegHead, NamedHead}
-use Rattle.command_head.specs.Grammar.{SpellsMentions, SpellsSet, SpellSets, SpellAlphabets, AreUnquoted, quoted, SpellsReg, SpellsNamed}
+use Rattle.command_head.specs.Grammar.{DerivesMentions, DerivesSet, DeriveSets, DeriveAlphabets, AreUnquoted, quoted, DerivesReg, DerivesNamed}
 use Rattle.command_head.proofs.PrefixSteps.{Stops, prefix_len-append, prefix_of-append, after_prefix-append}
 use Rattle.command_head.proofs.PartShape.{AllByRecursion-weaker, all_in-all, name_bytes, letter-high, unquoted_in, system_read, direction_is, system_bytes}
 
@@ -192,27 +192,27 @@ pub all_of : (P : List ℕ → Type 0) (xs ys : List (List ℕ)) → AllByRecurs
 all_of P [] ys a b = b
 all_of P (x ∷ xs) ys a b = (a.0, all_of P xs ys a.1 b)
 
-stand_mentions : (mentions : List ℤ) (parts : List (List ℕ)) → SpellsMentions parts mentions → AllByRecursion Stands parts
-stand_mentions [] parts spelled = absurd spelled
-stand_mentions (n ∷ []) parts spelled = subst (AllByRecursion Stands) (sym spelled.1) (stands_number spelled.0 spelled.2.number, tt)
-stand_mentions (n ∷ m ∷ ns) parts spelled =
-    subst (AllByRecursion Stands) (sym spelled.2) (stands_number spelled.0 spelled.3.number, (stands_comma, stand_mentions (m ∷ ns) spelled.1 spelled.4))
+stand_mentions : (mentions : List ℤ) (parts : List (List ℕ)) → DerivesMentions parts mentions → AllByRecursion Stands parts
+stand_mentions [] parts derived = absurd derived
+stand_mentions (n ∷ []) parts derived = subst (AllByRecursion Stands) (sym derived.1) (stands_number derived.0 derived.2.number, tt)
+stand_mentions (n ∷ m ∷ ns) parts derived =
+    subst (AllByRecursion Stands) (sym derived.2) (stands_number derived.0 derived.3.number, (stands_comma, stand_mentions (m ∷ ns) derived.1 derived.4))
 
-stand_set : (set : List ℤ) (parts : List (List ℕ)) → SpellsSet parts set → AllByRecursion Stands parts
-stand_set set parts s = subst (AllByRecursion Stands) (sym s.parts_are) (stands_open, all_of Stands s.inside (codes "}" ∷ []) (stand_mentions s.mentions s.inside s.spelled) (stands_close, tt))
+stand_set : (set : List ℤ) (parts : List (List ℕ)) → DerivesSet parts set → AllByRecursion Stands parts
+stand_set set parts s = subst (AllByRecursion Stands) (sym s.parts_are) (stands_open, all_of Stands s.inside (codes "}" ∷ []) (stand_mentions s.mentions s.inside s.derived) (stands_close, tt))
 
-stand_sets : (sets : List (List ℤ)) (parts : List (List ℕ)) → SpellSets parts sets → AllByRecursion Stands parts
-stand_sets [] parts spelled = subst (AllByRecursion Stands) (sym spelled) tt
-stand_sets (set ∷ sets) parts spelled =
-    subst (AllByRecursion Stands) (sym spelled.2) (all_of Stands spelled.0 spelled.1 (stand_set set spelled.0 spelled.3) (stand_sets sets spelled.1 spelled.4))
+stand_sets : (sets : List (List ℤ)) (parts : List (List ℕ)) → DeriveSets parts sets → AllByRecursion Stands parts
+stand_sets [] parts derived = subst (AllByRecursion Stands) (sym derived) tt
+stand_sets (set ∷ sets) parts derived =
+    subst (AllByRecursion Stands) (sym derived.2) (all_of Stands derived.0 derived.1 (stand_set set derived.0 derived.3) (stand_sets sets derived.1 derived.4))
 
 stand_systems : (names : List (List ℕ)) → AllByRecursion (λ n. is_system n ≡ true) names → AllByRecursion Stands names
 stand_systems [] all = tt
 stand_systems (n ∷ ns) all = (stands_system n all.0, stand_systems ns all.1)
 
-stand_alphabets : (alphabets : Alphabets) (parts : List (List ℕ)) → SpellAlphabets parts alphabets → AllByRecursion Stands parts
-stand_alphabets (Sets sets) parts spelled = stand_sets sets parts spelled.1
-stand_alphabets (Systems names) parts spelled = subst (AllByRecursion Stands) (sym spelled.1) (stand_systems names spelled.2)
+stand_alphabets : (alphabets : Alphabets) (parts : List (List ℕ)) → DeriveAlphabets parts alphabets → AllByRecursion Stands parts
+stand_alphabets (Sets sets) parts derived = stand_sets sets parts derived.1
+stand_alphabets (Systems names) parts derived = subst (AllByRecursion Stands) (sym derived.1) (stand_systems names derived.2)
 
 unfoldable pub text_of : List ℕ → List (List ℕ) → List ℕ
 text_of word parts = word ++ 32 ∷ join parts
@@ -228,11 +228,11 @@ word_first word parts of_word all =
     ∙ ap (λ (l : List ℕ). word ∷ texts_of (parts_of_rest (length text) (length text) true l)) (solid_join parts all)
     ∙ ap (λ (l : List (List ℕ)). word ∷ l) (parts_join parts (length text) (length text) all few)
 
--- parts that spell a `reg` are those of a text
-pub reg_text : (parts : List (List ℕ)) (head : RegHead) → SpellsReg parts head → (text : List ℕ) × (texts_of (parts_of text) ≡ parts)
+-- parts that derive from a `reg` are those of a text
+pub reg_text : (parts : List (List ℕ)) (head : RegHead) → DerivesReg parts head → (text : List ℕ) × (texts_of (parts_of text) ≡ parts)
 reg_text parts head s =
     let others = head.name ∷ (s.alphabets ++ quoted head.body ∷ []) in
-    let all : AllByRecursion Stands others = (stands_name head.name s.name, all_of Stands s.alphabets (quoted head.body ∷ []) (stand_alphabets head.alphabets s.alphabets s.spelled) (stands_quoted head.body s.body, tt)) in
+    let all : AllByRecursion Stands others = (stands_name head.name s.name, all_of Stands s.alphabets (quoted head.body ∷ []) (stand_alphabets head.alphabets s.alphabets s.derived) (stands_quoted head.body s.body, tt)) in
     (text_of (codes "reg") others, word_first (codes "reg") others (refl, (refl, (refl, tt))) all ∙ sym s.parts_are)
 
 name_byte-word : (b : ℕ) → is_in NameByte b ≡ true → is_in Word b ≡ true
@@ -243,8 +243,8 @@ pub word_bytes : (word : List ℕ) → is_name word ≡ true → AllByRecursion 
 word_bytes word h =
     AllByRecursion-weaker (λ b. is_in NameByte b ≡ true) (λ b. is_in Word b ≡ true) name_byte-word word (name_bytes word h)
 
--- and parts that spell a word, a name and a quoted text
-pub named_text : (word : List ℕ) (parts : List (List ℕ)) (head : NamedHead) → is_name word ≡ true → SpellsNamed word parts head → (text : List ℕ) × (texts_of (parts_of text) ≡ parts)
+-- and parts that derive from a word, a name and a quoted text
+pub named_text : (word : List ℕ) (parts : List (List ℕ)) (head : NamedHead) → is_name word ≡ true → DerivesNamed word parts head → (text : List ℕ) × (texts_of (parts_of text) ≡ parts)
 named_text word parts head h s =
     let others = head.name ∷ quoted head.body ∷ [] in
     (text_of word others, word_first word others (word_bytes word h) (stands_name head.name s.name, (stands_quoted head.body s.body, tt)) ∙ sym s.parts_are)

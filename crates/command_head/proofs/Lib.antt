@@ -5,7 +5,7 @@ pub mod OrderSteps
 pub mod Gathering
 pub mod PartShape
 pub mod Walks
-pub mod SpelledHeads
+pub mod DerivedHeads
 pub mod ReadHeads
 pub mod PartSteps
 pub mod Sane

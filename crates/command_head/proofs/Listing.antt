@@ -9,7 +9,7 @@ use Rattle.command_head.specs.declared.fault.HeadFault.TheVariants.{Syntax, Numb
 use Rattle.command_head.specs.Parts.{after_blanks, after_first, first_in, after_word, part_len, parts_of, texts_of, is_word}
 use Rattle.command_head.specs.Heads.{ValuedName}
 use Rattle.command_head.specs.Values.{RefusesValued}
-use Rattle.command_head.specs.Grammar.{SpellsValued, SpellEach, SpellsCombine}
+use Rattle.command_head.specs.Grammar.{DerivesValued, DeriveEach, DerivesCombine}
 use Rattle.command_head.specs.HeadViews.{combine_view}
 use Rattle.command_head.specs.Breaks.{HasHead}
 use Rattle.command_head.proofs.PrefixSteps.{length-after_prefix}
@@ -28,7 +28,7 @@ blank_len false = 0
 pub record IsListing (text word : List ℕ) (automata : List ValuedName) (whole : ℕ) (blank : Bool) (rest : List ℕ) : Type 0 where
   pub items : List (List ℕ)
   pub read : IsRead text (codes "combine" ∷ word ∷ items) whole blank rest
-  pub each : SpellEach items automata
+  pub each : DeriveEach items automata
   pub few : 2 * length automata + (length rest + blank_len blank) ≤ length text
 
 -- a blank is a byte
@@ -77,7 +77,7 @@ pub record IsLonger (text word : List ℕ) (automata : List ValuedName) (whole :
   pub listing : IsListing text word automata whole blank rest
   pub less : length rest < length before
 
-named_letter : (part : List ℕ) (valued : ValuedName) → SpellsValued part valued → begins_in Letter part ≡ true
+named_letter : (part : List ℕ) (valued : ValuedName) → DerivesValued part valued → begins_in Letter part ≡ true
 named_letter part valued s = subst (λ (l : List ℕ). begins_in Letter l ≡ true) (sym s.part_is) (letter_append valued.name s.suffix (and_parts _ _ s.name).0)
 
 blank_one : (blank : Bool) → blank ≡ true → blank_len blank ≡ 1
@@ -85,10 +85,10 @@ blank_one blank h = ap blank_len h
 
 -- one automaton more
 pub listing_more : (text word : List ℕ) (automata : List ValuedName) (whole all : ℕ) (blank next_blank : Bool) (rest part next : List ℕ) (valued : ValuedName) → IsListing text word automata whole blank rest →
-    part ≡ first_in blank rest → all ≡ whole → next_blank ≡ begins_in Blank (after_first rest) → next ≡ after_blanks (after_first rest) → SpellsValued part valued →
+    part ≡ first_in blank rest → all ≡ whole → next_blank ≡ begins_in Blank (after_first rest) → next ≡ after_blanks (after_first rest) → DerivesValued part valued →
     IsLonger text word (automata ++ valued ∷ []) all next_blank next rest
-listing_more text word automata whole all blank next_blank rest part next valued listing part_is all_is blank_is next_is spells =
-    let letter = named_letter part valued spells in
+listing_more text word automata whole all blank next_blank rest part next valued listing part_is all_is blank_is next_is derives =
+    let letter = named_letter part valued derives in
     let some : part ≢ [] = λ e. false≢true (sym (ap (begins_in Letter) e) ∙ letter) in
     let one = blank_one blank (spaced blank rest part part_is letter) in
     let less = shorter blank rest part part_is letter in
@@ -100,13 +100,13 @@ listing_more text word automata whole all blank next_blank rest part next valued
       listing = record {
         items = listing.items ++ part ∷ [];
         read = part_read text (codes "combine" ∷ word ∷ listing.items) whole all blank next_blank rest part next listing.read some part_is all_is blank_is next_is;
-        each = each_append listing.items (part ∷ []) automata (valued ∷ []) listing.each (spells, tt);
+        each = each_append listing.items (part ∷ []) automata (valued ∷ []) listing.each (derives, tt);
         few = omega arith;
       };
       less = omega arith;
     }
 
-no_items : (items : List (List ℕ)) (automata : List ValuedName) → automata ≡ [] → SpellEach items automata → items ≡ []
+no_items : (items : List (List ℕ)) (automata : List ValuedName) → automata ≡ [] → DeriveEach items automata → items ≡ []
 no_items [] automata none each = refl
 no_items (item ∷ items) [] none each = absurd each
 no_items (item ∷ items) (valued ∷ automata) none each = absurd (no_cons none)
@@ -116,22 +116,22 @@ no_items (item ∷ items) (valued ∷ automata) none each = absurd (no_cons none
 
 -- a part that is refused is where the grammar breaks
 pub listing_refused : (text word : List ℕ) (automata : List ValuedName) (whole : ℕ) (blank : Bool) (rest part : List ℕ) (at : ℕ) (fault : HeadFault) → is_word word ≡ true → IsListing text word automata whole blank rest →
-    (rest ≡ [] → automata ≡ []) → at ≡ whole - length rest → part ≡ first_in blank rest → RefusesValued part at fault → HasHead SpellsCombine combine_view text (Err fault)
+    (rest ≡ [] → automata ≡ []) → at ≡ whole - length rest → part ≡ first_in blank rest → RefusesValued part at fault → HasHead DerivesCombine combine_view text (Err fault)
 listing_refused text word automata whole blank rest part at (Syntax byte) is_word listing unended at_is part_is refused =
-    refused_syntax SpellsCombine (codes "combine" ∷ word ∷ listing.items) _ text whole blank rest part byte (more_expects word listing.items automata is_word listing.each)
-    (λ none head spells. none_unended word head (subst (λ (l : List (List ℕ)). SpellsCombine (codes "combine" ∷ word ∷ l) head) (no_items listing.items automata (unended none) listing.each) spells))
+    refused_syntax DerivesCombine (codes "combine" ∷ word ∷ listing.items) _ text whole blank rest part byte (more_expects word listing.items automata is_word listing.each)
+    (λ none head derives. none_unended word head (subst (λ (l : List (List ℕ)). DerivesCombine (codes "combine" ∷ word ∷ l) head) (no_items listing.items automata (unended none) listing.each) derives))
     listing.read (refused.0 ∙ at_is) part_is (λ some. refused.1 some.0.name some.1.suffix some.1.part_is some.1.name (value_text_of some.1.suffix some.0.value some.1.value)) (form_long part refused.1)
 listing_refused text word automata whole blank rest part at (Number byte) is_word listing unended at_is part_is refused =
     let long = value_long part refused.0 refused.1 in
-    refused_number SpellsCombine (codes "combine" ∷ word ∷ listing.items) _ text whole blank rest part at byte (more_expects word listing.items automata is_word listing.each)
-    (λ none head spells. none_unended word head (subst (λ (l : List (List ℕ)). SpellsCombine (codes "combine" ∷ word ∷ l) head) (no_items listing.items automata (unended none) listing.each) spells))
+    refused_number DerivesCombine (codes "combine" ∷ word ∷ listing.items) _ text whole blank rest part at byte (more_expects word listing.items automata is_word listing.each)
+    (λ none head derives. none_unended word head (subst (λ (l : List (List ℕ)). DerivesCombine (codes "combine" ∷ word ∷ l) head) (no_items listing.items automata (unended none) listing.each) derives))
     listing.read at_is part_is (long_refused part refused.0 refused.1) long.1 (long_begins word listing.items automata _ is_word listing.each long.1.taken)
     (ap (λ (n : ℕ). at + n) long.0 ∙ sym refused.2)
 listing_refused text word automata whole blank rest part at Memory is_word listing unended at_is part_is refused = tt
 
 -- where nothing is left these automata are those of the head
 pub listing_head : (text word : List ℕ) (automata : List ValuedName) (whole : ℕ) (blank : Bool) (rest : List ℕ) → is_word word ≡ true → IsListing text word automata whole blank rest → rest ≡ [] → automata ≢ [] →
-    SpellsCombine (texts_of (parts_of text)) (record { word = word; automata = automata })
+    DerivesCombine (texts_of (parts_of text)) (record { word = word; automata = automata })
 listing_head text word automata whole blank rest is_word listing none some = record {
   automata = listing.items;
   parts_are = all_read text (codes "combine" ∷ word ∷ listing.items) whole blank rest listing.read none;

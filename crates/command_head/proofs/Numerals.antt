@@ -1,4 +1,4 @@
--- Each number from 0 on has a part that spells it, and one of the first is not among few members.
+-- Each number from 0 on has a part that denotes it, and one of the first is not among few members.
 use Rattle.std.proofs.Common.{◌≡◌, ◌≢◌, ℕ, zero, suc, ◌+◌, ◌*◌, ◌-◌, ◌/◌, ◌%◌, ◌<◌, ◌≤◌, Bool, true, false, not, ◌==◌, ◌&&◌, List, [], ◌∷◌, ◌++◌, ℤ, pos, negsuc, neg_ℤ, ◌<ℤ◌, length, refl, sym, ◌∙◌, ap, subst, arith, tests}
 use Rattle.std.specs.declared.cmp.Ordering.{Ordering}
 use Rattle.std.specs.declared.cmp.Ordering.TheVariants.{Less, Equal, Greater}
@@ -14,14 +14,14 @@ use Rattle.text_grammar.specs.declared.class.Class.TheVariants.{Digit}
 use Rattle.text_grammar.specs.Prefixes.{all_in, prefix_len}
 use Rattle.text_grammar.specs.Numbers.{begins_with, signed, unsigned, value_after, value_of}
 use Rattle.command_head.specs.Members.{has}
-use Rattle.command_head.specs.Grammar.{SpellsNumber}
+use Rattle.command_head.specs.Grammar.{DerivesNumber}
 use Rattle.command_head.proofs.OrderSteps.{same_number, below_all, all_above}
 
 value-append : (so_far : ℕ) (digits : List ℕ) (digit : ℕ) → value_after so_far (digits ++ digit ∷ []) ≡ 10 * value_after so_far digits + (digit - 48)
 value-append so_far [] digit = refl
 value-append so_far (d ∷ ds) digit = value-append (10 * so_far + (d - 48)) ds digit
 
--- digits that spell a number
+-- digits that denote a number
 record IsNumeral (n : ℕ) : Type 0 where
   digits : List ℕ
   all : AllByRecursion (λ b. is_digit b ≡ true) digits
@@ -71,8 +71,8 @@ length_some (d ∷ ds) some = ne_eqb (suc (length ds)) 0 (λ e. omega arith)
 eqb_self : (n m : ℕ) → n ≡ m → (n == m) ≡ true
 eqb_self n m e = grind (arith, tests)
 
--- a part that spells a number
-pub number_part : (n : ℕ) → n < 2147483648 → (part : List ℕ) × SpellsNumber part (pos n) × (begins_with 45 part ≡ false)
+-- a part that denotes a number
+pub number_part : (n : ℕ) → n < 2147483648 → (part : List ℕ) × DerivesNumber part (pos n) × (begins_with 45 part ≡ false)
 number_part n small =
     let numeral = numeral_within n n (omega arith) in
     let digits = numeral.digits in
@@ -96,7 +96,7 @@ number_part n small =
     value_is digits t suffix e h = rw (e, h) refl
 
 -- and one with a sign
-pub negative_part : (n : ℕ) → n < 2147483648 → (part : List ℕ) × SpellsNumber part (negsuc n) × (begins_with 45 part ≡ true)
+pub negative_part : (n : ℕ) → n < 2147483648 → (part : List ℕ) × DerivesNumber part (negsuc n) × (begins_with 45 part ≡ true)
 negative_part n small =
     let numeral = numeral_within (suc n) (suc n) (omega arith) in
     let digits = numeral.digits in (

@@ -25,7 +25,7 @@ enough (suc count) (suc more) whole blank (b ∷ bs) room room' =
 abbrev parts_in : ℕ → Bool → List ℕ → List Part
 parts_in whole blank rest = parts_of_rest (length rest) whole blank rest
 
--- The parts at the front of a text have these texts, and the rest is left.
+-- The first parts of a text have these texts, and the rest is left.
 pub record IsRead (text : List ℕ) (prefix : List (List ℕ)) (whole : ℕ) (blank : Bool) (rest : List ℕ) : Type 0 where
   pub all : whole ≡ length text
   pub before : List Part

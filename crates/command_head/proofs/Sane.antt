@@ -15,7 +15,7 @@ use Rattle.command_head.proofs.SetShape.{IsAscending-from_sorted, put-length, pu
 use Rattle.command_head.proofs.OrderSteps.{all_put, sorted-put}
 use Rattle.command_head.proofs.Gathering.{sorted_none}
 use Rattle.command_head.proofs.Walks.{came, placed_ok}
-use Rattle.command_head.proofs.ReadHeads.{member_spelled, word_step, first_name_step, name_step, number_step, divider_step, set_step, system_step}
+use Rattle.command_head.proofs.ReadHeads.{member_derived, word_step, first_name_step, name_step, number_step, divider_step, set_step, system_step}
 
 -- how many parts a stage took at least
 abbrev pub spent : Stage → ℕ
@@ -82,7 +82,7 @@ step_keeps limit (AfterName name) part next room sane h =
     (name_step name part next h)
 step_keeps limit (AtNumber name sets members) part next room sane h =
     let m = number_step name sets members part next h in
-    let read = member_spelled members part m.0 m.1 in
+    let read = member_derived members part m.0 m.1 in
     let more = put-length members read.n in
     let same = ap length read.more_is in
     at_next limit (AtNumber name sets members) (AfterNumber name sets m.0) next m.2 record {
@@ -91,7 +91,7 @@ step_keeps limit (AtNumber name sets members) part next room sane h =
         sane.0,
         subst AreMembers read.more_is record {
           sorted = sorted-put members read.n sane.1.sorted;
-          short = all_put (λ n. is_short (2 ^ 31) n ≡ true) members read.n read.spells.short sane.1.short;
+          short = all_put (λ n. is_short (2 ^ 31) n ≡ true) members read.n read.derives.short sane.1.short;
         },
         subst (λ (l : List ℤ). 0 < length l) read.more_is (put-some members read.n),
       );

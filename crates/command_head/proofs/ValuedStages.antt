@@ -8,7 +8,7 @@ use Rattle.command_head.specs.Readings.{Form}
 use Rattle.command_head.specs.Parts.{is_quoted, unquoted}
 use Rattle.command_head.specs.Heads.{Alphabets, Sets, Systems, Stage, AtWord, AtName, AfterName, AtNumber, AfterNumber, AfterSet, AfterSystem, AtEnd, body_step, step}
 use Rattle.command_head.proofs.ReadingSteps.{then_ok}
-use Rattle.command_head.proofs.ReadHeads.{member_spelled, word_step, first_name_step, name_step, number_step, divider_step, set_step, system_step}
+use Rattle.command_head.proofs.ReadHeads.{member_derived, word_step, first_name_step, name_step, number_step, divider_step, set_step, system_step}
 use Rattle.command_head.proofs.Sane.{end_refused}
 use Rattle.command_head.proofs.ValuedParts.{IsValued, valued_name, valued_system, letter_number, letter_quoted}
 
@@ -28,7 +28,7 @@ valued_stage AtName part next v h = valued_name part v (first_name_step part nex
 valued_stage (AfterName name) part next v h = ⊎_elim (λ g. not_text part (codes "{") v g.0 false≢true) (λ g. valued_system part v g.0) (name_step name part next h)
 valued_stage (AtNumber name sets members) part next v h =
     let m = number_step name sets members part next h in
-    letter_number part v.letter (member_spelled members part m.0 m.1).spells.number
+    letter_number part v.letter (member_derived members part m.0 m.1).derives.number
 valued_stage (AfterNumber name sets members) part next v h =
     ⊎_elim (λ g. not_text part (codes ",") v g.0 false≢true) (λ g. not_text part (codes "}") v g.0 false≢true) (divider_step name sets members part next h)
 valued_stage (AfterSet name sets) part next v h = ⊎_elim (λ g. not_text part (codes "{") v g.0 false≢true) (λ g. not_body name (Sets sets) part next v g) (set_step name sets part next h)

@@ -6,7 +6,7 @@ use Rattle.command_head.specs.declared.fault.HeadFault.TheVariants.{Syntax, Numb
 use Rattle.text_grammar.specs.Numbers.{begins_with, is_number, is_short, number_of}
 use Rattle.command_head.specs.Parts.{Part, parts_of, texts_of, number_place}
 use Rattle.command_head.specs.Heads.{reg_at}
-use Rattle.command_head.specs.Grammar.{SpellsReg}
+use Rattle.command_head.specs.Grammar.{DerivesReg}
 
 -- the byte at which a part of a text begins, the parts counted from 0; after the last it is the text's length
 abbrev pub place_of : List ℕ → ℕ → ℕ
@@ -46,7 +46,7 @@ pub record IsNumberAt {H : Type 0} (grammar : List (List ℕ) → H → Type 0) 
   pub exceeds : ExceedsAt grammar (texts_of (parts_of text)) first.count
   pub place : begin + number_place (part_at (texts_of (parts_of text)) first.count) ≡ at
 
--- what a text has by a grammar of heads: a head, seen by view, that its parts spell, or where they first break the grammar
+-- what a text has by a grammar of heads: a head, seen by view, that derives its parts, or where they first break the grammar
 abbrev pub HasHead : {X H : Type 0} → (List (List ℕ) → H → Type 0) → (X → H) → List ℕ → Result X HeadFault → Type 0
 HasHead grammar view text (Ok head) = grammar (texts_of (parts_of text)) (view head)
 HasHead grammar view text (Err (Syntax at)) = IsSyntaxAt grammar text at
@@ -60,4 +60,4 @@ HasOneHead {H} grammar = (text : List ℕ) (result other : Result H HeadFault) �
 
 -- the fault that is read of a text shorter than 2 ^ 32 bytes is where its parts first break the grammar, and no other
 abbrev pub BreaksGrammar : Type 0
-BreaksGrammar = (text : List ℕ) (at : ℕ) → length text < 2 ^ 32 → ((reg_at text ≡ Err (Syntax at)) ↔ IsSyntaxAt SpellsReg text at) × ((reg_at text ≡ Err (Number at)) ↔ IsNumberAt SpellsReg text at)
+BreaksGrammar = (text : List ℕ) (at : ℕ) → length text < 2 ^ 32 → ((reg_at text ≡ Err (Syntax at)) ↔ IsSyntaxAt DerivesReg text at) × ((reg_at text ≡ Err (Number at)) ↔ IsNumberAt DerivesReg text at)

@@ -1,4 +1,4 @@
--- What values stand for, without where they lie in memory.
+-- What values mean, without where they lie in memory.
 use Rattle.std.specs.Prelude.{ℕ, List, map}
 use Rattle.command_head.specs.declared.head.Alphabets.{Alphabets}
 use Rattle.command_head.specs.declared.head.Alphabets.TheVariants as alphabets
@@ -13,7 +13,7 @@ use Rattle.command_head.specs.declared.combining.ValueText.TheVariants as values
 use Rattle.command_head.specs.declared.stage.Stage.{Stage}
 use Rattle.command_head.specs.declared.stage.Stage.TheVariants as stages
 use Rattle.command_head.specs.Values.{IsValueText, IsLongValue}
-use Rattle.command_head.specs.Grammar.{SpellsValue}
+use Rattle.command_head.specs.Grammar.{DerivesValue}
 use Rattle.command_head.specs.Heads as heads
 use Rattle.command_head.specs.Heads.{RegHead, NamedHead, PromoteHead, ImageHead, ValuedName, CombineHead, Sets, Systems}
 
@@ -38,7 +38,7 @@ valued_view name = record { name = name.name; value = name.value }
 
 -- what follows a name is a value, or `=` and a number that does not fit, or neither
 abbrev pub IsReadAs : List ℕ → ValueText → Type 0
-IsReadAs suffix (values.Given value) = SpellsValue suffix value
+IsReadAs suffix (values.Given value) = DerivesValue suffix value
 IsReadAs suffix values.Long = IsLongValue suffix
 IsReadAs suffix values.Other = IsValueText suffix → ⊥
 

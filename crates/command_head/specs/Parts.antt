@@ -10,7 +10,7 @@ use Rattle.text_grammar.specs.Numbers.{begins_with, number_len, unsigned}
 abbrev pub first_word_of : List ℕ → List ℕ
 first_word_of text = prefix_of Word text
 
--- after the blanks at the front
+-- what follows the leading blanks
 abbrev pub after_blanks : List ℕ → List ℕ
 after_blanks bytes = after_prefix Blank bytes
 

@@ -10,7 +10,7 @@ pub(crate) fn place(whole: usize, rest: &[u8]) -> usize
     whole.saturating_sub(rest.len())
 }
 
-/// The bytes after the blanks at the front.
+/// The bytes after the leading blanks.
 pub(crate) fn after_blanks(bytes: &[u8]) -> &[u8]
     ensures { result.now ≡ rest_after_blanks bytes.now }
 {

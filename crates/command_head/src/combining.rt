@@ -1,7 +1,7 @@
 //! The heads of `combine` commands.
 ghost use Rattle.std.specs.Prelude.{◌<◌, ◌+◌, ◌^◌, length, MatchResult, IfOk};
 ghost use Rattle.command_head.specs.Values.{RefusesValued};
-ghost use Rattle.command_head.specs.Grammar.{SpellsValued, SpellsCombine};
+ghost use Rattle.command_head.specs.Grammar.{DerivesValued, DerivesCombine};
 ghost use Rattle.command_head.specs.HeadViews.{IsReadAs, valued_view, combine_view};
 ghost use Rattle.command_head.specs.Breaks.{HasHead};
 
@@ -43,7 +43,7 @@ fn value_text(suffix: &[u8]) -> ValueText
 /// The automaton that a part has to be: a name, alone or with `=` and a number after it.
 fn valued_name(alloc: Global, part: &FirstPart<'_>) -> Result<ValuedName, HeadFault>
     requires { part.now.at + length part.now.bytes.now < 2 ^ 64 }
-    ensures { MatchResult result (λ valued. SpellsValued part.now.bytes.now (valued_view valued)) (RefusesValued part.now.bytes.now part.now.at) }
+    ensures { MatchResult result (λ valued. DerivesValued part.now.bytes.now (valued_view valued)) (RefusesValued part.now.bytes.now part.now.at) }
 {
     let (name, suffix) = part.bytes.split_at(prefix_len(Class::NameByte, part.bytes));
     if !is_name(name) {
@@ -67,7 +67,7 @@ fn valued_name(alloc: Global, part: &FirstPart<'_>) -> Result<ValuedName, HeadFa
 /// early; `Number` that of a value that does not fit 32 bits, signed. The first such part decides.
 pub fn combine_parts(alloc: Global, text: &[u8]) -> Result<CombineParts, HeadFault>
     requires { length text.now < 2 ^ 32 }
-    ensures head { HasHead SpellsCombine combine_view text.now result }
+    ensures head { HasHead DerivesCombine combine_view text.now result }
     // Each place of the list, counted from 1, is a number of 32 bits, signed.
     ensures few { IfOk result (λ parts. length parts.automata.items < 2 ^ 31) }
 {

@@ -11,7 +11,7 @@ use crate::parts::{is_name, is_quoted, is_word, unquoted};
 use crate::rest::{FirstPart, Rest, rest_of};
 use text_grammar::{Class, prefix_len};
 
-/// What is left behind the first word of a text, which has to be this one.
+/// What is left after the first word of a text, which has to be this one.
 pub(crate) fn after_word<'a>(word: &[u8], text: &'a [u8]) -> Result<Rest<'a>, HeadFault>
     ensures { MatchResult result
         (λ rest. (first_word_of text.now ≡ word.now) × (rest.whole ≡ length text.now) × (rest.blank ≡ begins_in Blank (after_the_word text.now)) × (rest.bytes.now ≡ after_blanks (after_the_word text.now)))

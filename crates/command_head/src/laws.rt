@@ -1,10 +1,10 @@
 //! Laws of the grammars.
 ghost use Rattle.std.specs.Prelude.{◌≡◌, ℕ, List, true};
 ghost use Rattle.command_head.specs.Parts.{is_name};
-ghost use Rattle.command_head.specs.Grammar.{ReadsGrammar, SpellsReg, SpellsNamed, SpellsPromote, SpellsImage, SpellsCombine, ArePartsOfTexts};
+ghost use Rattle.command_head.specs.Grammar.{ReadsGrammar, DerivesReg, DerivesNamed, DerivesPromote, DerivesImage, DerivesCombine, ArePartsOfTexts};
 ghost use Rattle.command_head.specs.Breaks.{BreaksGrammar, HasOneHead};
 
-/// Reading a text gives the parts of a `reg` if and only if the grammar spells these parts so.
+/// Reading a text gives the parts of a `reg` if and only if the grammar derives these parts so.
 pub fn reads_grammar()
     ensures { ReadsGrammar }
 {}
@@ -18,18 +18,18 @@ pub fn breaks_the_grammar()
 
 /// A text has one head or one fault by a grammar, apart from out of memory.
 pub fn one_head()
-    ensures reg { HasOneHead SpellsReg }
-    ensures named { (word : List ℕ) → HasOneHead (SpellsNamed word) }
-    ensures promote { HasOneHead SpellsPromote }
-    ensures image { HasOneHead SpellsImage }
-    ensures combine { HasOneHead SpellsCombine }
+    ensures reg { HasOneHead DerivesReg }
+    ensures named { (word : List ℕ) → HasOneHead (DerivesNamed word) }
+    ensures promote { HasOneHead DerivesPromote }
+    ensures image { HasOneHead DerivesImage }
+    ensures combine { HasOneHead DerivesCombine }
 {}
 
 /// Parts that a grammar takes are the parts of some text, so that what is said of parts is said of texts.
 pub fn parts_are_of_texts()
-    ensures reg { ArePartsOfTexts SpellsReg }
-    ensures named { (word : List ℕ) → is_name word ≡ true → ArePartsOfTexts (SpellsNamed word) }
-    ensures promote { ArePartsOfTexts SpellsPromote }
-    ensures image { ArePartsOfTexts SpellsImage }
-    ensures combine { ArePartsOfTexts SpellsCombine }
+    ensures reg { ArePartsOfTexts DerivesReg }
+    ensures named { (word : List ℕ) → is_name word ≡ true → ArePartsOfTexts (DerivesNamed word) }
+    ensures promote { ArePartsOfTexts DerivesPromote }
+    ensures image { ArePartsOfTexts DerivesImage }
+    ensures combine { ArePartsOfTexts DerivesCombine }
 {}

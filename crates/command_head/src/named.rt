@@ -1,7 +1,7 @@
 //! Heads that are a word, a name and a quoted text.
 ghost use Rattle.std.specs.Prelude.{◌≡◌, true};
 ghost use Rattle.command_head.specs.Parts.{is_name as is_name_part};
-ghost use Rattle.command_head.specs.Grammar.{SpellsNamed};
+ghost use Rattle.command_head.specs.Grammar.{DerivesNamed};
 ghost use Rattle.command_head.specs.HeadViews.{named_view};
 ghost use Rattle.command_head.specs.Breaks.{HasHead};
 
@@ -23,7 +23,7 @@ pub fn named_parts<'a>(
     text: &'a [u8],
 ) -> Result<NamedParts<'a>, HeadFault>
     requires { is_name_part word.now ≡ true }
-    ensures { HasHead (SpellsNamed word.now) named_view text.now result }
+    ensures { HasHead (DerivesNamed word.now) named_view text.now result }
 {
     let rest = after_word(word, text)?;
     let name = rest.first_part();

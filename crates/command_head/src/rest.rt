@@ -26,7 +26,7 @@ pub(crate) struct FirstPart<'a> {
     pub(crate) at: usize,
     /// Its bytes: none where nothing is left, or where it begins with a letter and lacks the blank before it.
     pub(crate) bytes: &'a [u8],
-    /// What is left behind it.
+    /// What is left after it.
     pub(crate) rest: Rest<'a>,
 }
 

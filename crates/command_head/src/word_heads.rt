@@ -1,5 +1,5 @@
 //! Heads of commands that make a word of a morphism.
-ghost use Rattle.command_head.specs.Grammar.{SpellsPromote, SpellsImage};
+ghost use Rattle.command_head.specs.Grammar.{DerivesPromote, DerivesImage};
 ghost use Rattle.command_head.specs.HeadViews.{promote_view, image_view};
 ghost use Rattle.command_head.specs.Breaks.{HasHead};
 
@@ -15,7 +15,7 @@ use std::alloc::Global;
 /// `Syntax` gives the first byte of the first part that does not go on so, or the text's length where it ends too
 /// early; `Number` is never given, since no number may be in such a head.
 pub fn promote_parts(alloc: Global, text: &[u8]) -> Result<PromoteParts, HeadFault>
-    ensures { HasHead SpellsPromote promote_view text.now result }
+    ensures { HasHead DerivesPromote promote_view text.now result }
 {
     let rest = after_word(b"promote", text)?;
     let first = rest.first_part();
@@ -35,7 +35,7 @@ pub fn promote_parts(alloc: Global, text: &[u8]) -> Result<PromoteParts, HeadFau
 /// `Syntax` gives the first byte of the first part that does not go on so, or the text's length where it ends too
 /// early; `Number` is never given, since no number may be in such a head.
 pub fn image_parts(alloc: Global, text: &[u8]) -> Result<ImageParts, HeadFault>
-    ensures { HasHead SpellsImage image_view text.now result }
+    ensures { HasHead DerivesImage image_view text.now result }
 {
     let rest = after_word(b"image", text)?;
     let first = rest.first_part();

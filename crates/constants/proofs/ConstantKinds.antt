@@ -16,7 +16,7 @@ use Rattle.digit_tuple.proofs.WidthLemmas.{HasApart-same, HasWidth-same}
 use Rattle.numeration.specs.Words.{is_plain}
 use Rattle.numeration.specs.Systems.{System, IsSystem, IsRep}
 use Rattle.numeration.proofs.RankLemmas.{two_digits}
-use Rattle.numeration.proofs.ConstantLemmas.{numeral_words}
+use Rattle.numeration.proofs.ConstantLemmas.{represented_word}
 use Rattle.constants.specs.Constants.{ConstantAlike}
 use Rattle.constants.specs.WordPaths.{IsPaddingPath}
 use Rattle.constants.proofs.ConstantWords.{Pads, pads_long, pads_self, never_after}
@@ -126,15 +126,15 @@ module _ (direction : Direction) (s : System) (n : ℕ) (r : List ℕ) (is : IsS
   pads_from_constant : (w v : List ℕ) → ConstantAlike direction s n w v → PadsAlike direction s.digits r w v
   pads_from_constant w v alike u inside =
       let both = alike u inside in
-      let one = numeral_words s n r (in_order direction (w ++ u)) is rep in
-      let two = numeral_words s n r (in_order direction (v ++ u)) is rep in
+      let one = represented_word s n r (in_order direction (w ++ u)) is rep in
+      let two = represented_word s n r (in_order direction (v ++ u)) is rep in
       (λ h. two.0 (both.0 (one.1 h)), λ h. one.0 (both.1 (two.1 h)))
 
   constant_from_pads : (w v : List ℕ) → PadsAlike direction s.digits r w v → ConstantAlike direction s n w v
   constant_from_pads w v alike u inside =
       let both = alike u inside in
-      let one = numeral_words s n r (in_order direction (w ++ u)) is rep in
-      let two = numeral_words s n r (in_order direction (v ++ u)) is rep in
+      let one = represented_word s n r (in_order direction (w ++ u)) is rep in
+      let two = represented_word s n r (in_order direction (v ++ u)) is rep in
       (λ h. two.1 (both.0 (one.0 h)), λ h. one.1 (both.1 (two.0 h)))
 
   rep_over : IsWord s.digits r

@@ -10,7 +10,7 @@ use Rattle.digit_tuple.proofs.WordLemmas.{IsWord-append}
 use Rattle.digit_tuple.proofs.TruthLemmas.{same_tests}
 use Rattle.minimise.specs.Canonical.{IsCanonical}
 use Rattle.minimise.proofs.ApartLemmas.{canonical_apart}
-use Rattle.numeration.specs.Systems.{System, IsNumeral}
+use Rattle.numeration.specs.Systems.{System, IsRepresentation}
 use Rattle.numeration.specs.Representation.{Represents}
 use Rattle.numeration.proofs.ConstantLemmas.{one_track}
 use Rattle.constants.specs.Constants.{IsConstantOf, ConstantAlike}
@@ -33,27 +33,27 @@ module _ (direction : Direction) (s : System) (n : ℕ) (d : Automaton) (holds :
   letters_are : letters_of d ≡ s.digits
   letters_are = ap product holds.sizes ∙ mul-one s.digits
 
-  -- a word is accepted where it is a numeral of the number
-  accepts_numerals : (w : List ℕ) → IsWord (letters_of d) w → IsTrue (accepts_of d w) ↔ IsNumeral s (in_order direction w) n
-  accepts_numerals w over = (there, back)
+  -- a word is accepted if and only if it represents the number
+  accepts_representations : (w : List ℕ) → IsWord (letters_of d) w → IsTrue (accepts_of d w) ↔ IsRepresentation s (in_order direction w) n
+  accepts_representations w over = (there, back)
     where
       both : IsTrue (accepts_of d w) ↔ ((ns : List ℕ) × Represents (s ∷ []) (in_order direction w) ns × (ns ≡ n ∷ []))
       both = holds.accepts w (subst (λ (ns : List ℕ). IsWord (product ns) w) holds.sizes over)
 
-      there : IsTrue (accepts_of d w) → IsNumeral s (in_order direction w) n
+      there : IsTrue (accepts_of d w) → IsRepresentation s (in_order direction w) n
       there accepted =
           let found = both.0 accepted in
           let represented : Represents (s ∷ []) (in_order direction w) (n ∷ []) = subst (Represents (s ∷ []) (in_order direction w)) found.2 found.1 in
-          subst (λ (v : List ℕ). IsNumeral s v n) (one_track (in_order direction w)) represented.0
+          subst (λ (v : List ℕ). IsRepresentation s v n) (one_track (in_order direction w)) represented.0
 
-      back : IsNumeral s (in_order direction w) n → IsTrue (accepts_of d w)
-      back numeral = both.1 (n ∷ [], (subst (λ (v : List ℕ). IsNumeral s v n) (sym (one_track (in_order direction w))) numeral, tt), refl)
+      back : IsRepresentation s (in_order direction w) n → IsTrue (accepts_of d w)
+      back representation = both.1 (n ∷ [], (subst (λ (v : List ℕ). IsRepresentation s v n) (sym (one_track (in_order direction w))) representation, tt), refl)
 
   -- words that are alike are both accepted or both refused
   accepts_alike : (w v u : List ℕ) → IsWord (letters_of d) w → IsWord (letters_of d) v → IsWord (letters_of d) u → ConstantAlike direction s n w v → accepts_of d (w ++ u) ≡ accepts_of d (v ++ u)
   accepts_alike w v u one two more alike =
-      let first = accepts_numerals (w ++ u) (IsWord-append (letters_of d) w u one more) in
-      let second = accepts_numerals (v ++ u) (IsWord-append (letters_of d) v u two more) in
+      let first = accepts_representations (w ++ u) (IsWord-append (letters_of d) w u one more) in
+      let second = accepts_representations (v ++ u) (IsWord-append (letters_of d) v u two more) in
       let middle = alike u (subst (λ m. IsWord m u) letters_are more) in
       same_tests (accepts_of d (w ++ u)) (accepts_of d (v ++ u)) (λ a. second.1 (middle.0 (first.0 a)), λ a. first.1 (middle.1 (second.0 a)))
 

@@ -91,7 +91,7 @@ zero_between r (suc b ∷ v) = (
   λ h. absurd (let e : suc (length (v ++ r)) ≡ length r = ap length h in let f : length (v ++ r) ≡ length v + length r = length-append v r in omega (arith, e, f)),
 )
 
--- a zero more at the front where padding zeros are
+-- one more zero where padding zeros are
 pub padding_same : (direction : Direction) (r w : List ℕ)
     → Pads direction r (take (padding_prefix direction (length r)) (in_order direction r) ++ 0 ∷ w) ↔ Pads direction r (take (padding_prefix direction (length r)) (in_order direction r) ++ w)
 padding_same Msd r w = (λ h. h, λ h. h)

@@ -19,7 +19,7 @@ use minimise::canonical::canonical;
 use std::alloc::Global;
 
 /// The canonical automaton of the representations of one number, for an automaton that accepts the valid words of a
-/// system: the paddings of the word that stands for the number (Allouche and Shallit, "Automatic Sequences"). The width
+/// system: the paddings of the word that represents the number (Allouche and Shallit, "Automatic Sequences"). The width
 /// is the number of the language's residuals, the empty one too: two more than the word has digits. The result has at
 /// most as many states. `States` comes if and only if the width passes the limit, and `Letters` never.
 pub fn constant(

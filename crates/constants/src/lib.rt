@@ -7,7 +7,7 @@ mod word_counts;
 /// What the most significant digits of a word lead to.
 mod prefix;
 
-/// The word that stands for a number.
+/// The word that represents a number.
 pub mod representation;
 
 /// Automata of the paddings of one word.

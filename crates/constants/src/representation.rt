@@ -1,4 +1,4 @@
-//! The word that stands for a number, found by counting.
+//! The word that represents a number, found by counting.
 //!
 //! A language of a system has as many words of a length, leading zeros among them, as it has words without leading zero
 //! up to that length. So the word of a number is as long as the least length of which there are more words, and is at
@@ -23,7 +23,7 @@ use digit_tuple::direction::Direction;
 use digit_tuple::faults::{OpFault, OutOfMemory};
 use std::alloc::Global;
 
-/// The word that stands for a number, for an automaton that accepts the valid words of a system: the valid word without
+/// The word that represents a number, for an automaton that accepts the valid words of a system: the valid word without
 /// leading zero before which so many are, shorter words first; its most significant digit first, in either direction.
 /// `States` comes if and only if that word is longer than `longest`, `Letters` never. Time grows with the word's length
 /// times the states and the digits of the language, memory with its length times the states.

@@ -14,8 +14,8 @@ use digit_tuple::direction::Direction;
 use digit_tuple::faults::OutOfMemory;
 use std::alloc::Global;
 
-/// The automaton of the paddings of a word, which has its most significant digit first, and no zero there. A state
-/// stands for each prefix of the word as the direction reads it. OutOfMemory comes too where 2^32 - 1 states are not
+/// The automaton of the paddings of a word, which has its most significant digit first, and no zero there. There is a
+/// state for each prefix of the word as the direction reads it. OutOfMemory comes too where 2^32 - 1 states are not
 /// enough.
 pub fn paddings_of(
     alloc: Global,

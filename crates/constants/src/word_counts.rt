@@ -58,7 +58,7 @@ fn empty_words(language: &Dfa, direction: Direction, state: u32) -> u128
     u128::from(counted)
 }
 
-// The counts for words of one digit more in front, that lead to acceptance.
+// The counts for words with one more leading digit that lead to acceptance.
 fn counts_from(alloc: Global, language: &Dfa, row: &[u128]) -> Result<Vec<u128>, OutOfMemory>
     requires { length row.now ≡ states_of language.now }
     ensures { IfOk result (λ next. (n : ℕ) → AreCounts Msd language.now n row.now → AreCounts Msd language.now (suc n) next.items) }

@@ -1,4 +1,4 @@
--- Names stand for the same in a ledger and in the files that are its texts.
+-- Names mean the same in a ledger and in the files that are its texts.
 use Rattle.std.proofs.Common.{◌↔◌, ℕ, ℤ, Bool, true, false, List, [], ◌∷◌, Option, None, Some, sym, subst}
 use Rattle.std.specs.List.{fold}
 use Rattle.std.specs.Option.{option_map}

@@ -34,7 +34,7 @@ abbrev pub BindingsMatterByMeaning : Type 0
 BindingsMatterByMeaning = (custom : Custom) (variables : List Variable) (formula : trees.Formula) (bindings others : Bindings) → BindTheSame custom bindings others
     → (ns : List ℕ) → tree_holds custom (Formula variables formula bindings) ns ↔ tree_holds custom (Formula variables formula others) ns
 
--- names stand for the same in the ledger and in the files that are its texts
+-- names mean the same in the ledger and in the files that are its texts
 abbrev pub FilesBindAsTheirLedger : Type 0
 FilesBindAsTheirLedger = (ledger : Ledger) (files : Files) → Stores ledger files → (named : List formula_file.File)
     → BindTheSame (custom_of ledger) (bindings_of ledger named) (bindings_of (ledger_of files) named)

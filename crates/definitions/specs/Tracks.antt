@@ -1,4 +1,4 @@
--- What the tracks of an automaton stand for.
+-- What the tracks of an automaton are over.
 use Rattle.std.specs.Prelude.{ℕ, ℤ, List, map}
 use Rattle.digit_tuple.specs.Systems.{digit_sets}
 use Rattle.digit_tuple.specs.declared.direction.Direction.{Direction}

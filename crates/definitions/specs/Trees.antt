@@ -22,7 +22,7 @@ pub record Variable : Type 0 where
 
 mutual
   -- A definition: the bytes of a file; an expression over tracks; a formula, with its free variables in byte order and the definitions that
-  -- its names stand for; the fixed point of a morphism; the image of a word, over the word's system; or the word that definitions in a list
+  -- its names mean; the fixed point of a morphism; the image of a word, over the word's system; or the word that definitions in a list
   -- make together, over systems that are read in one direction.
   pub data Tree : Type 0 where
     File : List ℕ → Tree
@@ -37,7 +37,7 @@ mutual
     no_parts : Parts
     part : Tree → ℤ → Parts → Parts
 
-  -- what names in folders stand for; the last one of a name counts
+  -- what names in folders mean; the last one of a name counts
   pub data Bindings : Type 0 where
     unbound : Bindings
     bound : Bindings → Folder → List ℕ → Tree → Bindings

@@ -23,7 +23,7 @@ pub fn bindings_matter_by_meaning()
     ensures { BindingsMatterByMeaning }
 {}
 
-/// Names stand for the same in a ledger and in the files that are its texts.
+/// Names mean the same in a ledger and in the files that are its texts.
 pub fn files_bind_as_their_ledger()
     ensures { FilesBindAsTheirLedger }
 {}

@@ -1,9 +1,9 @@
 //! Definitions: what a stored file means, what a definition holds of, and the text that stores it.
 //!
 //! A definition (`Tree` in `specs/Trees.antt`) is the bytes of a file, an expression over tracks, or a formula with the
-//! definitions that its names stand for. `tree_holds` (`specs/TreeMeanings.antt`) says of which numbers it holds, `HasText`
+//! definitions that its names mean. `tree_holds` (`specs/TreeMeanings.antt`) says of which numbers it holds, `HasText`
 //! (`specs/Texts.antt`) which text stores it. The text of a definition, read as a file, holds of what the definition holds of,
-//! so that a command means the same under the definitions of names and under the files that stand for them. Among words and
+//! so that a command means the same under the definitions of names and under the files that store them. Among words and
 //! among users' systems are files alone; `tree_letter` says which letter a file has at a place, and `IsSystemNamed`
 //! (`specs/Named.antt`) which system a name means: one that is built in, or the one that the files of a user define.
 #![tactic(auto)]

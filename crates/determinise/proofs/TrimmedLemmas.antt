@@ -7,7 +7,7 @@ use Rattle.digit_tuple.specs.Deterministic.{Automaton, IsRow, target_by, step_of
 use Rattle.digit_tuple.specs.Keys.{KeyTransition, AreKeyTransitions, key_by, key_accepts}
 use Rattle.determinise.specs.Trimmed.{state_after, state_accepts}
 
--- the key transition that a transition stands for
+-- the key transition of a transition
 abbrev pub key_transition_of : Transition → KeyTransition
 key_transition_of e = record { letter = e.letter; key = e.target ∷ [] }
 

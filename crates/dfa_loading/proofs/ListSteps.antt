@@ -28,7 +28,7 @@ none_loaded store tables empty =
       has_read = nothing_read store tables;
     }
 
--- the files that were found in front, and one more
+-- the files that were found before, and one more
 found_next : (named : List File) (file : File) (old mid new : StoreView) (tables : Vec Loaded Global) (result : Result Loaded LoadFault) → (prefix : IsLoaded named old (Ok tables) mid) → (next : IsLoadedFile file mid result new)
     → (more : Files) × IsMore old.files prefix.found next.found file more
 found_next named file old mid new tables result prefix next =
@@ -44,7 +44,7 @@ loaded_more files i file old mid new tables more table within is once pushed pre
     let named : take (i + 1) files ≡ take i files ++ file ∷ [] = take_more files i file within ∙ ap (λ (f : File). take i files ++ f ∷ []) (sym is) in
     record {
       found = found.0;
-      told = found.1.told_is;
+      told = found.1.reported_is;
       gives = subst (λ (fs : List File). AreListedBy found.0 fs more.items) (sym named) (subst (λ (ts : List Loaded). AreListedBy found.0 (take i files ++ file ∷ []) ts) (sym pushed) all);
       has_read = reads_both old mid new tables (Ok more) prefix.has_read (reads_ok mid new table more next.has_read);
     }
@@ -60,7 +60,7 @@ stopped files i file old mid new tables fault within is once prefix next =
     let named : take i files ++ file ∷ drop (suc i) files ≡ files = ap (λ (fs : List File). take i files ++ fs) (sym suffix) ∙ take-append-drop i files in
     record {
       found = found.0;
-      told = found.1.told_is;
+      told = found.1.reported_is;
       gives = subst (λ (fs : List File). FirstFails found.0 fs fault) named first;
       has_read = reads_both old mid new tables (Err fault) prefix.has_read (reads_so mid new fault next.has_read);
     }

@@ -10,7 +10,7 @@ use Rattle.formula_resolve.specs.declared.file.File.{File}
 use Rattle.dfa_loading.specs.declared.fault.LoadFault.{LoadFault}
 use Rattle.dfa_loading.specs.declared.fault.LoadFault.TheVariants as faults
 use Rattle.dfa_loading.specs.declared.loaded.Loaded.{Loaded}
-use Rattle.dfa_loading.specs.Places.{IsListedBy, IsReadAt, Refuses, HasRead, AreTold}
+use Rattle.dfa_loading.specs.Places.{IsListedBy, IsReadAt, Refuses, HasRead, AreReported}
 
 -- each file lists what is beside it
 abbrev pub AreListedBy : Files → List File → List Loaded → Type 0
@@ -36,6 +36,6 @@ FirstFails files named (faults.File folder name flaw) = FirstRefuses files named
 -- All files were loaded, or the first that was not says why; by some files, which are the store's where it reports them.
 pub record IsLoaded (named : List File) (old : StoreView) (result : Result (Vec Loaded Global) LoadFault) (new : StoreView) : Type 0 where
   pub found : Files
-  pub told : AreTold old found
+  pub told : AreReported old found
   pub gives : MatchResult result (λ tables. AreListedBy found named tables.items) (FirstFails found named)
   pub has_read : HasRead old result new

@@ -85,12 +85,12 @@ pub record HasRead {X : Type 0} (old : StoreView) (result : Result X LoadFault) 
   pub cause : MatchResult result (λ _. new.failed ≡ old.failed) (λ fault. IsCausedBy fault old new)
 
 -- files that are the store's, where these are reported
-abbrev pub AreTold : StoreView → Files → Type 0
-AreTold store found = IfSome store.files (λ files. found ≡ files)
+abbrev pub AreReported : StoreView → Files → Type 0
+AreReported store found = IfSome store.files (λ files. found ≡ files)
 
 -- the file was loaded, or not, by some files, which are the store's where it reports them
 pub record IsLoadedFile (file : File) (old : StoreView) (result : Result Loaded LoadFault) (new : StoreView) : Type 0 where
   pub found : Files
-  pub told : AreTold old found
+  pub told : AreReported old found
   pub gives : MatchResult result (IsListedBy found file) (Fails found file)
   pub has_read : HasRead old result new

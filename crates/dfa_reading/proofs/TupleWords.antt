@@ -1,4 +1,4 @@
--- Words of letters, and the tuples of digits that they stand for.
+-- Words of letters, and the tuples of digits that they denote.
 use Rattle.std.proofs.Common.{ℕ, ◌<◌, List, [], ◌∷◌, sym, subst}
 use Rattle.std.specs.List.{AllZip}
 use Rattle.digit_tuple.specs.Letters.{IsWord, product}

@@ -1,4 +1,4 @@
--- What drafts and lines of the code stand for, and what a reader answers.
+-- What drafts and lines of the code mean, and what a reader answers.
 use Rattle.std.specs.Prelude.{◌≡◌, ℕ, List, map, Result, Ok, Err, option_map, ⊤}
 use Rattle.dfa_reading.specs.Listed.{ListedLine}
 use Rattle.dfa_reading.specs.Reading.{Draft}

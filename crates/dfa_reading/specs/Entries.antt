@@ -18,7 +18,7 @@ is_star _ = false
 abbrev pub place_in : List ℤ → ℤ → Option ℕ
 place_in set member = position (λ m. int_eq m member) set
 
--- the digit of a track that a text stands for: a member by its place in the set, a number by itself
+-- the digit of a track that a text denotes: a member by its index in the set, a number by itself
 abbrev pub one_digit : Digits → List ℕ → Option ℕ
 one_digit (Members set) part = integer_of part >>= place_in set
 one_digit (Below limit) part = number_below limit part

@@ -1,4 +1,4 @@
--- What entries of the code stand for.
+-- What entries of the code mean.
 use Rattle.dfa_reading.specs.Entries.{Entry, State, Line}
 use Rattle.dfa_reading.specs.declared.read_entries.Entry.{Entry as EntryRead}
 use Rattle.dfa_reading.specs.declared.read_entries.Entry.TheVariants as read

@@ -1,4 +1,4 @@
--- What headers of the code stand for.
+-- What headers of the code mean.
 use Rattle.dfa_reading.specs.Headers.{Header, Truth, Systems, Sets}
 use Rattle.dfa_reading.specs.declared.header.FileHeader.{FileHeader}
 use Rattle.dfa_reading.specs.declared.header.FileHeader.TheVariants as read

@@ -1,4 +1,4 @@
--- What listed lines of the code stand for.
+-- What listed lines of the code mean.
 use Rattle.std.specs.Prelude.{List, map}
 use Rattle.dfa_reading.specs.Listed.{ListedLine}
 use Rattle.dfa_reading.specs.declared.listed.ListedLine.{ListedLine as LineRead}

@@ -31,12 +31,12 @@ Takes _ _ _ = ⊥
 abbrev pub Moves : List ℕ → Listed → ℕ → List ℕ → ℕ → Type 0
 Moves sizes listed p tuple q = (line : ListedLine) × Contains listed.lines line × (line.state ≡ p) × Takes sizes line.digits tuple × Contains line.targets q
 
--- a path of listed transitions that spells the word
+-- a path of listed transitions by the letters of the word
 abbrev pub MovesAlong : List ℕ → Listed → ℕ → List (List ℕ) → ℕ → Type 0
 MovesAlong sizes listed p [] q = p ≡ q
 MovesAlong sizes listed p (tuple ∷ word) q = (r : ℕ) × Moves sizes listed p tuple r × MovesAlong sizes listed r word q
 
--- what stands for the output of a state that is not there
+-- the output of a state, 0 where there is no such state
 abbrev pub output_of : Listed → ℕ → ℤ
 output_of listed q = slice_index_or listed.outputs q (pos 0)
 
@@ -44,7 +44,7 @@ output_of listed q = slice_index_or listed.outputs q (pos 0)
 abbrev pub IsAccepting : Listed → ℕ → Type 0
 IsAccepting listed q = output_of listed q ≢ pos 0
 
--- some path from the initial state spells the word and ends in an accepting state
+-- some path by the letters of the word leads from the initial state to an accepting state
 abbrev pub ListedAccepts : List ℕ → Listed → List (List ℕ) → Type 0
 ListedAccepts sizes listed word = (q : ℕ) × MovesAlong sizes listed 0 word q × IsAccepting listed q
 

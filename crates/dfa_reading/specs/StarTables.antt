@@ -65,6 +65,6 @@ differs_from (Some Several) target = true
 abbrev pub with_target : StarTable → List (Option ℕ) → ℕ → StarTable
 with_target table digits target = record { pattern = table.pattern; entries = insert_entry same_digits table.entries digits (joined (targets_at table.entries digits) target) }
 
--- what stands for a table that is not there
+-- the table that is taken where there is none
 abbrev pub no_table : StarTable
 no_table = record { pattern = []; entries = [] }

@@ -19,7 +19,7 @@ pub fn next_part(line: &[u8]) -> Option<(&[u8], &[u8])>
     Some(begun.split_at(part_len(begun)))
 }
 
-// How many bytes at the front are no blanks.
+// How many leading bytes are no blanks.
 fn part_len(bytes: &[u8]) -> usize
     ensures len { result ≡ len_of_prefix (λ b. not (is_blank b)) bytes.now }
     ensures within { result ≤ length bytes.now }

@@ -1,8 +1,7 @@
 -- Printed numbers, read again.
-use Rattle.std.proofs.Common.{◌≡◌, ℕ, suc, ◌^◌, ◌<◌, Bool, true, ltb, List, [], ◌∷◌, ◌++◌, length, decimal, ℤ, pos, negsuc, None, Some, ap, ◌∙◌, arith, ◌&&◌}
+use Rattle.std.proofs.Common.{◌≡◌, ℕ, suc, ◌^◌, ◌<◌, Bool, true, ltb, length, decimal, ℤ, pos, negsuc, None, Some, ap, ◌∙◌, arith, ◌&&◌}
 use Rattle.std.specs.Prelude.{if◌then◌else◌, Option}
 use Rattle.std.specs.Fmt.{signed_decimal}
-use Rattle.std.specs.List.{AllByRecursion}
 use Rattle.std.proofs.lemmas.Bool.Decides.{nat_tests}
 use mir.Val.{SFits}
 use mir.Syntax.{w32}
@@ -10,10 +9,6 @@ use Rattle.text_grammar.specs.Bytes.{is_digit}
 use Rattle.text_grammar.specs.Numbers.{are_digits, is_number, is_short}
 use Rattle.text_grammar.proofs.Decimals.{AreDigitsOf, digits_of, digits_are, printed_number}
 use Rattle.dfa_reading.specs.Numbers.{number_below, integer_of}
-
-pub all_append : {X : Type 0} (P : X → Type 0) (xs ys : List X) → AllByRecursion P xs → AllByRecursion P ys → AllByRecursion P (xs ++ ys)
-all_append P [] ys h k = k
-all_append P (x ∷ xs) ys h k = (h.0, all_append P xs ys h.1 k)
 
 pub printed : (n : ℕ) → n < 2 ^ 64 → AreDigitsOf n (decimal n)
 printed n h = digits_of n h

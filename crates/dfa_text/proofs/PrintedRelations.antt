@@ -24,7 +24,7 @@ use Rattle.digit_tuple.specs.declared.header.Header.TheVariants.{Sets, Systems}
 use Rattle.digit_tuple.specs.declared.systems.SystemTrack.{SystemTrack}
 use Rattle.digit_tuple.proofs.DfaLemmas.{row_at, target_by-in_range}
 use Rattle.digit_tuple.proofs.LetterLemmas.{positive_right}
-use Rattle.digit_tuple.proofs.AllLemmas.{all_weaker}
+use Rattle.digit_tuple.proofs.AllLemmas.{all_append, all_weaker}
 use Rattle.dfa_reading.specs.Lines.{is_passed, line_after, each_of}
 use Rattle.dfa_reading.specs.Headers as file
 use Rattle.dfa_reading.specs.Headers.{Digits, Members, Below, digits_in, has_states, header_of}
@@ -47,7 +47,6 @@ use Rattle.dfa_text.proofs.PrintedEntries.{tuple_text, state_stands, state_avoid
 use Rattle.dfa_text.proofs.PrintedTracks.{IsReadable, readable_set, readable_system, members_fit, digits_read, state_read, IsReadAs, step_read}
 use Rattle.dfa_text.proofs.PrintedTuples.{lines_of-text}
 use Rattle.dfa_text.proofs.TupleSteps.{tuple_of_code, length-members}
-use Rattle.dfa_text.proofs.PrintedNumbers.{all_append}
 
 -- the line of a tuple
 pub step_text : (tuple : List ℤ) (t : ℕ) → tuple_text tuple (t ∷ []) ≡ step_line tuple t

@@ -11,7 +11,7 @@ use digit_tuple::letter_set::LetterSet;
 use digit_tuple::name::Name;
 use digit_tuple::systems::SystemTrack;
 
-/// Appends what the tracks stand for, with a blank between two of them, and the line's end.
+/// Appends the systems or sets of the tracks, with a blank between two of them, and the line's end.
 pub fn push_header(out: &mut Vec<u8>, header: &Header) -> Result<(), OutOfMemory>
     ensures { OnOk result (out.new.items ≡ out.old.items ++ (header_line header.now ++ codes "\n")) }
 {

@@ -182,7 +182,7 @@ module _ (letters : ℕ) (start : List ℕ) (after : List ℕ → ℕ → Option
     pub run_of-start : (w : List ℕ) → IsWord letters w → MatchOption (run_of d 0 w) (key_run after start w ≡ None) (λ t. (t < states_of d) × (key_run after start w ≡ Some (key_at keys t)))
     run_of-start w over = subst (λ k. MatchOption (run_of d 0 w) (key_run after k w ≡ None) (λ t. (t < states_of d) × (key_run after k w ≡ Some (key_at keys t)))) e.start_is (run_of-explored w 0 positive over)
 
-    -- a word that leads to a key leads to the state that stands for it
+    -- a word that leads to a key leads to its state
     pub run_of-key : (w : List ℕ) (q : ℕ) → IsWord letters w → q < states_of d → key_run after start w ≡ Some (key_at keys q) → run_of d 0 w ≡ Some q
     run_of-key w q over within leads = by (run_of d 0 w) (run_of-start w over)
       where
@@ -202,7 +202,7 @@ module _ (letters : ℕ) (start : List ℕ) (after : List ℕ → ℕ → Option
       row : (p : ℕ) → p < length d.states → IsRow letters (length d.states) (get_or d.states p no_state).transitions
       row p within = record { in_range = λ k z inside. let range = (e.rows p within).in_range k z inside in (range.0, omega (arith, range.1, done)); ascending = (e.rows p within).ascending }
 
-  -- the states stand for the keys
+  -- the states are those of the keys
   pub IsExplored-done : IsExplored letters start after accepts keys d
   IsExplored-done = record {
     count = sym done;

@@ -38,7 +38,7 @@ Leads-in_range n p a q table leads =
     let row = IsRow-transitions_of n p table (from_state n p a q leads) in
     All-contains (λ (e : Transition). (e.letter < letters_of n) × (e.target < states_of n)) (transitions_of n p) transition row.in_range leads
 
--- the states that rows stand for
+-- the states that rows denote
 pub table_from_rows : (letters : ℕ) (rows : List NfaState) → 0 < length rows → length rows < 2 ^ 32 → All (λ state. IsRow letters (length rows) state.transitions.items) rows → IsBranchTable letters (branches_in rows)
 table_from_rows letters rows initial small each =
     let same : length rows ≡ length (branches_in rows) = sym (length-map rows branch_in) in

@@ -20,7 +20,7 @@ letters_of n = product n.sizes
 abbrev pub states_of : Branching → ℕ
 states_of n = length n.states
 
--- what stands for a state that is not there
+-- the state that is taken where there is none
 abbrev pub no_branch : Branch
 no_branch = record { accepting = false; transitions = [] }
 

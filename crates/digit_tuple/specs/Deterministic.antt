@@ -21,7 +21,7 @@ letters_of d = product d.sizes
 abbrev pub states_of : Automaton → ℕ
 states_of d = length d.states
 
--- what stands for a state that is not there
+-- the state that is taken where there is none
 abbrev pub no_state : State
 no_state = record { accepting = false; transitions = [] }
 

@@ -1,4 +1,4 @@
--- The states that a deterministic table of the code stands for.
+-- The states that a deterministic table of the code denotes.
 use Rattle.std.specs.Prelude.{Bool, List, [], ◌∷◌, map}
 use Rattle.digit_tuple.specs.Deterministic.{State}
 use Rattle.digit_tuple.specs.declared.transitions.Transition.{Transition}

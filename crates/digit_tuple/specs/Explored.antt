@@ -35,7 +35,7 @@ pub record NumbersSome (key_transitions : List KeyTransition) (old new : List (L
   pub numbered : AreNumbered prefix transitions old new
   pub count_is : length new ≡ count
 
--- the states of the automaton stand for the keys, from the first one on, and its transitions lead as theirs do
+-- the automaton has a state for each key, in their order, and its transitions lead as theirs do
 pub record IsExplored (letters : ℕ) (start : List ℕ) (after : List ℕ → ℕ → Option (List ℕ)) (accepts : List ℕ → Bool) (keys : List (List ℕ)) (d : Automaton) : Type 0 where
   pub count : length keys ≡ states_of d
   pub start_is : key_at keys 0 ≡ start

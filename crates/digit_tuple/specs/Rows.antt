@@ -1,4 +1,4 @@
--- The states that a table of the code stands for.
+-- The states that a table of the code denotes.
 use Rattle.std.specs.Prelude.{List, map}
 use Rattle.digit_tuple.specs.Automaton.{Branch}
 use Rattle.digit_tuple.specs.declared.transitions.NfaState.{NfaState}

@@ -1,17 +1,17 @@
--- Tuples of members of sets, and the letters that stand for them.
+-- Tuples of members of sets, and their letters.
 use Rattle.std.specs.Prelude.{◌≡◌, ℕ, ◌<◌, ℤ, List}
 use Rattle.std.specs.List.{All, AllZip}
 use Rattle.digit_tuple.specs.Letters.{product, code_of, AreDigits}
 use Rattle.digit_tuple.specs.Sets.{IsAscending, sizes_of, members_at}
 
--- the letter stands for the tuple: it is the code of the tuple's places in the sets
+-- the letter denotes the tuple: it is the code of the indices of the tuple's members in the sets
 pub record IsLetterOf (sets : List (List ℤ)) (tuple : List ℤ) (letter : ℕ) : Type 0 where
   pub digits : List ℕ
   pub fit : AreDigits (sizes_of sets) digits
   pub tuple_is : tuple ≡ members_at sets digits
   pub letter_is : letter ≡ code_of (sizes_of sets) digits
 
--- the word of letters stands for the word of tuples, place by place
+-- the word of letters denotes the word of tuples, letter by letter
 abbrev pub Codes : List (List ℤ) → List (List ℤ) → List ℕ → Type 0
 Codes sets tuples letters = AllZip (IsLetterOf sets) tuples letters
 
@@ -19,10 +19,10 @@ Codes sets tuples letters = AllZip (IsLetterOf sets) tuples letters
 abbrev pub TuplesTellLetters : Type 0
 TuplesTellLetters = (sets : List (List ℤ)) (tuple : List ℤ) (a b : ℕ) → All IsAscending sets → IsLetterOf sets tuple a → IsLetterOf sets tuple b → a ≡ b
 
--- a letter stands for at most one tuple
+-- a letter denotes at most one tuple
 abbrev pub LettersTellTuples : Type 0
 LettersTellTuples = (sets : List (List ℤ)) (t u : List ℤ) (letter : ℕ) → IsLetterOf sets t letter → IsLetterOf sets u letter → t ≡ u
 
--- each letter of the alphabet stands for a tuple
+-- each letter of the alphabet denotes a tuple
 abbrev pub LettersHaveTuples : Type 0
 LettersHaveTuples = (sets : List (List ℤ)) (letter : ℕ) → letter < product (sizes_of sets) → (tuple : List ℤ) × IsLetterOf sets tuple letter

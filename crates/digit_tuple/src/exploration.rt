@@ -25,7 +25,7 @@ use std::alloc::Global;
 // For at most how many transitions of a state there is memory at first.
 const FIRST_TRANSITIONS: usize = 64;
 
-/// What an exploration made: the automaton, and the keys that its states stand for, in their order.
+/// What an exploration made: the automaton, and the keys of its states, in their order.
 #[derive(Drop)]
 pub struct Explored {
     pub dfa: Dfa,
@@ -68,7 +68,7 @@ pub fn explore<G: KeyGraph>(
     })
 }
 
-/// The automaton of `explore` with the keys that its states stand for, for what a construction says of a key but
+/// The automaton of `explore` with the keys of its states, for what a construction says of a key but
 /// whether it accepts. Its width and its refusals are those of `explore`.
 pub fn explore_keys<G: KeyGraph>(
     alloc: Global,

@@ -1,4 +1,4 @@
-//! What the tracks of an automaton stand for.
+//! What the tracks of an automaton are over.
 
 ghost use Rattle.std.specs.Prelude.{◌≡◌, IfOk};
 ghost use Rattle.digit_tuple.specs.Headers.{sets_of};

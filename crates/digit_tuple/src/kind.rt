@@ -18,7 +18,7 @@ pub enum Kind {
     Valid,
     /// The order of numbers.
     Order,
-    /// The spellings of one number.
+    /// The representations of one number.
     Const,
     /// Two automata combined by a connective.
     Product,

@@ -24,12 +24,12 @@ pub fn tuples_tell_letters()
     ensures { TuplesTellLetters }
 {}
 
-/// A letter stands for at most one tuple.
+/// A letter denotes at most one tuple.
 pub fn letters_tell_tuples()
     ensures { LettersTellTuples }
 {}
 
-/// Each letter of the alphabet stands for a tuple.
+/// Each letter of the alphabet denotes a tuple.
 pub fn letters_have_tuples()
     ensures { LettersHaveTuples }
 {}

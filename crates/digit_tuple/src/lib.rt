@@ -19,7 +19,7 @@ pub mod direction;
 /// Lists of numeration systems, one for each track.
 pub mod systems;
 
-/// Headers: what the tracks of an automaton stand for.
+/// Headers: what the tracks of an automaton are over.
 pub mod header;
 
 /// Alphabets: letters of several tracks.

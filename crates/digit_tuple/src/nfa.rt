@@ -49,7 +49,7 @@ impl Nfa {
     }
 
     /// The automaton with these states, or None if they are no table: there is no state, or 2^32, or a state's
-    /// transitions are by no letters of the alphabet, lead to no states or stand out of order.
+    /// transitions are by no letters of the alphabet, lead to no states or are out of order.
     pub fn try_from_states(
         alloc: Global,
         alphabet: Alphabet,

@@ -92,7 +92,7 @@ impl NumberLists {
         if self.len() == usize::MAX {
             return Err(OutOfMemory);
         }
-        // The only list that stands for itself is counted if it is the first or the same: the new one has its start.
+        // The only list with a start of its own is counted if it is the first or the same: the new one has its start.
         if self.starts.len() == 1 && self.same == 0 {
             self.width = self.numbers.len();
             self.same = 1;

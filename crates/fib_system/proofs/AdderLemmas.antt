@@ -7,12 +7,12 @@ use Rattle.digit_tuple.specs.Deterministic.{Automaton, accepts_of, letters_of}
 use Rattle.digit_tuple.specs.declared.direction.Direction.TheVariants.{Msd, Lsd}
 use Rattle.digit_tuple.proofs.PaddingLemmas.{IsWord-reverse}
 use Rattle.digit_tuple.proofs.TruthLemmas.{true_by, iff_trans}
-use Rattle.numeration.specs.Systems.{System, IsNumeral}
+use Rattle.numeration.specs.Systems.{System, IsRepresentation}
 use Rattle.numeration.specs.Representation.{Represents, letters_in, first_track, other_tracks}
 use Rattle.numeration.specs.Relations.{HoldsOf, IsSum, IsAdderOf}
 use Rattle.fib_system.specs.Fibonacci.{is_sparse, fibonacci, weight_sum}
 use Rattle.fib_system.specs.Additions.{first_digit, second_digit, third_digit, key_after, no_digits, is_sum, start_is_addition_key}
-use Rattle.fib_system.proofs.WeightLemmas.{numeral_sum, sum_numeral}
+use Rattle.fib_system.proofs.WeightLemmas.{sum_represents, represented_sum}
 use Rattle.fib_system.proofs.SumLemmas.{AreSparse, Makes, key_accepts_sums}
 
 -- three tracks
@@ -28,14 +28,14 @@ third_is w = map-map (λ a. a / 1) (λ a. a % 2) (map (λ a. a % 4) w) ∙ map-m
     last : (a : ℕ) → a % 4 % 2 / 1 ≡ a % 2
     last a = omega arith
 
--- a track as a numeral
-numeral_on : (v u : List ℕ) (n : ℕ) → v ≡ u → IsTrue (is_sparse u) → weight_sum u ≡ n → IsNumeral fibonacci v n
-numeral_on v u n same valid is = subst (λ (x : List ℕ). IsNumeral fibonacci x n) (sym same) (numeral_sum u n valid is)
+-- a track represents its sum
+represents_on : (v u : List ℕ) (n : ℕ) → v ≡ u → IsTrue (is_sparse u) → weight_sum u ≡ n → IsRepresentation fibonacci v n
+represents_on v u n same valid is = subst (λ (x : List ℕ). IsRepresentation fibonacci x n) (sym same) (sum_represents u n valid is)
 
-sum_on : (v u : List ℕ) (n : ℕ) → v ≡ u → IsNumeral fibonacci v n → IsTrue (is_sparse u) × (weight_sum u ≡ n)
-sum_on v u n same numeral =
-    let there : IsNumeral fibonacci u n = subst (λ (x : List ℕ). IsNumeral fibonacci x n) same numeral in
-    (there.0, sum_numeral u n there)
+sum_on : (v u : List ℕ) (n : ℕ) → v ≡ u → IsRepresentation fibonacci v n → IsTrue (is_sparse u) × (weight_sum u ≡ n)
+sum_on v u n same representation =
+    let there : IsRepresentation fibonacci u n = subst (λ (x : List ℕ). IsRepresentation fibonacci x n) same representation in
+    (there.0, represented_sum u n there)
 
 -- a word represents two numbers and their sum if and only if its tracks are words of the system that make x + y = z
 represents_sum : (w : List ℕ) → (AreSparse 0 w × Makes 2 1 w) ↔ ((ns : List ℕ) × Represents three w ns × IsSum ns)
@@ -51,10 +51,10 @@ represents_sum w = (λ both. forth both.0 both.1, λ all. back all.0 all.1 all.2
     forth are makes = (
       x ∷ y ∷ (x + y) ∷ [],
       (
-        numeral_on _ (map first_digit w) x refl are.first refl,
+        represents_on _ (map first_digit w) x refl are.first refl,
         (
-          numeral_on _ (map second_digit w) y (second_is w) are.second refl,
-          (numeral_on _ (map third_digit w) (x + y) (third_is w) are.third (omega (arith, makes)), tt),
+          represents_on _ (map second_digit w) y (second_is w) are.second refl,
+          (represents_on _ (map third_digit w) (x + y) (third_is w) are.third (omega (arith, makes)), tt),
         ),
       ),
       (x, y, refl),

@@ -13,7 +13,7 @@ use Rattle.fib_system.proofs.WeightLemmas.{one_lower, two_lower, weight_is, sum_
 
 -- The digits that are kept
 
--- with the digits of a last letter in front, each track is a word of the system
+-- with the digits of a last letter before it, each track is a word of the system
 pub record AreSparse (last : ℕ) (w : List ℕ) : Type 0 where
   pub first : IsTrue (is_sparse (first_digit last ∷ map first_digit w))
   pub second : IsTrue (is_sparse (second_digit last ∷ map second_digit w))
@@ -135,7 +135,7 @@ makes_cons p q a w =
     let scale : p * weight (length w) ≡ p * (one_lower (length w) + two_lower (length w)) = ap (λ (n : ℕ). p * n) (weight_is (length w)) in
     (λ h. omega (arith, x, y, z, scale, weight_is (length w), h), λ h. omega (arith, x, y, z, scale, weight_is (length w), h))
 
--- a track stands for less than the weight of the place before it
+-- the sum of a track is less than the weight of the next higher place
 track_less : (f : ℕ → ℕ) (a : ℕ) (w : List ℕ) → a < 2 → IsTrue (is_sparse (a ∷ map f w)) → weight_sum (map f w) < one_lower (length w) + two_lower (length w)
 track_less f a w small valid =
     let less : weight_sum (map f w) < weight (length (map f w)) = sum_less (map f w) (rest a small valid) in

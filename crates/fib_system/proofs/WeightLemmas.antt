@@ -1,7 +1,7 @@
 -- Ranks in the Fibonacci system are sums of weights.
 use Rattle.std.proofs.Common.{◌≡◌, ℕ, zero, suc, ◌+◌, ◌<◌, List, [], ◌∷◌, length, refl, sym, ◌∙◌, arith, IsTrue}
 use Rattle.std.proofs.lemmas.Bool.{false≢true, and_parts}
-use Rattle.numeration.specs.Systems.{IsNumeral}
+use Rattle.numeration.specs.Systems.{IsRepresentation}
 use Rattle.numeration.proofs.CountLemmas.{count_by-none}
 use Rattle.numeration.proofs.BelowLemmas.{size, below, after, led_below, size-suc, below-cons, below-less}
 use Rattle.numeration.proofs.RankLemmas.{rank_is_below}
@@ -54,15 +54,15 @@ below_is_sum (suc (suc a) ∷ u) valid = absurd (false≢true valid)
 pub rank_is_sum : RankIsWeightSum
 rank_is_sum w valid = rank_is_below 2 is_sparse w fibonacci_is_system (sparse_over w valid) ∙ below_is_sum w valid
 
--- a word stands for less than the weight of the place before it
+-- the sum of a word is less than the weight of the next higher place
 pub sum_less : (w : List ℕ) → IsTrue (is_sparse w) → weight_sum w < weight (length w)
 sum_less w valid =
     let less : below 2 is_sparse w < size 2 is_sparse (length w) = below-less 2 is_sparse w (sparse_over w valid) valid in
     omega (arith, less, below_is_sum w valid, size_is_weight (length w))
 
--- each word of the system is a numeral of its sum alone
-pub numeral_sum : (w : List ℕ) (n : ℕ) → IsTrue (is_sparse w) → weight_sum w ≡ n → IsNumeral fibonacci w n
-numeral_sum w n valid is = (valid, rank_is_sum w valid ∙ is)
+-- each word of the system represents its sum alone
+pub sum_represents : (w : List ℕ) (n : ℕ) → IsTrue (is_sparse w) → weight_sum w ≡ n → IsRepresentation fibonacci w n
+sum_represents w n valid is = (valid, rank_is_sum w valid ∙ is)
 
-pub sum_numeral : (w : List ℕ) (n : ℕ) → IsNumeral fibonacci w n → weight_sum w ≡ n
-sum_numeral w n numeral = sym (rank_is_sum w numeral.0) ∙ numeral.1
+pub represented_sum : (w : List ℕ) (n : ℕ) → IsRepresentation fibonacci w n → weight_sum w ≡ n
+represented_sum w n representation = sym (rank_is_sum w representation.0) ∙ representation.1

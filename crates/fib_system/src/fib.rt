@@ -11,7 +11,7 @@ use numeration::num_system::NumSystem;
 use std::alloc::Global;
 
 /// The Fibonacci numeration system: the words over 0 and 1 in which no 1 comes next to another are valid, and each
-/// stands for the sum of the weights 1, 2, 3, 5, .. of its digits 1 (Zeckendorf, "Représentation des nombres naturels
+/// represents the sum of the weights 1, 2, 3, 5, .. of its digits 1 (Zeckendorf, "Représentation des nombres naturels
 /// par une somme de nombres de Fibonacci ou de nombres de Lucas").
 #[derive(Clone, Copy)]
 pub struct Fib {

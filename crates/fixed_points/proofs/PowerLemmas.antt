@@ -10,7 +10,7 @@ use Rattle.std.proofs.lemmas.Option.{same_Some, slice_get-get_or, slice_get_with
 use Rattle.digit_tuple.specs.Letters.{IsWord}
 use Rattle.base_k.specs.Positional.{value}
 use Rattle.morph_words.specs.Rules.{Rules}
-use Rattle.morph_words.proofs.ListSteps.{all_append}
+use Rattle.digit_tuple.proofs.AllLemmas.{all_append}
 use Rattle.morph_words.specs.Images.{applied, image}
 use Rattle.morph_words.specs.Uniform.{HasRule}
 use Rattle.morph_words.specs.FixedPoint.{IsLetterAt, power}

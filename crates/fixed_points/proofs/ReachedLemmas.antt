@@ -48,7 +48,7 @@ module _ (rules : Rules) (k : ℕ) (graph : IsLetterGraph rules k) where
   run_from : (w : List ℕ) (letter : ℤ) → IsWord k w → HasRule rules letter → key_run after (key_of letter) w ≡ Some (key_of (reached rules letter w))
   run_from [] letter over rule = refl
   run_from (digit ∷ w) letter over rule =
-      ap (λ b. key_run after (key_of (letter_by rules b digit)) w) (graph.told letter rule)
+      ap (λ b. key_run after (key_of (letter_by rules b digit)) w) (graph.letter_back letter rule)
       ∙ run_from w (letter_by rules letter digit) over.1 (digit_ruled rules k letter digit graph.has rule over.0)
 
   -- a word leads to the key of the letter that it reaches
@@ -59,7 +59,7 @@ module _ (rules : Rules) (k : ℕ) (graph : IsLetterGraph rules k) where
   reached_one : (w v : List ℕ) → IsWord k w → IsWord k v → LeadAlike after start w v → reached rules (pos 0) w ≡ reached rules (pos 0) v
   reached_one w v over there alike =
       let keys = same_Some (key_of (reached rules (pos 0) w)) (key_of (reached rules (pos 0) v)) (sym (run_is w over) ∙ alike ∙ run_is v there) in
-      sym (graph.told (reached rules (pos 0) w) (ruled w over)) ∙ ap letter_of keys ∙ graph.told (reached rules (pos 0) v) (ruled v there)
+      sym (graph.letter_back (reached rules (pos 0) w) (ruled w over)) ∙ ap letter_of keys ∙ graph.letter_back (reached rules (pos 0) v) (ruled v there)
 
   carried : (w v : List ℕ) → IsWord k w → IsWord k v → reached rules (pos 0) w ≡ reached rules (pos 0) v → (letter : ℤ) → IsLetterAt rules (value k w) letter → IsLetterAt rules (value k v) letter
   carried w v over there same letter at =

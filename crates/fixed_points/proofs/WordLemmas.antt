@@ -11,7 +11,7 @@ use Rattle.digit_tuple.specs.Paddings.{in_order}
 use Rattle.digit_tuple.specs.declared.direction.Direction.{Direction}
 use Rattle.digit_tuple.specs.declared.direction.Direction.TheVariants.{Msd}
 use Rattle.numeration.specs.Representation.{Represents, first_track, letters_in, sizes_of}
-use Rattle.numeration.specs.Systems.{IsNumeral, System}
+use Rattle.numeration.specs.Systems.{IsRepresentation, System}
 use Rattle.base_k.specs.Positional.{RankIsPositional, base, value}
 use Rattle.base_k.specs.BaseLaws as laws
 use Rattle.num_system.specs.Sealed.{IsSealed, SystemValue}
@@ -64,7 +64,7 @@ module _ (positional : RankIsPositional) (systems : List SystemValue) (k : ℕ) 
   -- a word represents its value alone
   value_from : (ns w : List ℕ) → IsWord k w → Represents (base k ∷ []) w ns → ns ≡ value k w ∷ []
   value_from [] w over represents = absurd represents
-  value_from (n ∷ []) w over represents = ap (λ m. m ∷ []) (sym (let numeral : IsNumeral (base k) w n = subst (λ u. IsNumeral (base k) u n) (only_track w) represents.0 in sym (positional k w some over) ∙ numeral.1))
+  value_from (n ∷ []) w over represents = ap (λ m. m ∷ []) (sym (let representation : IsRepresentation (base k) w n = subst (λ u. IsRepresentation (base k) u n) (only_track w) represents.0 in sym (positional k w some over) ∙ representation.1))
   value_from (n ∷ m ∷ ns) w over represents = absurd represents.1
 
   pub represented_value : (ns w : List ℕ) → RepresentsPlace systems ns w → ns ≡ value k w ∷ []
@@ -73,7 +73,7 @@ module _ (positional : RankIsPositional) (systems : List SystemValue) (k : ℕ) 
   pub value_represented : (w : List ℕ) → IsWord k w → RepresentsPlace systems (value k w ∷ []) w
   value_represented w over = record {
     over = digits_over_track w over;
-    represents = back (λ ss d. Represents ss (in_order d w) (value k w ∷ [])) (subst (λ u. IsNumeral (base k) u (value k w)) (sym (only_track w)) (laws.over_digits k w over, positional k w some over), tt);
+    represents = back (λ ss d. Represents ss (in_order d w) (value k w ∷ [])) (subst (λ u. IsRepresentation (base k) u (value k w)) (sym (only_track w)) (laws.over_digits k w over, positional k w some over), tt);
   }
 
 first_same : (a b : ℕ) → a ∷ [] ≡ b ∷ [] → a ≡ b
@@ -132,7 +132,7 @@ pub letter_reached : (rules : Rules) (k : ℕ) (graph : IsLetterGraph rules k) (
 letter_reached rules k graph accepts keys d explored initial w over =
     letter_led-explored k (key_of (pos 0)) (key_after rules) accepts keys d explored initial (λ key. Some (letter_of key)) w over
     ∙ ap (λ (o : Option (List ℕ)). option_and_then (λ key. Some (letter_of key)) o) (run_is rules k graph w over)
-    ∙ ap Some (graph.told (reached rules (pos 0) w) (ruled rules k graph w over))
+    ∙ ap Some (graph.letter_back (reached rules (pos 0) w) (ruled rules k graph w over))
 
 -- a base is not too large for an alphabet
 pub one_alphabet : (k : ℕ) → k ≤ 40 → IsAlphabet (k ∷ [])

@@ -35,7 +35,7 @@ key_after rules key digit = Some (key_of (letter_by rules (letter_of key) digit)
 -- letters with rules are determined by their keys, and digits lead from each to another
 pub record IsLetterGraph (rules : Rules) (k : ℕ) : Type 0 where
   pub has : HasFixedPoint rules k
-  pub told : (letter : ℤ) → HasRule rules letter → letter_of (key_of letter) ≡ letter
+  pub letter_back : (letter : ℤ) → HasRule rules letter → letter_of (key_of letter) ≡ letter
 
 -- each key accepts
 abbrev pub accepts_all : List ℕ → Bool

@@ -28,4 +28,4 @@ after_is_letter_key rules k key digit graph is small = record {
 }
   where
     letter_is : is.letter ≡ letter_of key
-    letter_is = sym (ap letter_of is.key_is ∙ graph.told is.letter is.has_rule)
+    letter_is = sym (ap letter_of is.key_is ∙ graph.letter_back is.letter is.has_rule)

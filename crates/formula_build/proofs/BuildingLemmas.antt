@@ -155,29 +155,29 @@ module _ (old now : StepLog) (l : LibraryValue) (plans : List Plan) (marks : Lis
   at_here = making_here plans ms rs i m makings count within is
 
   are_marked : is_marked marks i ≡ true → AreMarked marks m
-  are_marked told = needed.parts i m (omega (arith, within, makings.as_many)) is told
+  are_marked known = needed.parts i m (omega (arith, within, makings.as_many)) is known
 
   -- a needed plan can be made
   pub turn_ready : AreParts (filter is_step plans) (plan_at plans last) → IsReady l (plan_at plans last) → is_marked marks i ≡ true → MayMake l rs m
-  turn_ready parts ready told =
-      may_make l plans marks rs m so_far.made (are_marked told) at_here
-      (needed_ready l plans last (plan_at plans (length rs)) parts ready (needed.rooted (length rs) inside (ap (is_marked marks) count ∙ told)))
+  turn_ready parts ready known =
+      may_make l plans marks rs m so_far.made (are_marked known) at_here
+      (needed_ready l plans last (plan_at plans (length rs)) parts ready (needed.rooted (length rs) inside (ap (is_marked marks) count ∙ known)))
 
   -- and is made
   pub turn_made : (new : StepLog) (c : RelationValue) → is_marked marks i ≡ true → DoesMaking now l rs m (Ok c) new → IsUnderWay old l plans (plan_at plans last) marks (rs ++ c ∷ []) new
-  turn_made new c told does = next_made old now new l plans (plan_at plans last) marks rs m so_far inside at_here (are_marked told) c does
+  turn_made new c known does = next_made old now new l plans (plan_at plans last) marks rs m so_far inside at_here (are_marked known) c does
 
   pub turn_stopped : (new : StepLog) (fault : StepFault) → is_marked marks i ≡ true → DoesMaking now l rs m (Err fault) new → Builds l (filter is_step plans) (plan_at plans last) old (Err fault) new
-  turn_stopped new fault told does = next_stopped old now new l plans (plan_at plans last) marks rs m so_far inside at_here (are_marked told) fault does
+  turn_stopped new fault known does = next_stopped old now new l plans (plan_at plans last) marks rs m so_far inside at_here (are_marked known) fault does
 
   -- another is passed over
   pub turn_passed : (c : RelationValue) → is_marked marks i ≡ false → IsUnderWay old l plans (plan_at plans last) marks (rs ++ c ∷ []) now
   turn_passed c unmarked = passes old now l plans (plan_at plans last) marks rs so_far inside c (no_step (is_step (plan_at plans (length rs))) refl) (λ marked. absurd (false≢true (sym (ap (is_marked marks) count ∙ unmarked) ∙ marked)))
     where
       no_step : (b : Bool) → is_step (plan_at plans (length rs)) ≡ b → b ≡ false
-      no_step false told = refl
-      no_step true told = absurd (false≢true (sym (ap (is_marked marks) count ∙ unmarked) ∙ needed.steps (length rs) inside told))
+      no_step false known = refl
+      no_step true known = absurd (false≢true (sym (ap (is_marked marks) count ∙ unmarked) ∙ needed.steps (length rs) inside known))
 
 -- a mark that was read
 pub mark_read : (marks : List Bool) (i : ℕ) (b c : Bool) → i < length marks → b ≡ get_or marks i b → b ≡ c → is_marked marks i ≡ c
-mark_read marks i b c within is told = get_or_default marks i false b within ∙ sym is ∙ told
+mark_read marks i b c within is known = get_or_default marks i false b within ∙ sym is ∙ known

@@ -83,10 +83,10 @@ kept_tracks (names ns n) p u = by (has_track (tracks p) (own n)) refl (kept_trac
         → has_track (tracks (projected_all (if b then n ∷ kept ns (without (own n) (tracks p)) else kept ns (tracks p)) p)) u ≡ true
         → (has_track (tracks p) u ≡ true) × (in_names (names ns n) u ≡ false)
     by true there first second is =
-        let told = first is in
-        let apart = stays_apart (own n) (tracks p) u told.0 in
-        (apart.0, listed_more ns n u told.1 apart.1)
-    by false none first second is = let told = second is in (told.0, listed_more ns n u told.1 (not_there p n u none told.0))
+        let known = first is in
+        let apart = stays_apart (own n) (tracks p) u known.0 in
+        (apart.0, listed_more ns n u known.1 apart.1)
+    by false none first second is = let known = second is in (known.0, listed_more ns n u known.1 (not_there p n u none known.0))
 
 same_projections : (ks : List Name) (p q : Plan) → tracks p ≡ tracks q → tracks (projected_all ks p) ≡ tracks (projected_all ks q)
 same_projections [] p q same = same
@@ -107,7 +107,7 @@ other_binder i ns b n none = ap (λ (c : Bool). if c then i else b n) none
 
 quantified_only : (Q : Occurrence → Type 0) (q : Quantifier) (ns : Names) (b : Binders) (i : ℕ) (m : Made) → Only (IsOwn (OccursAnywhere Q (bound_by i ns b))) m.last
     → Only (IsOwn (OccursAnywhere Q b)) (quantified_made q (kept ns (tracks m.last)) m).last
-quantified_only Q q ns b i m only = λ u is. let told = quantified_has q ns m u is in outside u told.1 (only u told.0)
+quantified_only Q q ns b i m only = λ u is. let known = quantified_has q ns m u is in outside u known.1 (only u known.0)
   where
     outside : (u : Track) → in_names ns u ≡ false → IsOwn (OccursAnywhere Q (bound_by i ns b)) u → IsOwn (OccursAnywhere Q b) u
     outside (own n) none occurs = (occurs.0, subst (λ (k : ℕ). Q (record { name = n; binder = k; system = occurs.0 })) (other_binder i ns b n none) occurs.1)

@@ -61,10 +61,10 @@ stays_apart s (u ∷ ts) t is = by (same_track s u) refl is (stays_apart s ts t)
   where
     by : (b : Bool) → same_track s u ≡ b → has_track (cond (not b) (u ∷ without s ts) (without s ts)) t ≡ true
         → (has_track (without s ts) t ≡ true → (has_track ts t ≡ true) × (same_track s t ≡ false)) → (has_track (u ∷ ts) t ≡ true) × (same_track s t ≡ false)
-    by true same found rest = let told = rest found in (later_is u ts t told.0, told.1)
+    by true same found rest = let known = rest found in (later_is u ts t known.0, known.1)
     by false apart found rest = elim (has_cases u (without s ts) t found) [
       | inl here ↦ (subst (λ (v : Track). has_track (u ∷ ts) v ≡ true) here (first_is u ts), ap (same_track s) (sym here) ∙ apart)
-      | inr later ↦ (let told = rest later in (later_is u ts t told.0, told.1))
+      | inr later ↦ (let known = rest later in (later_is u ts t known.0, known.1))
     ]
 
 -- and each other track stays

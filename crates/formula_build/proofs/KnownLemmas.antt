@@ -1,4 +1,4 @@
--- The names in the plan of a resolved formula stand for something, where those that it names do.
+-- The names in the plan of a resolved formula mean something if those of the formula do.
 use Rattle.std.specs.Prelude.{⊤}
 use Rattle.std.proofs.Common.{◌≡◌, ℕ, ℤ, zero, suc, ◌+◌, ◌-◌, ◌/◌, ◌%◌, ◌<◌, ◌==◌, Bool, true, false, if◌then◌else◌, List, [], ◌∷◌, slice_index_or, Option, None, Some, arith, subst, sym}
 use Rattle.formula_parse.specs.Tokens.{Name, Sign, plus, minus, Relation, equal, Quantifier, some, every}

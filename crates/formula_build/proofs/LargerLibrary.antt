@@ -14,7 +14,7 @@ use Rattle.formula_build.specs.Building.{Builds, DoesLastStep, DoesSteps}
 use Rattle.formula_build.specs.Solutions.{BuildsFormula}
 use Rattle.formula_build.specs.OneBuilding.{Agree}
 
--- what a name stands for in the one it stands for in the other
+-- what a name means in the one it means in the other
 pub record IsWithin (l n : LibraryValue) : Type 0 where
   pub relations : (name : List ℕ) (r : RelationValue) → IsRelationIn l name r → IsRelationIn n name r
   pub words : (name : List ℕ) (w : WordValue) → IsWordIn l name w → IsWordIn n name w

@@ -209,7 +209,7 @@ module _ (list : List Plan) (makings : List Making) (last k : ℕ) (marks : List
   here_grown = marked_stays (set marks k true) m k below_first (mark_here marks k in_marks)
 
   came : (i : ℕ) → is_marked grown i ≡ true → IsArgument m i ⊎ ((i ≡ k) ⊎ (is_marked marks i ≡ true))
-  came i told = elim (marked_from (set marks k true) m i told) [ inl argument ↦ inl argument | inr first ↦ inr (mark_from marks k i first) ]
+  came i known = elim (marked_from (set marks k true) m i known) [ inl argument ↦ inl argument | inr first ↦ inr (mark_from marks k i first) ]
 
   -- one more, which is needed
   pub needed_here : (is_marked marks k ≡ true) ⊎ (is_step_making m ≡ true) → IsMarkedFrom makings last k grown
@@ -220,15 +220,15 @@ module _ (list : List Plan) (makings : List Making) (last k : ℕ) (marks : List
       | inl later ↦ stays_grown i (from.steps i n (omega (arith, later)) within at step)
       | inr not_later ↦ (let same : i ≡ k = omega (arith, past, not_later) in subst (λ (j : ℕ). is_marked grown j ≡ true) (sym same) here_grown)
     ];
-    parts = λ i n past within at told. elim (cases_lt k i) [
-      | inl later ↦ elim (came i told) [
+    parts = λ i n past within at known. elim (cases_lt k i) [
+      | inl later ↦ elim (came i known) [
         | inl argument ↦ absurd (let less = argument_below k m i (at_here list all).of_earlier argument in omega (arith, less, later))
         | inr (inl same) ↦ absurd (omega (arith, later, same))
         | inr (inr old) ↦ are_stay marks grown n stays_grown (from.parts i n (omega (arith, later)) within at old)
       ]
       | inr not_later ↦ (let same : i ≡ k = omega (arith, past, not_later) in subst (AreMarked grown) (sym (same_making i n same at)) (marked_are (set marks k true) m below_first))
     ];
-    rooted = λ plans are i within told. elim (came i told) [
+    rooted = λ plans are i within known. elim (came i known) [
       | inl argument ↦ part_rooted plans last (plan_at plans i) (plan_at plans k) (subst (IsPart (plan_at plans i)) (at_here plans are).makes (argument_part plans m i argument)) (rooted_here why plans are)
       | inr (inl same) ↦ subst (λ (j : ℕ). IsRooted plans last (plan_at plans j)) (sym same) (rooted_here why plans are)
       | inr (inr old) ↦ from.rooted plans are i within old
@@ -248,7 +248,7 @@ only_last makings last marks inside count none = record {
   last_is = mark_here marks last (omega (arith, inside, count));
   steps = λ i m past within. absurd (omega (arith, past, within));
   parts = λ i m past within. absurd (omega (arith, past, within));
-  rooted = λ plans are i within told. elim (mark_from marks last i told) [
+  rooted = λ plans are i within known. elim (mark_from marks last i known) [
     | inl same ↦ subst (λ (j : ℕ). IsRooted plans last (plan_at plans j)) (sym same) (inl (whole_part (plan_at plans last)))
     | inr old ↦ absurd (false≢true (sym (none i (omega (arith, within, count))) ∙ old))
   ];
@@ -264,6 +264,6 @@ all_needed plans makings last marks are from = record {
       let d : Making = get_or makings i (Complement 0) in
       let at : d ≡ get_or makings i d = get_or_default makings i (Complement 0) d inside in
       from.steps i d (omega arith) inside at (step_is plans d ∙ ap is_step (subst (IsMakingAt plans i) (sym at) (are.each i d inside)).makes ∙ step);
-  parts = λ i m within at told. from.parts i m (omega arith) (omega (arith, within, are.as_many)) at told;
-  rooted = λ i within told. from.rooted plans are i (omega (arith, within, are.as_many)) told;
+  parts = λ i m within at known. from.parts i m (omega arith) (omega (arith, within, are.as_many)) at known;
+  rooted = λ i within known. from.rooted plans are i (omega (arith, within, are.as_many)) known;
 }

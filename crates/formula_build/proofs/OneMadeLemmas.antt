@@ -54,7 +54,7 @@ word_there (n ∷ ws) name w all is = by (bytes_eq n.name name) refl (word_there
 pub word_is : (l : LibraryValue) (name : List ℕ) (w : WordValue) → IsLibrary l → IsWordIn l name w → IsWordValue w
 word_is l name w library is = word_there l.words name w library.words is
 
--- a name stands for one word
+-- a name means one word
 pub one_word : (l : LibraryValue) (name : List ℕ) (v w : WordValue) → IsWordIn l name v → IsWordIn l name w → w ≡ v
 one_word l name v w first second = same_Some w v (sym second ∙ first)
 

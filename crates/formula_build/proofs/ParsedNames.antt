@@ -14,7 +14,7 @@ use Rattle.text_grammar.specs.Spots as cut
 use Rattle.formula_parse.specs.Trees as trees
 use Rattle.formula_parse.specs.Trees.{Names, no_names, names}
 use Rattle.formula_parse.specs.Building.{multiplied, summed, chained, under_marks}
-use Rattle.formula_parse.specs.Formulas.{Factor, variable, numeral, in_parens, Prod, factor, times, Term, prod, signed, Index, word, further, Terms, term, comma, Atom, compare, words, word_letter, letter_word, call_none, call, Variables, variable_one, variable_more, Formula, imp, iff, Imp, chain, implies, Chain, operand, joined, Operand, marked, Core, negated, quantified, grouped, atom, factor_then, prod_then, term_then, index_then, terms_then, minus_then, letter_then, atom_then, variables_then, marks_then, formula_then, imp_then, chain_then, operand_then, core_then, spelled}
+use Rattle.formula_parse.specs.Formulas.{Factor, variable, numeral, in_parens, Prod, factor, times, Term, prod, signed, Index, word, further, Terms, term, comma, Atom, compare, words, word_letter, letter_word, call_none, call, Variables, variable_one, variable_more, Formula, imp, iff, Imp, chain, implies, Chain, operand, joined, Operand, marked, Core, negated, quantified, grouped, atom, factor_then, prod_then, term_then, index_then, terms_then, minus_then, letter_then, atom_then, variables_then, marks_then, formula_then, imp_then, chain_then, operand_then, core_then, derived_tokens}
 use Rattle.formula_parse.specs.FormulaTrees.{factor_tree, before_factor, last_factor, before_prod, last_prod, term_tree, index_places, terms_tree, fact, marks_system, formula_system, imp_system, chain_system, before_imp, last_imp, before_chain, last_chain, before_operand, last_operand, operand_tree, core_tree, default_system}
 use Rattle.formula_parse.specs.Grammar.{Reads}
 use Rattle.formula_plan.proofs.TrackLemmas.{or_left}
@@ -239,6 +239,6 @@ mutual
 pub parsed_named : (text : List ℕ) (f : trees.Formula) → Reads (cut.tokens (spots text)) f → AreNamedIn f
 parsed_named text f reads =
     let formula = reads.text in
-    let all = subst (AllByRecursion IsNamedToken) (sym reads.derives.spells) (tokens_named (spots text) (spots_named text plain 0 0)) in
-    let parts = formula_parts formula default_system 0 (tokens.here tokens.end 0 ∷ []) (placed_named (spelled formula) all) in
+    let all = subst (AllByRecursion IsNamedToken) (sym reads.derives.derived_is) (tokens_named (spots text) (spots_named text plain 0 0)) in
+    let parts = formula_parts formula default_system 0 (tokens.here tokens.end 0 ∷ []) (placed_named (derived_tokens formula) all) in
     subst AreNamedIn reads.tree_is (chained_named (before_imp default_system formula) (last_imp default_system formula) parts.0 parts.1)

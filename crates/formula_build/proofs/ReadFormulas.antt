@@ -64,7 +64,7 @@ each_flat P g [] all = tt
 each_flat P g (x ∷ xs) all = (all_first P (g x) (flat_map g xs) all, each_flat P g xs (all_second P (g x) (flat_map g xs) all))
 
 module _ (l : LibraryValue) where
-  -- what a mention names stands for something
+  -- the name of a mention means something
   abbrev IsMet : Mention → Type 0
   IsMet (Marked s) = HasSystem l s
   IsMet (Called n k) = IsFileIn l (Automaton n)
@@ -118,7 +118,7 @@ module _ (l : LibraryValue) where
   atom_known (call_none n) y is met = met.0
   atom_known (call n ts) y is met = met.0
 
-  -- where the system in force before a part stands for something, so does that after it
+  -- if the system in force before a part is known, so is the one after it
   mutual
     formula_known : (f : Formula) (y : Name) → HasSystem l y → AreMet (mentions_among (before_imp y f)) → AreMet (mentions (last_imp y f))
         → AreKnownAmong l (before_imp y f) × AreKnownIn l (last_imp y f) × HasSystem l (formula_system y f)
@@ -176,8 +176,7 @@ module _ (l : LibraryValue) where
         (chained_known (before_imp y f) (last_imp y f) parts.0 parts.1, is)
     core_known (atom a) y is met = (atom_known a y is met, is)
 
--- A formula that is read is known where each file that it mentions, the default system and each system that it mentions stand for
--- something.
+-- A formula that is read is known if each file that it mentions, the default system and each system that it mentions are known.
 pub read_known : (l : LibraryValue) (h : Headers) (text : List ℕ) (f : trees.Formula) → Reads (tokens (spots text)) f
     → AllByRecursion (IsFileIn l) (first_files (mentions f)) → HasSystem l default_system → AllByRecursion (HasSystem l) (first_systems h (mentions f)) → AreKnownIn l f
 read_known l h text f reads files default systems =

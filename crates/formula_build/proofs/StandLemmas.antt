@@ -18,7 +18,7 @@ use Rattle.formula_build.specs.TrackSystems.{TrackSystems}
 use Rattle.formula_build.proofs.HasLemmas.{has_contains}
 use Rattle.formula_build.proofs.TrackNameLemmas.{names_tell, named_among}
 
--- each name stands for the system at its place
+-- each name means the system at its index
 abbrev pub AreSystemsIn : LibraryValue → List Name → List SystemValue → Type 0
 AreSystemsIn l names systems = (i : ℕ) → i < length names → IsSystemIn l (get_or names i []) (get_or systems i absent_system)
 

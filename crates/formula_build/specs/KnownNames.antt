@@ -1,4 +1,4 @@
--- Formulas in which the systems of comparisons, the automata that are called and the words stand for something.
+-- Formulas in which the systems of comparisons, the automata that are called and the words are known.
 use Rattle.std.specs.Prelude.{⊤}
 use Rattle.formula_parse.specs.Tokens.{Name}
 use Rattle.formula_parse.specs.Trees.{Fact, compare, words, word_letter, letter_word, call, Formula, atom, negated, chain, quantified, marked, Operands, no_operands, operands}
@@ -9,16 +9,16 @@ use Rattle.number_relations.specs.Relations.{RelationValue}
 use Rattle.word_output.specs.Words.{WordValue}
 use Rattle.formula_build.specs.Libraries.{LibraryValue, IsRelationIn, IsWordIn, IsSystemIn}
 
--- the name stands for a word
+-- the name means a word
 abbrev pub HasWord : LibraryValue → Name → Type 0
 HasWord l n = (w : WordValue) × IsWordIn l n w
 
--- the file is an automaton that stands for a relation, or a word
+-- the file is an automaton whose name means a relation, or a word
 abbrev pub IsFileIn : LibraryValue → File → Type 0
 IsFileIn l (Automaton n) = (r : RelationValue) × IsRelationIn l n r
 IsFileIn l (Word n) = HasWord l n
 
--- the name stands for a system
+-- the name means a system
 abbrev pub HasSystem : LibraryValue → Name → Type 0
 HasSystem l y = (s : SystemValue) × IsSystemIn l y s
 

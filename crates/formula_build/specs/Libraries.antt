@@ -1,4 +1,4 @@
--- What names stand for while a formula is decided: relations, automatic words, and numeration systems.
+-- What names mean while a formula is decided: relations, automatic words, and numeration systems.
 use Rattle.std.specs.Prelude.{◌≡◌, ℕ, List, [], ◌∷◌, ◌++◌, Option, None, Some, if◌then◌else◌}
 use Rattle.std.specs.List.{AllByRecursion}
 use Rattle.std.specs.Str.{bytes_eq}

@@ -46,7 +46,7 @@ op_of iff = ops.Iff
 abbrev pub placed_on : WordValue → List Track → PlacedWord
 placed_on w ts = record { word = w; under = map track_name ts }
 
--- the relation that a plan makes, of what names stand for
+-- the relation that a plan makes, from what names mean
 abbrev pub Makes : LibraryValue → Plan → RelationValue → Type 0
 Makes l (compared y r s t) c = (system : SystemValue) × IsSystemIn l y system × IsComparison system (comparison_of r) (track_name s) (track_name t) c
 Makes l (added y s t u) c = (system : SystemValue) × IsSystemIn l y system × IsSumRelation system (track_name s) (track_name t) (track_name u) c
@@ -64,7 +64,7 @@ Makes l (projected t p) c = (a : RelationValue) × Makes l p a × IsRelationProj
 abbrev pub MayJoin : RelationValue → RelationValue → Type 0
 MayJoin a b = AgreeOnSystems a b × HaveOneDirection a b
 
--- A plan can be made: each name stands for something, with a track for each argument; tracks that become one have one system, as
+-- A plan can be made: each name means something, with a track for each argument; tracks that become one have one system, as
 -- those of one direction that are joined have; and a track that is dropped is there.
 abbrev pub IsReady : LibraryValue → Plan → Type 0
 IsReady l (compared y r s t) = (system : SystemValue) × IsSystemIn l y system

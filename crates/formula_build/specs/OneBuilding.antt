@@ -11,7 +11,7 @@ use Rattle.number_relations.specs.Relations.{RelationValue}
 use Rattle.formula_build.specs.Libraries.{LibraryValue, IsLibrary, IsSystemIn}
 use Rattle.formula_build.specs.Solutions.{BuildsFormula}
 
--- names that stand for something in both libraries stand for the same, and both have the same relations and words
+-- names that mean something in both libraries mean the same, and both have the same relations and words
 pub record Agree (l m : LibraryValue) : Type 0 where
   pub relations : l.relations ≡ m.relations
   pub words : l.words ≡ m.words

@@ -42,7 +42,7 @@ IsOver h direction on (paired n ts r w us) = (map on ts ≡ h.of_word n) × (map
 IsOver h direction on (complement p) = IsOver h direction on p
 IsOver h direction on (projected t p) = (has_track (tracks p) t ≡ true) × ((y : Name) × IsOver h direction (with_system t y on) p)
 
--- each name of a plan stands for something
+-- each name of a plan means something
 abbrev pub IsKnown : LibraryValue → Plan → Type 0
 IsKnown l (compared y r s t) = (system : SystemValue) × IsSystemIn l y system
 IsKnown l (added y s t u) = (system : SystemValue) × IsSystemIn l y system

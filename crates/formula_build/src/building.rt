@@ -20,7 +20,7 @@ use std::alloc::Global;
 
 /// The relation that holds of the numbers for which a resolved formula is true. Its tracks are the free variables, in
 /// their order, each over its system; of a sentence there are none, and the verdict is its truth. It is made by the
-/// steps of the formula's plan. Each name of the formula stands for something: systems have the directions of their
+/// steps of the formula's plan. Each name of the formula means something: systems have the directions of their
 /// names, and relations and words are over the systems of their headers.
 ///
 /// # Errors

@@ -1,9 +1,9 @@
-//! What names stand for while a formula is decided.
+//! What names mean while a formula is decided.
 
 use crate::library::Library;
 use crate::systems::NamedSystems;
 
-/// The systems that names stand for, and the relations and words.
+/// The systems that names mean, and the relations and words.
 #[derive(Clone, Copy)]
 pub(crate) struct Known<'a> {
     pub(crate) systems: &'a NamedSystems,

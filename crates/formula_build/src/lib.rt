@@ -7,7 +7,7 @@ mod systems;
 /// Relations and words by their names.
 mod library;
 
-/// What names stand for.
+/// What names mean.
 mod known;
 
 /// The names of tracks.

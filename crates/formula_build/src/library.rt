@@ -13,21 +13,21 @@ use std::marker::Model;
 use std::rc::Rc;
 use word_output::word::Word;
 
-// A relation, and the name that stands for it.
+// A relation, and its name.
 #[derive(Drop)]
 struct RelationEntry {
     name: Name,
     relation: Rc<Relation>,
 }
 
-// A word, and the name that stands for it.
+// A word, and its name.
 #[derive(Drop)]
 struct WordEntry {
     name: Name,
     word: Rc<Word>,
 }
 
-/// The relations that the names of automata stand for, and the words of their names. The first of a name
+/// The relations that the names of automata mean, and the words of their names. The first of a name
 /// counts; an automaton and a word may have one name. A search takes time in proportion to their number.
 #[derive(Drop)]
 pub struct Library {

@@ -11,7 +11,7 @@ use std::alloc::Global;
 use std::marker::Model;
 use std::rc::Rc;
 
-// A sealed system, and the name that stands for it.
+// A sealed system, and its name.
 #[derive(Drop)]
 struct SystemEntry {
     name: Name,

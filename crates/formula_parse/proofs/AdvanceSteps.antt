@@ -6,7 +6,7 @@ use Rattle.formula_parse.specs.Tokens.{here, value_of, number, nesting_of}
 use Rattle.formula_parse.specs.Machine.{Position, at_letter, at_value, depth, step}
 use Rattle.formula_parse.specs.Runs.{placed}
 use Rattle.formula_parse.specs.Made.{made, trees}
-use Rattle.formula_parse.specs.Limits.{IsInRange, told_at, letter_bound}
+use Rattle.formula_parse.specs.Limits.{IsInRange, fault_byte, letter_bound}
 use Rattle.formula_parse.specs.StateViews.{Machine, state_view}
 use Rattle.formula_parse.specs.Stops.{Steps}
 use Rattle.formula_parse.specs.Advances.{Advances}
@@ -52,7 +52,7 @@ some_and : (o : Option Machine) (P : Machine → Type 0) → IsSome o → ((n : 
 some_and None P h k = absurd cc
 some_and (Some n) P h k = k n
 
-steps_letter : (p : Position made) (t : tokens.Token) (o : Option Machine) (a b : ℕ) → Steps p t (Err (stops.Letter b)) o → IsSomeAnd o (λ n. (IsInRange (placed p t (depth n)) → ⊥) × (told_at (placed p t (depth n)) a ≡ b))
+steps_letter : (p : Position made) (t : tokens.Token) (o : Option Machine) (a b : ℕ) → Steps p t (Err (stops.Letter b)) o → IsSomeAnd o (λ n. (IsInRange (placed p t (depth n)) → ⊥) × (fault_byte (placed p t (depth n)) a ≡ b))
 steps_letter (at_letter c e) (number v) o a b h = some_and o _ h.1 (λ n. (past v (letter_bound false) h.2, sym h.0))
 steps_letter (at_value c e) (number v) o a b h = some_and o _ h.1 (λ n. (past v (letter_bound true) h.2, sym h.0))
 steps_letter (at_letter c e) t o a b h = absurd h.2

@@ -4,7 +4,7 @@ use Rattle.std.specs.List.{AllByRecursion}
 use Rattle.formula_parse.specs.Tokens.{Token, Placed, here, token_of, end}
 use Rattle.formula_parse.specs.Trees as shapes
 use Rattle.formula_parse.specs.Limits.{IsAllowed}
-use Rattle.formula_parse.specs.Formulas.{Formula, spelled}
+use Rattle.formula_parse.specs.Formulas.{Formula, derived_tokens}
 use Rattle.formula_parse.specs.FormulaTrees.{default_system, tree_of}
 use Rattle.formula_parse.specs.FormulaFlaws.{formula_flaw}
 use Rattle.formula_parse.specs.Flaws.{Flaw}
@@ -16,11 +16,11 @@ use Rattle.formula_parse.proofs.SameFormulas.{Alike}
 use Rattle.formula_parse.proofs.ToDerivations.{OfText, derived_of}
 use Rattle.formula_parse.proofs.FromDerivations.{formula_of}
 
-spelled_same : (g : derivations.Formula) (f : Formula) → Alike g f → derivations.spelled g ≡ spelled f
-spelled_same g f s = s.spells 0 (here end 0 ∷ [])
+derived_same : (g : derivations.Formula) (f : Formula) → Alike g f → derivations.derived_tokens g ≡ derived_tokens f
+derived_same g f s = s.derived_is 0 (here end 0 ∷ [])
 
-same_tokens : (g : derivations.Formula) (f : Formula) → Alike g f → map token_of (derivations.spelled g) ≡ map token_of (spelled f)
-same_tokens g f s = ap (map token_of) (spelled_same g f s)
+same_tokens : (g : derivations.Formula) (f : Formula) → Alike g f → map token_of (derivations.derived_tokens g) ≡ map token_of (derived_tokens f)
+same_tokens g f s = ap (map token_of) (derived_same g f s)
 
 -- a derivation of a text
 to_derivation : (text : Formula) (read more : List Placed) → GoesOn text read more → OfText text
@@ -29,13 +29,13 @@ to_derivation text read more g = derived_of text g.takes_all
 goes_derived : (text : Formula) (read more : List Placed) (g : GoesOn text read more) → derived.GoesOn (to_derivation text read more g).to read more
 goes_derived text read more g =
     let u = to_derivation text read more g in
-    record { spells = spelled_same u.to text u.same ∙ g.spells }
+    record { derived_is = derived_same u.to text u.same ∙ g.derived_is }
 
 -- the text of a derivation
 goes_on : (text : derivations.Formula) (read more : List Placed) → derived.GoesOn text read more → GoesOn (formula_of text).to read more
 goes_on text read more g =
     let u = formula_of text in
-    record { spells = sym (spelled_same text u.to u.same) ∙ g.spells; takes_all = u.takes end tt }
+    record { derived_is = sym (derived_same text u.to u.same) ∙ g.derived_is; takes_all = u.takes end tt }
 
 begins_derived : (prefix : List Token) → Begins prefix → derived.Begins prefix
 begins_derived prefix b = record {
@@ -110,8 +110,8 @@ whole_derived ts tree flaw w =
     record {
       text = u.to;
       derives = record {
-        spells = same_tokens u.to w.text u.same ∙ w.derives.spells;
-        allowed = subst (AllByRecursion IsAllowed) (sym (spelled_same u.to w.text u.same)) w.derives.allowed;
+        derived_is = same_tokens u.to w.text u.same ∙ w.derives.derived_is;
+        allowed = subst (AllByRecursion IsAllowed) (sym (derived_same u.to w.text u.same)) w.derives.allowed;
       };
       tree_is = u.same.tree_is default_system ∙ w.tree_is;
       flaw_is = u.same.flaw_is None ∙ w.flaw_is;
@@ -123,9 +123,9 @@ whole ts tree flaw w =
     record {
       text = u.to;
       derives = record {
-        spells = sym (same_tokens w.text u.to u.same) ∙ w.derives.spells;
+        derived_is = sym (same_tokens w.text u.to u.same) ∙ w.derives.derived_is;
         takes_all = u.takes end tt;
-        allowed = subst (AllByRecursion IsAllowed) (spelled_same w.text u.to u.same) w.derives.allowed;
+        allowed = subst (AllByRecursion IsAllowed) (derived_same w.text u.to u.same) w.derives.allowed;
       };
       tree_is = sym (u.same.tree_is default_system) ∙ w.tree_is;
       flaw_is = sym (u.same.flaw_is None) ∙ w.flaw_is;

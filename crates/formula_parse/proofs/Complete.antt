@@ -1,9 +1,9 @@
--- What a derivation spells, the machine reads to what the derivation is made to.
+-- What a derivation derives, the machine reads to what the derivation is made to.
 use Rattle.std.proofs.Common.{◌≡◌, refl, ◌∙◌, ℕ, suc, Bool, true, false, List, [], ◌∷◌, Option, None, Some}
 use Rattle.formula_parse.specs.Tokens.{Name, Relation, Quantifier, Connective, Sign, Token, Placed, here, times, sign, relation, closing, connective, implies, iff, end}
 use Rattle.formula_parse.specs.Trees.{Names, no_names, names}
 use Rattle.formula_parse.specs.Making.{Kinds, Making}
-use Rattle.formula_parse.proofs.Derivations.{Factor, variable, numeral, in_parens, Factors, no_factors, factors, Addends, no_addends, addends, Term, term, Terms, no_terms, terms, index, Core, compare, words, word_letter, letter_word, call_none, call, not_closed, grouped, marked, Operands, no_operands, operands, Chains, no_chains, chains, Implications, no_implications, implications, Last, ends, quantified, Formula, formula, factor_then, factors_then, addends_then, term_then, arguments_then, places_then, variables_then, tildes_then, core_then, operands_then, chains_then, implications_then, last_then, formula_then, spelled}
+use Rattle.formula_parse.proofs.Derivations.{Factor, variable, numeral, in_parens, Factors, no_factors, factors, Addends, no_addends, addends, Term, term, Terms, no_terms, terms, index, Core, compare, words, word_letter, letter_word, call_none, call, not_closed, grouped, marked, Operands, no_operands, operands, Chains, no_chains, chains, Implications, no_implications, implications, Last, ends, quantified, Formula, formula, factor_then, factors_then, addends_then, term_then, arguments_then, places_then, variables_then, tildes_then, core_then, operands_then, chains_then, implications_then, last_then, formula_then, derived_tokens}
 use Rattle.formula_parse.specs.Formulas.{letter_then, marks_then}
 use Rattle.formula_parse.specs.FormulaTrees.{marks_system}
 use Rattle.formula_parse.proofs.Systems.{tildes_system, core_system, operands_system, chains_system, implications_system, factor_of, factors_of, addends_of, terms_of, core_of, operands_of, chains_of, implications_of, last_of, formula_of}
@@ -309,5 +309,5 @@ module _ {K : Kinds} (A : Making K) where
   abbrev pub final : K.Formula → Option Flaw → State K
   final f w = record { around = []; body = fresh A 0; system = []; flaw = w; position = done f }
 
-  pub complete : (f : Formula) (y : Name) → run A (spelled f) (start A y) ≡ Some (final (formula_of A y f) (formula_flaw None f))
+  pub complete : (f : Formula) (y : Name) → run A (derived_tokens f) (start A y) ≡ Some (final (formula_of A y f) (formula_flaw None f))
   complete f y = formula_reads f by_end 0 0 [] [] 0 y None

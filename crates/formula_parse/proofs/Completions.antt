@@ -2,7 +2,7 @@
 use Rattle.std.proofs.Common.{◌≡◌, refl, ◌∙◌, ap, ℕ, suc, true, false, List, [], ◌∷◌}
 use Rattle.formula_parse.specs.Tokens.{Name, equal, Letter, Placed, here, value_of, name, system, called, opening, closing, bracket, unbracket, letter_sign, relation, end}
 use Rattle.formula_parse.specs.Trees.{names}
-use Rattle.formula_parse.proofs.Derivations.{Factor, variable, in_parens, Factors, no_factors, Addends, no_addends, Term, term, Terms, no_terms, index, Core, compare, words, word_letter, letter_word, call_none, call, grouped, marked, Formula, ends, quantified, formula_then, spelled, parts, derivations}
+use Rattle.formula_parse.proofs.Derivations.{Factor, variable, in_parens, Factors, no_factors, Addends, no_addends, Term, term, Terms, no_terms, index, Core, compare, words, word_letter, letter_word, call_none, call, grouped, marked, Formula, ends, quantified, formula_then, derived_tokens, parts, derivations}
 use Rattle.formula_parse.specs.Machine.{within, Body, Frame, Outer, Aim, Side, Where, Representation, Position, State, left_index, left_letter, first, second, left_side, right_of, place_in, argument, on_left, on_right, at_operand, at_system, at_variable, after_operand, after_first, at_factor, after_factor, after_index, at_word, at_bracket, at_letter, at_value, after_letter, at_called, at_call, at_argument, done, paren, scope, fresh, whole, closed, within_where, within_outer}
 use Rattle.formula_parse.specs.Flaws.{Product, product_start}
 use Rattle.formula_parse.proofs.Sound.{nesting, prefix_then, body_then, frames_then, state_then, at, wrapped_then}
@@ -11,26 +11,26 @@ use Rattle.formula_parse.proofs.Sound.{nesting, prefix_then, body_then, frames_t
 pub record Completed (s : State parts) : Type 0 where
   pub more : List Placed
   pub text : Formula
-  pub spells : spelled text ≡ state_then s more
+  pub derived_is : derived_tokens text ≡ state_then s more
 
 -- what follows a formula inside of frames
 record Closes (gs : List (Frame parts)) (f : Formula) : Type 0 where
   more : List Placed
   text : Formula
-  spells : spelled text ≡ frames_then gs (formula_then f (nesting gs) more)
+  derived_is : derived_tokens text ≡ frames_then gs (formula_then f (nesting gs) more)
 
-close_paren : (h : Body parts) (hs : List (Frame parts)) (f : Formula) (c : Closes hs (whole derivations h.prefix (ends (closed derivations h (grouped f))))) → spelled c.text ≡ frames_then hs (body_then h (nesting hs) (here opening (suc (within h.tildes (nesting hs))) ∷ formula_then f (suc (within h.tildes (nesting hs))) (here closing (within h.tildes (nesting hs)) ∷ c.more)))
+close_paren : (h : Body parts) (hs : List (Frame parts)) (f : Formula) (c : Closes hs (whole derivations h.prefix (ends (closed derivations h (grouped f))))) → derived_tokens c.text ≡ frames_then hs (body_then h (nesting hs) (here opening (suc (within h.tildes (nesting hs))) ∷ formula_then f (suc (within h.tildes (nesting hs))) (here closing (within h.tildes (nesting hs)) ∷ c.more)))
 close_paren h hs f c =
-    c.spells ∙ ap (λ z. frames_then hs (prefix_then h.prefix (nesting hs) z)) (wrapped_then h.tildes (marked h.marks (grouped f)) (nesting hs) c.more)
+    c.derived_is ∙ ap (λ z. frames_then hs (prefix_then h.prefix (nesting hs) z)) (wrapped_then h.tildes (marked h.marks (grouped f)) (nesting hs) c.more)
 
 closes : (gs : List (Frame parts)) (f : Formula) → Closes gs f
-closes [] f = record { more = here end 0 ∷ []; text = f; spells = refl }
+closes [] f = record { more = here end 0 ∷ []; text = f; derived_is = refl }
 closes (paren h y ∷ hs) f =
     let c = closes hs (whole derivations h.prefix (ends (closed derivations h (grouped f)))) in
-    record { more = here closing (within h.tildes (nesting hs)) ∷ c.more; text = c.text; spells = close_paren h hs f c }
+    record { more = here closing (within h.tildes (nesting hs)) ∷ c.more; text = c.text; derived_is = close_paren h hs f c }
 closes (scope k ns n h ∷ hs) f =
     let c = closes hs (whole derivations h.prefix (quantified h.tildes h.marks k ns n f)) in
-    record { more = c.more; text = c.text; spells = c.spells }
+    record { more = c.more; text = c.text; derived_is = c.derived_is }
 
 -- an operand ends the text
 operand : (s : State parts) (c : Core) → Completed (at s (after_operand c))
@@ -39,8 +39,8 @@ operand s c =
     record {
       more = f.more;
       text = f.text;
-      spells =
-          f.spells
+      derived_is =
+          f.derived_is
           ∙ ap
           (λ z. frames_then s.around (prefix_then s.body.prefix (nesting s.around) z))
           (wrapped_then s.body.tildes (marked s.body.marks c) (nesting s.around) f.more);
@@ -48,7 +48,7 @@ operand s c =
 
 -- a token before what completes another state
 then_token : {s n : State parts} (p : Placed) → ((q : List Placed) → state_then n q ≡ state_then s (p ∷ q)) → Completed n → Completed s
-then_token p e c = record { more = p ∷ c.more; text = c.text; spells = c.spells ∙ e c.more }
+then_token p e c = record { more = p ∷ c.more; text = c.text; derived_is = c.derived_is ∙ e c.more }
 
 abbrev x_name : Name
 x_name = 120 ∷ []
@@ -69,7 +69,7 @@ operand_begins s =
     record {
       more = here (name x_name) (level s) ∷ here (relation equal) (level s) ∷ here (name x_name) (level s) ∷ c.more;
       text = c.text;
-      spells = c.spells;
+      derived_is = c.derived_is;
     }
 
 letter_ends : (s : State parts) (c : Representation parts) (l : Letter) → Completed (at s (after_letter l))
@@ -79,7 +79,7 @@ letter_ends s c l =
     record {
       more = here (relation equal) d ∷ here (name x_name) d ∷ here bracket (suc d) ∷ here (name x_name) (suc d) ∷ here unbracket d ∷ c.more;
       text = c.text;
-      spells = c.spells;
+      derived_is = c.derived_is;
     }
 
 letter_begins : (s : State parts) (c : Representation parts) (b : ℕ) → Completed (at s (at_letter c b))
@@ -99,23 +99,23 @@ index_ends s first n ts t =
     record {
       more = here (relation equal) (level s) ∷ here (letter_sign 0) (level s) ∷ value_of (zero_letter 0) (level s) ∷ c.more;
       text = c.text;
-      spells = c.spells;
+      derived_is = c.derived_is;
     }
 index_ends s (second (left_index z k)) n ts t =
     let c = operand s (words z k (index n ts t)) in
-    record { more = c.more; text = c.text; spells = c.spells }
+    record { more = c.more; text = c.text; derived_is = c.derived_is }
 index_ends s (second (left_letter l k)) n ts t =
     let c = operand s (letter_word l k (index n ts t)) in
-    record { more = c.more; text = c.text; spells = c.spells }
+    record { more = c.more; text = c.text; derived_is = c.derived_is }
 
 -- a whole term, by where it is
 whole_ends : (s : State parts) (h : Where parts) (ss : Addends) (ps : Factors) (p : Product) (f : Factor) (q : _) → Completed (at s (after_factor h [] ss ps p f q))
 whole_ends s left_side ss ps p f q =
     let c = operand s (compare (term ss ps f) equal x_term) in
-    record { more = here (relation equal) (level s) ∷ here (name x_name) (level s) ∷ c.more; text = c.text; spells = c.spells }
+    record { more = here (relation equal) (level s) ∷ here (name x_name) (level s) ∷ c.more; text = c.text; derived_is = c.derived_is }
 whole_ends s (right_of l k) ss ps p f q =
     let c = operand s (compare l k (term ss ps f)) in
-    record { more = c.more; text = c.text; spells = c.spells }
+    record { more = c.more; text = c.text; derived_is = c.derived_is }
 whole_ends s (place_in a n ts) ss ps p f q = then_token (here unbracket (level s)) (λ r. refl) (index_ends s a n ts (term ss ps f))
 whole_ends s (argument n ts) ss ps p f q = then_token (here closing (level s)) (λ r. refl) (operand s (call n ts (term ss ps f)))
 
@@ -144,7 +144,7 @@ word_begins s a = then_token (here (name x_name) (level s)) (λ r. refl) (bracke
 call_begins : (s : State parts) (n : Name) → Completed (at s (at_call n))
 call_begins s n =
     let c = operand s (call_none n) in
-    record { more = here opening (suc (level s)) ∷ here closing (level s) ∷ c.more; text = c.text; spells = c.spells }
+    record { more = here opening (suc (level s)) ∷ here closing (level s) ∷ c.more; text = c.text; derived_is = c.derived_is }
 
 position_completed : (s : State parts) (p : Position parts) → Completed (at s p)
 position_completed s at_operand = operand_begins s
@@ -163,7 +163,7 @@ position_completed s (at_variable q ns) =
 position_completed s (after_operand c) = operand s c
 position_completed s (after_first n) =
     let c = operand s (compare (term no_addends no_factors (variable n)) equal x_term) in
-    record { more = here (relation equal) (level s) ∷ here (name x_name) (level s) ∷ c.more; text = c.text; spells = c.spells }
+    record { more = here (relation equal) (level s) ∷ here (name x_name) (level s) ∷ c.more; text = c.text; derived_is = c.derived_is }
 position_completed s (at_factor h o ss ps p) = factor_begins s h o ss ps p
 position_completed s (after_factor h o ss ps p f q) = factor_ends s h o ss ps p f q
 position_completed s (after_index a n ts t) = index_ends s a n ts t
@@ -176,8 +176,8 @@ position_completed s at_called = then_token (here (called x_name) (level s)) (λ
 position_completed s (at_call n) = call_begins s n
 position_completed s (at_argument n) =
     let c = operand s (call_none n) in
-    record { more = here closing (level s) ∷ c.more; text = c.text; spells = c.spells }
-position_completed s (done f) = record { more = []; text = f; spells = refl }
+    record { more = here closing (level s) ∷ c.more; text = c.text; derived_is = c.derived_is }
+position_completed s (done f) = record { more = []; text = f; derived_is = refl }
 
 pub completed : (s : State parts) → Completed s
 completed s = position_completed s s.position

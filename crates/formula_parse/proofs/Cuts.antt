@@ -3,7 +3,7 @@ use Rattle.std.proofs.Common.{◌≡◌, refl, sym, ◌∙◌, ap, subst, ℕ, �
 use Rattle.std.proofs.lemmas.List.{append-nil, map-append, same_from_push}
 use Rattle.std.specs.List.{AllByRecursion}
 use Rattle.formula_parse.specs.Tokens.{Token, number, Placed, here, value_of, token_of, nesting_of}
-use Rattle.formula_parse.proofs.Derivations.{Formula, spelled, parts, derivations}
+use Rattle.formula_parse.proofs.Derivations.{Formula, derived_tokens, parts, derivations}
 use Rattle.formula_parse.specs.Flaws.{Flaw}
 use Rattle.formula_parse.proofs.DerivedFlaws.{formula_flaw}
 use Rattle.formula_parse.specs.Machine.{State, done}
@@ -16,8 +16,8 @@ use Rattle.formula_parse.specs.Parsing.{Cut}
 use Rattle.formula_parse.proofs.Complete.{final}
 use Rattle.formula_parse.proofs.Places.{made_again, read_places, number_shallow, initial_state, placed_from}
 
--- tokens are spelled by one derivation
-pub one_derivation : (f g : Formula) → map token_of (spelled f) ≡ map token_of (spelled g) → f ≡ g
+-- tokens have one derivation
+pub one_derivation : (f g : Formula) → map token_of (derived_tokens f) ≡ map token_of (derived_tokens g) → f ≡ g
 one_derivation f g e = one (formula_flaw None f) (formula_flaw None g) (sym (made_again f) ∙ (ap (λ ts. run_tokens derivations ts initial_state) e ∙ made_again g))
   where
     one : (u w : Option Flaw) → Some (final derivations f u) ≡ Some (final derivations g w) → f ≡ g
@@ -52,7 +52,7 @@ record Through (prefix : List Token) (token : Token) (place : Placed) (r : Reach
 
 through : (prefix : List Token) (token : Token) (place : Placed) (r : Reaches prefix token place) → Through prefix token place r
 through prefix token place r = record {
-  goes_on = record { spells = r.goes_on.spells ∙ sym (append_assoc r.read (place ∷ []) r.more) };
+  goes_on = record { derived_is = r.goes_on.derived_is ∙ sym (append_assoc r.read (place ∷ []) r.more) };
   tokens_are =
       map-append token_of r.read (place ∷ []) ∙ (ap (λ ts. ts ++ token_of place ∷ []) r.tokens_are ∙ ap (λ t. prefix ++ t ∷ []) r.token_is);
 }
@@ -128,7 +128,7 @@ stops_before prefix token rest s b =
     b.text
     f.prefix
     (f.rest ++ b.more)
-    (record { spells = b.goes_on.spells ∙ (ap (λ z. z ++ b.more) f.is ∙ append_assoc f.prefix f.rest b.more) })
+    (record { derived_is = b.goes_on.derived_is ∙ (ap (λ z. z ++ b.more) f.is ∙ append_assoc f.prefix f.rest b.more) })
     f.tokens_are
     (all_prefix IsAllowed f.prefix f.rest (subst (AllByRecursion IsAllowed) f.is b.allowed))
 
@@ -181,9 +181,9 @@ whole_stops text d c s a =
     (ap (λ ss. tokens ss) c.is ∙ tokens_split c.prefix c.spot c.rest)
     (record {
       text = d;
-      read = spelled d;
+      read = derived_tokens d;
       more = [];
-      goes_on = record { spells = sym (append-nil (spelled d)) };
-      tokens_are = s.spells;
+      goes_on = record { derived_is = sym (append-nil (derived_tokens d)) };
+      tokens_are = s.derived_is;
       allowed = s.allowed;
     }))

@@ -1,4 +1,4 @@
--- Derivations as the machine reads them, and the tokens that they spell. The last operand of a formula is determined from those before it.
+-- Derivations as the machine reads them, and the tokens that they derive. The last operand of a formula is determined from those before it.
 use Rattle.std.specs.Prelude.{ℕ, suc, List, [], ◌∷◌}
 use Rattle.formula_parse.specs.Tokens.{Name, Relation, Quantifier, Connective, Sign, Letter, Placed, here, name, number, called, call_sign, negation, quantifier, comma, opening, closing, bracket, unbracket, sign, times, relation, connective, implies, iff, end}
 use Rattle.formula_parse.specs.Trees.{Names, no_names, names}
@@ -72,7 +72,7 @@ mutual
   pub data Formula : Type 0 where
     formula : Implications → Chains → Operands → Last → Formula
 
--- The tokens that a derivation spells at a nesting, and the rest after them.
+-- The tokens that a derivation derives at a nesting, and the rest after them.
 abbrev mutual
   pub factor_then : Factor → ℕ → List Placed → List Placed
   factor_then (variable n) d r = here (name n) d ∷ r
@@ -151,8 +151,8 @@ abbrev mutual
   formula_then (formula is hs os l) d r = implications_then is d (chains_then hs d (operands_then os d (last_then l d r)))
 
 -- the tokens of a text: those of a formula, and its end
-abbrev pub spelled : Formula → List Placed
-spelled f = formula_then f 0 (here end 0 ∷ [])
+abbrev pub derived_tokens : Formula → List Placed
+derived_tokens f = formula_then f 0 (here end 0 ∷ [])
 
 -- derivations themselves are made of derivations
 abbrev pub parts : Kinds

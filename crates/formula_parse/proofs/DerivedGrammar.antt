@@ -7,20 +7,20 @@ use Rattle.formula_parse.specs.Limits.{IsAllowed}
 use Rattle.formula_parse.specs.Made.{trees}
 use Rattle.formula_parse.specs.FormulaTrees.{default_system}
 use Rattle.formula_parse.proofs.Derivations as derivations
-use Rattle.formula_parse.proofs.Derivations.{spelled}
+use Rattle.formula_parse.proofs.Derivations.{derived_tokens}
 use Rattle.formula_parse.proofs.Systems.{formula_of}
 
 abbrev pub tree_of : derivations.Formula → Formula
 tree_of f = formula_of trees default_system f
 
--- tokens that a derivation spells, within the limits
+-- tokens that a derivation derives, within the limits
 pub record Derives (ts : List Token) (text : derivations.Formula) : Type 0 where
-  pub spells : map token_of (spelled text) ≡ ts
-  pub allowed : AllByRecursion IsAllowed (spelled text)
+  pub derived_is : map token_of (derived_tokens text) ≡ ts
+  pub allowed : AllByRecursion IsAllowed (derived_tokens text)
 
 -- a derivation goes on after what was read of it
 pub record GoesOn (text : derivations.Formula) (read more : List Placed) : Type 0 where
-  pub spells : spelled text ≡ read ++ more
+  pub derived_is : derived_tokens text ≡ read ++ more
 
 -- tokens that begin a text and keep the limits
 pub record Begins (prefix : List Token) : Type 0 where

@@ -2,10 +2,11 @@
 use Rattle.std.proofs.Common.{◌≡◌, refl, sym, ◌∙◌, ap, subst, ℕ, List, [], ◌∷◌, ◌++◌, append_assoc, map, Option, None, Some}
 use Rattle.std.proofs.lemmas.List.{append-nil}
 use Rattle.std.specs.List.{AllByRecursion}
+use Rattle.digit_tuple.proofs.AllLemmas.{all_append}
 use Rattle.formula_parse.specs.Tokens.{Token, number, Placed, token_of}
 use Rattle.formula_parse.specs.Trees as trees
 use Rattle.formula_parse.specs.Making.{Kinds, Making}
-use Rattle.formula_parse.proofs.Derivations.{Formula, spelled, parts, derivations}
+use Rattle.formula_parse.proofs.Derivations.{Formula, derived_tokens, parts, derivations}
 use Rattle.formula_parse.specs.Machine.{within, Position, at_letter, at_value, State, at_operand, at_system, at_variable, after_operand, after_first, at_factor, after_factor, after_index, at_word, at_bracket, after_letter, at_called, at_call, at_argument, done, step, start, depth, within_position}
 use Rattle.formula_parse.specs.Flaws.{Flaw}
 use Rattle.formula_parse.proofs.DerivedFlaws.{formula_flaw}
@@ -28,7 +29,7 @@ pub record Walks (prefix : List Token) (s : State made) : Type 0 where
   pub same : bare state ≡ bare s
   pub sane : Sane state
   pub read : List Placed
-  pub spells : (q : List Placed) → state_then state q ≡ read ++ q
+  pub derived_is : (q : List Placed) → state_then state q ≡ read ++ q
   pub tokens_are : map token_of read ≡ prefix
   pub allowed : AllByRecursion IsAllowed read
 
@@ -39,7 +40,7 @@ walks_start = record {
   same = refl;
   sane = record { body = record { based = refl; empty = λ e. refl }; frames = tt };
   read = [];
-  spells = λ q. refl;
+  derived_is = λ q. refl;
   tokens_are = refl;
   allowed = tt;
 }
@@ -72,10 +73,6 @@ tokens_append : (ps qs : List Placed) → map token_of (ps ++ qs) ≡ map token_
 tokens_append [] qs = refl
 tokens_append (p ∷ ps) qs = ap (λ ts. token_of p ∷ ts) (tokens_append ps qs)
 
-all_append : (P : Placed → Type 0) (ps : List Placed) (p : Placed) → AllByRecursion P ps → P p → AllByRecursion P (ps ++ p ∷ [])
-all_append P [] p a h = (h, tt)
-all_append P (q ∷ ps) p a h = (a.0, all_append P ps p a.1 h)
-
 token_of-placed : {K : Kinds} (p : Position K) (t : Token) (d : ℕ) → token_of (placed p t d) ≡ t
 token_of-placed (at_letter c b) (number v) d = refl
 token_of-placed (at_value c b) (number v) d = refl
@@ -96,7 +93,7 @@ pub record Walked (prefix : List Token) (s : State made) (t : Token) (n : State 
   pub same : bare state ≡ bare n
   pub sane : Sane state
   pub read : List Placed
-  pub spells : (q : List Placed) → state_then state q ≡ read ++ (placed s.position t (depth n) ∷ q)
+  pub derived_is : (q : List Placed) → state_then state q ≡ read ++ (placed s.position t (depth n) ∷ q)
   pub tokens_are : map token_of read ≡ prefix
   pub allowed : AllByRecursion IsAllowed read
 
@@ -109,9 +106,9 @@ walked_from {s = s} {t = t} {n = n} w (Some m) h e =
       same = same;
       sane = h.sane;
       read = w.read;
-      spells = λ q.
-          h.spells q
-          ∙ (w.spells (placed w.state.position t (deep m) ∷ q)
+      derived_is = λ q.
+          h.derived_is q
+          ∙ (w.derived_is (placed w.state.position t (deep m) ∷ q)
           ∙ ap (λ z. w.read ++ (z ∷ q)) (ap (placed w.state.position t) (bare_depth m n h.sane same) ∙ bare_token w.state s t (depth n) w.same));
       tokens_are = w.tokens_are;
       allowed = w.allowed;
@@ -137,10 +134,10 @@ walks_step prefix s t n w e a =
       same = v.same;
       sane = v.sane;
       read = v.read ++ p ∷ [];
-      spells = λ q. v.spells q ∙ sym (append_assoc v.read (p ∷ []) q);
+      derived_is = λ q. v.derived_is q ∙ sym (append_assoc v.read (p ∷ []) q);
       tokens_are =
           tokens_append v.read (p ∷ []) ∙ (ap (λ z. z ++ token_of p ∷ []) v.tokens_are ∙ ap (λ z. prefix ++ z ∷ []) (token_of-placed s.position t (depth n)));
-      allowed = all_append IsAllowed v.read p v.allowed a;
+      allowed = all_append IsAllowed v.read (p ∷ []) v.allowed (a, tt);
     }
 
 -- the prefix begins a text
@@ -151,7 +148,7 @@ walks_begins prefix s w =
       text = c.text;
       read = w.read;
       more = c.more;
-      goes_on = record { spells = c.spells ∙ w.spells c.more };
+      goes_on = record { derived_is = c.derived_is ∙ w.derived_is c.more };
       tokens_are = w.tokens_are;
       allowed = w.allowed;
     }
@@ -167,8 +164,8 @@ breaks_derived prefix s t w e = record {
       ∙ (ap (λ ts. run_tokens trees ts first) h
       ∙ (run_append trees prefix (t ∷ []) first
       ∙ (ap (λ (z : Option (State made)). after z (λ m. run_tokens trees (t ∷ []) m)) w.runs ∙ (after_one (step trees s t) ∙ e)))) in
-      let goes : run trees (spelled text) first ≡ None =
-      ap (λ ps. run trees ps first) g.spells
+      let goes : run trees (derived_tokens text) first ≡ None =
+      ap (λ ps. run trees ps first) g.derived_is
       ∙ (run_more trees read more first ∙ ap (λ (z : Option (State made)). after z (λ m. run trees more m)) stops) in
       let ends = complete trees text default_system in
       cc;
@@ -185,7 +182,7 @@ reach_derived prefix s t n w e =
       text = c.text;
       read = v.read;
       more = c.more;
-      goes_on = record { spells = c.spells ∙ v.spells c.more };
+      goes_on = record { derived_is = c.derived_is ∙ v.derived_is c.more };
       tokens_are = v.tokens_are;
       token_is = token_of-placed s.position t (depth n);
       allowed = v.allowed;
@@ -214,11 +211,11 @@ done_of at_called e = absurd cc
 done_of (at_call n) e = absurd cc
 done_of (at_argument n) e = absurd cc
 
--- the tree and the flaw of a derivation that spells the tokens
-tokens_end : (ts : List Token) (text : Formula) → map token_of (spelled text) ≡ ts → run_tokens trees ts (start trees default_system) ≡ Some (final trees (tree_of text) (formula_flaw None text))
+-- the tree and the flaw of a derivation that derives the tokens
+tokens_end : (ts : List Token) (text : Formula) → map token_of (derived_tokens text) ≡ ts → run_tokens trees ts (start trees default_system) ≡ Some (final trees (tree_of text) (formula_flaw None text))
 tokens_end ts text e =
     ap (λ us. run_tokens trees us (start trees default_system)) (sym e)
-    ∙ (run_placed trees (spelled text) (start trees default_system) ∙ complete trees text default_system)
+    ∙ (run_placed trees (derived_tokens text) (start trees default_system) ∙ complete trees text default_system)
 
 final_done : (s : State made) (f g : trees.Formula) (w : Option Flaw) → Some s ≡ Some (final trees g w) → s.position ≡ done f → (g ≡ f) × (w ≡ s.flaw)
 final_done s f g w e h =
@@ -231,12 +228,12 @@ end_derived ts s f w e =
     let bare_end : bare_position w.state.position ≡ done tt =
     ap (λ (z : State nothing). z.position) w.same ∙ ap (λ (z : Position made). bare_position z) e in
     let g = done_of w.state.position bare_end in
-    let whole : spelled g.0 ≡ w.read = ap (λ (z : Position parts). at_then w.state z []) (sym g.1) ∙ (w.spells [] ∙ append-nil w.read) in
-    let tokens : map token_of (spelled g.0) ≡ ts = ap (map token_of) whole ∙ w.tokens_are in
+    let whole : derived_tokens g.0 ≡ w.read = ap (λ (z : Position parts). at_then w.state z []) (sym g.1) ∙ (w.derived_is [] ∙ append-nil w.read) in
+    let tokens : map token_of (derived_tokens g.0) ≡ ts = ap (map token_of) whole ∙ w.tokens_are in
     let one = final_done s f (tree_of g.0) (formula_flaw None g.0) (sym w.runs ∙ tokens_end ts g.0 tokens) e in
     record {
       text = g.0;
-      derives = record { spells = tokens; allowed = subst (AllByRecursion IsAllowed) (sym whole) w.allowed };
+      derives = record { derived_is = tokens; allowed = subst (AllByRecursion IsAllowed) (sym whole) w.allowed };
       tree_is = one.0;
       flaw_is = one.1;
     }

@@ -5,12 +5,12 @@ use Rattle.formula_parse.specs.Trees as trees
 use Rattle.formula_parse.proofs.Derivations.{Formula}
 use Rattle.formula_parse.specs.Flaws.{Flaw, mixed_chain, not_linear}
 use Rattle.formula_parse.proofs.DerivedFlaws.{formula_flaw}
-use Rattle.formula_parse.specs.Limits.{IsInRange, told_at}
+use Rattle.formula_parse.specs.Limits.{IsInRange, fault_byte}
 use Rattle.formula_parse.proofs.DerivedGrammar.{tree_of, Derives, Breaks, Reaches}
 use Rattle.text_grammar.specs.Spots.{tokens}
 use Rattle.formula_parse.specs.Spots.{spots}
 use Rattle.formula_parse.specs.Parsing.{Cut, Parses}
-use Rattle.formula_parse.specs.OneAnswer.{told, IsOfTheText}
+use Rattle.formula_parse.specs.OneAnswer.{answer_view, IsOfTheText}
 use Rattle.formula_parse.specs.declared.tree.Formula.{Formula as Tree}
 use Rattle.formula_parse.specs.declared.fault.ParseFault.{ParseFault}
 use Rattle.formula_parse.specs.declared.fault.ParseFault.TheVariants as faults
@@ -33,10 +33,10 @@ answer_of d = flawed (formula_flaw None d) (tree_of d)
 data Tells (text : List ℕ) (x : Result trees.Formula ParseFault) : Type 0 where
   to_the_end : (d : Formula) → Derives (tokens (spots text)) d → answer_of d ≡ x → Tells text x
   at_break : (c : Cut text) → Breaks (tokens c.prefix) c.spot.token → Err (faults.Syntax c.spot.at) ≡ x → Tells text x
-  at_number : (c : Cut text) (p : Placed) → Reaches (tokens c.prefix) c.spot.token p → (IsInRange p → ⊥) → Err (faults.Number (told_at p c.spot.at)) ≡ x → Tells text x
+  at_number : (c : Cut text) (p : Placed) → Reaches (tokens c.prefix) c.spot.token p → (IsInRange p → ⊥) → Err (faults.Number (fault_byte p c.spot.at)) ≡ x → Tells text x
   at_depth : (c : Cut text) (p : Placed) → Reaches (tokens c.prefix) c.spot.token p → 128 < nesting_of p → Err (faults.Depth c.spot.at) ≡ x → Tells text x
 
-tells : (text : List ℕ) (f : Result Tree ParseFault) → IsOfTheText f → Parses text f → Tells text (told f)
+tells : (text : List ℕ) (f : Result Tree ParseFault) → IsOfTheText f → Parses text f → Tells text (answer_view f)
 tells text (Ok f) i p =
     let w =
     whole_derived
@@ -53,7 +53,7 @@ tells text (Err (faults.Number at)) i p =
     p.passes.place
     (reaches_derived (tokens p.cut.prefix) p.cut.spot.token p.passes.place p.passes.reaches)
     p.passes.out
-    (ap (λ b. Err (faults.Number b)) p.passes.told)
+    (ap (λ b. Err (faults.Number b)) p.passes.byte_is)
 tells text (Err (faults.Depth at)) i p =
     at_depth
     p.cut
@@ -105,7 +105,7 @@ module _ (text : List ℕ) where
       not_deep (tokens c.prefix) c.spot.token p r h (subst (λ z. 128 < nesting_of z) (sym (one_number c d p q e r s)) l)
 
   one_tells : (x y : Result trees.Formula ParseFault) → Tells text x → Tells text y → x ≡ y
-  one_tells x y (to_the_end d a e) (to_the_end f b h) = sym e ∙ (ap answer_of (one_derivation d f (a.spells ∙ sym b.spells)) ∙ h)
+  one_tells x y (to_the_end d a e) (to_the_end f b h) = sym e ∙ (ap answer_of (one_derivation d f (a.derived_is ∙ sym b.derived_is)) ∙ h)
   one_tells x y (to_the_end d a e) (at_break c b h) = absurd (whole_stops text d c a (breaks_stop _ _ b))
   one_tells x y (to_the_end d a e) (at_number c p r n h) = absurd (whole_stops text d c a (number_stops _ _ p r n))
   one_tells x y (to_the_end d a e) (at_depth c p r n h) = absurd (whole_stops text d c a (depth_stops _ _ p r n))
@@ -125,8 +125,8 @@ module _ (text : List ℕ) where
       let same = same_cut text c d (number_stops _ _ p r n) (number_stops _ _ q s m) in
       let place = one_number c d p q same r s in
       sym e
-      ∙ (ap (λ z. Err (faults.Number (told_at z c.spot.at))) place
-      ∙ (ap (λ z. Err (faults.Number (told_at q z.at))) same.spot ∙ h))
+      ∙ (ap (λ z. Err (faults.Number (fault_byte z c.spot.at))) place
+      ∙ (ap (λ z. Err (faults.Number (fault_byte q z.at))) same.spot ∙ h))
   one_tells x y (at_number c p r n e) (at_depth d q s m h) =
       absurd (number_or_depth c d p q (same_cut text c d (number_stops _ _ p r n) (depth_stops _ _ q s m)) r n s m)
   one_tells x y (at_depth d q s m h) (at_number c p r n e) =
@@ -135,8 +135,8 @@ module _ (text : List ℕ) where
       let same = same_cut text c d (depth_stops _ _ p r n) (depth_stops _ _ q s m) in
       sym e ∙ (ap (λ z. Err (faults.Depth z.at)) same.spot ∙ h)
 
-pub one_answer_of : (text : List ℕ) (f g : Result Tree ParseFault) → IsOfTheText f → IsOfTheText g → Parses text f → Parses text g → told f ≡ told g
-one_answer_of text f g i j p q = one_tells text (told f) (told g) (tells text f i p) (tells text g j q)
+pub one_answer_of : (text : List ℕ) (f g : Result Tree ParseFault) → IsOfTheText f → IsOfTheText g → Parses text f → Parses text g → answer_view f ≡ answer_view g
+one_answer_of text f g i j p q = one_tells text (answer_view f) (answer_view g) (tells text f i p) (tells text g j q)
 
 -- the derivation of tokens that have a tree
 reads_derived : (ts : List Token) (f : trees.Formula) → Reads ts f → WholeDerived ts f None
@@ -146,4 +146,4 @@ pub one_tree_of : (ts : List Token) (f g : trees.Formula) → Reads ts f → Rea
 one_tree_of ts f g r q =
     let a = reads_derived ts f r in
     let b = reads_derived ts g q in
-    sym a.tree_is ∙ (ap tree_of (one_derivation a.text b.text (a.derives.spells ∙ sym b.derives.spells)) ∙ b.tree_is)
+    sym a.tree_is ∙ (ap tree_of (one_derivation a.text b.text (a.derives.derived_is ∙ sym b.derives.derived_is)) ∙ b.tree_is)

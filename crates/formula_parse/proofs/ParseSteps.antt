@@ -8,7 +8,7 @@ use Rattle.formula_parse.specs.Machine.{done, step, start, depth}
 use Rattle.formula_parse.specs.Runs.{placed}
 use Rattle.formula_parse.specs.Made.{trees as making}
 use Rattle.formula_parse.specs.FormulaTrees.{default_system}
-use Rattle.formula_parse.specs.Limits.{IsInRange, IsAllowed, told_at}
+use Rattle.formula_parse.specs.Limits.{IsInRange, IsAllowed, fault_byte}
 use Rattle.text_grammar.specs.Spots.{Spot, spots_from, tokens as tokens_of}
 use Rattle.formula_parse.specs.Spots.{Mode, plain, mode_after, lexing, spots}
 use Rattle.formula_parse.specs.Views.{formula_view}
@@ -73,7 +73,7 @@ place_next text m k at s r n p x a e not_end =
     differs tokens.end h = h refl
     differs t h = tt
 
-number_from : (text : List ℕ) (s : Machine) (b : ℕ) (c : Cut text) (o : Option Machine) → step making s c.spot.token ≡ o → Walks (tokens_of c.prefix) s → IsSomeAnd o (λ n. (IsInRange (placed s.position c.spot.token (depth n)) → ⊥) × (told_at (placed s.position c.spot.token (depth n)) c.spot.at ≡ b)) → IsNumberAt text b
+number_from : (text : List ℕ) (s : Machine) (b : ℕ) (c : Cut text) (o : Option Machine) → step making s c.spot.token ≡ o → Walks (tokens_of c.prefix) s → IsSomeAnd o (λ n. (IsInRange (placed s.position c.spot.token (depth n)) → ⊥) × (fault_byte (placed s.position c.spot.token (depth n)) c.spot.at ≡ b)) → IsNumberAt text b
 number_from text s b c None e w h = absurd h
 number_from text s b c (Some n) e w h = record {
   cut = c;
@@ -81,7 +81,7 @@ number_from text s b c (Some n) e w h = record {
     place = placed s.position c.spot.token (depth n);
     reaches = walks_reach (tokens_of c.prefix) s c.spot.token n w e;
     out = h.0;
-    told = h.1;
+    byte_is = h.1;
   };
 }
 

@@ -3,7 +3,7 @@ use Rattle.std.proofs.Common.{◌≡◌, refl, sym, ◌∙◌, ap, subst, ℕ, �
 use Rattle.std.proofs.lemmas.List.{append-nil}
 use Rattle.std.specs.List.{AllByRecursion}
 use Rattle.formula_parse.specs.Tokens.{Token, number, Placed, token_of, nesting_of}
-use Rattle.formula_parse.proofs.Derivations.{Formula, spelled, parts, derivations}
+use Rattle.formula_parse.proofs.Derivations.{Formula, derived_tokens, parts, derivations}
 use Rattle.formula_parse.specs.Machine.{within, Position, State, on_left, on_right, at_operand, at_factor, at_letter, at_value, at_argument, step, step_at, start, within_position}
 use Rattle.formula_parse.proofs.DerivedFlaws.{formula_flaw}
 use Rattle.formula_parse.specs.Runs.{after, run_tokens, placed}
@@ -31,34 +31,34 @@ initial_state = start derivations default_system
 
 -- a state reads what its tokens are placed as
 record Reads (s n : State parts) (ps : List Placed) : Type 0 where
-  spells : (q : List Placed) → state_then n q ≡ state_then s (ps ++ q)
+  derived_is : (q : List Placed) → state_then n q ≡ state_then s (ps ++ q)
 
 step_reads : (s n : State parts) (t : Token) (ts : List Token) (o : Option (State parts)) → ReadsFrom o (state_then s) (placed s.position t) → ((m : State parts) → Sane m → run_tokens derivations ts m ≡ Some n → Reads m n (placed_from m ts)) → after o (λ m. run_tokens derivations ts m) ≡ Some n → Reads s n (placed_first s t o (λ m. placed_from m ts))
 step_reads s n t ts None h k e = absurd cc
 step_reads s n t ts (Some m) h k e =
     let r = k m h.sane e in
-    record { spells = λ q. r.spells q ∙ h.spells (placed_from m ts ++ q) }
+    record { derived_is = λ q. r.derived_is q ∙ h.derived_is (placed_from m ts ++ q) }
 
 reads : (ts : List Token) (s n : State parts) → Sane s → run_tokens derivations ts s ≡ Some n → Reads s n (placed_from s ts)
 reads [] s n a e =
     let same : s ≡ n = cc in
-    subst (λ (z : State parts). Reads s z []) same (record { spells = λ q. refl })
+    subst (λ (z : State parts). Reads s z []) same (record { derived_is = λ q. refl })
 reads (t ∷ ts) s n a e = step_reads s n t ts (step derivations s t) (step_goes s t a) (λ m b h. reads ts m n b h) e
 
 sane_start : Sane initial_state
 sane_start = record { body = record { based = refl; empty = λ e. refl }; frames = tt }
 
 -- the machine makes a text's derivation again
-pub made_again : (f : Formula) → run_tokens derivations (map token_of (spelled f)) initial_state ≡ Some (final derivations f (formula_flaw None f))
+pub made_again : (f : Formula) → run_tokens derivations (map token_of (derived_tokens f)) initial_state ≡ Some (final derivations f (formula_flaw None f))
 made_again f =
-    run_placed derivations (spelled f) initial_state
+    run_placed derivations (derived_tokens f) initial_state
     ∙ (complete derivations f default_system ∙ ap (λ (g : Formula). Some (final derivations g (formula_flaw None f))) (formula_remade default_system f))
 
--- the tokens of a text are placed as it spells them
-spelled_places : (f : Formula) → placed_from initial_state (map token_of (spelled f)) ≡ spelled f
-spelled_places f =
-    let r = reads (map token_of (spelled f)) initial_state (final derivations f (formula_flaw None f)) sane_start (made_again f) in
-    sym (append-nil (placed_from initial_state (map token_of (spelled f)))) ∙ sym (r.spells [])
+-- the tokens of a text are placed as it derives them
+derived_places : (f : Formula) → placed_from initial_state (map token_of (derived_tokens f)) ≡ derived_tokens f
+derived_places f =
+    let r = reads (map token_of (derived_tokens f)) initial_state (final derivations f (formula_flaw None f)) sane_start (made_again f) in
+    sym (append-nil (placed_from initial_state (map token_of (derived_tokens f)))) ∙ sym (r.derived_is [])
 
 prefix_step : (s : State parts) (p : Placed) (ps qs : List Placed) (o : Option (State parts)) → ((m : State parts) → placed_from m (map token_of (ps ++ qs)) ≡ ps ++ qs → placed_from m (map token_of ps) ≡ ps) → placed_first s (token_of p) o (λ m. placed_from m (map token_of (ps ++ qs))) ≡ p ∷ (ps ++ qs) → placed_first s (token_of p) o (λ m. placed_from m (map token_of ps)) ≡ p ∷ ps
 prefix_step s p ps qs None k e = absurd cc
@@ -78,7 +78,7 @@ read_places text read more g =
     read
     more
     initial_state
-    (subst (λ ps. placed_from initial_state (map token_of ps) ≡ ps) g.spells (spelled_places text))
+    (subst (λ ps. placed_from initial_state (map token_of ps) ≡ ps) g.derived_is (derived_places text))
 
 -- A numeral is within what comes before it.
 abbrev Keeps : State parts → Position parts → Option (State parts) → Type 0

@@ -24,14 +24,14 @@ SystemIs (derived.ends c) y z = systems.closed_system y c ≡ z
 SystemIs (derived.quantified st ms q ns n f) y z = Unit {0}
 
 pub record SameOperand (l : derived.Last) (o : Operand) : Type 0 where
-  pub spells : (d : ℕ) (r : List Placed) → derived.last_then l d r ≡ operand_then o d r
+  pub derived_is : (d : ℕ) (r : List Placed) → derived.last_then l d r ≡ operand_then o d r
   pub tree_is : (y : Name) → systems.last_of trees y l ≡ operand_tree y o
   pub system_is : (y : Name) → SystemIs l y (operand_system y o)
   pub flaw_is : (w : Option Flaw) → flaws.last_flaw w l ≡ operand_flaw w o
 
 -- the operands before the last, and the last
 pub record SameChain (os : derived.Operands) (l : derived.Last) (c : Chain) : Type 0 where
-  pub spells : (d : ℕ) (r : List Placed) → derived.operands_then os d (derived.last_then l d r) ≡ chain_then c d r
+  pub derived_is : (d : ℕ) (r : List Placed) → derived.operands_then os d (derived.last_then l d r) ≡ chain_then c d r
   pub before_is : (y : Name) → systems.operands_of trees y os ≡ before_operand y c
   pub last_is : (y : Name) → systems.last_of trees (systems.operands_system y os) l ≡ last_operand y c
   pub system_is : (y : Name) → SystemIs l (systems.operands_system y os) (chain_system y c)
@@ -40,7 +40,7 @@ pub record SameChain (os : derived.Operands) (l : derived.Last) (c : Chain) : Ty
 
 -- the chains before the last, and the last
 pub record SameImp (hs : derived.Chains) (os : derived.Operands) (l : derived.Last) (i : Imp) : Type 0 where
-  pub spells : (d : ℕ) (r : List Placed) → derived.chains_then hs d (derived.operands_then os d (derived.last_then l d r)) ≡ imp_then i d r
+  pub derived_is : (d : ℕ) (r : List Placed) → derived.chains_then hs d (derived.operands_then os d (derived.last_then l d r)) ≡ imp_then i d r
   pub before_is : (y : Name) → systems.chains_of trees y hs ≡ before_chain y i
   pub last_is : (y : Name) → chained (systems.operands_of trees (systems.chains_system y hs) os) (systems.last_of trees (systems.operands_system (systems.chains_system y hs) os) l) ≡ last_chain y i
   pub system_is : (y : Name) → SystemIs l (systems.operands_system (systems.chains_system y hs) os) (imp_system y i)
@@ -58,7 +58,7 @@ last_tree z hs os l =
 
 -- the implications before the last, and the last
 pub record SameFormula (is : derived.Implications) (hs : derived.Chains) (os : derived.Operands) (l : derived.Last) (f : Formula) : Type 0 where
-  pub spells : (d : ℕ) (r : List Placed) → derived.implications_then is d (derived.chains_then hs d (derived.operands_then os d (derived.last_then l d r))) ≡ formula_then f d r
+  pub derived_is : (d : ℕ) (r : List Placed) → derived.implications_then is d (derived.chains_then hs d (derived.operands_then os d (derived.last_then l d r))) ≡ formula_then f d r
   pub before_is : (y : Name) → systems.implications_of trees y is ≡ before_imp y f
   pub last_is : (y : Name) → last_tree (systems.implications_system y is) hs os l ≡ last_imp y f
   pub system_is : (y : Name) → SystemIs l (systems.operands_system (after_implications y is hs) os) (formula_system y f)
@@ -66,7 +66,7 @@ pub record SameFormula (is : derived.Implications) (hs : derived.Chains) (os : d
 
 pub same_operand : (l : derived.Last) (o : Operand) → SameOperand l o → SameChain derived.no_operands l (operand o)
 same_operand l o s = record {
-  spells = s.spells;
+  derived_is = s.derived_is;
   before_is = λ y. refl;
   last_is = s.tree_is;
   system_is = s.system_is;
@@ -80,9 +80,9 @@ moved l z e h = subst (λ x. SystemIs l x z) (sym e) h
 
 pub same_joined : (os : derived.Operands) (e : derived.Closed) (l : derived.Last) (c : Chain) (k : Connective) (b : ℕ) (o : Operand) → SameChain os (derived.ends e) c → SameOperand l o → SameChain (derived.operands os e k b) l (joined c k b o)
 same_joined os e l c k b o s t = record {
-  spells = λ d r.
-      s.spells d (here (tokens.connective k b) d ∷ derived.last_then l d r)
-      ∙ ap (λ z. chain_then c d (here (tokens.connective k b) d ∷ z)) (t.spells d r);
+  derived_is = λ d r.
+      s.derived_is d (here (tokens.connective k b) d ∷ derived.last_then l d r)
+      ∙ ap (λ z. chain_then c d (here (tokens.connective k b) d ∷ z)) (t.derived_is d r);
   before_is = λ y. both (λ (a : shapes.Operands) (f : shapes.Formula). shapes.operands a f (joint k)) (s.before_is y) (s.last_is y);
   last_is = λ y. ap (λ z. systems.last_of trees z l) (s.system_is y) ∙ t.tree_is (chain_system y c);
   system_is = λ y. moved l (operand_system (chain_system y c) o) (s.system_is y) (t.system_is (chain_system y c));
@@ -94,7 +94,7 @@ same_joined os e l c k b o s t = record {
 
 pub same_chain : (os : derived.Operands) (l : derived.Last) (c : Chain) → SameChain os l c → SameImp derived.no_chains os l (chain c)
 same_chain os l c s = record {
-  spells = s.spells;
+  derived_is = s.derived_is;
   before_is = λ y. refl;
   last_is = λ y. both chained (s.before_is y) (s.last_is y);
   system_is = s.system_is;
@@ -104,9 +104,9 @@ same_chain os l c s = record {
 
 pub same_implies : (hs : derived.Chains) (os qs : derived.Operands) (e : derived.Closed) (l : derived.Last) (i : Imp) (b : ℕ) (c : Chain) → SameImp hs os (derived.ends e) i → SameChain qs l c → SameImp (derived.chains hs os e b) qs l (implies i b c)
 same_implies hs os qs e l i b c s t = record {
-  spells = λ d r.
-      s.spells d (here (tokens.implies b) d ∷ derived.operands_then qs d (derived.last_then l d r))
-      ∙ ap (λ z. imp_then i d (here (tokens.implies b) d ∷ z)) (t.spells d r);
+  derived_is = λ d r.
+      s.derived_is d (here (tokens.implies b) d ∷ derived.operands_then qs d (derived.last_then l d r))
+      ∙ ap (λ z. imp_then i d (here (tokens.implies b) d ∷ z)) (t.derived_is d r);
   before_is = λ y. both (λ (a : shapes.Operands) (f : shapes.Formula). shapes.operands a f shapes.implies) (s.before_is y) (s.last_is y);
   last_is = λ y.
       ap (λ z. chained (systems.operands_of trees z qs) (systems.last_of trees (systems.operands_system z qs) l)) (s.system_is y)
@@ -121,7 +121,7 @@ same_implies hs os qs e l i b c s t = record {
 
 pub same_imp : (hs : derived.Chains) (os : derived.Operands) (l : derived.Last) (i : Imp) → SameImp hs os l i → SameFormula derived.no_implications hs os l (imp i)
 same_imp hs os l i s = record {
-  spells = s.spells;
+  derived_is = s.derived_is;
   before_is = λ y. refl;
   last_is = λ y. both chained (s.before_is y) (s.last_is y);
   system_is = s.system_is;
@@ -130,9 +130,9 @@ same_imp hs os l i s = record {
 
 pub same_iff : (is : derived.Implications) (hs gs : derived.Chains) (os qs : derived.Operands) (e : derived.Closed) (l : derived.Last) (f : Formula) (i : Imp) → SameFormula is hs os (derived.ends e) f → SameImp gs qs l i → SameFormula (derived.implications is hs os e) gs qs l (iff f i)
 same_iff is hs gs os qs e l f i s t = record {
-  spells = λ d r.
-      s.spells d (here tokens.iff d ∷ derived.chains_then gs d (derived.operands_then qs d (derived.last_then l d r)))
-      ∙ ap (λ z. formula_then f d (here tokens.iff d ∷ z)) (t.spells d r);
+  derived_is = λ d r.
+      s.derived_is d (here tokens.iff d ∷ derived.chains_then gs d (derived.operands_then qs d (derived.last_then l d r)))
+      ∙ ap (λ z. formula_then f d (here tokens.iff d ∷ z)) (t.derived_is d r);
   before_is = λ y. both (λ (a : shapes.Operands) (g : shapes.Formula). shapes.operands a g shapes.iff) (s.before_is y) (s.last_is y);
   last_is = λ y.
       ap (λ z. last_tree z gs qs l) (s.system_is y) ∙ both chained (t.before_is (formula_system y f)) (t.last_is (formula_system y f));
@@ -149,17 +149,17 @@ same_iff is hs gs os qs e l f i s t = record {
 
 -- a whole formula
 pub record Alike (g : derived.Formula) (f : Formula) : Type 0 where
-  pub spells : (d : ℕ) (r : List Placed) → derived.formula_then g d r ≡ formula_then f d r
+  pub derived_is : (d : ℕ) (r : List Placed) → derived.formula_then g d r ≡ formula_then f d r
   pub tree_is : (y : Name) → systems.formula_of trees y g ≡ chained (before_imp y f) (last_imp y f)
   pub flaw_is : (w : Option Flaw) → flaws.formula_flaw w g ≡ formula_flaw w f
 
 pub alike : (is : derived.Implications) (hs : derived.Chains) (os : derived.Operands) (l : derived.Last) (f : Formula) → SameFormula is hs os l f → Alike (derived.formula is hs os l) f
-alike is hs os l f s = record { spells = s.spells; tree_is = λ y. both chained (s.before_is y) (s.last_is y); flaw_is = s.flaw_is }
+alike is hs os l f s = record { derived_is = s.derived_is; tree_is = λ y. both chained (s.before_is y) (s.last_is y); flaw_is = s.flaw_is }
 
 -- operands, by their core
 pub same_atom : (ms : Names) (g : derived.Core) (a : Atom) → SameAtom g a → SameOperand (derived.ends (derived.marked ms g)) (marked ms (atom a))
 same_atom ms g a s = record {
-  spells = λ d r. ap (marks_then ms d) (s.spells d r);
+  derived_is = λ d r. ap (marks_then ms d) (s.derived_is d r);
   tree_is = λ y. ap (under_marks ms) (s.tree_is (marks_system y ms));
   system_is = λ y. s.system_is (marks_system y ms);
   flaw_is = s.flaw_is;
@@ -167,7 +167,7 @@ same_atom ms g a s = record {
 
 pub same_grouped : (ms : Names) (g : derived.Formula) (f : Formula) → Alike g f → SameOperand (derived.ends (derived.marked ms (derived.grouped g))) (marked ms (grouped f))
 same_grouped ms g f s = record {
-  spells = λ d r. ap (λ z. marks_then ms d (here tokens.opening (suc d) ∷ z)) (s.spells (suc d) (here tokens.closing d ∷ r));
+  derived_is = λ d r. ap (λ z. marks_then ms d (here tokens.opening (suc d) ∷ z)) (s.derived_is (suc d) (here tokens.closing d ∷ r));
   tree_is = λ y. ap (under_marks ms) (s.tree_is (marks_system y ms));
   system_is = λ y. refl;
   flaw_is = s.flaw_is;
@@ -175,7 +175,7 @@ same_grouped ms g f s = record {
 
 pub same_not : (ms : Names) (e : derived.Closed) (o : Operand) → SameOperand (derived.ends e) o → SameOperand (derived.ends (derived.marked ms (derived.not_closed e))) (marked ms (negated o))
 same_not ms e o s = record {
-  spells = λ d r. ap (λ z. marks_then ms d (here tokens.negation (suc d) ∷ z)) (s.spells (suc d) r);
+  derived_is = λ d r. ap (λ z. marks_then ms d (here tokens.negation (suc d) ∷ z)) (s.derived_is (suc d) r);
   tree_is = λ y. ap (λ z. under_marks ms (shapes.negated z)) (s.tree_is (marks_system y ms));
   system_is = λ y. s.system_is (marks_system y ms);
   flaw_is = s.flaw_is;
@@ -183,24 +183,24 @@ same_not ms e o s = record {
 
 -- the variables before the last, and the last
 pub record SameVariables (ns : Names) (n : Name) (vs : Variables) : Type 0 where
-  pub spells : (d : ℕ) (r : List Placed) → derived.variables_then ns d (here (tokens.name n) d ∷ r) ≡ variables_then vs d r
+  pub derived_is : (d : ℕ) (r : List Placed) → derived.variables_then ns d (here (tokens.name n) d ∷ r) ≡ variables_then vs d r
   pub names_are : names ns n ≡ variables vs
 
 pub same_variable_one : (n : Name) → SameVariables no_names n (variable_one n)
-same_variable_one n = record { spells = λ d r. refl; names_are = refl }
+same_variable_one n = record { derived_is = λ d r. refl; names_are = refl }
 
 pub same_variable_more : (ns : Names) (m n : Name) (vs : Variables) → SameVariables ns m vs → SameVariables (names ns m) n (variable_more vs n)
 same_variable_more ns m n vs s = record {
-  spells = λ d r. s.spells d (here tokens.comma d ∷ here (tokens.name n) d ∷ r);
+  derived_is = λ d r. s.derived_is d (here tokens.comma d ∷ here (tokens.name n) d ∷ r);
   names_are = cc (s.names_are);
 }
 
 pub same_quantified : (ms : Names) (q : Quantifier) (ns : Names) (n : Name) (vs : Variables) (g : derived.Formula) (f : Formula) → SameVariables ns n vs → Alike g f → SameOperand (derived.quantified [] ms q ns n g) (marked ms (quantified q vs f))
 same_quantified ms q ns n vs g f v s = record {
-  spells = λ d r.
+  derived_is = λ d r.
       ap
       (λ z. marks_then ms d (here (tokens.quantifier q) (suc d) ∷ z))
-      (v.spells (suc d) (derived.formula_then g (suc d) r) ∙ ap (variables_then vs (suc d)) (s.spells (suc d) r));
+      (v.derived_is (suc d) (derived.formula_then g (suc d) r) ∙ ap (variables_then vs (suc d)) (s.derived_is (suc d) r));
   tree_is = λ y. ap (under_marks ms) (both (shapes.quantified q) v.names_are (s.tree_is (marks_system y ms)));
   system_is = λ y. tt;
   flaw_is = s.flaw_is;
@@ -228,8 +228,8 @@ system_first [] ms y = refl
 system_first (m ∷ st) ms y = ap (λ z. marks_system z m) (system_first st ms y)
 
 module _ (ms : Names) (st : List Names) (ks : Names) (q : Quantifier) (ns : Names) (n : Name) (g : derived.Formula) where
-  abbrev last_spelled : ℕ → List Placed → List Placed
-  last_spelled e r =
+  abbrev last_derived : ℕ → List Placed → List Placed
+  last_derived e r =
       marks_then ks e (here (tokens.quantifier q) (suc e) ∷ derived.variables_then ns (suc e) (here (tokens.name n) (suc e) ∷ derived.formula_then g (suc e) r))
 
   abbrev last_tree_in : Name → shapes.Formula
@@ -237,9 +237,9 @@ module _ (ms : Names) (st : List Names) (ks : Names) (q : Quantifier) (ns : Name
 
   pub same_tilde : (o : Operand) → SameOperand (derived.quantified st ks q ns n g) o → SameOperand (derived.quantified (st ++ ms ∷ []) ks q ns n g) (marked ms (negated o))
   same_tilde o s = record {
-    spells = λ d r.
-        ap (λ e. tildes_then (st ++ ms ∷ []) d (last_spelled e r)) (within_first st ms d)
-        ∙ (tildes_first st ms d (last_spelled (within st (suc d)) r) ∙ ap (λ z. marks_then ms d (here tokens.negation (suc d) ∷ z)) (s.spells (suc d) r));
+    derived_is = λ d r.
+        ap (λ e. tildes_then (st ++ ms ∷ []) d (last_derived e r)) (within_first st ms d)
+        ∙ (tildes_first st ms d (last_derived (within st (suc d)) r) ∙ ap (λ z. marks_then ms d (here tokens.negation (suc d) ∷ z)) (s.derived_is (suc d) r));
     tree_is = λ y.
         trees_first st ms (last_tree_in (tildes_system y (st ++ ms ∷ [])))
         ∙ (ap (λ z. under_marks ms (shapes.negated (under_tildes st (last_tree_in z)))) (system_first st ms y)

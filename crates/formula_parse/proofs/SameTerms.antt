@@ -18,14 +18,14 @@ pub both : {X Y Z : Type 0} (f : X → Y → Z) {a b : X} {c d : Y} → a ≡ b 
 both f e h = cc
 
 pub record SameFactor (g : derived.Factor) (f : Factor) : Type 0 where
-  pub spells : (d : ℕ) (r : List Placed) → derived.factor_then g d r ≡ factor_then f d r
+  pub derived_is : (d : ℕ) (r : List Placed) → derived.factor_then g d r ≡ factor_then f d r
   pub tree_is : systems.factor_of trees g ≡ factor_tree f
   pub numeral_is : flaws.is_numeral g ≡ is_numeral f
   pub flaw_is : (w : Option Flaw) → flaws.factor_flaw w g ≡ factor_flaw w f
 
 -- the factors before the last, and the last
 pub record SameProd (ps : derived.Factors) (g : derived.Factor) (p : Prod) : Type 0 where
-  pub spells : (d : ℕ) (r : List Placed) → derived.factors_then ps d (derived.factor_then g d r) ≡ prod_then p d r
+  pub derived_is : (d : ℕ) (r : List Placed) → derived.factors_then ps d (derived.factor_then g d r) ≡ prod_then p d r
   pub before_is : systems.factors_of trees ps ≡ before_factor p
   pub last_is : systems.factor_of trees g ≡ last_factor p
   pub unknown_is : (l : Bool) → ((product_of l ps).unknown || not (flaws.is_numeral g)) ≡ has_unknown p
@@ -34,21 +34,21 @@ pub record SameProd (ps : derived.Factors) (g : derived.Factor) (p : Prod) : Typ
 
 -- the products before the last, and the last
 pub record SameTerm (ss : derived.Addends) (ps : derived.Factors) (g : derived.Factor) (t : Term) : Type 0 where
-  pub spells : (d : ℕ) (r : List Placed) → derived.addends_then ss d (derived.factors_then ps d (derived.factor_then g d r)) ≡ term_then t d r
+  pub derived_is : (d : ℕ) (r : List Placed) → derived.addends_then ss d (derived.factors_then ps d (derived.factor_then g d r)) ≡ term_then t d r
   pub before_is : systems.addends_of trees ss ≡ before_prod t
   pub last_is : multiplied (systems.factors_of trees ps) (systems.factor_of trees g) ≡ last_prod t
   pub numeral_is : flaws.is_numeral_term (derived.term ss ps g) ≡ is_numeral_term t
   pub flaw_is : (w : Option Flaw) → flaws.term_flaw w (derived.term ss ps g) ≡ term_flaw w t
 
 pub same_variable : (n : Name) → SameFactor (derived.variable n) (variable n)
-same_variable n = record { spells = λ d r. refl; tree_is = refl; numeral_is = refl; flaw_is = λ w. refl }
+same_variable n = record { derived_is = λ d r. refl; tree_is = refl; numeral_is = refl; flaw_is = λ w. refl }
 
 pub same_numeral : (n : ℕ) → SameFactor (derived.numeral n) (numeral n)
-same_numeral n = record { spells = λ d r. refl; tree_is = refl; numeral_is = refl; flaw_is = λ w. refl }
+same_numeral n = record { derived_is = λ d r. refl; tree_is = refl; numeral_is = refl; flaw_is = λ w. refl }
 
 pub same_parens : (ss : derived.Addends) (ps : derived.Factors) (g : derived.Factor) (t : Term) → SameTerm ss ps g t → SameFactor (derived.in_parens (derived.term ss ps g)) (in_parens t)
 same_parens ss ps g t s = record {
-  spells = λ d r. ap (λ z. here tokens.opening (suc d) ∷ z) (s.spells (suc d) (here tokens.closing d ∷ r));
+  derived_is = λ d r. ap (λ z. here tokens.opening (suc d) ∷ z) (s.derived_is (suc d) (here tokens.closing d ∷ r));
   tree_is = both summed s.before_is s.last_is;
   numeral_is = s.numeral_is;
   flaw_is = s.flaw_is;
@@ -56,7 +56,7 @@ same_parens ss ps g t s = record {
 
 pub same_factor : (g : derived.Factor) (f : Factor) → SameFactor g f → SameProd derived.no_factors g (factor f)
 same_factor g f s = record {
-  spells = s.spells;
+  derived_is = s.derived_is;
   before_is = refl;
   last_is = s.tree_is;
   unknown_is = λ l. ap not s.numeral_is;
@@ -73,7 +73,7 @@ noted_same {b = b} {d = d} {x = x} g e h k = ap (λ z. noted_if z g x) (both (λ
 
 pub same_times : (ps : derived.Factors) (g h : derived.Factor) (p : Prod) (b : ℕ) (f : Factor) → SameProd ps g p → SameFactor h f → SameProd (derived.factors ps g b) h (times p b f)
 same_times ps g h p b f s t = record {
-  spells = λ d r. s.spells d (here (tokens.times b) d ∷ derived.factor_then h d r) ∙ ap (λ z. prod_then p d (here (tokens.times b) d ∷ z)) (t.spells d r);
+  derived_is = λ d r. s.derived_is d (here (tokens.times b) d ∷ derived.factor_then h d r) ∙ ap (λ z. prod_then p d (here (tokens.times b) d ∷ z)) (t.derived_is d r);
   before_is = cc (s.before_is, s.last_is);
   last_is = t.tree_is;
   unknown_is = λ l. both (λ (a c : Bool). a || not c) (s.unknown_is l) t.numeral_is;
@@ -88,7 +88,7 @@ same_times ps g h p b f s t = record {
 
 pub same_prod : (ps : derived.Factors) (g : derived.Factor) (p : Prod) → SameProd ps g p → SameTerm derived.no_addends ps g (prod p)
 same_prod ps g p s = record {
-  spells = s.spells;
+  derived_is = s.derived_is;
   before_is = refl;
   last_is = both multiplied s.before_is s.last_is;
   numeral_is = s.numeral_is true;
@@ -97,9 +97,9 @@ same_prod ps g p s = record {
 
 pub same_signed : (ss : derived.Addends) (ps qs : derived.Factors) (g h : derived.Factor) (t : Term) (k : Sign) (p : Prod) → SameTerm ss ps g t → SameProd qs h p → SameTerm (derived.addends ss ps g k) qs h (signed t k p)
 same_signed ss ps qs g h t k p s u = record {
-  spells = λ d r.
-      s.spells d (here (tokens.sign k) d ∷ derived.factors_then qs d (derived.factor_then h d r))
-      ∙ ap (λ z. term_then t d (here (tokens.sign k) d ∷ z)) (u.spells d r);
+  derived_is = λ d r.
+      s.derived_is d (here (tokens.sign k) d ∷ derived.factors_then qs d (derived.factor_then h d r))
+      ∙ ap (λ z. term_then t d (here (tokens.sign k) d ∷ z)) (u.derived_is d r);
   before_is = cc (s.before_is, s.last_is);
   last_is = both multiplied u.before_is u.last_is;
   numeral_is = u.numeral_is false;
@@ -108,40 +108,40 @@ same_signed ss ps qs g h t k p s u = record {
 
 -- a whole term
 pub record Alike (g : derived.Term) (t : Term) : Type 0 where
-  pub spells : (d : ℕ) (r : List Placed) → derived.term_then g d r ≡ term_then t d r
+  pub derived_is : (d : ℕ) (r : List Placed) → derived.term_then g d r ≡ term_then t d r
   pub tree_is : systems.term_of trees g ≡ term_tree t
   pub flaw_is : (w : Option Flaw) → flaws.term_flaw w g ≡ term_flaw w t
 
 pub alike : (ss : derived.Addends) (ps : derived.Factors) (g : derived.Factor) (t : Term) → SameTerm ss ps g t → Alike (derived.term ss ps g) t
-alike ss ps g t s = record { spells = s.spells; tree_is = both summed s.before_is s.last_is; flaw_is = s.flaw_is }
+alike ss ps g t s = record { derived_is = s.derived_is; tree_is = both summed s.before_is s.last_is; flaw_is = s.flaw_is }
 
 -- the terms before the last, and the last
 pub record SameTerms (gs : derived.Terms) (g : derived.Term) (ts : Terms) : Type 0 where
-  pub spells : (d : ℕ) (r : List Placed) → derived.arguments_then gs d (derived.term_then g d r) ≡ terms_then ts d r
+  pub derived_is : (d : ℕ) (r : List Placed) → derived.arguments_then gs d (derived.term_then g d r) ≡ terms_then ts d r
   pub tree_is : shapes.terms (systems.terms_of trees gs) (systems.term_of trees g) ≡ terms_tree ts
   pub flaw_is : (w : Option Flaw) → flaws.term_flaw (flaws.terms_flaw w gs) g ≡ terms_flaw w ts
 
 pub same_one : (g : derived.Term) (t : Term) → Alike g t → SameTerms derived.no_terms g (term t)
-same_one g t s = record { spells = s.spells; tree_is = cc (s.tree_is); flaw_is = s.flaw_is }
+same_one g t s = record { derived_is = s.derived_is; tree_is = cc (s.tree_is); flaw_is = s.flaw_is }
 
 pub same_comma : (gs : derived.Terms) (g h : derived.Term) (ts : Terms) (t : Term) → SameTerms gs g ts → Alike h t → SameTerms (derived.terms gs g) h (comma ts t)
 same_comma gs g h ts t s u = record {
-  spells = λ d r.
-      s.spells d (here tokens.comma d ∷ derived.term_then h d r) ∙ ap (λ z. terms_then ts d (here tokens.comma d ∷ z)) (u.spells d r);
+  derived_is = λ d r.
+      s.derived_is d (here tokens.comma d ∷ derived.term_then h d r) ∙ ap (λ z. terms_then ts d (here tokens.comma d ∷ z)) (u.derived_is d r);
   tree_is = cc (s.tree_is, u.tree_is);
   flaw_is = λ w. ap (λ z. flaws.term_flaw z h) (s.flaw_is w) ∙ u.flaw_is (terms_flaw w ts);
 }
 
 -- a word, the places before the last, and the last
 pub record SameIndex (n : Name) (gs : derived.Terms) (g : derived.Term) (x : Index) : Type 0 where
-  pub spells : (d : ℕ) (r : List Placed) → derived.index_then (derived.index n gs g) d r ≡ index_then x d r
+  pub derived_is : (d : ℕ) (r : List Placed) → derived.index_then (derived.index n gs g) d r ≡ index_then x d r
   pub word_is : n ≡ index_word x
   pub places_are : shapes.terms (systems.terms_of trees gs) (systems.term_of trees g) ≡ index_places x
   pub flaw_is : (w : Option Flaw) → flaws.term_flaw (flaws.terms_flaw w gs) g ≡ index_flaw w x
 
 pub same_word : (n : Name) (g : derived.Term) (t : Term) → Alike g t → SameIndex n derived.no_terms g (word n t)
 same_word n g t s = record {
-  spells = λ d r. ap (λ z. here (tokens.name n) d ∷ here tokens.bracket (suc d) ∷ z) (s.spells (suc d) (here tokens.unbracket d ∷ r));
+  derived_is = λ d r. ap (λ z. here (tokens.name n) d ∷ here tokens.bracket (suc d) ∷ z) (s.derived_is (suc d) (here tokens.unbracket d ∷ r));
   word_is = refl;
   places_are = cc (s.tree_is);
   flaw_is = s.flaw_is;
@@ -149,9 +149,9 @@ same_word n g t s = record {
 
 pub same_further : (n : Name) (gs : derived.Terms) (g h : derived.Term) (x : Index) (t : Term) → SameIndex n gs g x → Alike h t → SameIndex n (derived.terms gs g) h (further x t)
 same_further n gs g h x t s u = record {
-  spells = λ d r.
-      s.spells d (here tokens.bracket (suc d) ∷ derived.term_then h (suc d) (here tokens.unbracket d ∷ r))
-      ∙ ap (λ z. index_then x d (here tokens.bracket (suc d) ∷ z)) (u.spells (suc d) (here tokens.unbracket d ∷ r));
+  derived_is = λ d r.
+      s.derived_is d (here tokens.bracket (suc d) ∷ derived.term_then h (suc d) (here tokens.unbracket d ∷ r))
+      ∙ ap (λ z. index_then x d (here tokens.bracket (suc d) ∷ z)) (u.derived_is (suc d) (here tokens.unbracket d ∷ r));
   word_is = s.word_is;
   places_are = cc (s.places_are, u.tree_is);
   flaw_is = λ w. ap (λ z. flaws.term_flaw z h) (s.flaw_is w) ∙ u.flaw_is (index_flaw w x);
@@ -159,23 +159,23 @@ same_further n gs g h x t s u = record {
 
 -- a whole index
 pub record AlikeIndex (g : derived.Index) (x : Index) : Type 0 where
-  pub spells : (d : ℕ) (r : List Placed) → derived.index_then g d r ≡ index_then x d r
+  pub derived_is : (d : ℕ) (r : List Placed) → derived.index_then g d r ≡ index_then x d r
   pub tree_is : systems.index_of trees g ≡ index_tree x
   pub flaw_is : (w : Option Flaw) → flaws.index_flaw w g ≡ index_flaw w x
 
 pub alike_index : (n : Name) (gs : derived.Terms) (g : derived.Term) (x : Index) → SameIndex n gs g x → AlikeIndex (derived.index n gs g) x
-alike_index n gs g x s = record { spells = s.spells; tree_is = cc (s.word_is, s.places_are); flaw_is = s.flaw_is }
+alike_index n gs g x s = record { derived_is = s.derived_is; tree_is = cc (s.word_is, s.places_are); flaw_is = s.flaw_is }
 
 pub record SameAtom (g : derived.Core) (a : Atom) : Type 0 where
-  pub spells : (d : ℕ) (r : List Placed) → derived.core_then g d r ≡ atom_then a d r
+  pub derived_is : (d : ℕ) (r : List Placed) → derived.core_then g d r ≡ atom_then a d r
   pub tree_is : (y : Name) → systems.core_of trees y g ≡ in_system y (fact a)
   pub system_is : (y : Name) → systems.core_system y g ≡ y
   pub flaw_is : (w : Option Flaw) → flaws.core_flaw w g ≡ atom_flaw w a
 
 pub same_compare : (g h : derived.Term) (e : Relation) (t u : Term) → Alike g t → Alike h u → SameAtom (derived.compare g e h) (compare t e u)
 same_compare g h e t u s v = record {
-  spells = λ d r.
-      s.spells d (here (tokens.relation e) d ∷ derived.term_then h d r) ∙ ap (λ z. term_then t d (here (tokens.relation e) d ∷ z)) (v.spells d r);
+  derived_is = λ d r.
+      s.derived_is d (here (tokens.relation e) d ∷ derived.term_then h d r) ∙ ap (λ z. term_then t d (here (tokens.relation e) d ∷ z)) (v.derived_is d r);
   tree_is = λ y. both (λ (a b : shapes.Term). in_system y (shapes.compare a e b)) s.tree_is v.tree_is;
   system_is = λ y. refl;
   flaw_is = λ w. ap (λ z. flaws.term_flaw z h) (s.flaw_is w) ∙ v.flaw_is (term_flaw w t);
@@ -183,8 +183,8 @@ same_compare g h e t u s v = record {
 
 pub same_words : (g h : derived.Index) (e : Relation) (x z : Index) → AlikeIndex g x → AlikeIndex h z → SameAtom (derived.words g e h) (words x e z)
 same_words g h e x z s v = record {
-  spells = λ d r.
-      s.spells d (here (tokens.relation e) d ∷ derived.index_then h d r) ∙ ap (λ q. index_then x d (here (tokens.relation e) d ∷ q)) (v.spells d r);
+  derived_is = λ d r.
+      s.derived_is d (here (tokens.relation e) d ∷ derived.index_then h d r) ∙ ap (λ q. index_then x d (here (tokens.relation e) d ∷ q)) (v.derived_is d r);
   tree_is = λ y. both (λ (a b : shapes.Index). in_system y (shapes.words a e b)) s.tree_is v.tree_is;
   system_is = λ y. refl;
   flaw_is = λ w. ap (λ q. flaws.index_flaw q h) (s.flaw_is w) ∙ v.flaw_is (index_flaw w x);
@@ -192,7 +192,7 @@ same_words g h e x z s v = record {
 
 pub same_word_letter : (g : derived.Index) (e : Relation) (l : Letter) (x : Index) → AlikeIndex g x → SameAtom (derived.word_letter g e l) (word_letter x e l)
 same_word_letter g e l x s = record {
-  spells = λ d r. s.spells d (here (tokens.relation e) d ∷ letter_then l d r);
+  derived_is = λ d r. s.derived_is d (here (tokens.relation e) d ∷ letter_then l d r);
   tree_is = λ y. ap (λ a. in_system y (shapes.word_letter a e (letter_of l))) s.tree_is;
   system_is = λ y. refl;
   flaw_is = s.flaw_is;
@@ -200,21 +200,21 @@ same_word_letter g e l x s = record {
 
 pub same_letter_word : (g : derived.Index) (e : Relation) (l : Letter) (x : Index) → AlikeIndex g x → SameAtom (derived.letter_word l e g) (letter_word l e x)
 same_letter_word g e l x s = record {
-  spells = λ d r. ap (λ z. letter_then l d (here (tokens.relation e) d ∷ z)) (s.spells d r);
+  derived_is = λ d r. ap (λ z. letter_then l d (here (tokens.relation e) d ∷ z)) (s.derived_is d r);
   tree_is = λ y. ap (λ a. in_system y (shapes.letter_word (letter_of l) e a)) s.tree_is;
   system_is = λ y. refl;
   flaw_is = s.flaw_is;
 }
 
 pub same_call_none : (n : Name) → SameAtom (derived.call_none n) (call_none n)
-same_call_none n = record { spells = λ d r. refl; tree_is = λ y. refl; system_is = λ y. refl; flaw_is = λ w. refl }
+same_call_none n = record { derived_is = λ d r. refl; tree_is = λ y. refl; system_is = λ y. refl; flaw_is = λ w. refl }
 
 pub same_call : (n : Name) (gs : derived.Terms) (g : derived.Term) (ts : Terms) → SameTerms gs g ts → SameAtom (derived.call n gs g) (call n ts)
 same_call n gs g ts s = record {
-  spells = λ d r.
+  derived_is = λ d r.
       ap
       (λ z. here tokens.call_sign d ∷ here (tokens.called n) d ∷ here tokens.opening (suc d) ∷ z)
-      (s.spells (suc d) (here tokens.closing d ∷ r));
+      (s.derived_is (suc d) (here tokens.closing d ∷ r));
   tree_is = λ y. ap (λ a. in_system y (shapes.call n a)) s.tree_is;
   system_is = λ y. refl;
   flaw_is = s.flaw_is;

@@ -1,4 +1,4 @@
--- A state of derivations spells what it has read.
+-- A state of derivations derives what it has read.
 use Rattle.std.proofs.Common.{◌≡◌, refl, sym, ◌∙◌, ap, ℕ, suc, Bool, true, false, List, [], ◌∷◌, Option, None, Some}
 use Rattle.formula_parse.specs.Tokens.{Name, Quantifier, Letter, Token, Placed, here, name, number, system, called, mark, call_sign, negation, quantifier, comma, opening, closing, bracket, unbracket, letter_sign, sign, minus, times, relation, connective, implies, iff, end}
 use Rattle.formula_parse.specs.Trees.{Names}
@@ -102,7 +102,7 @@ pub record Sane (s : State parts) : Type 0 where
 -- the state that comes has read a token more
 pub record ReadsOn (n : State parts) (k : List Placed → List Placed) (c : ℕ → Placed) : Type 0 where
   pub sane : Sane n
-  pub spells : (q : List Placed) → state_then n q ≡ k (c (deep n) ∷ q)
+  pub derived_is : (q : List Placed) → state_then n q ≡ k (c (deep n) ∷ q)
 
 abbrev pub GoesOn : Option (State parts) → (List Placed → List Placed) → (ℕ → Placed) → Type 0
 GoesOn None k c = Unit {0}
@@ -110,7 +110,7 @@ GoesOn (Some n) k c = ReadsOn n k c
 
 -- the same formula, with another position
 goes : {n : State parts} {k : List Placed → List Placed} {c : ℕ → Placed} → Sane n → ((q : List Placed) → state_then n q ≡ k (c (deep n) ∷ q)) → ReadsOn n k c
-goes s h = record { sane = s; spells = h }
+goes s h = record { sane = s; derived_is = h }
 
 true_false : {X : Type 0} → true ≡ false → X
 true_false e = cc
@@ -136,14 +136,14 @@ closed_goes s c (implies b) a = goes (record { body = record { based = a.body.ba
 closed_goes s c iff a = goes (record { body = record { based = a.body.based; empty = λ e. true_false e }; frames = a.frames }) (λ q. refl)
 closed_goes s c t a = close_goes s.flaw s.around (whole derivations s.body.prefix (ends c)) t a.frames
 
--- what was spelled before may be spelled otherwise
-respelled : (o : Option (State parts)) (k j : List Placed → List Placed) (c : ℕ → Placed) → ((q : List Placed) → k q ≡ j q) → GoesOn o k c → GoesOn o j c
-respelled None k j c e h = tt
-respelled (Some n) k j c e h = goes h.sane (λ q. h.spells q ∙ e _)
+-- what was derived before may be derived otherwise
+rederived : (o : Option (State parts)) (k j : List Placed → List Placed) (c : ℕ → Placed) → ((q : List Placed) → k q ≡ j q) → GoesOn o k c → GoesOn o j c
+rederived None k j c e h = tt
+rederived (Some n) k j c e h = goes h.sane (λ q. h.derived_is q ∙ e _)
 
 leave_goes : (s : State parts) (c : Core) (t : Token) → Sane s → GoesOn (leave derivations s c t) (state_then (at s (after_operand c))) (here t)
 leave_goes s c t a =
-    respelled
+    rederived
     (leave derivations s c t)
     _
     (state_then (at s (after_operand c)))

@@ -5,7 +5,7 @@ use Rattle.formula_parse.specs.Making.{Kinds}
 use Rattle.formula_parse.specs.Machine.{Position, done, step, depth}
 use Rattle.formula_parse.specs.Runs.{placed}
 use Rattle.formula_parse.specs.Made.{trees}
-use Rattle.formula_parse.specs.Limits.{IsInRange, IsAllowed, told_at}
+use Rattle.formula_parse.specs.Limits.{IsInRange, IsAllowed, fault_byte}
 use Rattle.formula_parse.specs.StateViews.{Machine, state_view}
 use Rattle.formula_parse.specs.declared.flaw.Flaw.{Flaw}
 use Rattle.formula_parse.specs.declared.state.State.{State}
@@ -19,7 +19,7 @@ use Rattle.formula_parse.specs.declared.flaw.Flaw.TheVariants as flaw
 abbrev pub Advances : Machine → Token → ℕ → Result State ParseFault → Type 0
 Advances s t at (Ok n) = (step trees s t ≡ Some (state_view n)) × IsAllowed (placed s.position t (depth (state_view n)))
 Advances s t at (Err (faults.Syntax b)) = (step trees s t ≡ None) × (b ≡ at)
-Advances s t at (Err (faults.Number b)) = IsSomeAnd (step trees s t) (λ n. (IsInRange (placed s.position t (depth n)) → ⊥) × (told_at (placed s.position t (depth n)) at ≡ b))
+Advances s t at (Err (faults.Number b)) = IsSomeAnd (step trees s t) (λ n. (IsInRange (placed s.position t (depth n)) → ⊥) × (fault_byte (placed s.position t (depth n)) at ≡ b))
 Advances s t at (Err (faults.Depth b)) = IsSomeAnd (step trees s t) (λ n. 128 < depth n) × (b ≡ at)
 Advances s t at (Err (faults.MixedChain b)) = ⊥
 Advances s t at (Err (faults.NotLinear b)) = ⊥

@@ -1,4 +1,4 @@
--- The grammar of formulas as it is printed: a data type for each line, a constructor for each of its cases, and the tokens that these spell.
+-- The grammar of formulas as it is printed: a data type for each line, a constructor for each of its cases, and the tokens that these derive.
 -- What repeats, as `prod { ("+" | "-") prod }`, is read from the left: it is one item, or what repeats and an item more.
 use Rattle.std.specs.Prelude.{ℕ, suc, Bool, true, false, List, [], ◌∷◌, ⊤}
 use Rattle.formula_parse.specs.Tokens as tokens
@@ -173,5 +173,5 @@ abbrev mutual
   core_then (atom a) d r = atom_then a d r
 
 -- the tokens of a text: those of a formula, and its end
-abbrev pub spelled : Formula → List Placed
-spelled f = formula_then f 0 (here tokens.end 0 ∷ [])
+abbrev pub derived_tokens : Formula → List Placed
+derived_tokens f = formula_then f 0 (here tokens.end 0 ∷ [])

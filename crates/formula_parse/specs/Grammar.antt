@@ -3,17 +3,17 @@ use Rattle.std.specs.Prelude.{◌≡◌, ℕ, ◌<◌, List, [], ◌∷◌, ◌+
 use Rattle.std.specs.List.{AllByRecursion}
 use Rattle.formula_parse.specs.Tokens.{Token, Placed, token_of, nesting_of, end}
 use Rattle.formula_parse.specs.Trees as trees
-use Rattle.formula_parse.specs.Limits.{IsInRange, IsAllowed, told_at}
+use Rattle.formula_parse.specs.Limits.{IsInRange, IsAllowed, fault_byte}
 use Rattle.formula_parse.specs.Flaws.{Flaw}
-use Rattle.formula_parse.specs.Formulas.{Formula, FormulaTakes, spelled}
+use Rattle.formula_parse.specs.Formulas.{Formula, FormulaTakes, derived_tokens}
 use Rattle.formula_parse.specs.FormulaTrees.{tree_of}
 use Rattle.formula_parse.specs.FormulaFlaws.{formula_flaw}
 
--- tokens that a formula spells, within the limits
+-- tokens that a formula derives, within the limits
 pub record Derives (ts : List Token) (text : Formula) : Type 0 where
-  pub spells : map token_of (spelled text) ≡ ts
+  pub derived_is : map token_of (derived_tokens text) ≡ ts
   pub takes_all : FormulaTakes text end
-  pub allowed : AllByRecursion IsAllowed (spelled text)
+  pub allowed : AllByRecursion IsAllowed (derived_tokens text)
 
 -- the grammar: tokens and their tree
 pub record Reads (ts : List Token) (tree : trees.Formula) : Type 0 where
@@ -30,7 +30,7 @@ pub record IsFlawed (ts : List Token) (flaw : Flaw) : Type 0 where
 
 -- a text goes on after what was read of it
 pub record GoesOn (text : Formula) (read more : List Placed) : Type 0 where
-  pub spells : spelled text ≡ read ++ more
+  pub derived_is : derived_tokens text ≡ read ++ more
   pub takes_all : FormulaTakes text end
 
 -- tokens that begin a text and keep the limits
@@ -62,7 +62,7 @@ pub record IsNumber (prefix : List Token) (token : Token) (byte at : ℕ) : Type
   pub place : Placed
   pub reaches : Reaches prefix token place
   pub out : IsInRange place → ⊥
-  pub told : told_at place byte ≡ at
+  pub byte_is : fault_byte place byte ≡ at
 
 -- the first token that passes a limit opens nesting 129
 pub record IsDepth (prefix : List Token) (token : Token) : Type 0 where

@@ -1,4 +1,4 @@
--- The tokens of a text that values stand for.
+-- The tokens of a text that values denote.
 use Rattle.std.specs.Prelude.{◌≡◌, ℕ, ◌<◌, ◌≤◌, ◌^◌, Bool, true, false, List, [], ◌∷◌, drop, length}
 use Rattle.formula_parse.specs.Tokens as tokens
 use Rattle.formula_parse.specs.Spots as spots

@@ -15,6 +15,6 @@ abbrev pub IsAllowed : Placed → Type 0
 IsAllowed p = (nesting_of p ≤ 128) × IsInRange p
 
 -- where a number out of its range is reported: a numeral at its byte, a letter at its `@`
-abbrev pub told_at : Placed → ℕ → ℕ
-told_at (here t d) b = b
-told_at (value_of l d) b = l.at
+abbrev pub fault_byte : Placed → ℕ → ℕ
+fault_byte (here t d) b = b
+fault_byte (value_of l d) b = l.at

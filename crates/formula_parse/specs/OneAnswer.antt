@@ -11,9 +11,9 @@ use Rattle.formula_parse.specs.declared.fault.ParseFault.{ParseFault}
 use Rattle.formula_parse.specs.declared.fault.ParseFault.TheVariants as faults
 
 -- what an answer reports: a tree, or a fault with its byte
-abbrev pub told : Result Formula ParseFault → Result trees.Formula ParseFault
-told (Ok f) = Ok (formula_view f)
-told (Err e) = Err e
+abbrev pub answer_view : Result Formula ParseFault → Result trees.Formula ParseFault
+answer_view (Ok f) = Ok (formula_view f)
+answer_view (Err e) = Err e
 
 -- every answer but out of memory
 abbrev pub IsOfTheText : Result Formula ParseFault → Type 0
@@ -22,7 +22,7 @@ IsOfTheText _ = ⊤
 
 -- no text has two trees, two faults, or one of each
 abbrev pub OneAnswer : Type 0
-OneAnswer = (text : List ℕ) (f g : Result Formula ParseFault) → IsOfTheText f → IsOfTheText g → Parses text f → Parses text g → told f ≡ told g
+OneAnswer = (text : List ℕ) (f g : Result Formula ParseFault) → IsOfTheText f → IsOfTheText g → Parses text f → Parses text g → answer_view f ≡ answer_view g
 
 -- no text has two trees
 abbrev pub OneTree : Type 0

@@ -23,14 +23,14 @@ mode_after _ = plain
 abbrev pub no_lexeme : Lexeme Token
 no_lexeme = lexeme_of other 1
 
--- the letters, digits and `_` at the front: a name of at most 64 bytes
+-- the longest prefix of letters, digits and `_`: a name of at most 64 bytes
 abbrev pub name_lexeme : (Name → Token) → List ℕ → Lexeme Token
 name_lexeme make text =
     if nat_le (prefix_len NameByte text) 64
     then lexeme_of (make (prefix_of NameByte text)) (prefix_len NameByte text)
     else no_lexeme
 
--- the digits at the front: a numeral; 2 ^ 64 stands for each that is no less
+-- the longest prefix of digits: a numeral; 2 ^ 64 means each that is no less
 abbrev pub number_lexeme : List ℕ → Lexeme Token
 number_lexeme text = lexeme_of (number (min (value_of (prefix_of Digit text)) (2 ^ 64))) (prefix_len Digit text)
 
@@ -107,7 +107,7 @@ plain_lexeme at text =
     then letter_lexeme text
     else sign_lexeme at (slice_index text 0) (slice_index text 1) (slice_index text 2)
 
--- how many bytes a system `msd_..` or `lsd_..` at the front has; 0 where none is there
+-- the length of the prefix that is a system `msd_..` or `lsd_..`; 0 if there is none
 abbrev pub system_len : List ℕ → ℕ
 system_len text = if is_direction (take 4 text) && begins_in Alphanumeric (drop 4 text) then prefix_len Alphanumeric (drop 4 text) + 4 else 0
 

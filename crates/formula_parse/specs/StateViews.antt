@@ -1,4 +1,4 @@
--- The tokens, flaws and states that values stand for.
+-- The tokens, flaws and states that values denote.
 use Rattle.std.specs.Prelude.{List, [], ◌∷◌, Option, None, Some, Vec}
 use Rattle.std.specs.List.{fold}
 use Rattle.std.specs.declared.alloc.Global.{Global}

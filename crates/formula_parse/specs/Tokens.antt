@@ -30,7 +30,7 @@ pub data Sign : Type 0 where
 pub data Token : Type 0 where
   -- a variable or a word
   name : Name → Token
-  -- a numeral; 2 ^ 64 stands for each that is no less
+  -- a numeral; 2 ^ 64 means each that is no less
   number : ℕ → Token
   -- a system after `?`, a name after `$`
   system : Name → Token

@@ -1,4 +1,4 @@
--- The trees that values stand for.
+-- The trees that values denote.
 use Rattle.std.specs.Prelude.{List, map}
 use Rattle.std.specs.List.{fold}
 use Rattle.formula_parse.specs.Tokens as tokens

@@ -197,7 +197,7 @@ fn plain_lexeme(alloc: Global, at: usize, rest: &[u8]) -> Result<Lexeme, OutOfMe
     Ok(sign_lexeme(at, first, byte_at(rest, 1), byte_at(rest, 2)))
 }
 
-/// How many bytes the system at the front has, or 0 where none is there.
+/// The length of the prefix that is a system, or 0 if there is none.
 #[tactic(auto, using(crate::proofs::SpotSteps::system_short))]
 fn system_len(rest: &[u8]) -> usize
     ensures len { result ≡ spots.system_len rest.now }

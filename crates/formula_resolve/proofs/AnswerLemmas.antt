@@ -7,11 +7,11 @@ use Rattle.formula_resolve.specs.declared.fault.ResolveFault.TheVariants as faul
 
 -- a fault that is reported first is reported of all
 pub tells_prefix : (X Y : Type 0) (x y : Option ResolveFault) (e : ResolveFault) → Tells {X = X} x (Err e) → Tells {X = Y} (option_or x y) (Err e)
-tells_prefix X Y x y (faults.Plain n) told = ap (λ o. option_or o y) told
-tells_prefix X Y x y (faults.Arity n tracks given) told = ap (λ o. option_or o y) told
-tells_prefix X Y x y (faults.Clash n s t) told = ap (λ o. option_or o y) told
-tells_prefix X Y x y (faults.Direction s t) told = ap (λ o. option_or o y) told
-tells_prefix X Y x y faults.Memory told = told
+tells_prefix X Y x y (faults.Plain n) known = ap (λ o. option_or o y) known
+tells_prefix X Y x y (faults.Arity n tracks given) known = ap (λ o. option_or o y) known
+tells_prefix X Y x y (faults.Clash n s t) known = ap (λ o. option_or o y) known
+tells_prefix X Y x y (faults.Direction s t) known = ap (λ o. option_or o y) known
+tells_prefix X Y x y faults.Memory known = known
 
 -- where neither of two faults is there
 pub none_of_both : (x y : Option ResolveFault) → option_or x y ≡ None → (x ≡ None) × (y ≡ None)

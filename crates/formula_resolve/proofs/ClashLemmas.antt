@@ -76,10 +76,10 @@ pub clash_step : (os : List Occurrence) (i : ℕ) (o : Occurrence) (m : Named Na
 clash_step os i o m within at firsts before =
     before
     ∙ ap (clash_after (take i os)) (drop_more os i o within ∙ ap (λ p. p ∷ drop (i + 1) os) (sym at))
-    ∙ (λ k. option_or (clash_with (told k) o) (clash_after (prefix k) (drop (i + 1) os)))
+    ∙ (λ k. option_or (clash_with (known k) o) (clash_after (prefix k) (drop (i + 1) os)))
   where
-    told : first_system (take i os) o ≡ get m (binding o)
-    told = sym (firsts_tell (take i os) o) ∙ ap (λ n. get n (binding o)) (sym firsts)
+    known : first_system (take i os) o ≡ get m (binding o)
+    known = sym (firsts_tell (take i os) o) ∙ ap (λ n. get n (binding o)) (sym firsts)
 
     prefix : take i os ++ o ∷ [] ≡ take (i + 1) os
     prefix = ap (λ p. take i os ++ p ∷ []) at ∙ sym (take_more os i o within)

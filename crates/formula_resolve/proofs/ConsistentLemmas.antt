@@ -35,14 +35,14 @@ at_first (Some s) o rest none =
       | false ↦ λ apart h. absurd (not_clash (Clash o.name s o.system) h)
     ] refl none
 
-told_in : (prefix rest : List Occurrence) → clash_after prefix rest ≡ None → (p : Occurrence) → Contains rest p → first_system (prefix ++ rest) p ≡ Some p.system
-told_in prefix [] none p there = absurd (Contains-none p there)
-told_in prefix (o ∷ os) none p there =
+system_in : (prefix rest : List Occurrence) → clash_after prefix rest ≡ None → (p : Occurrence) → Contains rest p → first_system (prefix ++ rest) p ≡ Some p.system
+system_in prefix [] none p there = absurd (Contains-none p there)
+system_in prefix (o ∷ os) none p there =
     elim (Contains-cases o os p there) [
       | inl same ↦ subst (λ (q : Occurrence). first_system (prefix ++ o ∷ os) q ≡ Some q.system) same
           (first_system-append prefix (o ∷ os) o ∙ at_first (first_system prefix o) o os (none_of_both (clash_with (first_system prefix o) o) (clash_after (prefix ++ o ∷ []) os) none).0)
       | inr later ↦ ap (λ qs. first_system qs p) (sym (append_assoc prefix (o ∷ []) os))
-          ∙ told_in (prefix ++ o ∷ []) os (none_of_both (clash_with (first_system prefix o) o) (clash_after (prefix ++ o ∷ []) os) none).1 p later
+          ∙ system_in (prefix ++ o ∷ []) os (none_of_both (clash_with (first_system prefix o) o) (clash_after (prefix ++ o ∷ []) os) none).1 p later
     ]
 
 same_some : (s t : Name) → Some s ≡ Some t → s ≡ t
@@ -50,7 +50,7 @@ same_some s t same = cc
 
 pub no_clash_is_consistent : NoClashIsConsistent
 no_clash_is_consistent os none o p o_there p_there same =
-    same_some o.system p.system (sym (told_in [] os none o o_there) ∙ first_same ∙ told_in [] os none p p_there)
+    same_some o.system p.system (sym (system_in [] os none o o_there) ∙ first_same ∙ system_in [] os none p p_there)
   where
     first_same : first_system os o ≡ first_system os p
     first_same = sym (firsts_tell os o) ∙ ap (get (firsts_of os)) (sym ((bytes_eq-Decides (binding p) (binding o)).0 same)) ∙ firsts_tell os p

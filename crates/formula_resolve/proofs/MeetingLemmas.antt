@@ -53,13 +53,13 @@ met_more ps q m n before here = record {
   first = first_is;
   other =
       here.other
-      ∙ (λ i. option_or (before.other i) (other_in (told i) q))
+      ∙ (λ i. option_or (before.other i) (other_in (known i) q))
       ∙ other_more (first_met ps) (met_in None q) ps q refl
       ∙ ap (λ o. other_met o (ps ++ q ∷ [])) (sym (first_met_more ps q));
 }
   where
-    told : n.first ≡ option_or (first_met ps) (met_in None q)
-    told = here.first ∙ ap (λ o. option_or o (met_in None q)) before.first
+    known : n.first ≡ option_or (first_met ps) (met_in None q)
+    known = here.first ∙ ap (λ o. option_or o (met_in None q)) before.first
 
     first_is : n.first ≡ first_met (ps ++ q ∷ [])
-    first_is = told ∙ sym (first_met_more ps q)
+    first_is = known ∙ sym (first_met_more ps q)

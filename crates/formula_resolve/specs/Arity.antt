@@ -8,7 +8,7 @@ use Rattle.formula_resolve.specs.declared.mention.Mention.TheVariants.{Marked, C
 use Rattle.formula_resolve.specs.declared.fault.ResolveFault.{ResolveFault}
 use Rattle.formula_resolve.specs.declared.fault.ResolveFault.TheVariants.{Plain, Arity}
 
--- a count as a fault keeps it: 2 ^ 32 - 1 stands for each that is no less
+-- a count as a fault keeps it: 2 ^ 32 - 1 means each that is no less
 abbrev pub kept_count : ℕ → ℕ
 kept_count n = min n 4294967295
 

@@ -78,7 +78,7 @@ fn check_system(
     occurrence: &Occurrence,
     firsts: &mut FirstSystems,
 ) -> Result<(), ResolveFault>
-    ensures told { Tells (clash_with (finite.get firsts.old (binding_of occurrence.now)) occurrence.now) result }
+    ensures clash_is { Tells (clash_with (finite.get firsts.old (binding_of occurrence.now)) occurrence.now) result }
     ensures firsts { OnOk result (firsts.new ≡ with_absent (finite.get firsts.old (binding_of occurrence.now)) firsts.old (binding_of occurrence.now) occurrence.now.system) }
 {
     let key = binding(alloc, occurrence)?;

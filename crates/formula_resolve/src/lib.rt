@@ -14,7 +14,7 @@
 //! of the number of names. What a formula says of numbers plays no part here.
 #![tactic(auto)]
 
-// the systems of the tracks that names stand for
+// the systems of the tracks, by name
 mod headers;
 
 // what a formula mentions, from left to right

@@ -129,7 +129,7 @@ fn added(alloc: Global, texts: &[(&str, &str)]) -> Result<Macros, NoAnswer> {
 }
 
 // A fault with what it keeps.
-fn told(alloc: Global, fault: &MacroFault) -> Result<String, AllocError> {
+fn line_of(alloc: Global, fault: &MacroFault) -> Result<String, AllocError> {
     match fault {
         MacroFault::Syntax(at) => format!(in alloc; "! Syntax {at}"),
         MacroFault::Unknown(name) => format!(in alloc; "! Unknown {}", name.as_str()),
@@ -146,7 +146,7 @@ fn told(alloc: Global, fault: &MacroFault) -> Result<String, AllocError> {
 fn shown(alloc: Global, text: &str, macros: &Macros) -> Result<String, AllocError> {
     match expand(alloc, text.as_bytes(), macros) {
         Ok(bytes) => string_of(alloc, &bytes),
-        Err(fault) => told(alloc, &fault),
+        Err(fault) => line_of(alloc, &fault),
     }
 }
 

@@ -145,7 +145,7 @@ fn written(alloc: Global, variables: &[Variable]) -> Result<String, AllocError> 
 }
 
 // A fault with what it keeps.
-fn told(alloc: Global, fault: &ResolveFault) -> Result<String, AllocError> {
+fn line_of(alloc: Global, fault: &ResolveFault) -> Result<String, AllocError> {
     match fault {
         ResolveFault::Plain(name) => {
             let name = name.as_str();
@@ -174,7 +174,7 @@ fn told(alloc: Global, fault: &ResolveFault) -> Result<String, AllocError> {
 fn resolution(alloc: Global, formula: &Formula, headers: &Headers) -> Result<String, NoAnswer> {
     match resolve(alloc, formula, headers) {
         Ok(resolved) => Ok(written(alloc, &resolved.variables)?),
-        Err(fault) => Ok(told(alloc, &fault)?),
+        Err(fault) => Ok(line_of(alloc, &fault)?),
     }
 }
 

@@ -22,12 +22,12 @@ pub chain_more : (m : Meanings) (os : Operands) (f : Formula) (j : Joint) (a : A
     → ((p : Bool) → ChainHolds m os a (IsTrue p) ↔ AfterChain prefix (IsTrue p)) → IsTrue is ↔ Holds m f a → IsTrue holds ↔ AfterChain prefix (IsTrue is)
     → (p : Bool) → ChainHolds m (operands os f j) a (IsTrue p) ↔ Joins j (IsTrue holds) (IsTrue p)
 chain_more m os f j a prefix is holds so_far here now p = (
-  joined_same j (ChainHolds m os a (Holds m f a)) (IsTrue p) (IsTrue holds) (IsTrue p) told.0 told.1 (λ h. h) (λ h. h),
-  joined_same j (IsTrue holds) (IsTrue p) (ChainHolds m os a (Holds m f a)) (IsTrue p) told.1 told.0 (λ h. h) (λ h. h),
+  joined_same j (ChainHolds m os a (Holds m f a)) (IsTrue p) (IsTrue holds) (IsTrue p) chain_is.0 chain_is.1 (λ h. h) (λ h. h),
+  joined_same j (IsTrue holds) (IsTrue p) (ChainHolds m os a (Holds m f a)) (IsTrue p) chain_is.1 chain_is.0 (λ h. h) (λ h. h),
 )
   where
-    told : ChainHolds m os a (Holds m f a) ↔ IsTrue holds
-    told = iff_trans (ChainHolds m os a (Holds m f a)) (ChainHolds m os a (IsTrue is)) (IsTrue holds)
+    chain_is : ChainHolds m os a (Holds m f a) ↔ IsTrue holds
+    chain_is = iff_trans (ChainHolds m os a (Holds m f a)) (ChainHolds m os a (IsTrue is)) (IsTrue holds)
         (chain_last m os a (Holds m f a) (IsTrue is) (iff_sym (IsTrue is) (Holds m f a) here))
         (iff_trans (ChainHolds m os a (IsTrue is)) (AfterChain prefix (IsTrue is)) (IsTrue holds) (so_far is) (iff_sym (IsTrue holds) (AfterChain prefix (IsTrue is)) now))
 

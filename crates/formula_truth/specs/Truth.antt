@@ -5,7 +5,7 @@ use Rattle.formula_parse.specs.Trees.{Names, no_names, names, Index, Fact, compa
 use Rattle.formula_truth.specs.Assignments.{Assignment, with_value}
 use Rattle.formula_truth.specs.Values.{value, values}
 
--- What names stand for: of which numbers an automaton holds, and which letter a word has at a place, where it has one.
+-- What names mean: of which numbers an automaton holds, and which letter a word has at a place, where it has one.
 pub record Meanings : Type 1 where
   pub holds_of : Name → List ℕ → Type 0
   pub has_letter : Name → List ℕ → ℤ → Type 0

@@ -7,8 +7,8 @@ use digit_tuple::direction::Direction;
 use num_system::num_system::NumSystem;
 use std::alloc::Global;
 
-// A system by its name, its base and its direction, a word that spells 5, 7 and 12 in it, and one that spells 5, 7 and 13. The letter of the digits x, y and z
-// in base k is k * k * x + k * y + z.
+// A system by its name, its base and its direction, a word that represents 5, 7 and 12 in it, and one that represents
+// 5, 7 and 13. The letter of the digits x, y and z in base k is k * k * x + k * y + z.
 pub static SUMS: [(&str, u32, Direction, &[u32], &[u32]); 8] = [
     ("msd_2", 2, Direction::Msd, &[1, 7, 2, 6], &[1, 7, 2, 7]),
     ("lsd_2", 2, Direction::Lsd, &[6, 2, 7, 1], &[7, 2, 7, 1]),

@@ -1,7 +1,7 @@
 //! Words of several relations: the line of the step and some letters, or why there is no word.
 
 use crate::outcomes::{expect, letter_text, lines_of};
-use crate::reading_steps::{Numerals, relation_over, systems_for};
+use crate::reading_steps::{Base, relation_over, systems_for};
 use crate::row_fault::RowFault;
 use combinations::combine::combine;
 use combinations::combine_fault::CombineFault;
@@ -18,15 +18,15 @@ use word_output::word::Word;
 #[derive(Clone, Copy)]
 enum Listed {
     Truth,
-    File(&'static [u8], Direction, &'static [Numerals]),
+    File(&'static [u8], Direction, &'static [Base]),
 }
 
 // The relation.
 fn relation_of(alloc: Global, listed: Listed) -> Result<Relation, RowFault> {
     match listed {
         Listed::Truth => Ok(Relation::truth(alloc, true)?),
-        Listed::File(text, direction, numerals) => {
-            let systems = systems_for(alloc, numerals, direction)?;
+        Listed::File(text, direction, bases) => {
+            let systems = systems_for(alloc, bases, direction)?;
             let mut steps = Steps::new(alloc, 1000);
             relation_over(alloc, text, &systems, &mut steps)
         }
@@ -71,7 +71,7 @@ fn letters_of(alloc: Global, word: &Word, words: &[&[u32]]) -> Result<String, Ro
 struct Row {
     name: &'static str,
     list: &'static [(Listed, i32)],
-    system: Numerals,
+    system: Base,
     limit: u32,
     words: &'static [&'static [u32]],
     wanted: &'static str,
@@ -81,7 +81,7 @@ struct Row {
 fn combined(
     alloc: Global,
     list: &[(Listed, i32)],
-    system: Numerals,
+    system: Base,
     limit: u32,
     words: &[&[u32]],
 ) -> Result<String, RowFault> {
@@ -123,7 +123,7 @@ const IN_MSD_3: Listed = Listed::File(b"msd_3\n0 1\n* -> 0\n", Direction::Msd, &
 
 const IN_MSD_FIB: Listed = Listed::File(b"msd_fib\n0 1\n* -> 0\n", Direction::Msd, &[None]);
 
-// The representations of 0 to 6 in msd_2. In msd_fib 11 and 110 spell no number.
+// The representations of 0 to 6 in msd_2. In msd_fib 11 and 110 represent no number.
 const NUMBERS: &[&[u32]] = &[
     &[],
     &[1],

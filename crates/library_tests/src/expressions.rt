@@ -176,7 +176,7 @@ fn read(alloc: Global, header: &Header, bytes: &[u8], longest: usize) -> Result<
     Ok(count)
 }
 
-// How many of these words, their letters places in the bytes, spell an expression.
+// How many of these words, their letters indices into the bytes, are the text of an expression.
 fn read_of(
     alloc: Global,
     header: &Header,
@@ -185,14 +185,14 @@ fn read_of(
 ) -> Result<usize, RowFault> {
     let mut count: usize = 0;
     for word in words {
-        let text = spelled(alloc, bytes, word.letters())?;
+        let text = bytes_at(alloc, bytes, word.letters())?;
         count = count.saturating_add(usize::from(is_expression(alloc, header, &text)));
     }
     Ok(count)
 }
 
 // The bytes at these places.
-fn spelled(alloc: Global, bytes: &[u8], places: &[u32]) -> Result<Vec<u8>, RowFault> {
+fn bytes_at(alloc: Global, bytes: &[u8], places: &[u32]) -> Result<Vec<u8>, RowFault> {
     let mut text = Vec::new(alloc);
     for place in places {
         text.push(*bytes.get(*place as usize).ok_or(RowFault::Form)?)?;

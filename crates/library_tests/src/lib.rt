@@ -45,6 +45,10 @@ mod transition_counts;
 #[cfg(test)]
 mod minimal;
 
+// the canonical automaton with a count of looks
+#[cfg(test)]
+mod counted_looks;
+
 // texts of expressions, with their trees and faults
 #[cfg(test)]
 mod expressions;

@@ -28,7 +28,7 @@ fn letter_of(alloc: Global, member: i32) -> Result<LetterTuple, RowFault> {
     Ok(letter)
 }
 
-// The symbol that a byte stands for: a digit, or a sign, where `,` puts one expression after another, and `_` is
+// The symbol that a byte means: a digit, or a sign, where `,` puts one expression after another, and `_` is
 // the empty word.
 fn symbol_of(alloc: Global, byte: u8) -> Result<PostfixSymbol, RowFault> {
     Ok(match byte {

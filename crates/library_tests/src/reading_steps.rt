@@ -123,14 +123,14 @@ fn files_have_these_transitions(rt: HostRuntime) {
     expect_value(&rt, "files", &found, &Some(TRANSITIONS.len()));
 }
 
-/// A system: the base of this number, or the Fibonacci system where it is None.
-pub type Numerals = Option<u32>;
+/// The base of a system, or None for the Fibonacci system.
+pub type Base = Option<u32>;
 
 // The sealed system.
-fn sealed(alloc: Global, numerals: Numerals, direction: Direction) -> Result<System, RowFault> {
-    match numerals {
-        Some(base) => {
-            let system = BaseK::new(base, direction).ok_or(RowFault::Form)?;
+fn sealed(alloc: Global, base: Base, direction: Direction) -> Result<System, RowFault> {
+    match base {
+        Some(number) => {
+            let system = BaseK::new(number, direction).ok_or(RowFault::Form)?;
             Ok(seal(alloc, &system, 1000)?)
         }
         None => Ok(seal(alloc, &Fib::new(direction), 1000)?),
@@ -143,7 +143,7 @@ struct Row {
     name: &'static str,
     text: &'static [u8],
     direction: Direction,
-    systems: &'static [Numerals],
+    systems: &'static [Base],
     widths: [u32; 3],
     sizes: [u32; 3],
     accepted: &'static [&'static [u32]],
@@ -275,12 +275,12 @@ static ROWS: [Row; 11] = [
 /// Systems of one direction, sealed.
 pub fn systems_for(
     alloc: Global,
-    listed: &[Numerals],
+    listed: &[Base],
     direction: Direction,
 ) -> Result<Vec<Rc<System>>, RowFault> {
     let mut systems = Vec::new(alloc);
-    for numerals in listed {
-        systems.push(Rc::new(alloc, sealed(alloc, *numerals, direction)?)?)?;
+    for base in listed {
+        systems.push(Rc::new(alloc, sealed(alloc, *base, direction)?)?)?;
     }
     Ok(systems)
 }

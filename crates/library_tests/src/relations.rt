@@ -57,8 +57,8 @@ fn letter_at(base: u32, weight: u32, numbers: &[u32]) -> u32 {
     letter
 }
 
-// The word of so many letters that spells numbers with no more digits.
-fn spelled(
+// The word of so many letters that represents numbers with no more digits.
+fn word_of(
     alloc: Global,
     shared: &Shared,
     length: u32,
@@ -104,7 +104,7 @@ fn holds(
     numbers: [u32; 3],
 ) -> Result<bool, RowFault> {
     let tuple = numbers_of(alloc, relation, numbers)?;
-    let word = spelled(alloc, shared, length, &tuple)?;
+    let word = word_of(alloc, shared, length, &tuple)?;
     Ok(relation.dfa().accepts(&word))
 }
 

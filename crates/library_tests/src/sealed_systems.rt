@@ -35,8 +35,8 @@ pub fn sealed(
     Ok(seal(alloc, &base_of(number, direction)?, limit)?)
 }
 
-// The word of so many letters that spells two numbers in a base, if they have no more digits.
-fn spelled(
+// The word of so many letters that represents two numbers in a base, if they have no more digits.
+fn word_of(
     alloc: Global,
     system: BaseK,
     length: u32,
@@ -62,8 +62,8 @@ fn spelled(
     })
 }
 
-// Whether the relations say what they should of two numbers, by a word that spells them. Where the first is 0, the word
-// spells the second on one track too.
+// Whether the relations say what they should of two numbers, by a word that represents them. Where the first is 0,
+// the word represents the second on one track too.
 fn say(sealed: &System, word: &[u32], x: u32, y: u32) -> bool {
     sealed.equal().accepts(word) == (x == y)
         && sealed.less().accepts(word) == (x < y)
@@ -79,7 +79,7 @@ fn say_of_word(
     length: u32,
     (x, y): (u32, u32),
 ) -> Result<bool, RowFault> {
-    match spelled(alloc, system, length, x, y)? {
+    match word_of(alloc, system, length, x, y)? {
         Some(word) => Ok(say(sealed, &word, x, y)),
         None => Ok(true),
     }

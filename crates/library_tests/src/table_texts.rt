@@ -2,7 +2,7 @@
 //!
 //! A line has the tracks, each its name, `:` and how many digits it has, then `=`, then an expression of the words or a
 //! table: `/` for each state, `!` after it where it accepts, and its transitions, each a letter, `>` and a state. So
-//! `x:2 = 0*1` and `x:2 = / 0>0 1>1/!` are one automaton. A width may be in front, and is not read.
+//! `x:2 = 0*1` and `x:2 = / 0>0 1>1/!` are one automaton. A width may come first, and is not read.
 
 ghost use Rattle.std.specs.Prelude.{◌≡◌, IfOk};
 ghost use Rattle.minimise.specs.Canonical.{IsCanonical};

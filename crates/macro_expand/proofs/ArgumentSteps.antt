@@ -51,8 +51,8 @@ first_of_one bytes argument after len is prefix rest none =
 -- one argument more
 pub arguments_more : (old new : List (Bor (List ℕ))) (argument : Bor (List ℕ)) (bytes : List ℕ) (left : Option (List ℕ)) (whole : List (List ℕ))
     → map (λ a. a.now) old ++ cut 0 0 bytes ≡ whole → cut 0 0 bytes ≡ argument.now ∷ arguments_left left → new ≡ old ++ argument ∷ [] → map (λ a. a.now) new ++ arguments_left left ≡ whole
-arguments_more old new argument bytes left whole told parted pushed =
+arguments_more old new argument bytes left whole whole_is parted pushed =
     ap (λ (all : List (Bor (List ℕ))). map (λ a. a.now) all ++ arguments_left left) pushed
     ∙ (ap (λ (all : List (List ℕ)). all ++ arguments_left left) (map_push (λ (a : Bor (List ℕ)). a.now) old argument)
     ∙ (append_assoc (map (λ a. a.now) old) (argument.now ∷ []) (arguments_left left)
-    ∙ (ap (λ rest. map (λ a. a.now) old ++ rest) (sym parted) ∙ told)))
+    ∙ (ap (λ rest. map (λ a. a.now) old ++ rest) (sym parted) ∙ whole_is)))

@@ -9,13 +9,13 @@ use Rattle.macro_expand.proofs.AnswerSteps.{Fails-handed_on}
 use Rattle.macro_expand.proofs.SegmentSteps.{filled_first}
 use Rattle.macro_expand.proofs.EachSteps.{limited_more}
 
-module _ (arguments : List (List ℕ)) (rest : List ℕ) (first : Segment') (is : IsFirstSegment rest first) (made piece whole : List ℕ) (text_is : piece ≡ filled arguments (segments_view first)) (told : made ++ filled arguments (segments rest) ≡ whole) where
+module _ (arguments : List (List ℕ)) (rest : List ℕ) (first : Segment') (is : IsFirstSegment rest first) (made piece whole : List ℕ) (text_is : piece ≡ filled arguments (segments_view first)) (whole_is : made ++ filled arguments (segments rest) ≡ whole) where
   -- what was made, the segment, and what follows it
   after : (made ++ piece) ++ filled arguments (segments (drop (segment_len first) rest)) ≡ whole
   after =
       append_assoc made piece (filled arguments (segments (drop (segment_len first) rest)))
       ∙ (ap (λ bs. made ++ (bs ++ filled arguments (segments (drop (segment_len first) rest)))) text_is
-      ∙ (ap (λ bs. made ++ bs) (sym (filled_first rest first is arguments)) ∙ told))
+      ∙ (ap (λ bs. made ++ bs) (sym (filled_first rest first is arguments)) ∙ whole_is))
 
   -- the segment is put there
   pub fill_more : (new left : List ℕ) (len : ℕ) → new ≡ made ++ piece → len ≡ segment_len first → left ≡ drop len rest → new ++ filled arguments (segments left) ≡ whole

@@ -1,4 +1,4 @@
--- The number that digits spell, digit by digit.
+-- The number that digits denote, digit by digit.
 use Rattle.std.proofs.Common.{◌≡◌, ℕ, suc, ◌+◌, ◌*◌, ◌-◌, ◌<◌, min, List, [], ◌∷◌, length, get_or, drop, arith, drop-cons}
 use Rattle.text_grammar.specs.Numbers.{value_after}
 

@@ -86,10 +86,10 @@ first_sign bytes after digits r follows mark some ahead none e =
 -- a place comes first
 pub first_place : (bytes after : List ℕ) (digits number len : ℕ) → after ≡ drop 1 bytes → len_before 37 bytes ≡ 0 → 0 < length bytes → digits ≡ prefix_len Digit after → digits ≤ length after → 0 < digits → number ≡ number_of (take digits after) → len ≡ digits + 1
     → IsFirstSegment bytes (segment.Place number len)
-first_place bytes after digits number len follows mark some ahead inside more spelled l =
+first_place bytes after digits number len follows mark some ahead inside more derived l =
     let is : digits ≡ prefix_len Digit (drop 1 bytes) = ahead ∙ ap (prefix_len Digit) follows in
     let within : digits ≤ length (drop 1 bytes) = omega (arith, inside, ap length follows) in
-    let value : number ≡ number_of (take digits (drop 1 bytes)) = spelled ∙ ap (λ bs. number_of (take digits bs)) follows in
+    let value : number ≡ number_of (take digits (drop 1 bytes)) = derived ∙ ap (λ bs. number_of (take digits bs)) follows in
     let b : bytes ≡ 37 ∷ drop 1 bytes = at_mark 37 bytes mark some in
     let one : digits + 1 ≡ suc digits = omega arith in
     let left : drop (suc digits) bytes ≡ drop digits (drop 1 bytes) = ap (drop (suc digits)) b in

@@ -23,7 +23,7 @@ module _ (of_call : OfCalls) (text : List ℕ) (at len : ℕ) (first : Piece') (
   -- the first piece is expanded
   pub left_after : (done new : Expanded) (whole : Result Expanded MacroFault) → each (expand_piece of_call) (pieces_from at 0 (drop at text)) done ≡ whole → each (expand_piece of_call) (pieces_view first) done ≡ Ok new
       → each (expand_piece of_call) (pieces_from (at + len) 0 (drop (at + len) text)) new ≡ whole
-  left_after done new whole told h = sym (left done ∙ ap (λ r. r >>= each (expand_piece of_call) (pieces_from (at + len) 0 (drop (at + len) text))) h) ∙ told
+  left_after done new whole whole_is h = sym (left done ∙ ap (λ r. r >>= each (expand_piece of_call) (pieces_from (at + len) 0 (drop (at + len) text))) h) ∙ whole_is
 
   -- the first piece lies within the text
   pub left_within : at ≤ length text → at + len ≤ length text
@@ -33,6 +33,6 @@ module _ (of_call : OfCalls) (text : List ℕ) (at len : ℕ) (first : Piece') (
   pub left_refused_so : (done : Expanded) (e : MacroFault) → each (expand_piece of_call) (pieces_view first) done ≡ Err e → each (expand_piece of_call) (pieces_from at 0 (drop at text)) done ≡ Err e
   left_refused_so done e h = left done ∙ ap (λ r. r >>= each (expand_piece of_call) (pieces_from (at + len) 0 (drop (at + len) text))) h
 
--- nothing is left behind the last byte
+-- nothing is left after the last byte
 pub nothing_left : (of_call : OfCalls) (text : List ℕ) (at : ℕ) (done : Expanded) → length text ≤ at → each (expand_piece of_call) (pieces_from at 0 (drop at text)) done ≡ Ok done
 nothing_left of_call text at done h = ap (λ bs. each (expand_piece of_call) (pieces_from at 0 bs) done) (drop_all at text h)

@@ -8,7 +8,7 @@ use Rattle.macro_expand.specs.Calls.{parentheses_after}
 abbrev pub brackets_after : ℕ → ℕ → ℕ
 brackets_after n b = if b == 91 then n + 1 else if b == 93 then n - 1 else n
 
--- a byte more at the front of the first argument
+-- a byte before those of the first argument
 abbrev pub with_first : ℕ → List (List ℕ) → List (List ℕ)
 with_first b [] = (b ∷ []) ∷ []
 with_first b (argument ∷ others) = (b ∷ argument) ∷ others

@@ -25,12 +25,12 @@ abbrev pub inside_len : ℕ → List ℕ → ℕ
 inside_len n [] = 0
 inside_len n (b ∷ bs) = if b == 41 && n == 0 then 0 else suc (inside_len (parentheses_after n b) bs)
 
--- what a `(` at the front encloses, if a `)` closes it
+-- what the first byte encloses, if it is a `(` that a `)` closes
 abbrev pub enclosed : List ℕ → Option (List ℕ)
 enclosed [] = None
 enclosed (b ∷ bs) = if b == 40 && nat_lt (inside_len 0 bs) (length bs) then Some (take (inside_len 0 bs) bs) else None
 
--- what follows the name at the front and the blanks after that
+-- what follows the leading name and the blanks after it
 abbrev pub after_name : List ℕ → List ℕ
 after_name bytes = after_prefix Blank (after_prefix NameByte bytes)
 
@@ -38,7 +38,7 @@ after_name bytes = after_prefix Blank (after_prefix NameByte bytes)
 abbrev pub call_of : List ℕ → ℕ → List ℕ → Call
 call_of name blanks inside = record { name = name; inside = inside; len = length name + blanks + length inside + 2 }
 
--- the call at the front of what follows its `#`, if a call begins there
+-- the call that begins what follows its `#`, if one does
 unfoldable pub call_after : List ℕ → Option Call
 call_after bytes =
     if is_name (prefix_of NameByte bytes)

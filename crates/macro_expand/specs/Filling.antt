@@ -9,7 +9,7 @@ pub data Segment : Type 0 where
   -- the place of an argument, by the argument's number
   place : ℕ → Segment
 
--- the number that digits spell; 2^64 - 1 stands for each greater one
+-- the number that digits denote; 2^64 - 1 means each greater one
 abbrev pub number_of : List ℕ → ℕ
 number_of digits = min (value_of digits) 18446744073709551615
 

@@ -56,7 +56,7 @@ fn inside_len(bytes: &[u8]) -> usize
     bytes.len()
 }
 
-/// What a `(` at the front encloses, if a `)` closes it.
+/// What the first byte encloses, if it is a `(` that a `)` closes.
 fn enclosed(bytes: &[u8]) -> Option<&[u8]>
     ensures inside { option_copied result ≡ enclosed_there bytes.now }
     ensures within { IfSome result (λ inside. length inside.now + 2 ≤ length bytes.now) }
@@ -72,7 +72,7 @@ fn enclosed(bytes: &[u8]) -> Option<&[u8]>
     Some(&after[..len])
 }
 
-/// The call at the front of what follows its `#`, if a call begins there.
+/// The call that begins what follows its `#`, if one does.
 #[tactic(auto, unfolding(crate::specs::Calls::call_after))]
 pub(crate) fn call_after(bytes: &[u8]) -> Option<Call<'_>>
     ensures call { option_map call_view result ≡ call_there bytes.now }

@@ -20,7 +20,7 @@ pub enum MacroFault {
     MacroArgs {
         /// The macro's name.
         name: Name,
-        /// The number of the first such place; 2^64 - 1 stands for each greater one.
+        /// The number of the first such place; 2^64 - 1 means each greater one.
         place: u64,
         /// How many arguments the call has.
         given: usize,

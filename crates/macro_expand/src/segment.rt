@@ -7,14 +7,14 @@ ghost use Rattle.macro_expand.specs.Views.{segment_len, segments_view, IsFirstSe
 use crate::bytes::{after, len_before};
 use text_grammar::{Class, prefix_len};
 
-/// Some bytes outside of places, or the place of an argument: its number, and how many bytes spell it.
+/// Some bytes outside of places, or the place of an argument: its number, and how many bytes write it.
 #[derive(Clone, Copy)]
 pub(crate) enum Segment<'a> {
     Plain(&'a [u8]),
     Place(u64, usize),
 }
 
-/// The number that digits spell; 2^64 - 1 stands for each greater one.
+/// The number that digits denote; 2^64 - 1 means each greater one.
 fn number_of(digits: &[u8]) -> u64
     ensures { result ≡ number_in digits.now }
 {

@@ -9,7 +9,7 @@ use Rattle.wal_outside.specs.declared.folder.Folder.TheVariants.{Macros}
 use Rattle.wal_outside.specs.declared.store.TheConstants.{TEXT_LIMIT}
 use Rattle.macro_expand.specs.Texts.{TextOf}
 use Rattle.macro_expand.specs.Sources.{AreAmong}
-use Rattle.dfa_loading.specs.Places.{AreTold}
+use Rattle.dfa_loading.specs.Places.{AreReported}
 use Rattle.dfa_loading.proofs.PlaceSteps.{text_past}
 use Rattle.macro_loading.specs.MacroFiles.{macros_of, without, IsTooLong}
 use Rattle.macro_loading.specs.Reading.{AreRead}
@@ -18,7 +18,7 @@ use Rattle.macro_loading.proofs.ShortTexts.{macro_short}
 -- files that are the store's, where it reports them, among whose macros these texts are
 pub record Chosen (store : StoreView) (texts : TextOf) (Holds : Files → Type 0) : Type 0 where
   pub files : Files
-  pub told : AreTold store files
+  pub told : AreReported store files
   pub among : AreAmong (macros_of files) texts
   pub holds : Holds files
 

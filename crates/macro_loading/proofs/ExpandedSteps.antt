@@ -162,7 +162,7 @@ module _ {S : Type 0} (Same : S → S → Type 0) (held : S → Held) where
     -- the text has a fault
     pub refused_by : (result : Result (Vec ℕ Global) MacroFault) (fault : MacroFault) (told : ExpansionFault) (store : StoreView) → result ≡ Err fault → told ≡ fault_of fault (held new).want → (held old).store ≡ store → Answered text old result new
         → IsExpanded text store (Err told) (held new).store
-    refused_by result fault told store is told_is first answers =
+    refused_by result fault told store is reported_is first answers =
         let refused_so = subst (λ (r : Result (Vec ℕ Global) MacroFault). Answered text old r new) is answers in
         subst (λ (s : StoreView). IsExpanded text s (Err told) (held new).store) first
-        (subst (λ (e : ExpansionFault). IsExpanded text (held old).store (Err e) (held new).store) (sym told_is) (refused fault refused_so.gives refused_so.came))
+        (subst (λ (e : ExpansionFault). IsExpanded text (held old).store (Err e) (held new).store) (sym reported_is) (refused fault refused_so.gives refused_so.came))

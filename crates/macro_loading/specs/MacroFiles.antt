@@ -11,7 +11,7 @@ use Rattle.wal_outside.specs.declared.store.TheConstants.{TEXT_LIMIT}
 use Rattle.macro_expand.specs.Texts.{TextOf}
 use Rattle.macro_expand.specs.Expansion.{expansion}
 use Rattle.macro_expand.specs.declared.fault.MacroFault.TheVariants as macros
-use Rattle.dfa_loading.specs.Places.{AreTold, IsCausedBy as IsLoadCausedBy}
+use Rattle.dfa_loading.specs.Places.{AreReported, IsCausedBy as IsLoadCausedBy}
 use Rattle.dfa_loading.specs.declared.fault.FileFlaw.TheVariants.{TooLong}
 use Rattle.dfa_loading.specs.declared.fault.LoadFault.{LoadFault}
 use Rattle.dfa_loading.specs.declared.fault.LoadFault.TheVariants as loads
@@ -93,7 +93,7 @@ pub record HasRead {X : Type 0} (old : StoreView) (result : Result X ExpansionFa
 -- the text was expanded, or not, by some files, which are the store's where it reports them
 pub record IsExpanded (text : List ℕ) (old : StoreView) (result : Result (Vec ℕ Global) ExpansionFault) (new : StoreView) : Type 0 where
   pub found : Files
-  pub told : AreTold old found
+  pub told : AreReported old found
   pub gives : Expands (λ made. made.items) found text result
   pub has_read : HasRead old result new
 

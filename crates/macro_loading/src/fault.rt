@@ -13,7 +13,7 @@ pub enum ExpansionFault {
     MacroArgs {
         /// The macro's name.
         name: Name,
-        /// The number of the first such place; 2^64 - 1 stands for each greater one.
+        /// The number of the first such place; 2^64 - 1 means each greater one.
         place: u64,
         /// How many arguments the call has.
         given: usize,

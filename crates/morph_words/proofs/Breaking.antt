@@ -13,13 +13,13 @@ use Rattle.text_grammar.specs.Spots.{Spot, tokens}
 use Rattle.text_grammar.specs.Results.{◌>>=◌}
 use Rattle.morph_words.specs.Lexemes.{spots, lexemes}
 use Rattle.morph_words.specs.Rules.{Rules, has}
-use Rattle.morph_words.specs.Grammar.{Spells}
+use Rattle.morph_words.specs.Grammar.{Derives}
 use Rattle.morph_words.specs.Faults.{fault_of, fault_at, MayBeLetter, IsFault, Parses}
 use Rattle.morph_words.specs.Stages.{Stage, AtFirst, AfterLetter, AfterArrow, InImage, AfterRule, AfterComma, begun, step, takes_letter, ended, or_fault, run, rules_at}
 use Rattle.morph_words.proofs.ListSteps.{slice_get-prefix, slice_get-past}
 use Rattle.morph_words.proofs.Walks.{from, reach, reach-append, reach-push}
-use Rattle.morph_words.proofs.Complete.{letter_on, spelled_read}
-use Rattle.morph_words.proofs.Sound.{spelled}
+use Rattle.morph_words.proofs.Complete.{letter_on, derived_read}
+use Rattle.morph_words.proofs.Sound.{derived}
 use Rattle.morph_words.proofs.Orders.{free_letter}
 
 -- lexemes that may follow, and the rules that are then read
@@ -44,15 +44,15 @@ completes (AfterComma rules) =
     }
 
 -- what leads to a stage begins a text
-begins : (ts : List Lexeme) (stage : Stage) → reach ts AtFirst ≡ Some stage → Begins Spells ts
+begins : (ts : List Lexeme) (stage : Stage) → reach ts AtFirst ≡ Some stage → Begins Derives ts
 begins ts stage h =
     let c = completes stage in
-    (c.more, c.rules, spelled (ts ++ c.more) c.rules (ap (λ o. from o ended) (reach-append ts c.more AtFirst ∙ ap (λ o. from o (λ n. reach c.more n)) h) ∙ c.read))
+    (c.more, c.rules, derived (ts ++ c.more) c.rules (ap (λ o. from o ended) (reach-append ts c.more AtFirst ∙ ap (λ o. from o (λ n. reach c.more n)) h) ∙ c.read))
 
 -- what leads to no stage begins none
-begins_none : (ts : List Lexeme) → reach ts AtFirst ≡ None → Begins Spells ts → ⊥
+begins_none : (ts : List Lexeme) → reach ts AtFirst ≡ None → Begins Derives ts → ⊥
 begins_none ts h b =
-    let e = sym (ap (λ o. from o ended) (reach-append ts b.0 AtFirst ∙ ap (λ o. from o (λ n. reach b.0 n)) h)) ∙ spelled_read (ts ++ b.0) b.1 b.2 in
+    let e = sym (ap (λ o. from o ended) (reach-append ts b.0 AtFirst ∙ ap (λ o. from o (λ n. reach b.0 n)) h)) ∙ derived_read (ts ++ b.0) b.1 b.2 in
     cc
 
 -- a letter with which a stage goes on, or that there is none
@@ -88,10 +88,10 @@ letter_may_be ts stage h = by_test (takes_letter stage) refl
     by_test false e = λ m. begins_none (ts ++ Letter m.0 ∷ []) (reach-push ts (Letter m.0) AtFirst stage h ∙ stops stage m.0 e) m.1
 
 -- a fault that is not out of memory is reported with its byte
-told : (text : List ℕ) (fault : RulesFault) → IsFault text fault → Parses text (Err fault)
-told text (Syntax at) h = h
-told text (Number at) h = h
-told text Memory h = tt
+parses_fault : (text : List ℕ) (fault : RulesFault) → IsFault text fault → Parses text (Err fault)
+parses_fault text (Syntax at) h = h
+parses_fault text (Number at) h = h
+parses_fault text Memory h = tt
 
 -- the lexemes of a text that were read, and those that are left
 record Stands (text : List ℕ) (stage : Stage) (left : List (Spot Lexeme)) : Type 0 where
@@ -117,8 +117,8 @@ may_be_here text stage left st =
     let P : List Lexeme → Type 0 = λ ts. MatchBool (takes_letter stage) (MayBeLetter ts) (MayBeLetter ts → ⊥) in
     subst P (sym (taken text stage left st)) (letter_may_be (tokens st.prefix) stage st.reached)
 
-begins_here : (text : List ℕ) (stage : Stage) (left : List (Spot Lexeme)) (st : Stands text stage left) → Begins Spells (take (length st.prefix) (lexemes text))
-begins_here text stage left st = subst (Begins Spells) (sym (taken text stage left st)) (begins (tokens st.prefix) stage st.reached)
+begins_here : (text : List ℕ) (stage : Stage) (left : List (Spot Lexeme)) (st : Stands text stage left) → Begins Derives (take (length st.prefix) (lexemes text))
+begins_here text stage left st = subst (Begins Derives) (sym (taken text stage left st)) (begins (tokens st.prefix) stage st.reached)
 
 -- one lexeme more
 stands_more : (text : List ℕ) (stage further : Stage) (s : Spot Lexeme) (left : List (Spot Lexeme)) → Stands text stage (s ∷ left) → step stage s.token ≡ Some further → Stands text further left
@@ -140,7 +140,7 @@ fault_here text stage s left st e =
       breaks = record {
         within = omega arith;
         before = begins_here text stage (s ∷ left) st;
-        there = λ inside b. begins_none (tokens st.prefix ++ s.token ∷ []) (reach-push (tokens st.prefix) s.token AtFirst stage st.reached ∙ e) (subst (Begins Spells) next b);
+        there = λ inside b. begins_none (tokens st.prefix ++ s.token ∷ []) (reach-push (tokens st.prefix) s.token AtFirst stage st.reached ∙ e) (subst (Begins Derives) next b);
         end = λ at_end rules g. absurd (omega arith);
       };
       at_letter = takes_letter stage;
@@ -160,7 +160,7 @@ fault_at_end text stage st e =
         within = omega arith;
         before = begins_here text stage [] st;
         there = λ inside b. absurd (omega arith);
-        end = λ at_end rules g. let both : None ≡ Some rules = sym read ∙ spelled_read (lexemes text) rules g in cc;
+        end = λ at_end rules g. let both : None ≡ Some rules = sym read ∙ derived_read (lexemes text) rules g in cc;
       };
       at_letter = takes_letter stage;
       may_be = may_be_here text stage [] st;
@@ -175,11 +175,11 @@ runs text stage [] st = by_end (ended stage) refl
     by_end None e = fault_at_end text stage st e
     by_end (Some rules) e =
         let whole : lexemes text ≡ tokens st.prefix = lexemes_split text stage [] st ∙ append-nil (tokens st.prefix) in
-        spelled (lexemes text) rules (ap (λ (ts : List Lexeme). from (reach ts AtFirst) ended) whole ∙ (ap (λ o. from o ended) st.reached ∙ e))
+        derived (lexemes text) rules (ap (λ (ts : List Lexeme). from (reach ts AtFirst) ended) whole ∙ (ap (λ o. from o ended) st.reached ∙ e))
 runs text stage (s ∷ left) st = by_step (step stage s.token) refl (λ further e. runs text further left (stands_more text stage further s left st e))
   where
     by_step : (o : Option Stage) → step stage s.token ≡ o → ((further : Stage) → step stage s.token ≡ Some further → Parses text (run (length text) further left)) → Parses text (or_fault (fault_of (takes_letter stage) s) o >>= λ n. run (length text) n left)
-    by_step None e rest = told text (fault_of (takes_letter stage) s) (fault_here text stage s left st e)
+    by_step None e rest = parses_fault text (fault_of (takes_letter stage) s) (fault_here text stage s left st e)
     by_step (Some further) e rest = rest further e
 
 pub parses : (text : List ℕ) → Parses text (rules_at text)

@@ -1,11 +1,11 @@
--- What the grammar spells, stage after stage reads.
+-- What the grammar derives, stage after stage reads.
 use Rattle.std.proofs.Common.{◌≡◌, ℕ, zero, suc, Bool, true, false, List, [], ◌∷◌, None, Some, refl, sym, ◌∙◌, ap, ℤ}
 use Rattle.std.specs.Prelude.{if◌then◌else◌}
 use Rattle.morph_words.specs.declared.lexeme.Lexeme.{Lexeme}
 use Rattle.morph_words.specs.declared.lexeme.Lexeme.TheVariants.{Letter, Arrow, Blank, Comma}
 use Rattle.morph_words.specs.Rules.{Rules, has, put}
-use Rattle.morph_words.specs.Grammar.{Image, only, longer, Rule, Divider, blank, comma, and_blank, and_comma, RuleList, first, next, Text, blanks_then, image_then, rule_then, divider_then, rules_then, text_then, letters_of, Spells}
-use Rattle.morph_words.proofs.Maps.{map_of, MapOnce, SpellsMap, map_spelled}
+use Rattle.morph_words.specs.Grammar.{Image, only, longer, Rule, Divider, blank, comma, and_blank, and_comma, RuleList, first, next, Text, blanks_then, image_then, rule_then, divider_then, rules_then, text_then, letters_of, Derives}
+use Rattle.morph_words.proofs.Maps.{map_of, MapOnce, DerivesMap, map_derived}
 use Rattle.morph_words.specs.Stages.{Stage, AtFirst, AfterLetter, AfterArrow, InImage, AfterRule, AfterComma, ended}
 use Rattle.morph_words.proofs.Walks.{from, reach, blanks_stay, blanks_prefix}
 
@@ -86,9 +86,9 @@ text_on text once =
     ∙ (ends_on text.after (before_last text.rules) (last_of text.rules).letter (letters_of (last_of text.rules).image)
     ∙ ap (λ (m : Rules). Some m) (map_last text.rules))
 
-map_read : (ts : List Lexeme) (rules : Rules) → SpellsMap ts rules → from (reach ts AtFirst) ended ≡ Some rules
+map_read : (ts : List Lexeme) (rules : Rules) → DerivesMap ts rules → from (reach ts AtFirst) ended ≡ Some rules
 map_read ts rules h =
-    ap (λ (l : List Lexeme). from (reach l AtFirst) ended) (sym h.spells) ∙ (text_on h.text h.once ∙ ap (λ (m : Rules). Some m) h.rules_are)
+    ap (λ (l : List Lexeme). from (reach l AtFirst) ended) (sym h.derives) ∙ (text_on h.text h.once ∙ ap (λ (m : Rules). Some m) h.rules_are)
 
-pub spelled_read : (ts : List Lexeme) (rules : Rules) → Spells ts rules → from (reach ts AtFirst) ended ≡ Some rules
-spelled_read ts rules h = map_read ts rules (map_spelled ts rules h)
+pub derived_read : (ts : List Lexeme) (rules : Rules) → Derives ts rules → from (reach ts AtFirst) ended ≡ Some rules
+derived_read ts rules h = map_read ts rules (map_derived ts rules h)

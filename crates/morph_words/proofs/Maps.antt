@@ -11,7 +11,7 @@ use Rattle.std.proofs.lemmas.Cmp.{int_ranked, int_cmp_total}
 use Rattle.std.proofs.lemmas.List.Sorted.{IsPermutation-refl, IsPermutation-cons, IsPermutation-middle, IsPermutation-trans, IsPermutation-sym, IsPermutation-push_more, Contains-permutation}
 use Rattle.morph_words.specs.declared.lexeme.Lexeme.{Lexeme}
 use Rattle.morph_words.specs.Rules.{Rules, has, put}
-use Rattle.morph_words.specs.Grammar.{RuleList, first, next, Text, text_then, letters_of, rules_of, IsOnce, Spells}
+use Rattle.morph_words.specs.Grammar.{RuleList, first, next, Text, text_then, letters_of, rules_of, IsOnce, Derives}
 use Rattle.morph_words.specs.Laws.{OrderIsFree}
 use Rattle.morph_words.proofs.Orders.{has-cons, absent, sorted-put}
 
@@ -24,9 +24,9 @@ abbrev pub MapOnce : RuleList → Type 0
 MapOnce (first rule) = ⊤
 MapOnce (next rules divider rule) = MapOnce rules × (has (map_of rules) rule.letter ≡ false)
 
-pub record SpellsMap (ts : List Lexeme) (rules : Rules) : Type 0 where
+pub record DerivesMap (ts : List Lexeme) (rules : Rules) : Type 0 where
   pub text : Text
-  pub spells : text_then text [] ≡ ts
+  pub derives : text_then text [] ≡ ts
   pub once : MapOnce text.rules
   pub rules_are : map_of text.rules ≡ rules
 
@@ -168,26 +168,26 @@ same_rules (x ∷ xs) (y ∷ ys) sx sy h k =
     ap (λ (r : ℤ × List ℤ). r ∷ xs) same
     ∙ ap (λ (l : Rules). y ∷ l) (same_rules xs ys sx.1 sy.1 (others_too x y xs ys same sx.0 h) (others_too y x ys xs (sym same) sy.0 k))
 
-pub spelled_map : (ts : List Lexeme) (rules : Rules) → SpellsMap ts rules → Spells ts rules
-spelled_map ts rules h =
+pub derived_map : (ts : List Lexeme) (rules : Rules) → DerivesMap ts rules → Derives ts rules
+derived_map ts rules h =
     let P : Rules → Type 0 = λ m. IsPermutation (rules_of h.text.rules) m in
     let Q : Rules → Type 0 = λ m. IsStrictlySortedBy int_cmp (keys_of m) in
     record {
       text = h.text;
-      spells = h.spells;
+      derives = h.derives;
       once = once_of_map h.text.rules h.once;
       same = subst P h.rules_are (map_permutes h.text.rules h.once);
       ascending = subst Q h.rules_are (map_ascends h.text.rules);
     }
 
-pub map_spelled : (ts : List Lexeme) (rules : Rules) → Spells ts rules → SpellsMap ts rules
-map_spelled ts rules h =
+pub map_derived : (ts : List Lexeme) (rules : Rules) → Derives ts rules → DerivesMap ts rules
+map_derived ts rules h =
     let list = h.text.rules in
     let once = map_once list h.once in
     let moved = map_permutes list once in
     record {
       text = h.text;
-      spells = h.spells;
+      derives = h.derives;
       once = once;
       rules_are =
           same_rules (map_of list) rules (map_ascends list) h.ascending

@@ -1,4 +1,4 @@
--- The rules that a text spells are a morphism.
+-- The rules that a text has are a morphism.
 use Rattle.std.proofs.Common.{◌≡◌, ℕ, zero, suc, ◌+◌, ◌-◌, ◌<◌, ◌^◌, Bool, true, false, List, [], ◌∷◌, ◌++◌, length, ℤ, pos, refl, sym, subst, arith}
 use Rattle.std.specs.Prelude.{⊤, if◌then◌else◌, nat_lt, ◌==◌, ◌&&◌, take, drop}
 use Rattle.std.specs.List.{AllByRecursion}
@@ -13,9 +13,9 @@ use Rattle.text_grammar.specs.Numbers.{begins_with, is_short, number_len, number
 use Rattle.morph_words.specs.Lexemes.{bracket, lexeme, lexing, lexemes}
 use Rattle.morph_words.specs.Rules.{IsRule, IsMorphism}
 use Rattle.morph_words.specs.Grammar.{Image, only, longer, Rule, Divider, blank, comma, and_blank, and_comma, RuleList, first, next, blanks_then, image_then, rule_then, divider_then, rules_then, text_then, letters_of}
-use Rattle.morph_words.specs.Laws.{SpellsMorphisms}
-use Rattle.morph_words.proofs.ListSteps.{all_append}
-use Rattle.morph_words.proofs.Maps.{map_of, MapOnce, map_spelled, sorted_none}
+use Rattle.morph_words.specs.Laws.{DerivesMorphisms}
+use Rattle.digit_tuple.proofs.AllLemmas.{all_append}
+use Rattle.morph_words.proofs.Maps.{map_of, MapOnce, map_derived, sorted_none}
 use Rattle.morph_words.proofs.Orders.{morphism_put}
 
 -- a letter has 32 bits, signed
@@ -93,10 +93,10 @@ after_rules (next rules divider rule) rest once h =
     let morphism = before.0 in
     (morphism_put (map_of rules) rule.letter (letters_of rule.image) morphism.ascending morphism.each once.1 is.0, is.1)
 
-pub spells_morphisms : SpellsMorphisms
-spells_morphisms text rules h =
-    let map = map_spelled (lexemes text) rules h in
+pub derives_morphisms : DerivesMorphisms
+derives_morphisms text rules h =
+    let map = map_derived (lexemes text) rules h in
     let list = map.text.rules in
     let end = blanks_then map.text.after [] in
-    let short : AreShort (text_then map.text []) = subst AreShort (sym map.spells) (lexemes_short 0 0 text) in
+    let short : AreShort (text_then map.text []) = subst AreShort (sym map.derives) (lexemes_short 0 0 text) in
     subst IsMorphism map.rules_are (after_rules list end map.once (after_blanks map.text.before (rules_then list end) short)).0

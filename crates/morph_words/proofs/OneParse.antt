@@ -7,10 +7,10 @@ use Rattle.morph_words.specs.declared.fault.RulesFault.{RulesFault}
 use Rattle.morph_words.specs.declared.fault.RulesFault.TheVariants.{Syntax, Number, Memory}
 use Rattle.morph_words.specs.Lexemes.{spots, lexemes}
 use Rattle.morph_words.specs.Rules.{Rules}
-use Rattle.morph_words.specs.Grammar.{Spells}
+use Rattle.morph_words.specs.Grammar.{Derives}
 use Rattle.morph_words.specs.Faults.{fault_at, MayBeLetter, IsFault, Parses}
 use Rattle.morph_words.specs.Laws.{OneAnswer}
-use Rattle.morph_words.proofs.Complete.{spelled_read}
+use Rattle.morph_words.proofs.Complete.{derived_read}
 
 -- a fact holds or does not
 one_test : (P : Type 0) (a b : Bool) → MatchBool a P (P → ⊥) → MatchBool b P (P → ⊥) → a ≡ b
@@ -22,28 +22,28 @@ one_test P false false h k = refl
 -- a text has one fault
 one_fault : (text : List ℕ) (f g : RulesFault) → IsFault text f → IsFault text g → f ≡ g
 one_fault text f g a b =
-    let same : a.count ≡ b.count = breaks_once Spells (lexemes text) a.count b.count a.breaks b.breaks in
+    let same : a.count ≡ b.count = breaks_once Derives (lexemes text) a.count b.count a.breaks b.breaks in
     let P : ℕ → Type 0 = λ n. MatchBool a.at_letter (MayBeLetter (take n (lexemes text))) (MayBeLetter (take n (lexemes text)) → ⊥) in
     let test : a.at_letter ≡ b.at_letter = one_test (MayBeLetter (take b.count (lexemes text))) a.at_letter b.at_letter (subst P same a.may_be) b.may_be in
     a.fault_is
     ∙ (ap (λ (c : Bool). fault_at text c (slice_get (spots text) a.count)) test
     ∙ (ap (λ (n : ℕ). fault_at text b.at_letter (slice_get (spots text) n)) same ∙ sym b.fault_is))
 
--- and none where it spells rules
-no_fault : (text : List ℕ) (rules : Rules) (f : RulesFault) → Spells (lexemes text) rules → IsFault text f → ⊥
-no_fault text rules f h k = breaks_nowhere Spells (lexemes text) k.count rules k.breaks h
+-- and none where it has rules
+no_fault : (text : List ℕ) (rules : Rules) (f : RulesFault) → Derives (lexemes text) rules → IsFault text f → ⊥
+no_fault text rules f h k = breaks_nowhere Derives (lexemes text) k.count rules k.breaks h
 
 -- a fault that is reported and is not out of memory
-fault_told : (text : List ℕ) (f : RulesFault) → Parses text (Err f) → (let r : Result Rules RulesFault = Err f in r) ≢ Err Memory → IsFault text f
-fault_told text (Syntax at) h n = h
-fault_told text (Number at) h n = h
-fault_told text Memory h n = absurd (n refl)
+fault_of_text : (text : List ℕ) (f : RulesFault) → Parses text (Err f) → (let r : Result Rules RulesFault = Err f in r) ≢ Err Memory → IsFault text f
+fault_of_text text (Syntax at) h n = h
+fault_of_text text (Number at) h n = h
+fault_of_text text Memory h n = absurd (n refl)
 
-one_map : (text : List ℕ) (r s : Rules) → Spells (lexemes text) r → Spells (lexemes text) s → r ≡ s
-one_map text r s h k = let e : Some r ≡ Some s = sym (spelled_read (lexemes text) r h) ∙ spelled_read (lexemes text) s k in cc
+one_map : (text : List ℕ) (r s : Rules) → Derives (lexemes text) r → Derives (lexemes text) s → r ≡ s
+one_map text r s h k = let e : Some r ≡ Some s = sym (derived_read (lexemes text) r h) ∙ derived_read (lexemes text) s k in cc
 
 pub one_answer : OneAnswer
 one_answer text (Ok r) (Ok s) a b m n = ap Ok (one_map text r s a b)
-one_answer text (Ok r) (Err g) a b m n = absurd (no_fault text r g a (fault_told text g b n))
-one_answer text (Err f) (Ok s) a b m n = absurd (no_fault text s f b (fault_told text f a m))
-one_answer text (Err f) (Err g) a b m n = ap Err (one_fault text f g (fault_told text f a m) (fault_told text g b n))
+one_answer text (Ok r) (Err g) a b m n = absurd (no_fault text r g a (fault_of_text text g b n))
+one_answer text (Err f) (Ok s) a b m n = absurd (no_fault text s f b (fault_of_text text f a m))
+one_answer text (Err f) (Err g) a b m n = ap Err (one_fault text f g (fault_of_text text f a m) (fault_of_text text g b n))

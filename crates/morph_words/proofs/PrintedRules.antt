@@ -1,4 +1,4 @@
--- The printed text of a morphism spells it.
+-- The printed text of a morphism derives from it.
 use Rattle.std.proofs.Common.{◌≡◌, ℕ, ◌<◌, false, List, [], ◌∷◌, ◌++◌, length, map, append_assoc, append-nil, codes, ℤ, pos, refl, sym, ap, ◌∙◌, subst, arith}
 use Rattle.std.specs.declared.cmp.Ordering.TheVariants.{Less, Greater}
 use Rattle.std.specs.Ordering.{int_cmp, is_eq, match_ordering, ordering_reverse}
@@ -13,8 +13,8 @@ use Rattle.morph_words.specs.Lexemes.{lexemes}
 use Rattle.morph_words.specs.Rules.{Rules, has, put, IsRule, IsMorphism}
 use Rattle.morph_words.specs.Grammar.{Image, only, longer, Rule, blank, RuleList, first, next, image_then, rule_then, rules_then, letters_of}
 use Rattle.morph_words.specs.Printed.{rule_text, printed}
-use Rattle.morph_words.specs.Laws.{PrintedSpells}
-use Rattle.morph_words.proofs.Maps.{map_of, MapOnce, SpellsMap, spelled_map}
+use Rattle.morph_words.specs.Laws.{PrintedDerives}
+use Rattle.morph_words.proofs.Maps.{map_of, MapOnce, DerivesMap, derived_map}
 use Rattle.morph_words.proofs.Orders.{has-cons}
 use Rattle.morph_words.proofs.PrintedLexemes.{blank_read, end_read, rule_read}
 
@@ -106,7 +106,7 @@ list_of list rules (rule ∷ more) is each sorted =
     subst (IsList (list_from (next list blank (rule_for rule)) more)) (sym split)
     (list_of (next list blank (rule_for rule)) (rules ++ rule ∷ []) more (record { once = (is.once, free); map_is = last }) each.1 (subst P split sorted))
 
-map_printed : (rules : Rules) → IsMorphism rules → SpellsMap (lexemes (printed rules)) rules
+map_printed : (rules : Rules) → IsMorphism rules → DerivesMap (lexemes (printed rules)) rules
 map_printed [] h = absurd (omega (arith, h.some))
 map_printed (rule ∷ more) h =
     let each = h.each in
@@ -114,7 +114,7 @@ map_printed (rule ∷ more) h =
     let is = list_of (first (rule_for rule)) (rule ∷ []) more (record { once = tt; map_is = ap (λ (w : List ℤ). (rule.0, w) ∷ []) (letters_for rule.1 each.0.some) }) each.1 h.ascending in
     record {
       text = record { before = 0; rules = list_from (first (rule_for rule)) more; after = 1 };
-      spells =
+      derives =
           list_from_then (first (rule_for rule)) more (Blank ∷ [])
           ∙ sym
           (ap lexemes (append_assoc (rule_text rule) others (codes "\n"))
@@ -124,5 +124,5 @@ map_printed (rule ∷ more) h =
       rules_are = is.map_is;
     }
 
-pub printed_spells : PrintedSpells
-printed_spells rules h = spelled_map (lexemes (printed rules)) rules (map_printed rules h)
+pub printed_derives : PrintedDerives
+printed_derives rules h = derived_map (lexemes (printed rules)) rules (map_printed rules h)

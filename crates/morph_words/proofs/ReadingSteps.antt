@@ -9,7 +9,7 @@ use Rattle.morph_words.specs.Faults.{Parses}
 use Rattle.morph_words.specs.Readings.{Fails}
 use Rattle.morph_words.specs.Stages.{Stage, run, rules_at}
 use Rattle.morph_words.proofs.Breaking.{parses}
-use Rattle.morph_words.proofs.MorphismShape.{spells_morphisms}
+use Rattle.morph_words.proofs.MorphismShape.{derives_morphisms}
 
 -- what the lexemes from a byte on lead to is what is read of the whole
 pub record IsLeft (text : List ℕ) (stage : Stage) (at : ℕ) : Type 0 where
@@ -26,4 +26,4 @@ parsed_fault text (Number at) h = subst (Parses text) h (parses text)
 parsed_fault text Memory h = tt
 
 pub parsed_morphism : (text : List ℕ) (rules : Rules) → rules_at text ≡ Ok rules → IsMorphism rules
-parsed_morphism text rules e = spells_morphisms text rules (parsed_ok text rules e)
+parsed_morphism text rules e = derives_morphisms text rules (parsed_ok text rules e)

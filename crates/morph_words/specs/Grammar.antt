@@ -1,4 +1,4 @@
--- The grammar of rules: which lexemes, one after another, spell which rules.
+-- The grammar of rules: which rules derive which lexemes, one after another.
 use Rattle.std.specs.Prelude.{◌≡◌, ℕ, zero, suc, false, List, [], ◌∷◌, ◌++◌, ℤ, ⊤}
 use Rattle.std.specs.List.Sorted.{IsStrictlySortedBy, IsPermutation}
 use Rattle.std.specs.Ordering.{int_cmp}
@@ -37,7 +37,7 @@ pub record Text : Type 0 where
   pub rules : RuleList
   pub after : ℕ
 
--- the lexemes that are spelled, and the rest after them
+-- the lexemes that are derived, and the rest after them
 abbrev pub blanks_then : ℕ → List Lexeme → List Lexeme
 blanks_then zero rest = rest
 blanks_then (suc count) rest = blanks_then count (Blank ∷ rest)
@@ -67,7 +67,7 @@ abbrev pub letters_of : Image → List ℤ
 letters_of (only letter) = letter ∷ []
 letters_of (longer image letter) = letters_of image ++ letter ∷ []
 
--- the rules, as they stand one after another
+-- the rules, one after another
 abbrev pub rules_of : RuleList → Rules
 rules_of (first rule) = (rule.letter, letters_of rule.image) ∷ []
 rules_of (next rules divider rule) = rules_of rules ++ (rule.letter, letters_of rule.image) ∷ []
@@ -77,10 +77,10 @@ abbrev pub IsOnce : RuleList → Type 0
 IsOnce (first rule) = ⊤
 IsOnce (next rules divider rule) = IsOnce rules × (has (rules_of rules) rule.letter ≡ false)
 
--- lexemes spell rules, which are seen by ascending letter
-pub record Spells (ts : List Lexeme) (rules : Rules) : Type 0 where
+-- lexemes derive from rules, which are seen by ascending letter
+pub record Derives (ts : List Lexeme) (rules : Rules) : Type 0 where
   pub text : Text
-  pub spells : text_then text [] ≡ ts
+  pub derives : text_then text [] ≡ ts
   pub once : IsOnce text.rules
   pub same : IsPermutation (rules_of text.rules) rules
   pub ascending : IsStrictlySortedBy int_cmp (keys_of rules)

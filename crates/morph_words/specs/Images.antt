@@ -3,7 +3,7 @@ use Rattle.std.specs.Prelude.{ℤ, List, [], unwrap_or}
 use Rattle.std.specs.List.{flat_map}
 use Rattle.morph_words.specs.Rules.{Rules, image_of}
 
--- the image of a letter; where it has none, the empty word stands for it
+-- the image of a letter; the empty word if it has none
 abbrev pub image : Rules → ℤ → List ℤ
 image rules letter = unwrap_or (image_of rules letter) []
 

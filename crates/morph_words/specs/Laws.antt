@@ -6,7 +6,7 @@ use Rattle.morph_words.specs.declared.fault.RulesFault.TheVariants.{Memory}
 use Rattle.morph_words.specs.declared.lexeme.Lexeme.{Lexeme}
 use Rattle.morph_words.specs.Lexemes.{lexemes}
 use Rattle.morph_words.specs.Rules.{Rules, IsMorphism}
-use Rattle.morph_words.specs.Grammar.{rules_of, Spells}
+use Rattle.morph_words.specs.Grammar.{rules_of, Derives}
 use Rattle.morph_words.specs.Faults.{Parses}
 use Rattle.morph_words.specs.Printed.{printed}
 
@@ -14,14 +14,14 @@ use Rattle.morph_words.specs.Printed.{printed}
 abbrev pub OneAnswer : Type 0
 OneAnswer = (text : List ℕ) (result other : Result Rules RulesFault) → Parses text result → Parses text other → result ≢ Err Memory → other ≢ Err Memory → result ≡ other
 
--- the printed text of a morphism spells it
-abbrev pub PrintedSpells : Type 0
-PrintedSpells = (rules : Rules) → IsMorphism rules → Spells (lexemes (printed rules)) rules
+-- the printed text of a morphism derives from it
+abbrev pub PrintedDerives : Type 0
+PrintedDerives = (rules : Rules) → IsMorphism rules → Derives (lexemes (printed rules)) rules
 
--- the rules that a text spells are a morphism
-abbrev pub SpellsMorphisms : Type 0
-SpellsMorphisms = (text : List ℕ) (rules : Rules) → Spells (lexemes text) rules → IsMorphism rules
+-- the rules that a text has are a morphism
+abbrev pub DerivesMorphisms : Type 0
+DerivesMorphisms = (text : List ℕ) (rules : Rules) → Derives (lexemes text) rules → IsMorphism rules
 
--- texts with the same rules, in whatever order they are, spell one morphism
+-- texts with the same rules, in whatever order they are, have one morphism
 abbrev pub OrderIsFree : Type 0
-OrderIsFree = (ts us : List Lexeme) (rules others : Rules) (h : Spells ts rules) (k : Spells us others) → IsPermutation (rules_of h.text.rules) (rules_of k.text.rules) → rules ≡ others
+OrderIsFree = (ts us : List Lexeme) (rules others : Rules) (h : Derives ts rules) (k : Derives us others) → IsPermutation (rules_of h.text.rules) (rules_of k.text.rules) → rules ≡ others

@@ -43,7 +43,7 @@ IsNotUniform rules letter = IsLeast (IsOdd rules) letter
 abbrev pub IsWithin : ℕ → ℕ → ℕ → Type 0
 IsWithin least greatest k = (least ≤ k) × (k ≤ greatest)
 
--- all have one length, which is not allowed; the least letter stands for all
+-- all have one length, which is not allowed; the least letter is named for all
 pub record HasOtherLength (IsAllowed : ℕ → Type 0) (rules : Rules) (letter : ℤ) : Type 0 where
   pub first : IsLeast (HasRule rules) letter
   pub k : ℕ

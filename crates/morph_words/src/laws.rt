@@ -1,6 +1,6 @@
 //! Laws of rules.
 
-ghost use Rattle.morph_words.specs.Laws.{OneAnswer, OrderIsFree, PrintedSpells, SpellsMorphisms};
+ghost use Rattle.morph_words.specs.Laws.{OneAnswer, OrderIsFree, PrintedDerives, DerivesMorphisms};
 ghost use Rattle.morph_words.specs.UniformLaws.{MorphismsHaveLengthsOrNot, MorphismsHaveOneLength};
 
 /// Reading a text has one answer, where memory is left.
@@ -8,17 +8,17 @@ pub fn one_answer()
     ensures { OneAnswer }
 {}
 
-/// The printed text of a morphism spells it.
-pub fn printed_spells()
-    ensures { PrintedSpells }
+/// The printed text of a morphism derives from it.
+pub fn printed_derives()
+    ensures { PrintedDerives }
 {}
 
-/// The rules that a text spells are a morphism.
-pub fn spells_morphisms()
-    ensures { SpellsMorphisms }
+/// The rules that a text has are a morphism.
+pub fn derives_morphisms()
+    ensures { DerivesMorphisms }
 {}
 
-/// Texts with the same rules, in whatever order they are, spell one morphism, and so are printed alike.
+/// Texts with the same rules, in whatever order they are, have one morphism, and so are printed alike.
 pub fn order_is_free()
     ensures { OrderIsFree }
 {}

@@ -38,7 +38,7 @@ impl Model for Morphism {
 }
 
 impl Morphism {
-    /// The morphism that the text spells, by this grammar:
+    /// The morphism of the text, by this grammar:
     ///
     /// ```text
     /// text := { blank } rule { divider rule } { blank }

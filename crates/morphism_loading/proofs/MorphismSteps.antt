@@ -16,7 +16,7 @@ use Rattle.dfa_loading.specs.declared.fault.FileFlaw.TheVariants.{TooLong}
 use Rattle.dfa_loading.specs.declared.fault.LoadFault.{LoadFault}
 use Rattle.dfa_loading.specs.declared.fault.LoadFault.TheVariants as faults
 use Rattle.dfa_loading.specs.Places.{HasRead}
-use Rattle.dfa_loading.proofs.PlaceSteps.{some_files, text_past, files_by, told_by}
+use Rattle.dfa_loading.proofs.PlaceSteps.{some_files, text_past, files_by, reported_by}
 use Rattle.dfa_loading.proofs.ReadSteps.{nothing_refused, quiet_read}
 use Rattle.morphism_loading.specs.MorphismFiles.{IsMorphismIn, IsNoMorphism, FailsMorphism, IsLoadedMorphism}
 
@@ -29,7 +29,7 @@ module _ (name : List ℕ) where
       → ((found : Files) → found Morphisms name ≡ there → MatchResult result (IsMorphismIn found name) (FailsMorphism found name)) → HasRead old result new → IsLoadedMorphism name old result new
   at_place old new there result is gives read = record {
     found = files_by old.files there;
-    told = told_by old.files there;
+    told = reported_by old.files there;
     gives = gives (files_by old.files there) (there_by old.files there is);
     has_read = read;
   }
@@ -42,11 +42,11 @@ module _ (name : List ℕ) where
   long_so None into finds = let past = text_past TEXT_LIMIT in (past.0, tt, past.1)
   long_so (Some files) into finds = finds
 
-  -- a text that was read spells rules, or does not
+  -- a text that was read has rules, or does not
   pub found_there : (old new : StoreView) (text : List ℕ) (result : Result Rules LoadFault) → Finds old.files Morphisms name answers.Found text → length text ≤ TEXT_LIMIT
       → new.files ≡ old.files → new.faults ≡ old.faults → new.failed ≡ old.failed → MatchResult result (λ rules. Parses text (Ok rules)) (IsNoMorphism name text) → IsLoadedMorphism name old result new
-  found_there old new text (Ok rules) finds short files counts failed spells =
-      at_place old new (Some text) (Ok rules) (found_so old.files text finds) (λ found there. record { text = text; there = there; short = short; spells = spells }) (quiet_read old new (Ok rules) files counts failed)
+  found_there old new text (Ok rules) finds short files counts failed derives =
+      at_place old new (Some text) (Ok rules) (found_so old.files text finds) (λ found there. record { text = text; there = there; short = short; derives = derives }) (quiet_read old new (Ok rules) files counts failed)
   found_there old new text (Err (faults.Unknown folder at)) finds short files counts failed none = absurd none
   found_there old new text (Err (faults.File folder at flaw)) finds short files counts failed none =
       at_place old new (Some text) (Err (faults.File folder at flaw)) (found_so old.files text finds) (λ found there. (none.0, (text, there, none.1))) (quiet_read old new (Err (faults.File folder at flaw)) files counts failed)
@@ -71,7 +71,7 @@ module _ (name : List ℕ) where
   pub failed_there : (old new : StoreView) → new.files ≡ old.files → CountsFault true old.faults new.faults → FailedAt true (Morphisms, name) old.failed new.failed → IsLoadedMorphism name old (Err (faults.Store Morphisms name)) new
   failed_there old new files counts failed = record {
     found = files_by old.files None;
-    told = told_by old.files None;
+    told = reported_by old.files None;
     gives = (refl, refl);
     has_read = record { files = files; later = counts.0; cause = (counts.1, failed) };
   }
@@ -80,7 +80,7 @@ module _ (name : List ℕ) where
   pub memory_there : (old new : StoreView) → new.files ≡ old.files → new.faults ≡ old.faults → new.failed ≡ old.failed → IsLoadedMorphism name old (Err faults.Memory) new
   memory_there old new files counts failed = record {
     found = files_by old.files None;
-    told = told_by old.files None;
+    told = reported_by old.files None;
     gives = tt;
     has_read = quiet_read old new (Err faults.Memory) files counts failed;
   }

@@ -22,9 +22,9 @@ none_there : {Z : Type 0} (there : Option (List ℕ)) (text : List ℕ) → ther
 none_there there text none is = let same : None ≡ Some text = sym none ∙ is in cc
 
 module _ (one : OneAnswer) where
-  -- a text spells one morphism
-  one_spelled : (text : List ℕ) (rules more : Rules) → Parses text (Ok rules) → Parses text (Ok more) → rules ≡ more
-  one_spelled text rules more p q = let e : Ok rules ≡ Ok more = one text (Ok rules) (Ok more) p q (λ n. cc) (λ n. cc) in cc
+  -- a text has one morphism
+  one_derived : (text : List ℕ) (rules more : Rules) → Parses text (Ok rules) → Parses text (Ok more) → rules ≡ more
+  one_derived text rules more p q = let e : Ok rules ≡ Ok more = one text (Ok rules) (Ok more) p q (λ n. cc) (λ n. cc) in cc
 
   -- and then it has no faulty byte
   not_broken : {Z : Type 0} (text : List ℕ) (rules : Rules) (at : ℕ) → Parses text (Ok rules) → IsBrokenAt text at → Z
@@ -45,23 +45,23 @@ module _ (one : OneAnswer) where
   one_flaw text TooLong (Line line) has also = absurd (omega (arith, has, also.0))
   one_flaw text TooLong TooLong has also = refl
 
-  -- and none where it is short and spells rules
+  -- and none where it is short and has rules
   no_flaw : {Z : Type 0} (text : List ℕ) (rules : Rules) (flaw : FileFlaw) → length text ≤ TEXT_LIMIT → Parses text (Ok rules) → HasFlaw text flaw → Z
-  no_flaw text rules (Line line) short spells has = not_broken text rules has.1.0 spells has.1.1
-  no_flaw text rules TooLong short spells has = absurd (omega (arith, short, has))
+  no_flaw text rules (Line line) short derives has = not_broken text rules has.1.0 derives has.1.1
+  no_flaw text rules TooLong short derives has = absurd (omega (arith, short, has))
 
   module _ (files : Files) (name : List ℕ) where
     one_morphism : (rules more : Rules) → IsMorphismIn files name rules → IsMorphismIn files name more → rules ≡ more
     one_morphism rules more is also =
         let text : is.text ≡ also.text = one_text (files Morphisms name) is.text also.text is.there also.there in
-        one_spelled also.text rules more (subst (λ (t : List ℕ). Parses t (Ok rules)) text is.spells) also.spells
+        one_derived also.text rules more (subst (λ (t : List ℕ). Parses t (Ok rules)) text is.derives) also.derives
 
     -- what is there is not refused
     not_refused : {Z : Type 0} (rules : Rules) (fault : LoadFault) → IsMorphismIn files name rules → RefusesMorphism files name fault → Z
     not_refused rules (faults.Unknown folder at) is refuses = none_there (files Morphisms name) is.text refuses.1 is.there
     not_refused rules (faults.File folder at flaw) is refuses =
         let text : refuses.1.0 ≡ is.text = one_text (files Morphisms name) refuses.1.0 is.text refuses.1.1 is.there in
-        no_flaw is.text rules flaw is.short is.spells (subst (λ (t : List ℕ). HasFlaw t flaw) text refuses.1.2)
+        no_flaw is.text rules flaw is.short is.derives (subst (λ (t : List ℕ). HasFlaw t flaw) text refuses.1.2)
     not_refused rules (faults.Store folder at) is refuses = absurd refuses
     not_refused rules faults.Memory is refuses = absurd refuses
 

@@ -13,13 +13,13 @@ use Rattle.dfa_loading.specs.declared.fault.FileFlaw.{FileFlaw}
 use Rattle.dfa_loading.specs.declared.fault.FileFlaw.TheVariants.{Line, TooLong}
 use Rattle.dfa_loading.specs.declared.fault.LoadFault.{LoadFault}
 use Rattle.dfa_loading.specs.declared.fault.LoadFault.TheVariants as faults
-use Rattle.dfa_loading.specs.Places.{AreTold, HasRead}
+use Rattle.dfa_loading.specs.Places.{AreReported, HasRead}
 
 -- the line in which a byte of a text is, counted from one: the bytes are counted from 0
 abbrev pub line_at : List ℕ → ℕ → ℕ
 line_at text at = 1 + count_by is_line_end (take at text)
 
--- the text spells no rules, and this is its first faulty byte
+-- the text has no rules, and this is its first faulty byte
 abbrev pub IsBrokenAt : List ℕ → ℕ → Type 0
 IsBrokenAt text at = Parses text (Err (Syntax at)) ⊎ Parses text (Err (Number at))
 
@@ -39,12 +39,12 @@ IsNoMorphism name text faults.Memory = ⊤
 IsNoMorphism name text (faults.Unknown folder at) = ⊥
 IsNoMorphism name text (faults.Store folder at) = ⊥
 
--- the text of the morphism is short enough, and spells these rules
+-- the text of the morphism is short enough, and has these rules
 pub record IsMorphismIn (files : Files) (name : List ℕ) (rules : Rules) : Type 0 where
   pub text : List ℕ
   pub there : files Morphisms name ≡ Some text
   pub short : length text ≤ TEXT_LIMIT
-  pub spells : Parses text (Ok rules)
+  pub derives : Parses text (Ok rules)
 
 -- no morphism is under the name, or a text with a flaw
 abbrev pub RefusesMorphism : Files → List ℕ → LoadFault → Type 0
@@ -63,7 +63,7 @@ FailsMorphism files name faults.Memory = ⊤
 -- the morphism was loaded, or not, by some files, which are the store's where it reports them
 pub record IsLoadedMorphism (name : List ℕ) (old : StoreView) (result : Result Rules LoadFault) (new : StoreView) : Type 0 where
   pub found : Files
-  pub told : AreTold old found
+  pub told : AreReported old found
   pub gives : MatchResult result (IsMorphismIn found name) (FailsMorphism found name)
   pub has_read : HasRead old result new
 

@@ -1,6 +1,6 @@
 //! The morphism that is under a name in a store.
 //!
-//! `load_morphism` reads the text of the name in the folder of morphisms, and gives the morphism that it spells, or says why there
+//! `load_morphism` reads the text of the name in the folder of morphisms, and gives its morphism, or says why there
 //! is none: nothing is there, the text is too long, the line at which it first breaks the grammar of rules, or a call of the store
 //! that failed (`specs/MorphismFiles.antt`).
 #![tactic(auto)]

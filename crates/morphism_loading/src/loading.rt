@@ -15,7 +15,7 @@ use morph_words::{Morphism, RulesFault};
 use std::alloc::Global;
 use wal_outside::{Folder, Found, Store};
 
-/// The morphism that the text under a name in the folder of morphisms spells. The time is that of reading the rules.
+/// The morphism of the text under a name in the folder of morphisms. The time is that of reading the rules.
 ///
 /// # Errors
 /// `Unknown` where nothing is there; `File` where the text has more than `TEXT_LIMIT` bytes, or breaks the grammar of rules, and
@@ -46,7 +46,7 @@ fn read_morphism<T: Store>(alloc: Global, name: Name, store: &mut T) -> Result<M
     }
 }
 
-/// The morphism that a text spells, which is under this name.
+/// The morphism of a text, which is under this name.
 fn morphism_in(alloc: Global, name: Name, text: &[u8]) -> Result<Morphism, LoadFault>
     requires { length text.now ≤ TEXT_LIMIT }
     ensures { MatchResult result (λ rules. Parses text.now (Ok rules)) (IsNoMorphism name text.now) }

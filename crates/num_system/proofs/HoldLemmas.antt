@@ -10,17 +10,17 @@ use Rattle.numeration.specs.Systems.{System, AreSystems}
 use Rattle.numeration.specs.Representation.{Represents, letters_in}
 use Rattle.numeration.specs.Relations.{HoldsOf}
 use Rattle.numeration.proofs.RepresentLemmas.{representation}
-use Rattle.numeration.proofs.TrackLemmas.{numerals_from_representation}
-use Rattle.numeration.proofs.PartRepresentation.{numerals_only}
+use Rattle.numeration.proofs.TrackLemmas.{tracks_represent}
+use Rattle.numeration.proofs.PartRepresentation.{represented_only}
 use Rattle.num_system.specs.Representations.{HasRepresentation}
 
 -- a word represents one tuple alone
 pub one_tuple : (ss : List System) (w ns ms : List ℕ) → Represents ss w ns → Represents ss w ms → ns ≡ ms
-one_tuple ss w ns ms first second = numerals_only ss w ns ms (numerals_from_representation ss w ns first) (numerals_from_representation ss w ms second)
+one_tuple ss w ns ms first second = represented_only ss w ns ms (tracks_represent ss w ns first) (tracks_represent ss w ms second)
 
 -- with a number for each track
 pub represented_count : (ss : List System) (w ns : List ℕ) → Represents ss w ns → length ns ≡ length ss
-represented_count ss w ns represented = (numerals_from_representation ss w ns represented).count
+represented_count ss w ns represented = (tracks_represent ss w ns represented).count
 
 -- each tuple has a representation in each direction
 pub representation_of : (direction : Direction) (ss : List System) (ns : List ℕ) → AreSystems ss → length ns ≡ length ss → (v : List ℕ) × IsWord (letters_in ss) v × Represents ss (in_order direction v) ns

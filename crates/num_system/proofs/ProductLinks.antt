@@ -16,8 +16,8 @@ use Rattle.numeration.specs.Relations.{HoldsOf}
 use Rattle.numeration.specs.SomeTracks.{systems_at}
 use Rattle.num_system.specs.Joined.{Joined, joined}
 use Rattle.digit_tuple.proofs.PaddingLemmas.{IsWord-in_order}
-use Rattle.numeration.proofs.TrackLemmas.{AreNumerals, numerals_from_representation, representation_from_numerals}
-use Rattle.numeration.proofs.PartRepresentation.{AreValid, ranks, numerals_valid, valid_numerals, holds_at}
+use Rattle.numeration.proofs.TrackLemmas.{AreRepresentations, tracks_represent, represents_from_tracks}
+use Rattle.numeration.proofs.PartRepresentation.{AreValid, ranks, valid_represented, represented_valid, holds_at}
 
 -- the connective of two truth values determines the connective of what they say
 pub connective_tells : (op : Op) (b c : Bool) (P Q : Type 0) → IsTrue b ↔ P → IsTrue c ↔ Q → IsTrue (connective op b c) ↔ Joined op P Q
@@ -55,7 +55,7 @@ module _ (direction : Direction) (ss : List System) (op : Op) (ps qs : List ℕ)
   parts_say w = connective op (accepts_of a (part (sizes_of ss) ps w)) (accepts_of b (part (sizes_of ss) qs w))
 
   -- on valid words it says what it says of the numbers
-  pub parts_tell : (w ns : List ℕ) → IsWord (letters_in ss) w → (represented : AreNumerals ss (in_order direction w) ns) → IsTrue (parts_say w) ↔ joined op ps P qs Q ns
+  pub parts_tell : (w ns : List ℕ) → IsWord (letters_in ss) w → (represented : AreRepresentations ss (in_order direction w) ns) → IsTrue (parts_say w) ↔ joined op ps P qs Q ns
   parts_tell w ns over are =
       let turned = IsWord-in_order direction (letters_in ss) w over in
       connective_tells op (accepts_of a (part (sizes_of ss) ps w)) (accepts_of b (part (sizes_of ss) qs w)) (P (picked ps ns)) (Q (picked qs ns))
@@ -71,13 +71,13 @@ module _ (direction : Direction) (ss : List System) (op : Op) (ps qs : List ℕ)
       there : (w : List ℕ) → IsWord (letters_in ss) w → IsTrue (accepts_of c w) → (ns : List ℕ) × Represents ss (in_order direction w) ns × joined op ps P qs Q ns
       there w over accepted =
           let is_valid = valid w over accepted in
-          let numerals = numerals_valid ss (in_order direction w) is_valid in (
+          let tracks = valid_represented ss (in_order direction w) is_valid in (
             ranks ss (in_order direction w),
-            representation_from_numerals ss (in_order direction w) (ranks ss (in_order direction w)) numerals,
-            (parts_tell w (ranks ss (in_order direction w)) over numerals).0 (sym (says w over is_valid) ∙ accepted),
+            represents_from_tracks ss (in_order direction w) (ranks ss (in_order direction w)) tracks,
+            (parts_tell w (ranks ss (in_order direction w)) over tracks).0 (sym (says w over is_valid) ∙ accepted),
           )
 
       back : (w : List ℕ) → IsWord (letters_in ss) w → (ns : List ℕ) × Represents ss (in_order direction w) ns × joined op ps P qs Q ns → IsTrue (accepts_of c w)
       back w over found =
-          let numerals = numerals_from_representation ss (in_order direction w) found.0 found.1 in
-          says w over (valid_numerals ss (in_order direction w) found.0 numerals) ∙ (parts_tell w found.0 over numerals).1 found.2
+          let tracks = tracks_represent ss (in_order direction w) found.0 found.1 in
+          says w over (represented_valid ss (in_order direction w) found.0 tracks) ∙ (parts_tell w found.0 over tracks).1 found.2

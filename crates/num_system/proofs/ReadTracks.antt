@@ -8,8 +8,8 @@ use Rattle.digit_tuple.proofs.PartLemmas.{part-part}
 use Rattle.numeration.specs.Systems.{System}
 use Rattle.numeration.specs.Representation.{Represents, letters_in, sizes_of}
 use Rattle.numeration.specs.SomeTracks.{no_system, system_at, systems_at}
-use Rattle.numeration.proofs.PartRepresentation.{sizes_at, valid_numerals}
-use Rattle.numeration.proofs.TrackLemmas.{numerals_from_representation, track}
+use Rattle.numeration.proofs.PartRepresentation.{sizes_at, represented_valid}
+use Rattle.numeration.proofs.TrackLemmas.{tracks_represent, track}
 
 module _ (ss : List System) (places : List ℕ) (inside : All (λ place. place < length ss) places) where
   inside_sizes : All (λ place. place < length (sizes_of ss)) places
@@ -31,7 +31,7 @@ module _ (ss : List System) (places : List ℕ) (inside : All (λ place. place <
   track_valid w ns over represented i found =
       let tracks : List System = systems_at places ss in
       let read : List ℕ = part (sizes_of ss) places w in
-      let valid = valid_numerals tracks read ns (numerals_from_representation tracks read ns represented) found.0 (omega (arith, found.1, length-map places (system_at ss))) in
+      let valid = represented_valid tracks read ns (tracks_represent tracks read ns represented) found.0 (omega (arith, found.1, length-map places (system_at ss))) in
       let there : IsTrue ((system_at ss (get_or places found.0 0)).test (track ss (get_or places found.0 0) w)) =
       subst (λ (s : System). IsTrue (s.test (track ss (get_or places found.0 0) w))) (get_or-map (system_at ss) places found.0 0 no_system found.1)
       (subst (λ (v : List ℕ). IsTrue ((system_at tracks found.0).test v)) (read_track w found.0 over found.1) valid) in

@@ -16,7 +16,7 @@ use Rattle.num_system.specs.Joined.{joined}
 use Rattle.num_system.specs.Successor.{IsNext, IsInside, HasInside, IsSuccessorOf}
 use Rattle.num_system.specs.Operations.{IsProduct, IsProjection}
 use Rattle.num_system.specs.SuccessorSteps.{name_u, name_x, name_y, order_on, IsChain, chain_sizes}
-use Rattle.numeration.proofs.TrackLemmas.{numerals_from_representation}
+use Rattle.numeration.proofs.TrackLemmas.{tracks_represent}
 use Rattle.num_system.proofs.NamedLinks.{in_product_holds}
 use Rattle.num_system.proofs.NamedProjections.{named_projection_holds}
 
@@ -28,8 +28,8 @@ holds_same direction ss P Q d same holds = record {
       let both = holds.accepts w over in (
         λ accepted.
             let found = both.0 accepted in
-            (found.0, found.1, (same found.0 (numerals_from_representation ss (in_order direction w) found.0 found.1).count).0 found.2),
-        λ found. both.1 (found.0, found.1, (same found.0 (numerals_from_representation ss (in_order direction w) found.0 found.1).count).1 found.2),
+            (found.0, found.1, (same found.0 (tracks_represent ss (in_order direction w) found.0 found.1).count).0 found.2),
+        λ found. both.1 (found.0, found.1, (same found.0 (tracks_represent ss (in_order direction w) found.0 found.1).count).1 found.2),
       );
 }
 

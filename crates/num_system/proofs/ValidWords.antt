@@ -12,8 +12,8 @@ use Rattle.product_op.specs.Validity.{language_at, is_valid}
 use Rattle.numeration.specs.Systems.{System}
 use Rattle.numeration.specs.Representation.{sizes_of, Represents}
 use Rattle.numeration.specs.SomeTracks.{system_at}
-use Rattle.numeration.proofs.TrackLemmas.{track, numerals_from_representation, representation_from_numerals}
-use Rattle.numeration.proofs.PartRepresentation.{AreValid, ranks, numerals_valid, valid_numerals}
+use Rattle.numeration.proofs.TrackLemmas.{track, tracks_represent, represents_from_tracks}
+use Rattle.numeration.proofs.PartRepresentation.{AreValid, ranks, valid_represented, represented_valid}
 use Rattle.num_system.specs.Joined.{AreLanguagesOf}
 
 module _ (direction : Direction) (ss : List System) (languages : List Automaton) (are : AreLanguagesOf direction ss languages) (w : List ℕ) where
@@ -44,8 +44,8 @@ module _ (direction : Direction) (ss : List System) (languages : List Automaton)
   -- a valid word represents numbers
   pub represented_from : is_valid (sizes_of ss) languages w ≡ true → (ns : List ℕ) × Represents ss (in_order direction w) ns
   represented_from accepted =
-      (ranks ss (in_order direction w), representation_from_numerals ss (in_order direction w) (ranks ss (in_order direction w)) (numerals_valid ss (in_order direction w) (valid_from accepted)))
+      (ranks ss (in_order direction w), represents_from_tracks ss (in_order direction w) (ranks ss (in_order direction w)) (valid_represented ss (in_order direction w) (valid_from accepted)))
 
   -- and a word that represents numbers is valid
   pub represented_to : (ns : List ℕ) → Represents ss (in_order direction w) ns → is_valid (sizes_of ss) languages w ≡ true
-  represented_to ns represented = valid_to (valid_numerals ss (in_order direction w) ns (numerals_from_representation ss (in_order direction w) ns represented))
+  represented_to ns represented = valid_to (represented_valid ss (in_order direction w) ns (tracks_represent ss (in_order direction w) ns represented))

@@ -25,7 +25,7 @@ systems_of systems = map system_of systems
 abbrev pub languages_of : List SystemValue → List Automaton
 languages_of systems = map (λ (s : SystemValue). s.language) systems
 
--- what stands for a system that is not there
+-- the automaton that is taken where there is no system
 abbrev pub no_automaton : Automaton
 no_automaton = record { sizes = []; states = [] }
 

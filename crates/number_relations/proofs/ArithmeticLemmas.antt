@@ -26,29 +26,29 @@ module _ (s : SystemValue) (is : IsSealed s) (first second : List ℕ) (r : Rela
   abbrev IsUnder : List (List ℕ) → ((List ℕ → ℕ) → Type 0) → Type 0
   IsUnder names holds = IsOverOne s names holds r
 
-  -- the names that stand for the comparison's
+  -- the names in place of the comparison's
   under : (k : Comparison) (names : List (List ℕ)) (P : List (List ℕ) → (List ℕ → ℕ) → Type 0) → names ≡ compared_names k first second → IsUnder names (P names) → IsUnder (compared_names k first second) (P (compared_names k first second))
   under k names P same over = subst (λ (ns : List (List ℕ)). IsUnder ns (P ns)) same over
 
   -- determined by what is true of two numbers
-  told : (k : Comparison) (P : (List ℕ → ℕ) → Type 0) → ((a : List ℕ → ℕ) → P a ↔ Compares k (a first) (a second)) → IsUnder (compared_names k first second) P → IsComparison s k first second r
-  told k P same over = same_relation (each_once (compared_names k first second)) (map (λ name. s) (each_once (compared_names k first second))) P (λ a. Compares k (a first) (a second)) same r over
+  compared : (k : Comparison) (P : (List ℕ → ℕ) → Type 0) → ((a : List ℕ → ℕ) → P a ↔ Compares k (a first) (a second)) → IsUnder (compared_names k first second) P → IsComparison s k first second r
+  compared k P same over = same_relation (each_once (compared_names k first second)) (map (λ name. s) (each_once (compared_names k first second))) P (λ a. Compares k (a first) (a second)) same r over
 
   pub equal_compared : (names : List (List ℕ)) → names ≡ compared_names Equal first second → IsUnder names (Holds s names s.equal) → IsComparison s Equal first second r
   equal_compared names same over =
-      told Equal (Holds s (first ∷ second ∷ []) s.equal) (λ a. pairs_hold s is (λ x y. x ≡ y) s.equal is.relations.equality (a first) (a second)) (under Equal names (λ ns. Holds s ns s.equal) same over)
+      compared Equal (Holds s (first ∷ second ∷ []) s.equal) (λ a. pairs_hold s is (λ x y. x ≡ y) s.equal is.relations.equality (a first) (a second)) (under Equal names (λ ns. Holds s ns s.equal) same over)
 
   pub less_compared : (names : List (List ℕ)) → names ≡ compared_names Less first second → IsUnder names (Holds s names s.less) → IsComparison s Less first second r
   less_compared names same over =
-      told Less (Holds s (first ∷ second ∷ []) s.less) (λ a. pairs_hold s is (λ x y. x < y) s.less is.relations.order (a first) (a second)) (under Less names (λ ns. Holds s ns s.less) same over)
+      compared Less (Holds s (first ∷ second ∷ []) s.less) (λ a. pairs_hold s is (λ x y. x < y) s.less is.relations.order (a first) (a second)) (under Less names (λ ns. Holds s ns s.less) same over)
 
   pub greater_compared : (names : List (List ℕ)) → names ≡ compared_names Greater first second → IsUnder names (Holds s names s.less) → IsComparison s Greater first second r
   greater_compared names same over =
-      told Greater (Holds s (second ∷ first ∷ []) s.less) (λ a. pairs_hold s is (λ x y. x < y) s.less is.relations.order (a second) (a first)) (under Greater names (λ ns. Holds s ns s.less) same over)
+      compared Greater (Holds s (second ∷ first ∷ []) s.less) (λ a. pairs_hold s is (λ x y. x < y) s.less is.relations.order (a second) (a first)) (under Greater names (λ ns. Holds s ns s.less) same over)
 
   pub unequal_compared : (names : List (List ℕ)) → names ≡ compared_names Unequal first second → IsUnder names (Fails s names s.equal) → IsComparison s Unequal first second r
   unequal_compared names same over =
-      told Unequal (Fails s (first ∷ second ∷ []) s.equal) (λ a. (
+      compared Unequal (Fails s (first ∷ second ∷ []) s.equal) (λ a. (
         λ fails equal. fails ((pairs_hold s is (λ x y. x ≡ y) s.equal is.relations.equality (a first) (a second)).1 equal),
         λ differ holds. differ ((pairs_hold s is (λ x y. x ≡ y) s.equal is.relations.equality (a first) (a second)).0 holds),
       )) (under Unequal names (λ ns. Fails s ns s.equal) same over)
@@ -67,20 +67,20 @@ module _ (s : SystemValue) (is : IsSealed s) (first second : List ℕ) (r : Rela
       back least holds = let less : a < b = (pairs_hold s is (λ x y. x < y) s.less is.relations.order a b).0 holds in omega (arith, least, less)
 
   pub at_most_compared : (names : List (List ℕ)) → names ≡ compared_names AtMost first second → IsUnder names (Fails s names s.less) → IsComparison s AtMost first second r
-  at_most_compared names same over = told AtMost (Fails s (second ∷ first ∷ []) s.less) (λ a. not_less (a second) (a first)) (under AtMost names (λ ns. Fails s ns s.less) same over)
+  at_most_compared names same over = compared AtMost (Fails s (second ∷ first ∷ []) s.less) (λ a. not_less (a second) (a first)) (under AtMost names (λ ns. Fails s ns s.less) same over)
 
   pub at_least_compared : (names : List (List ℕ)) → names ≡ compared_names AtLeast first second → IsUnder names (Fails s names s.less) → IsComparison s AtLeast first second r
-  at_least_compared names same over = told AtLeast (Fails s (first ∷ second ∷ []) s.less) (λ a. not_less (a first) (a second)) (under AtLeast names (λ ns. Fails s ns s.less) same over)
+  at_least_compared names same over = compared AtLeast (Fails s (first ∷ second ∷ []) s.less) (λ a. not_less (a first) (a second)) (under AtLeast names (λ ns. Fails s ns s.less) same over)
 
 module _ (s : SystemValue) (is : IsSealed s) (r : RelationValue) where
-  pub sum_told : (x y z : List ℕ) (names : List (List ℕ)) → names ≡ x ∷ y ∷ z ∷ [] → IsOverOne s names (Holds s names s.adder) r → IsSumRelation s x y z r
-  sum_told x y z names same over =
+  pub sum_holds : (x y z : List ℕ) (names : List (List ℕ)) → names ≡ x ∷ y ∷ z ∷ [] → IsOverOne s names (Holds s names s.adder) r → IsSumRelation s x y z r
+  sum_holds x y z names same over =
       let names' : List (List ℕ) = x ∷ y ∷ z ∷ [] in
       same_relation (each_once names') (map (λ name. s) (each_once names')) (Holds s names' s.adder) (λ a. a x + a y ≡ a z) (λ a. sums_are s is s.adder is.adder (a x) (a y) (a z)) r
       (subst (λ (ns : List (List ℕ)). IsOverOne s ns (Holds s ns s.adder) r) same over)
 
-  pub number_told : (x : List ℕ) (names : List (List ℕ)) → names ≡ x ∷ [] → IsOverOne s names (Holds s names s.language) r → IsAnyNumber s x r
-  number_told x names same over =
+  pub number_holds : (x : List ℕ) (names : List (List ℕ)) → names ≡ x ∷ [] → IsOverOne s names (Holds s names s.language) r → IsAnyNumber s x r
+  number_holds x names same over =
       same_relation (x ∷ []) (s ∷ []) (Holds s (x ∷ []) s.language) (λ a. ⊤) (λ a. (λ some. tt, λ any. numbers_are s is s.language is.language (a x))) r
       (subst (λ (ns : List (List ℕ)). IsOverOne s ns (Holds s ns s.language) r) same over)
 
@@ -134,6 +134,6 @@ pub arm : (s : SystemValue) (k j : Comparison) (first second : List ℕ) (r : Re
     → k ≡ j → under ≡ compared_names k first second → d ≡ e
     → ((names : List (List ℕ)) → names ≡ compared_names j first second → IsOverOne s names (P e names) r → IsComparison s j first second r)
     → IsOverOne s under (P d under) r → IsComparison s k first second r
-arm s k j first second r under P d e which same automaton told over =
+arm s k j first second r under P d e which same automaton compared over =
     subst (λ (m : Comparison). IsComparison s m first second r) (sym which)
-    (told under (same ∙ ap (λ (m : Comparison). compared_names m first second) which) (subst (λ (x : Automaton). IsOverOne s under (P x under) r) automaton over))
+    (compared under (same ∙ ap (λ (m : Comparison). compared_names m first second) which) (subst (λ (x : Automaton). IsOverOne s under (P x under) r) automaton over))

@@ -10,7 +10,7 @@ use Rattle.digit_tuple.specs.Paddings.{in_order}
 use Rattle.digit_tuple.proofs.NameLemmas.{place_of-contained}
 use Rattle.minimise.specs.Canonical.{IsCanonical}
 use Rattle.numeration.specs.Words.{rank}
-use Rattle.numeration.specs.Systems.{System, IsNumeral}
+use Rattle.numeration.specs.Systems.{System, IsRepresentation}
 use Rattle.numeration.specs.Representation.{Represents}
 use Rattle.numeration.specs.Relations.{HoldsOf, IsLanguageOf, IsPairOf, IsSum}
 use Rattle.numeration.proofs.ConstantLemmas.{one_track}
@@ -111,7 +111,7 @@ module _ (s : SystemValue) (sealed : IsSealed s) where
       there w accepted =
           let v : List ℕ = in_order s.direction w in (
             rank one.digits one.test v ∷ [],
-            (subst (λ (u : List ℕ). IsNumeral one u (rank one.digits one.test v)) (sym (one_track v)) (sym (is.accepts w) ∙ accepted, refl), tt),
+            (subst (λ (u : List ℕ). IsRepresentation one u (rank one.digits one.test v)) (sym (one_track v)) (sym (is.accepts w) ∙ accepted, refl), tt),
             tt,
           )
 

@@ -9,7 +9,7 @@ no_tracks : (systems : List SystemValue) (d : Automaton) → length systems ≡ 
 no_tracks [] d none closed = (λ accepted. ([], tt, tt, accepted), λ some. (closed.accepts [] tt).1 ([], tt, some))
 no_tracks (s ∷ systems) d none closed = absurd (omega (arith, none))
 
-pub sentence_told : (r : RelationValue) (b : Bool) → IsRelation r → r.names ≡ [] → b ≡ accepts_of r.automaton [] → IsTrue b ↔ RelationHolds r []
-sentence_told r b is none says =
-    let told = no_tracks r.systems r.automaton (is.count ∙ ap length none) is.closed in
-    (λ yes. told.0 (sym says ∙ yes), λ holds. says ∙ told.1 holds)
+pub sentence_decided : (r : RelationValue) (b : Bool) → IsRelation r → r.names ≡ [] → b ≡ accepts_of r.automaton [] → IsTrue b ↔ RelationHolds r []
+sentence_decided r b is none says =
+    let compared = no_tracks r.systems r.automaton (is.count ∙ ap length none) is.closed in
+    (λ yes. compared.0 (sym says ∙ yes), λ holds. says ∙ compared.1 holds)

@@ -34,8 +34,8 @@ module _ (holds : Bool) (t : NamedAutomaton) (names : t.names ≡ []) (sizes : t
     closed = closed_from Msd [] (λ ns. IsTrue holds) t.automaton truth_holds;
   }
 
-  pub truth_told : IsTruth holds (relation_over t [])
-  truth_told = record {
+  pub truth_decided : IsTruth holds (relation_over t [])
+  truth_decided = record {
     relation = truth_relation;
     names_are = names;
     systems_are = refl;

@@ -21,7 +21,7 @@ use product_op::op::Op;
 use std::alloc::Global;
 use std::rc::Rc;
 
-/// The names of a multiple's tracks: that of the number, that of its multiple, and one that stands for
+/// The names of a multiple's tracks: that of the number, that of its multiple, and one for
 /// lesser multiples while it is made. No two are the same.
 #[derive(Clone, Copy)]
 pub struct MultipleNames<'a> {

@@ -4,20 +4,20 @@ use Rattle.digit_tuple.specs.Paddings.{without_zeros, in_order}
 use Rattle.digit_tuple.specs.Deterministic.{Automaton, accepts_of}
 use Rattle.digit_tuple.specs.declared.direction.Direction.{Direction}
 use Rattle.numeration.specs.Words.{rank}
-use Rattle.numeration.specs.Systems.{System, IsSystem, IsNumeral, IsRep}
+use Rattle.numeration.specs.Systems.{System, IsSystem, IsRepresentation, IsRep}
 use Rattle.numeration.specs.Representation.{first_track, Represents}
 use Rattle.numeration.specs.Relations.{HoldsOf}
 use Rattle.numeration.proofs.PlainLemmas.{plain_is}
 use Rattle.numeration.proofs.RankLemmas.{strip_from_rank, valid-without_zeros, rank-without_zeros}
 
--- the numerals of a number are the paddings of its word
-pub numeral_words : (s : System) (c : ℕ) (r w : List ℕ) → IsSystem s → IsRep s.digits s.test c r → IsNumeral s w c ↔ (without_zeros w ≡ r)
-numeral_words s c r w is rep = (there, back)
+-- the representations of a number are the paddings of its word
+pub represented_word : (s : System) (c : ℕ) (r w : List ℕ) → IsSystem s → IsRep s.digits s.test c r → IsRepresentation s w c ↔ (without_zeros w ≡ r)
+represented_word s c r w is rep = (there, back)
   where
-    there : IsNumeral s w c → without_zeros w ≡ r
-    there numeral = strip_from_rank s.digits s.test w r is numeral.0 rep.valid (numeral.1 ∙ sym rep.ranked) ∙ plain_is r rep.plain
+    there : IsRepresentation s w c → without_zeros w ≡ r
+    there representation = strip_from_rank s.digits s.test w r is representation.0 rep.valid (representation.1 ∙ sym rep.ranked) ∙ plain_is r rep.plain
 
-    back : without_zeros w ≡ r → IsNumeral s w c
+    back : without_zeros w ≡ r → IsRepresentation s w c
     back same = (
       (valid-without_zeros s.digits s.test w is).1 (subst (λ v. IsTrue (s.test v)) (sym same) rep.valid),
       sym (rank-without_zeros s.digits s.test w) ∙ ap (rank s.digits s.test) same ∙ rep.ranked,
@@ -34,11 +34,11 @@ constant_holds direction s c r d is rep sizes accepts = record { sizes = sizes; 
   where
     there : (w : List ℕ) → IsTrue (accepts_of d w) → (ns : List ℕ) × Represents (s ∷ []) (in_order direction w) ns × (ns ≡ c ∷ [])
     there w accepted =
-        let numeral : IsNumeral s (in_order direction w) c = (numeral_words s c r (in_order direction w) is rep).1 ((accepts w).0 accepted) in
-        (c ∷ [], (subst (λ v. IsNumeral s v c) (sym (one_track (in_order direction w))) numeral, tt), refl)
+        let representation : IsRepresentation s (in_order direction w) c = (represented_word s c r (in_order direction w) is rep).1 ((accepts w).0 accepted) in
+        (c ∷ [], (subst (λ v. IsRepresentation s v c) (sym (one_track (in_order direction w))) representation, tt), refl)
 
     back : (w : List ℕ) → ((ns : List ℕ) × Represents (s ∷ []) (in_order direction w) ns × (ns ≡ c ∷ [])) → IsTrue (accepts_of d w)
     back w represented =
         let only : Represents (s ∷ []) (in_order direction w) (c ∷ []) = subst (Represents (s ∷ []) (in_order direction w)) represented.2 represented.1 in
-        let numeral : IsNumeral s (in_order direction w) c = subst (λ v. IsNumeral s v c) (one_track (in_order direction w)) only.0 in
-        (accepts w).1 ((numeral_words s c r (in_order direction w) is rep).0 numeral)
+        let representation : IsRepresentation s (in_order direction w) c = subst (λ v. IsRepresentation s v c) (one_track (in_order direction w)) only.0 in
+        (accepts w).1 ((represented_word s c r (in_order direction w) is rep).0 representation)

@@ -11,11 +11,11 @@ use Rattle.digit_tuple.specs.Deterministic.{Automaton, accepts_of}
 use Rattle.digit_tuple.specs.declared.direction.Direction.{Direction}
 use Rattle.digit_tuple.proofs.PartLemmas.{IsWord-part, part-part}
 use Rattle.numeration.specs.Words.{rank}
-use Rattle.numeration.specs.Systems.{System, AreSystems, IsSystem, IsNumeral}
+use Rattle.numeration.specs.Systems.{System, AreSystems, IsSystem, IsRepresentation}
 use Rattle.numeration.specs.Representation.{sizes_of, letters_in, Represents}
 use Rattle.numeration.specs.Relations.{HoldsOf}
 use Rattle.numeration.specs.SomeTracks.{no_system, system_at, systems_at}
-use Rattle.numeration.proofs.TrackLemmas.{track, AreNumerals, numerals_from_representation, representation_from_numerals}
+use Rattle.numeration.proofs.TrackLemmas.{track, AreRepresentations, tracks_represent, represents_from_tracks}
 use Rattle.digit_tuple.proofs.PaddingLemmas.{in_order-map}
 
 pub AreSystems-at : (ss : List System) (i : ℕ) → AreSystems ss → i < length ss → IsSystem (system_at ss i)
@@ -24,8 +24,8 @@ AreSystems-at (s ∷ ss) zero are within = are.0
 AreSystems-at (s ∷ ss) (suc i) are within = AreSystems-at ss i are.1 (omega (arith, within))
 
 -- a word represents one tuple alone
-pub numerals_only : (ss : List System) (w ns ms : List ℕ) → AreNumerals ss w ns → AreNumerals ss w ms → ns ≡ ms
-numerals_only ss w ns ms first second =
+pub represented_only : (ss : List System) (w ns ms : List ℕ) → AreRepresentations ss w ns → AreRepresentations ss w ms → ns ≡ ms
+represented_only ss w ns ms first second =
     ext_get_or 0 ns ms (first.count ∙ sym second.count)
     (λ i within.
     let inside : i < length ss = omega (arith, within, first.count) in
@@ -35,8 +35,8 @@ numerals_only ss w ns ms first second =
 abbrev pub AreValid : List System → List ℕ → Type 0
 AreValid ss w = (i : ℕ) → i < length ss → IsTrue ((system_at ss i).test (track ss i w))
 
-pub valid_numerals : (ss : List System) (w ns : List ℕ) → AreNumerals ss w ns → AreValid ss w
-valid_numerals ss w ns are i within = (are.each i no_system within).0
+pub represented_valid : (ss : List System) (w ns : List ℕ) → AreRepresentations ss w ns → AreValid ss w
+represented_valid ss w ns are i within = (are.each i no_system within).0
 
 module _ (ss : List System) where
   abbrev rank_at : List ℕ → ℕ → ℕ
@@ -46,11 +46,11 @@ module _ (ss : List System) where
   abbrev pub ranks : List ℕ → List ℕ
   ranks w = map (rank_at w) (range_with_len 0 (length ss))
 
-  pub numerals_valid : (w : List ℕ) → AreValid ss w → AreNumerals ss w (ranks w)
-  numerals_valid w valid = record {
+  pub valid_represented : (w : List ℕ) → AreValid ss w → AreRepresentations ss w (ranks w)
+  valid_represented w valid = record {
     count = length-map-range_with_len (rank_at w) 0 (length ss);
     each = λ i d within.
-        subst (λ (s : System). IsNumeral s (track ss i w) (get_or (ranks w) i 0)) (get_or_default ss i no_system d within)
+        subst (λ (s : System). IsRepresentation s (track ss i w) (get_or (ranks w) i 0)) (get_or_default ss i no_system d within)
         (valid i within, sym (get_or-map-range_with_len (rank_at w) 0 (length ss) i i 0 within (omega arith)));
   }
 
@@ -88,35 +88,35 @@ module _ (ss : List System) where
         one (suc j) d less = absurd (omega (arith, less))
 
     -- the part represents the numbers at the places
-    pub numerals_at : (w ns : List ℕ) → IsWord (letters_in ss) w → AreNumerals ss w ns → AreNumerals (systems_at places ss) (part (sizes_of ss) places w) (picked places ns)
-    numerals_at w ns over are = record {
+    pub represented_at : (w ns : List ℕ) → IsWord (letters_in ss) w → AreRepresentations ss w ns → AreRepresentations (systems_at places ss) (part (sizes_of ss) places w) (picked places ns)
+    represented_at w ns over are = record {
       count = length-map places (λ place. get_or ns place 0) ∙ sym (length-map places (system_at ss));
       each = λ i d less.
           let within : i < length places = omega (arith, less, length-map places (system_at ss)) in
           let place = get_or places i 0 in
-          subst (λ (s : System). IsNumeral s (track (systems_at places ss) i (part (sizes_of ss) places w)) (get_or (picked places ns) i 0)) (sym (get_or-map (system_at ss) places i 0 d within))
-          (subst (λ (v : List ℕ). IsNumeral (system_at ss place) v (get_or (picked places ns) i 0)) (sym (track_of_part w i over within))
-          (subst (λ n. IsNumeral (system_at ss place) (track ss place w) n) (sym (get_or-map (λ p. get_or ns p 0) places i 0 0 within))
+          subst (λ (s : System). IsRepresentation s (track (systems_at places ss) i (part (sizes_of ss) places w)) (get_or (picked places ns) i 0)) (sym (get_or-map (system_at ss) places i 0 d within))
+          (subst (λ (v : List ℕ). IsRepresentation (system_at ss place) v (get_or (picked places ns) i 0)) (sym (track_of_part w i over within))
+          (subst (λ n. IsRepresentation (system_at ss place) (track ss place w) n) (sym (get_or-map (λ p. get_or ns p 0) places i 0 0 within))
           (are.each place no_system (inside i 0 within))));
     }
 
     -- an automaton on these tracks accepts the part if and only if its relation holds of the numbers there
     pub holds_at : (direction : Direction) (P : List ℕ → Type 0) (a : Automaton) → HoldsOf direction (systems_at places ss) P a
-        → (w ns : List ℕ) → IsWord (letters_in ss) w → IsWord (letters_in ss) (in_order direction w) → AreNumerals ss (in_order direction w) ns
+        → (w ns : List ℕ) → IsWord (letters_in ss) w → IsWord (letters_in ss) (in_order direction w) → AreRepresentations ss (in_order direction w) ns
         → IsTrue (accepts_of a (part (sizes_of ss) places w)) ↔ P (picked places ns)
     holds_at direction P a holds w ns over turned are = (there, back)
       where
-        at : AreNumerals (systems_at places ss) (in_order direction (part (sizes_of ss) places w)) (picked places ns)
-        at = subst (λ (v : List ℕ). AreNumerals (systems_at places ss) v (picked places ns)) (sym (in_order-map direction (letter_part (sizes_of ss) places) w)) (numerals_at (in_order direction w) ns turned are)
+        at : AreRepresentations (systems_at places ss) (in_order direction (part (sizes_of ss) places w)) (picked places ns)
+        at = subst (λ (v : List ℕ). AreRepresentations (systems_at places ss) v (picked places ns)) (sym (in_order-map direction (letter_part (sizes_of ss) places) w)) (represented_at (in_order direction w) ns turned are)
 
         there : IsTrue (accepts_of a (part (sizes_of ss) places w)) → P (picked places ns)
         there accepted =
             let found = (holds.accepts (part (sizes_of ss) places w) (IsWord-at w over)).0 accepted in
-            let represented = numerals_from_representation (systems_at places ss) (in_order direction (part (sizes_of ss) places w)) found.0 found.1 in
-            subst P (numerals_only (systems_at places ss) (in_order direction (part (sizes_of ss) places w)) found.0 (picked places ns) represented at) found.2
+            let represented = tracks_represent (systems_at places ss) (in_order direction (part (sizes_of ss) places w)) found.0 found.1 in
+            subst P (represented_only (systems_at places ss) (in_order direction (part (sizes_of ss) places w)) found.0 (picked places ns) represented at) found.2
 
         back : P (picked places ns) → IsTrue (accepts_of a (part (sizes_of ss) places w))
-        back p = (holds.accepts (part (sizes_of ss) places w) (IsWord-at w over)).1 (picked places ns, representation_from_numerals (systems_at places ss) (in_order direction (part (sizes_of ss) places w)) (picked places ns) at, p)
+        back p = (holds.accepts (part (sizes_of ss) places w) (IsWord-at w over)).1 (picked places ns, represents_from_tracks (systems_at places ss) (in_order direction (part (sizes_of ss) places w)) (picked places ns) at, p)
 
     -- the tracks of a part that is accepted are valid
     pub valid_at : (direction : Direction) (P : List ℕ → Type 0) (a : Automaton) → HoldsOf direction (systems_at places ss) P a
@@ -126,7 +126,7 @@ module _ (ss : List System) where
         let found = (holds.accepts (part (sizes_of ss) places w) (IsWord-at w over)).0 accepted in
         let represented : Represents (systems_at places ss) (part (sizes_of ss) places (in_order direction w)) found.0 =
         subst (λ (v : List ℕ). Represents (systems_at places ss) v found.0) (in_order-map direction (letter_part (sizes_of ss) places) w) found.1 in
-        let numerals = numerals_from_representation (systems_at places ss) (part (sizes_of ss) places (in_order direction w)) found.0 represented in
-        let one = valid_numerals (systems_at places ss) (part (sizes_of ss) places (in_order direction w)) found.0 numerals j (omega (arith, within, length-map places (system_at ss))) in
+        let tracks = tracks_represent (systems_at places ss) (part (sizes_of ss) places (in_order direction w)) found.0 represented in
+        let one = represented_valid (systems_at places ss) (part (sizes_of ss) places (in_order direction w)) found.0 tracks j (omega (arith, within, length-map places (system_at ss))) in
         subst (λ (s : System). IsTrue (s.test (track ss (get_or places j 0) (in_order direction w)))) (get_or-map (system_at ss) places j 0 no_system within)
         (subst (λ (v : List ℕ). IsTrue ((system_at (systems_at places ss) j).test v)) (track_of_part (in_order direction w) j turned within) one)

@@ -16,8 +16,8 @@ use Rattle.numeration.specs.SomeTracks.{systems_at, completed}
 use Rattle.digit_tuple.proofs.PaddingLemmas.{in_order-map, reverse-zeros}
 use Rattle.digit_tuple.proofs.PaddingLemmas.{length-zeros, IsWord-zeros_before, IsWord-in_order, in_order-twice}
 use Rattle.numeration.proofs.RepresentLemmas.{letters_positive, represents-apart, represents-pad, representation}
-use Rattle.numeration.proofs.TrackLemmas.{numerals_from_representation, representation_from_numerals}
-use Rattle.numeration.proofs.PartRepresentation.{sizes_at, IsWord-at, AreSystems-picked, numerals_at}
+use Rattle.numeration.proofs.TrackLemmas.{tracks_represent, represents_from_tracks}
+use Rattle.numeration.proofs.PartRepresentation.{sizes_at, IsWord-at, AreSystems-picked, represented_at}
 
 -- zeros at the end of the most significant letters are leading zeros
 pub in_order-padded : (direction : Direction) (k : ℕ) (w : List ℕ) → in_order direction (padded direction k w) ≡ zeros k ++ in_order direction w
@@ -46,7 +46,7 @@ module _ (direction : Direction) (ss : List System) (are : AreSystems ss) (place
   -- the part of a representation, with its leading zeros, represents the numbers there
   represents_part : (x ns : List ℕ) → IsWord (letters_in ss) x → Represents ss x ns → Represents kept (part_of x) (picked places ns)
   represents_part x ns over represented =
-      representation_from_numerals kept (part_of x) (picked places ns) (numerals_at ss places inside x ns over (numerals_from_representation ss x ns represented))
+      represents_from_tracks kept (part_of x) (picked places ns) (represented_at ss places inside x ns over (tracks_represent ss x ns represented))
 
   pub completed_from : (w : List ℕ) → IsImage w → (ms : List ℕ) × Represents kept (in_order direction w) ms × completed ss places P ms
   completed_from w found =
@@ -60,7 +60,7 @@ module _ (direction : Direction) (ss : List System) (are : AreSystems ss) (place
       let represented : Represents kept (zeros k ++ in_order direction w) (picked places ns) = subst (λ (v : List ℕ). Represents kept v (picked places ns)) same (represents_part (in_order direction x) ns turned there.1) in (
         picked places ns,
         (represents-pad kept k (in_order direction w) (picked places ns) (AreSystems-picked ss places inside are)).0 represented,
-        (ns, (numerals_from_representation ss (in_order direction x) ns there.1).count, refl, there.2),
+        (ns, (tracks_represent ss (in_order direction x) ns there.1).count, refl, there.2),
       )
 
   pub image_from : (w ms : List ℕ) → IsWord (letters_in kept) w → Represents kept (in_order direction w) ms → completed ss places P ms → IsImage w

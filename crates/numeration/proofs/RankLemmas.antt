@@ -142,7 +142,7 @@ rank_is_below d test (zero ∷ u) language over =
 rank_is_below d test (suc a ∷ u) language over =
     rank_of_plain d test a u (let h = two_digits d test language in omega (arith, h)) (zeros_same d test language)
 
--- zeros in front keep a word in the language
+-- leading zeros keep a word in the language
 pub valid-zeros : (d : ℕ) (test : List ℕ → Bool) (k : ℕ) (w : List ℕ) → IsLanguage d test → IsTrue (test (zeros k ++ w)) ↔ IsTrue (test w)
 valid-zeros d test zero w language = (λ h. h, λ h. h)
 valid-zeros d test (suc k) w language =

@@ -12,8 +12,8 @@ use Rattle.numeration.specs.Representation.{sizes_of, letters_in, Represents}
 use Rattle.numeration.specs.Relations.{HoldsOf}
 use Rattle.numeration.specs.SomeTracks.{system_at, systems_at}
 use Rattle.digit_tuple.proofs.PaddingLemmas.{IsWord-in_order}
-use Rattle.numeration.proofs.TrackLemmas.{track, numerals_from_representation, representation_from_numerals}
-use Rattle.numeration.proofs.PartRepresentation.{AreValid, ranks, numerals_valid, holds_at, valid_at}
+use Rattle.numeration.proofs.TrackLemmas.{track, tracks_represent, represents_from_tracks}
+use Rattle.numeration.proofs.PartRepresentation.{AreValid, ranks, valid_represented, holds_at, valid_at}
 
 module _ (direction : Direction) (ss : List System) (places : List ℕ) (inside : All (λ place. place < length ss) places)
     (P : List ℕ → Type 0) (a : Automaton) (holds : HoldsOf direction (systems_at places ss) P a) where
@@ -35,13 +35,13 @@ module _ (direction : Direction) (ss : List System) (places : List ℕ) (inside 
       there w over accepted =
           let read : IsTrue (accepts_of a (part (sizes_of ss) places w)) = sym (says w over) ∙ accepted in
           let valid : AreValid ss (in_order direction w) = λ i within. valid_read w over read i (all i within) in
-          let numerals = numerals_valid ss (in_order direction w) valid in (
+          let represented = valid_represented ss (in_order direction w) valid in (
             ranks ss (in_order direction w),
-            representation_from_numerals ss (in_order direction w) (ranks ss (in_order direction w)) numerals,
-            (holds_at ss places inside direction P a holds w (ranks ss (in_order direction w)) over (IsWord-in_order direction (letters_in ss) w over) numerals).0 read,
+            represents_from_tracks ss (in_order direction w) (ranks ss (in_order direction w)) represented,
+            (holds_at ss places inside direction P a holds w (ranks ss (in_order direction w)) over (IsWord-in_order direction (letters_in ss) w over) represented).0 read,
           )
 
       back : (w : List ℕ) → IsWord (letters_in ss) w → (ns : List ℕ) × Represents ss (in_order direction w) ns × P (picked places ns) → IsTrue (accepts_of e w)
       back w over found =
-          let numerals = numerals_from_representation ss (in_order direction w) found.0 found.1 in
-          says w over ∙ (holds_at ss places inside direction P a holds w found.0 over (IsWord-in_order direction (letters_in ss) w over) numerals).1 found.2
+          let represented = tracks_represent ss (in_order direction w) found.0 found.1 in
+          says w over ∙ (holds_at ss places inside direction P a holds w found.0 over (IsWord-in_order direction (letters_in ss) w over) represented).1 found.2

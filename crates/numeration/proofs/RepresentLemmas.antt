@@ -5,7 +5,7 @@ use Rattle.std.proofs.lemmas.List.{length-map}
 use Rattle.std.proofs.lemmas.Nat.{div-add-mod', div-mul-add, mod-mul-add, mul-add-lt, mod_below, mul-lt}
 use Rattle.digit_tuple.specs.Letters.{IsWord}
 use Rattle.digit_tuple.specs.Paddings.{zeros, without_zeros}
-use Rattle.numeration.specs.Systems.{System, IsSystem, AreSystems, IsNumeral}
+use Rattle.numeration.specs.Systems.{System, IsSystem, AreSystems, IsRepresentation}
 use Rattle.numeration.specs.Representation.{letters_in, first_track, other_tracks, Represents, TuplesHaveRepresentations, RepresentationsArePaddings}
 use Rattle.digit_tuple.proofs.PaddingLemmas.{length-zeros, zeros_in_front, without_zeros-zeros, IsWord-zeros_before}
 use Rattle.numeration.proofs.RankLemmas.{two_digits, rank-zero, rank-pad, rank-apart, rank-find, valid-zeros}
@@ -59,8 +59,8 @@ represents-apart (s ∷ ss) w v (n ∷ ns) are first second long represented als
     let tracks : other_tracks ss w ≡ other_tracks ss v = represents-apart ss (other_tracks ss w) (other_tracks ss v) ns are.1 (IsWord-other_tracks ss w are.1) (IsWord-other_tracks ss v are.1) others represented.1 also.1 in
     same_parts p w v track tracks
 
-pub numeral-zero : (s : System) (w : List ℕ) (n : ℕ) → IsSystem s → IsNumeral s (0 ∷ w) n ↔ IsNumeral s w n
-numeral-zero s w n is =
+pub is_representation-zero : (s : System) (w : List ℕ) (n : ℕ) → IsSystem s → IsRepresentation s (0 ∷ w) n ↔ IsRepresentation s w n
+is_representation-zero s w n is =
     let valid = is.zeros w in
     (λ h. (valid.0 h.0, sym (rank-zero s.digits s.test w) ∙ h.1), λ h. (valid.1 h.0, rank-zero s.digits s.test w ∙ h.1))
 
@@ -73,10 +73,10 @@ represents-zero (s ∷ ss) w (n ∷ ns) are =
     let p : ℕ = letters_in ss in
     let first : first_track ss (0 ∷ w) ≡ 0 ∷ first_track ss w = ap (λ a. a ∷ first_track ss w) (zero-div p) in
     let others : other_tracks ss (0 ∷ w) ≡ 0 ∷ other_tracks ss w = ap (λ a. a ∷ other_tracks ss w) (zero-mod p) in
-    let one = numeral-zero s (first_track ss w) n are.0 in
+    let one = is_representation-zero s (first_track ss w) n are.0 in
     let rest = represents-zero ss (other_tracks ss w) ns are.1 in (
-      λ h. (one.0 (subst (λ u. IsNumeral s u n) first h.0), rest.0 (subst (λ u. Represents ss u ns) others h.1)),
-      λ h. (subst (λ u. IsNumeral s u n) (sym first) (one.1 h.0), subst (λ u. Represents ss u ns) (sym others) (rest.1 h.1)),
+      λ h. (one.0 (subst (λ u. IsRepresentation s u n) first h.0), rest.0 (subst (λ u. Represents ss u ns) others h.1)),
+      λ h. (subst (λ u. IsRepresentation s u n) (sym first) (one.1 h.0), subst (λ u. Represents ss u ns) (sym others) (rest.1 h.1)),
     )
 
 pub represents-pad : (ss : List System) (k : ℕ) (w ns : List ℕ) → AreSystems ss → Represents ss (zeros k ++ w) ns ↔ Represents ss w ns
@@ -153,10 +153,10 @@ representation (s ∷ ss) (n ∷ ns) are count =
     let long : length x ≡ length w = omega (arith, one, two) in
     let some : 0 < p = letters_positive ss are.1 in
     let valid : IsTrue (s.test x) = (valid-zeros s.digits s.test (length others) first are.0).1 found.1 in
-    let numeral : IsNumeral s x n = (valid, rank-pad s.digits s.test (length others) first ∙ found.2) in
+    let is_representation : IsRepresentation s x n = (valid, rank-pad s.digits s.test (length others) first ∙ found.2) in
     let over : IsWord p w = IsWord-zeros_before p (length first) others some rest.1 in
     let represented : Represents ss w ns = (represents-pad ss (length first) others ns are.1).1 rest.2 in (
       join p x w,
       IsWord-join s.digits p x w (are.0.over x valid) over,
-      (subst (λ u. IsNumeral s u n) (sym (join-first p x w long over)) numeral, subst (λ u. Represents ss u ns) (sym (join-others p x w long over)) represented),
+      (subst (λ u. IsRepresentation s u n) (sym (join-first p x w long over)) is_representation, subst (λ u. Represents ss u ns) (sym (join-others p x w long over)) represented),
     )

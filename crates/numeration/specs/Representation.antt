@@ -2,7 +2,7 @@
 use Rattle.std.specs.Prelude.{◌≡◌, ℕ, ◌/◌, ◌%◌, List, [], ◌∷◌, map, length, ⊤, ◌↔◌}
 use Rattle.digit_tuple.specs.Letters.{IsWord, product}
 use Rattle.digit_tuple.specs.Paddings.{without_zeros}
-use Rattle.numeration.specs.Systems.{System, AreSystems, IsNumeral}
+use Rattle.numeration.specs.Systems.{System, AreSystems, IsRepresentation}
 
 -- how many digits each track has
 abbrev pub sizes_of : List System → List ℕ
@@ -20,12 +20,12 @@ first_track ss w = map (λ a. a / letters_in ss) w
 abbrev pub other_tracks : List System → List ℕ → List ℕ
 other_tracks ss w = map (λ a. a % letters_in ss) w
 
--- each track of the word, read from the most significant letter on, is a numeral of the number
+-- each track of the word, read from the most significant letter on, represents the number
 abbrev pub Represents : List System → List ℕ → List ℕ → Type 0
 Represents [] w [] = ⊤
 Represents [] w (n ∷ ns) = ⊥
 Represents (s ∷ ss) w [] = ⊥
-Represents (s ∷ ss) w (n ∷ ns) = IsNumeral s (first_track ss w) n × Represents ss (other_tracks ss w) ns
+Represents (s ∷ ss) w (n ∷ ns) = IsRepresentation s (first_track ss w) n × Represents ss (other_tracks ss w) ns
 
 -- each tuple has a representation
 abbrev pub TuplesHaveRepresentations : Type 0

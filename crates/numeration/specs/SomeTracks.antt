@@ -3,7 +3,7 @@ use Rattle.std.specs.Prelude.{◌≡◌, ℕ, false, List, map, length, slice_in
 use Rattle.digit_tuple.specs.Parts.{picked}
 use Rattle.numeration.specs.Systems.{System}
 
--- what stands for a system that is not there
+-- the system that is taken where there is none
 abbrev pub no_system : System
 no_system = record { digits = 0; test = λ w. false }
 

@@ -1,4 +1,4 @@
--- Numeration systems: the words of a language stand for their ranks.
+-- Numeration systems: the words of a language represent their ranks.
 use Rattle.std.specs.Prelude.{◌≡◌, ℕ, Bool, List, IsTrue}
 use Rattle.std.specs.List.{AllByRecursion}
 use Rattle.numeration.specs.Words.{rank, is_plain, IsLanguage}
@@ -16,8 +16,8 @@ abbrev pub AreSystems : List System → Type 0
 AreSystems ss = AllByRecursion IsSystem ss
 
 -- the word is valid in the system, and has the rank
-abbrev pub IsNumeral : System → List ℕ → ℕ → Type 0
-IsNumeral s w n = IsTrue (s.test w) × (rank s.digits s.test w ≡ n)
+abbrev pub IsRepresentation : System → List ℕ → ℕ → Type 0
+IsRepresentation s w n = IsTrue (s.test w) × (rank s.digits s.test w ≡ n)
 
 -- the word is the one that represents the number: valid, without leading zero, and of that rank
 pub record IsRep (d : ℕ) (test : List ℕ → Bool) (n : ℕ) (w : List ℕ) : Type 0 where

@@ -1,4 +1,4 @@
-//! Numeration systems: words of a language stand for their ranks.
+//! Numeration systems: words of a language represent their ranks.
 //!
 //! Here are the definitions that all systems share, words and their ranks, representations of tuples of numbers and
 //! what an automaton holds of, with their laws; no automaton is made.

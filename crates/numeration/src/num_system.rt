@@ -9,7 +9,7 @@ use digit_tuple::direction::Direction;
 use digit_tuple::faults::{OpFault, OutOfMemory};
 use std::alloc::Global;
 
-/// A numeration system: the words of a language stand for their ranks, the numbers of words without leading zero that
+/// A numeration system: the words of a language represent their ranks, the numbers of words without leading zero that
 /// come before them, shorter words first (Allouche and Shallit, "Automatic Sequences"). Its relations are those that
 /// automata hold of (Büchi, "Weak second-order arithmetic and finite automata"; Bruyère, Hansel, Michaux and
 /// Villemaire, "Logic and p-recognizable sets of integers").

@@ -1,4 +1,4 @@
--- What trees of expressions stand for.
+-- What trees of expressions mean.
 use Rattle.std.specs.Prelude.{◌≡◌, ◌<◌, ◌++◌, ℤ, List, [], ◌∷◌, length, Option, None, Some}
 use Rattle.std.specs.List.{fold}
 use Rattle.regex_build.specs.Expression.{Expression, empty, letter, any, either, follow, star, plus, optional}

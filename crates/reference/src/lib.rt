@@ -5,7 +5,7 @@
 /// Words of letters, and all of a length.
 pub mod words;
 
-/// Tuples, and the words of tuples that words of letters stand for.
+/// Tuples, and the words of tuples that words of letters denote.
 pub mod tuples;
 
 /// Trees of expressions.

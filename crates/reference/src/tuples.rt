@@ -1,4 +1,4 @@
-//! Tuples, and the words of tuples that words of letters stand for.
+//! Tuples, and the words of tuples that words of letters denote.
 
 ghost use Rattle.std.specs.Prelude.{◌≡◌, ◌<◌, IfOk};
 ghost use Rattle.digit_tuple.specs.Letters.{product, IsWord, AreDigits};
@@ -41,7 +41,7 @@ impl Tuple {
     }
 }
 
-/// The word of tuples of members of the sets that a word of letters stands for.
+/// The word of tuples of members of the sets that a word of letters denotes.
 pub fn tuples_of(
     alloc: Global,
     alphabet: &Alphabet,
@@ -62,7 +62,7 @@ pub fn tuples_of(
     }
 }
 
-// The tuple that a letter stands for.
+// The tuple that a letter denotes.
 fn tuple_of(
     alloc: Global,
     alphabet: &Alphabet,

@@ -9,14 +9,14 @@ use Rattle.digit_tuple.specs.Paddings.{in_order}
 use Rattle.digit_tuple.specs.declared.direction.Direction.{Direction}
 use Rattle.product_op.specs.Validity.{language_at, is_valid}
 use Rattle.numeration.specs.Words.{rank}
-use Rattle.numeration.specs.Systems.{System, IsNumeral}
+use Rattle.numeration.specs.Systems.{System, IsRepresentation}
 use Rattle.numeration.specs.Representation.{Represents, sizes_of}
-use Rattle.numeration.proofs.TrackLemmas.{track, numerals_from_representation, representation_from_numerals}
+use Rattle.numeration.proofs.TrackLemmas.{track, tracks_represent, represents_from_tracks}
 use Rattle.reg_steps.proofs.ValidWords.{each_track, all_tracks, IsInLanguage}
 use Rattle.reg_steps.specs.Relations.{AreSystemLanguages}
 use Rattle.automaton_steps.proofs.DirectionLemmas.{part-in_order}
 
--- what stands for a system that is not there
+-- the system that is taken where there is none
 abbrev pub no_system : System
 no_system = record { digits = 0; test = λ w. true }
 
@@ -36,13 +36,13 @@ module _ (direction : Direction) (ss : List System) (languages : List Automaton)
 
   -- a valid word represents numbers
   pub valid_represents : is_valid (sizes_of ss) languages w ≡ true → (ns : List ℕ) × Represents ss (in_order direction w) ns
-  valid_represents valid = (ranks, representation_from_numerals ss (in_order direction w) ranks (record { count = length-map-range_with_len rank_at 0 (length ss); each = numeral }))
+  valid_represents valid = (ranks, represents_from_tracks ss (in_order direction w) ranks (record { count = length-map-range_with_len rank_at 0 (length ss); each = representation }))
     where
-      numeral : (i : ℕ) (d : System) → i < length ss → IsNumeral (get_or ss i d) (track ss i (in_order direction w)) (get_or ranks i 0)
-      numeral i d within =
+      representation : (i : ℕ) (d : System) → i < length ss → IsRepresentation (get_or ss i d) (track ss i (in_order direction w)) (get_or ranks i 0)
+      representation i d within =
           let at : get_or ranks i 0 ≡ rank_at i = get_or-map-range_with_len rank_at 0 (length ss) i i 0 within (omega arith) in
           let same : get_or ss i no_system ≡ get_or ss i d = get_or_default ss i no_system d within in
-          subst (λ (s : System). IsNumeral s (track ss i (in_order direction w)) (get_or ranks i 0)) same
+          subst (λ (s : System). IsRepresentation s (track ss i (in_order direction w)) (get_or ranks i 0)) same
           ((sym (track_test i no_system within) ∙ each_track (sizes_of ss) languages w valid i (omega (arith, within, are.count))), sym at)
 
   -- and a word that represents numbers is valid
@@ -52,4 +52,4 @@ module _ (direction : Direction) (ss : List System) (languages : List Automaton)
       each : (i : ℕ) → i < length languages → IsInLanguage (sizes_of ss) languages w i
       each i within =
           let inside : i < length ss = omega (arith, within, are.count) in
-          track_test i no_system inside ∙ ((numerals_from_representation ss (in_order direction w) ns represented).each i no_system inside).0
+          track_test i no_system inside ∙ ((tracks_represent ss (in_order direction w) ns represented).each i no_system inside).0

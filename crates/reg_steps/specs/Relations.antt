@@ -1,4 +1,4 @@
--- The relation of numbers that an expression over numeration systems stands for.
+-- The relation of numbers that an expression over numeration systems denotes.
 use Rattle.std.specs.Prelude.{◌≡◌, ◌↔◌, ℕ, ◌<◌, ℤ, List, length, slice_index_or, IsTrue}
 use Rattle.digit_tuple.specs.Deterministic.{Automaton, accepts_of}
 use Rattle.digit_tuple.specs.Letters.{IsWord}

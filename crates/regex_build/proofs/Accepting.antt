@@ -9,7 +9,7 @@ use Rattle.regex_build.specs.Positions.{IsOf, IsWritten, IsPositionTable, Positi
 use Rattle.digit_tuple.specs.Tuples.{IsLetterOf}
 use Rattle.digit_tuple.proofs.TupleLemmas.{one_tuple}
 use Rattle.regex_build.proofs.ListSteps.{zip-through, zip-compose}
-use Rattle.regex_build.proofs.PlaceWords.{Allows, StandsAt, IsWithin, place_within, places_of, word_spelled}
+use Rattle.regex_build.proofs.PlaceWords.{Allows, StandsAt, IsWithin, place_within, places_of, word_written}
 use Rattle.regex_build.proofs.Merging.{IsChain, matches_from_chain, chain_from_matches}
 
 -- what is said of the occurrence at a place
@@ -101,14 +101,14 @@ module _ {L : Type 0} (code : L → ℕ → Type 0) (e : Expression L) (n : Bran
   accepts_from_matches word letters z m =
       let a = places_of 1 e word m in
       path_of_chain 0 a.places letters (chain_of_word e a.places a.matched)
-      (zip-compose (StandsAt 1 (occurrences_in e)) code (IsWritten code (occurrences_in e)) (λ place x b h c. written_from_stands code (occurrences_in e) place x b h c) a.places word letters a.spelled z)
+      (zip-compose (StandsAt 1 (occurrences_in e)) code (IsWritten code (occurrences_in e)) (λ place x b h c. written_from_stands code (occurrences_in e) place x b h c) a.places word letters a.written z)
 
   pub matches_from_accepts : ((x y : L) (a : ℕ) → code x a → code y a → x ≡ y) → (word : List L) (letters : List ℕ) → AllZip code word letters → Accepts n letters → Matches e word
   matches_from_accepts once word letters z accepted =
       let direction = chain_of_path 0 letters accepted.0 accepted.1 accepted.2 in
-      let spelled : AllZip (StandsAt 1 (occurrences_in e)) direction.0 word =
+      let written : AllZip (StandsAt 1 (occurrences_in e)) direction.0 word =
       zip-through (IsWritten code (occurrences_in e)) code (StandsAt 1 (occurrences_in e)) stands direction.0 letters word direction.2 z in
-      word_spelled 1 e direction.0 word (word_of_chain e direction.0 direction.1) spelled
+      word_written 1 e direction.0 word (word_of_chain e direction.0 direction.1) written
     where
       stands : (place a : ℕ) (x : L) → IsWritten code (occurrences_in e) place a → code x a → StandsAt 1 (occurrences_in e) place x
       stands place a x h c =

@@ -20,7 +20,7 @@ zip_last R (z ∷ xs) x (y ∷ ys) zip = zip_last R xs x ys zip.1
 module _ {L : Type 0} (code : L → ℕ → Type 0) (e : Expression L) where
   -- the places of last marks are counted from 1
   unmarked_zero : (w : List ℕ) → IsLastMark code e w 0 → ⊥
-  unmarked_zero w mark = (zip_last (IsWritten code (occurrences_in e)) mark.before 0 w mark.spells).1
+  unmarked_zero w mark = (zip_last (IsWritten code (occurrences_in e)) mark.before 0 w mark.written).1
 
   module _ (n : Branching) (table : IsPositionTable code e n) where
     -- a path goes on from the last mark of a word
@@ -39,14 +39,14 @@ module _ {L : Type 0} (code : L → ℕ → Type 0) (e : Expression L) where
           after = step.0.1;
           matches = subst P (sym (append_assoc mark.before (suc i ∷ []) (path.0 ∷ step.0.1)))
               (merged 1 e (suc i) mark.before mark.after step.0.0 (path.0 ∷ step.0.1) mark.matches step.0.2);
-          spells = zip-append (IsWritten code (occurrences_in e)) (mark.before ++ suc i ∷ []) u (path.0 ∷ []) (a ∷ []) mark.spells (step.1, tt);
+          written = zip-append (IsWritten code (occurrences_in e)) (mark.before ++ suc i ∷ []) u (path.0 ∷ []) (a ∷ []) mark.written (step.1, tt);
         } in
         subst Q (append_assoc u (a ∷ []) w) (mark_after (u ++ a ∷ []) path.0 w q next path.2)
 
     mark_from_path : (a : ℕ) (w : List ℕ) (q : ℕ) → Path n 0 (a ∷ w) q → IsLastMark code e (a ∷ w) q
     mark_from_path a w q path =
         let step = (table.leads 0 a path.0).0 path.1 in
-        let first : IsLastMark code e (a ∷ []) path.0 = record { before = []; after = step.0.0; matches = step.0.1; spells = (step.1, tt) } in
+        let first : IsLastMark code e (a ∷ []) path.0 = record { before = []; after = step.0.0; matches = step.0.1; written = (step.1, tt) } in
         mark_after (a ∷ []) path.0 w q first path.2
 
     -- a match leads on from one of its places to a later one
@@ -78,7 +78,7 @@ module _ {L : Type 0} (code : L → ℕ → Type 0) (e : Expression L) where
     )
 
     path_from_mark : (w : List ℕ) (q : ℕ) → IsLastMark code e w q → Path n 0 w q
-    path_from_mark w q mark = path_of_match mark.before q mark.after w mark.matches mark.spells
+    path_from_mark w q mark = path_of_match mark.before q mark.after w mark.matches mark.written
 
     -- words with the same last marks lead to the same states
     pub alike_from_marks : (w v : List ℕ) → SameLastMarks code e w v → Alike n w v

@@ -8,7 +8,7 @@ use Rattle.regex_build.specs.declared.fault.RegexFault.TheVariants.{Syntax, Numb
 use Rattle.regex_build.specs.Expression.{Expression}
 use Rattle.regex_build.specs.Tokens.{Token, bar, star, plus, optional, dot, opening, closing, bracket, comma, unbracket, digit, number, other}
 use Rattle.regex_build.specs.Spots.{tokens, byte_of}
-use Rattle.regex_build.specs.Grammar.{Spells}
+use Rattle.regex_build.specs.Grammar.{Derives}
 use Rattle.regex_build.specs.Patterns.{Pattern}
 use Rattle.regex_build.specs.Limits.{Around, nothing, after_token, after_all, IsAllowed, AreAllowed}
 use Rattle.regex_build.specs.Parsing.{token_at, IsNumber, IsOpening, IsStuckAt, IsRefusedAt, IsTextOf, OneAnswer}
@@ -26,7 +26,7 @@ not_both sets ts i j a b =
     let x : j < length ts = b.within in
     elim (cases_lt j i) [
       | inl l ↦ b.refused (allowed_at sets nothing ts i j l x a.before)
-      | inr l ↦ a.breaks.there (omega arith) (begins_shorter (Spells (length sets)) ts (i + 1) (j + 1) (omega arith) b.begins)
+      | inr l ↦ a.breaks.there (omega arith) (begins_shorter (Derives (length sets)) ts (i + 1) (j + 1) (omega arith) b.begins)
     ]
 
 refused_once : (sets : List (List ℤ)) (ts : List Token) (i j : ℕ) → IsRefusedAt sets ts i → IsRefusedAt sets ts j → i ≡ j
@@ -53,7 +53,7 @@ one_kind other h k = h
 
 -- a text of an expression is at fault nowhere
 none_stuck : (sets : List (List ℤ)) (text : List ℕ) (p : Pattern) (i : ℕ) → IsTextOf sets text p → IsStuckAt sets (tokens text) i → ⊥
-none_stuck sets text p i h k = breaks_nowhere (Spells (length sets)) (tokens text) i p.tree k.breaks h.spells
+none_stuck sets text p i h k = breaks_nowhere (Derives (length sets)) (tokens text) i p.tree k.breaks h.derives
 
 none_refused : (sets : List (List ℤ)) (text : List ℕ) (p : Pattern) (i : ℕ) → IsTextOf sets text p → IsRefusedAt sets (tokens text) i → ⊥
 none_refused sets text p i h k =
@@ -62,7 +62,7 @@ none_refused sets text p i h k =
 same_pattern : (sets : List (List ℤ)) (text : List ℕ) (p q : Pattern) → IsTextOf sets text p → IsTextOf sets text q → p ≡ q
 same_pattern sets text p q h k =
     ap (λ s. let x : Pattern = record { sets = s; tree = p.tree } in x) (h.sets_are ∙ sym k.sets_are)
-    ∙ ap (λ (t : Expression (List ℤ)). let x : Pattern = record { sets = q.sets; tree = t } in x) (one_tree (length sets) (tokens text) p.tree q.tree h.spells k.spells)
+    ∙ ap (λ (t : Expression (List ℤ)). let x : Pattern = record { sets = q.sets; tree = t } in x) (one_tree (length sets) (tokens text) p.tree q.tree h.derives k.derives)
 
 same_byte : (text : List ℕ) (a b i j : ℕ) → a ≡ byte_of text i → b ≡ byte_of text j → i ≡ j → a ≡ b
 same_byte text a b i j e f g = e ∙ (ap (byte_of text) g ∙ sym f)
@@ -75,7 +75,7 @@ one_parse sets text (Ok p) (Err (Depth j)) a b m n = absurd (none_refused sets t
 one_parse sets text (Ok p) (Err Memory) a b m n = absurd (n refl)
 one_parse sets text (Err (Syntax i)) (Ok q) a b m n = absurd (none_stuck sets text q a.0 b a.2)
 one_parse sets text (Err (Syntax i)) (Err (Syntax j)) a b m n =
-    ap (λ k. Err (Syntax k)) (same_byte text i j a.0 b.0 a.1 b.1 (breaks_once (Spells (length sets)) (tokens text) a.0 b.0 a.2.breaks b.2.breaks))
+    ap (λ k. Err (Syntax k)) (same_byte text i j a.0 b.0 a.1 b.1 (breaks_once (Derives (length sets)) (tokens text) a.0 b.0 a.2.breaks b.2.breaks))
 one_parse sets text (Err (Syntax i)) (Err (Number j)) a b m n = absurd (not_both sets (tokens text) a.0 b.0 a.2 b.2)
 one_parse sets text (Err (Syntax i)) (Err (Depth j)) a b m n = absurd (not_both sets (tokens text) a.0 b.0 a.2 b.2)
 one_parse sets text (Err (Syntax i)) (Err Memory) a b m n = absurd (n refl)

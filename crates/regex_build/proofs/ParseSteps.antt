@@ -17,7 +17,7 @@ use Rattle.regex_build.specs.Tokens.{Token, other}
 use Rattle.text_grammar.specs.Spots.{Spot, spots_from}
 use Rattle.text_grammar.specs.Spots as cut
 use Rattle.regex_build.specs.Spots.{inside_after, lexing, spots, tokens, byte_of}
-use Rattle.regex_build.specs.Grammar.{Spells}
+use Rattle.regex_build.specs.Grammar.{Derives}
 use Rattle.regex_build.specs.Postfix.{tree_of}
 use Rattle.regex_build.specs.Patterns.{IsOver}
 use Rattle.regex_build.specs.Limits.{Around, nothing, after_token, after_all, IsAllowed, AreAllowed}
@@ -141,8 +141,8 @@ stuck sets text s prefix spot i h none =
     record {
       breaks = record {
         within = omega (arith, within);
-        before = subst (Begins (Spells (length sets))) (sym i.prefix_is) (begins (length sets) (cut.tokens prefix) s h.reached);
-        there = λ l b. breaks (length sets) (cut.tokens prefix) s spot.token h.runs none (subst (Begins (Spells (length sets))) i.more_is b);
+        before = subst (Begins (Derives (length sets))) (sym i.prefix_is) (begins (length sets) (cut.tokens prefix) s h.reached);
+        there = λ l b. breaks (length sets) (cut.tokens prefix) s spot.token h.runs none (subst (Begins (Derives (length sets))) i.more_is b);
         end = λ e. absurd (omega (arith, within, e));
       };
       before = subst (AreAllowed sets nothing) (sym i.prefix_is) h.allowed;
@@ -152,7 +152,7 @@ refused : (sets : List (List ℤ)) (text : List ℕ) (s : State) (prefix : List 
 refused sets text s prefix spot i None h e k never = absurd cc
 refused sets text s prefix spot i (Some n) h e k never = record {
   within = i.within;
-  begins = subst (Begins (Spells (length sets))) (sym i.more_is) (begins (length sets) (cut.tokens prefix ++ spot.token ∷ []) n (reached_more (length sets) (cut.tokens prefix) s n spot.token h.reached e));
+  begins = subst (Begins (Derives (length sets))) (sym i.more_is) (begins (length sets) (cut.tokens prefix ++ spot.token ∷ []) n (reached_more (length sets) (cut.tokens prefix) s n spot.token h.reached e));
   before = subst (AreAllowed sets nothing) (sym i.prefix_is) h.allowed;
   refused = λ a. never (
       subst (λ (x : Around). IsAllowed sets x spot.token) (ap (after_all nothing) i.prefix_is ∙ h.around_is)
@@ -187,9 +187,9 @@ byte_early sets text at s p e none =
       record {
         breaks = record {
           within = omega arith;
-          before = subst (Begins (Spells (length sets))) (sym all) (begins (length sets) (cut.tokens p.prefix) s h.reached);
+          before = subst (Begins (Derives (length sets))) (sym all) (begins (length sets) (cut.tokens p.prefix) s h.reached);
           there = λ l. absurd (omega arith);
-          end = λ _ tree g. ends_early (length sets) (cut.tokens p.prefix) s tree h.runs none (subst (λ ts. Spells (length sets) ts tree) w g);
+          end = λ _ tree g. ends_early (length sets) (cut.tokens p.prefix) s tree h.runs none (subst (λ ts. Derives (length sets) ts tree) w g);
         };
         before = subst (AreAllowed sets nothing) (sym all) h.allowed;
       },
@@ -214,7 +214,7 @@ byte_end sets text at s symbols p e done =
       postfix = x.postfix;
       letters = All-from_recursion (IsOver sets) symbols (symbols_over sets s symbols h.kept done);
       text_of = record {
-        spells = subst (λ ts. Spells (length sets) ts (tree_of symbols)) (sym w) x.spells;
+        derives = subst (λ ts. Derives (length sets) ts (tree_of symbols)) (sym w) x.derives;
         allowed = subst (AreAllowed sets nothing) (sym w) h.allowed;
         sets_are = refl;
       };

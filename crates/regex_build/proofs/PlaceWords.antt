@@ -1,4 +1,4 @@
--- Words over the places of an expression, and the words that they spell.
+-- Words over the places of an expression, and the words of their letters.
 use Rattle.std.proofs.Common.{◌≡◌, ◌≢◌, ℕ, ◌+◌, ◌<◌, ◌≤◌, List, [], ◌∷◌, ◌++◌, length, ◌⊎◌, inl, inr, refl, sym, ap, ◌∙◌, subst, arith, Option, None, Some}
 use Rattle.std.specs.List.{AllByRecursion, AllZip}
 use Rattle.std.proofs.lemmas.List.{length-append}
@@ -126,53 +126,53 @@ within_in_middle low high (x ∷ u) place v h = within_in_middle low high u plac
 pub place_within : {L : Type 0} (n : ℕ) (e : Expression L) (u : List ℕ) (place : ℕ) (v : List ℕ) → Matches (placed n e) (u ++ place ∷ v) → IsWithin n (n + length (occurrences_in e)) place
 place_within n e u place v m = within_in_middle n (n + length (occurrences_in e)) u place v (places_within n e (u ++ place ∷ v) m)
 
--- a word over the places that spells a word
+-- a word over the places whose letters are a word
 pub record HasPlaces {L : Type 0} (n : ℕ) (e : Expression L) (word : List L) : Type 0 where
   pub places : List ℕ
   pub matched : Matches (placed n e) places
-  pub spelled : AllZip (StandsAt n (occurrences_in e)) places word
+  pub written : AllZip (StandsAt n (occurrences_in e)) places word
 
--- words over the places, that spell the pieces of a word
+-- words over the places whose letters are the pieces of a word
 record HasPieces {L : Type 0} (n : ℕ) (e : Expression L) (pieces : List (List L)) : Type 0 where
   pub words : List (List ℕ)
   pub matched : AllByRecursion (Matches (placed n e)) words
-  pub spelled : AllZip (StandsAt n (occurrences_in e)) (joined words) (joined pieces)
+  pub written : AllZip (StandsAt n (occurrences_in e)) (joined words) (joined pieces)
   pub some : pieces ≢ [] → words ≢ []
 
 places_of_pieces : {L : Type 0} (n : ℕ) (e : Expression L) → ((word : List L) → Matches e word → HasPlaces n e word)
     → (pieces : List (List L)) → AllByRecursion (Matches e) pieces → HasPieces n e pieces
-places_of_pieces n e each [] all = record { words = []; matched = tt; spelled = tt; some = λ h k. h refl }
+places_of_pieces n e each [] all = record { words = []; matched = tt; written = tt; some = λ h k. h refl }
 places_of_pieces n e each (piece ∷ pieces) all =
     let a = each piece all.0 in
     let b = places_of_pieces n e each pieces all.1 in
     record {
       words = a.places ∷ b.words;
       matched = (a.matched, b.matched);
-      spelled = zip-append (StandsAt n (occurrences_in e)) a.places piece (joined b.words) (joined pieces) a.spelled b.spelled;
+      written = zip-append (StandsAt n (occurrences_in e)) a.places piece (joined b.words) (joined pieces) a.written b.written;
       some = λ h k. cc;
     }
 
-spelled_left : {L : Type 0} (n : ℕ) (e f : Expression L) (places : List ℕ) (word : List L) → AllZip (StandsAt n (occurrences_in e)) places word → AllZip (StandsAt n (occurrences_in e ++ occurrences_in f)) places word
-spelled_left n e f places word z =
+written_left : {L : Type 0} (n : ℕ) (e f : Expression L) (places : List ℕ) (word : List L) → AllZip (StandsAt n (occurrences_in e)) places word → AllZip (StandsAt n (occurrences_in e ++ occurrences_in f)) places word
+written_left n e f places word z =
     zip-weaker (StandsAt n (occurrences_in e)) (StandsAt n (occurrences_in e ++ occurrences_in f)) (λ place x h. stands_left n (occurrences_in e) (occurrences_in f) place x h) places word z
 
-spelled_right : {L : Type 0} (n : ℕ) (e f : Expression L) (places : List ℕ) (word : List L) → AllZip (StandsAt (n + length (occurrences_in e)) (occurrences_in f)) places word → AllZip (StandsAt n (occurrences_in e ++ occurrences_in f)) places word
-spelled_right n e f places word z =
+written_right : {L : Type 0} (n : ℕ) (e f : Expression L) (places : List ℕ) (word : List L) → AllZip (StandsAt (n + length (occurrences_in e)) (occurrences_in f)) places word → AllZip (StandsAt n (occurrences_in e ++ occurrences_in f)) places word
+written_right n e f places word z =
     zip-weaker (StandsAt (n + length (occurrences_in e)) (occurrences_in f)) (StandsAt n (occurrences_in e ++ occurrences_in f)) (λ place x h. stands_right n (occurrences_in e) (occurrences_in f) place x h) places word z
 
--- a word that is matched is spelled by a word over the places
+-- a word that is matched has a word over the places
 pub places_of : {L : Type 0} (n : ℕ) (e : Expression L) (word : List L) → Matches e word → HasPlaces n e word
-places_of {L} n empty word m = let P : List L → Type 0 = λ w. HasPlaces n empty w in subst P (sym m) (record { places = []; matched = refl; spelled = tt })
+places_of {L} n empty word m = let P : List L → Type 0 = λ w. HasPlaces n empty w in subst P (sym m) (record { places = []; matched = refl; written = tt })
 places_of {L} n (letter x) word m =
     let P : List L → Type 0 = λ w. HasPlaces n (letter x) w in
-    subst P (sym m) (record { places = n ∷ []; matched = refl; spelled = (inl (refl, refl), tt) })
+    subst P (sym m) (record { places = n ∷ []; matched = refl; written = (inl (refl, refl), tt) })
 places_of {L} n any word m =
     let P : List L → Type 0 = λ w. HasPlaces n any w in
-    subst P (sym m.1) (record { places = n ∷ []; matched = refl; spelled = (inl (refl, tt), tt) })
+    subst P (sym m.1) (record { places = n ∷ []; matched = refl; written = (inl (refl, tt), tt) })
 places_of {L} n (either e f) word m =
     elim m [
-      | inl h ↦ let a = places_of n e word h in record { places = a.places; matched = inl a.matched; spelled = spelled_left n e f a.places word a.spelled }
-      | inr h ↦ let a = places_of (n + length (occurrences_in e)) f word h in record { places = a.places; matched = inr a.matched; spelled = spelled_right n e f a.places word a.spelled }
+      | inl h ↦ let a = places_of n e word h in record { places = a.places; matched = inl a.matched; written = written_left n e f a.places word a.written }
+      | inr h ↦ let a = places_of (n + length (occurrences_in e)) f word h in record { places = a.places; matched = inr a.matched; written = written_right n e f a.places word a.written }
     ]
 places_of {L} n (follow e f) word m =
     let P : List L → Type 0 = λ w. HasPlaces n (follow e f) w in
@@ -181,36 +181,36 @@ places_of {L} n (follow e f) word m =
     subst P (sym m.2) (record {
       places = a.places ++ b.places;
       matched = (a.places, b.places, refl, a.matched, b.matched);
-      spelled = zip-append (StandsAt n (occurrences_in e ++ occurrences_in f)) a.places m.0 b.places m.1 (spelled_left n e f a.places m.0 a.spelled) (spelled_right n e f b.places m.1 b.spelled);
+      written = zip-append (StandsAt n (occurrences_in e ++ occurrences_in f)) a.places m.0 b.places m.1 (written_left n e f a.places m.0 a.written) (written_right n e f b.places m.1 b.written);
     })
 places_of {L} n (star e) word m =
     let P : List L → Type 0 = λ w. HasPlaces n (star e) w in
     let a = places_of_pieces n e (places_of n e) m.0 m.2 in
-    subst P (sym m.1) (record { places = joined a.words; matched = (a.words, refl, a.matched); spelled = a.spelled })
+    subst P (sym m.1) (record { places = joined a.words; matched = (a.words, refl, a.matched); written = a.written })
 places_of {L} n (plus e) word m =
     let P : List L → Type 0 = λ w. HasPlaces n (plus e) w in
     let a = places_of_pieces n e (places_of n e) m.0 m.3 in
-    subst P (sym m.2) (record { places = joined a.words; matched = (a.words, a.some m.1, refl, a.matched); spelled = a.spelled })
+    subst P (sym m.2) (record { places = joined a.words; matched = (a.words, a.some m.1, refl, a.matched); written = a.written })
 places_of {L} n (optional e) word m =
     elim m [
-      | inl h ↦ let P : List L → Type 0 = λ w. HasPlaces n (optional e) w in subst P (sym h) (record { places = []; matched = inl refl; spelled = tt })
-      | inr h ↦ let a = places_of n e word h in record { places = a.places; matched = inr a.matched; spelled = a.spelled }
+      | inl h ↦ let P : List L → Type 0 = λ w. HasPlaces n (optional e) w in subst P (sym h) (record { places = []; matched = inl refl; written = tt })
+      | inr h ↦ let a = places_of n e word h in record { places = a.places; matched = inr a.matched; written = a.written }
     ]
 
--- the pieces that pieces over the places spell
-record SpellsPieces {L : Type 0} (e : Expression L) (words : List (List ℕ)) (word : List L) : Type 0 where
+-- the pieces that are the letters of pieces over the places
+record WritesPieces {L : Type 0} (e : Expression L) (words : List (List ℕ)) (word : List L) : Type 0 where
   pub pieces : List (List L)
   pub split : word ≡ joined pieces
   pub matched : AllByRecursion (Matches e) pieces
   pub some : words ≢ [] → pieces ≢ []
 
-pieces_spelled : {L : Type 0} (n : ℕ) (e : Expression L) → ((places : List ℕ) (word : List L) → Matches (placed n e) places → AllZip (StandsAt n (occurrences_in e)) places word → Matches e word)
-    → (words : List (List ℕ)) (word : List L) → AllByRecursion (Matches (placed n e)) words → AllZip (StandsAt n (occurrences_in e)) (joined words) word → SpellsPieces e words word
-pieces_spelled n e each [] [] all z = record { pieces = []; split = refl; matched = tt; some = λ h k. h refl }
-pieces_spelled n e each [] (x ∷ word) all z = absurd z
-pieces_spelled n e each (places ∷ words) word all z =
+pieces_written : {L : Type 0} (n : ℕ) (e : Expression L) → ((places : List ℕ) (word : List L) → Matches (placed n e) places → AllZip (StandsAt n (occurrences_in e)) places word → Matches e word)
+    → (words : List (List ℕ)) (word : List L) → AllByRecursion (Matches (placed n e)) words → AllZip (StandsAt n (occurrences_in e)) (joined words) word → WritesPieces e words word
+pieces_written n e each [] [] all z = record { pieces = []; split = refl; matched = tt; some = λ h k. h refl }
+pieces_written n e each [] (x ∷ word) all z = absurd z
+pieces_written n e each (places ∷ words) word all z =
     let p = zip_parts (StandsAt n (occurrences_in e)) places (joined words) word z in
-    let b = pieces_spelled n e each words p.second all.1 p.seconds in
+    let b = pieces_written n e each words p.second all.1 p.seconds in
     record {
       pieces = p.first ∷ b.pieces;
       split = p.split ∙ ap (λ v. p.first ++ v) b.split;
@@ -218,16 +218,16 @@ pieces_spelled n e each (places ∷ words) word all z =
       some = λ h k. cc;
     }
 
--- what a word over the places spells is matched
-pub word_spelled : {L : Type 0} (n : ℕ) (e : Expression L) (places : List ℕ) (word : List L) → Matches (placed n e) places → AllZip (StandsAt n (occurrences_in e)) places word → Matches e word
-word_spelled {L} n empty places word m z =
+-- the letters of a word over the places are matched
+pub word_written : {L : Type 0} (n : ℕ) (e : Expression L) (places : List ℕ) (word : List L) → Matches (placed n e) places → AllZip (StandsAt n (occurrences_in e)) places word → Matches e word
+word_written {L} n empty places word m z =
     let P : List ℕ → Type 0 = λ w. AllZip (StandsAt {L = L} n []) w word in
     nothing word (subst P m z)
   where
     nothing : (word : List L) → AllZip (StandsAt {L = L} n []) [] word → word ≡ []
     nothing [] z = refl
     nothing (x ∷ word) z = absurd z
-word_spelled {L} n (letter x) places word m z =
+word_written {L} n (letter x) places word m z =
     let P : List ℕ → Type 0 = λ w. AllZip (StandsAt n (Some x ∷ [])) w word in
     one word (subst P m z)
   where
@@ -235,7 +235,7 @@ word_spelled {L} n (letter x) places word m z =
     one [] z = absurd z
     one (y ∷ []) z = elim z.0 [ inl p ↦ ap (λ t. t ∷ []) (sym p.1) | inr q ↦ absurd q ]
     one (y ∷ t ∷ word) z = absurd z.1
-word_spelled {L} n any places word m z =
+word_written {L} n any places word m z =
     let P : List ℕ → Type 0 = λ w. AllZip (StandsAt {L = L} n (None ∷ [])) w word in
     one word (subst P m z)
   where
@@ -243,38 +243,38 @@ word_spelled {L} n any places word m z =
     one [] z = absurd z
     one (y ∷ []) z = (y, refl)
     one (y ∷ t ∷ word) z = absurd z.1
-word_spelled {L} n (either e f) places word m z =
+word_written {L} n (either e f) places word m z =
     elim m [
-      | inl h ↦ inl (word_spelled n e places word h (zip_weaker_where (IsWithin n (n + length (occurrences_in e))) (StandsAt n (occurrences_in e ++ occurrences_in f)) (StandsAt n (occurrences_in e))
+      | inl h ↦ inl (word_written n e places word h (zip_weaker_where (IsWithin n (n + length (occurrences_in e))) (StandsAt n (occurrences_in e ++ occurrences_in f)) (StandsAt n (occurrences_in e))
           (λ place x w s. stands_in_left n (occurrences_in e) (occurrences_in f) place x w s) places word (places_within n e places h) z))
-      | inr h ↦ inr (word_spelled (n + length (occurrences_in e)) f places word h (zip_weaker_where (IsWithin (n + length (occurrences_in e)) (n + length (occurrences_in e) + length (occurrences_in f)))
+      | inr h ↦ inr (word_written (n + length (occurrences_in e)) f places word h (zip_weaker_where (IsWithin (n + length (occurrences_in e)) (n + length (occurrences_in e) + length (occurrences_in f)))
           (StandsAt n (occurrences_in e ++ occurrences_in f)) (StandsAt (n + length (occurrences_in e)) (occurrences_in f))
           (λ place x w s. stands_in_right n (occurrences_in e) (occurrences_in f) place (n + length (occurrences_in e) + length (occurrences_in f)) x w s) places word (places_within (n + length (occurrences_in e)) f places h) z))
     ]
-word_spelled {L} n (follow e f) places word m z =
+word_written {L} n (follow e f) places word m z =
     let P : List ℕ → Type 0 = λ w. AllZip (StandsAt n (occurrences_in e ++ occurrences_in f)) w word in
     let p = zip_parts (StandsAt n (occurrences_in e ++ occurrences_in f)) m.0 m.1 word (subst P m.2 z) in (
       p.first,
       p.second,
       p.split,
-      word_spelled n e m.0 p.first m.3 (zip_weaker_where (IsWithin n (n + length (occurrences_in e))) (StandsAt n (occurrences_in e ++ occurrences_in f)) (StandsAt n (occurrences_in e))
+      word_written n e m.0 p.first m.3 (zip_weaker_where (IsWithin n (n + length (occurrences_in e))) (StandsAt n (occurrences_in e ++ occurrences_in f)) (StandsAt n (occurrences_in e))
           (λ place x w s. stands_in_left n (occurrences_in e) (occurrences_in f) place x w s) m.0 p.first (places_within n e m.0 m.3) p.firsts),
-      word_spelled (n + length (occurrences_in e)) f m.1 p.second m.4 (zip_weaker_where (IsWithin (n + length (occurrences_in e)) (n + length (occurrences_in e) + length (occurrences_in f)))
+      word_written (n + length (occurrences_in e)) f m.1 p.second m.4 (zip_weaker_where (IsWithin (n + length (occurrences_in e)) (n + length (occurrences_in e) + length (occurrences_in f)))
           (StandsAt n (occurrences_in e ++ occurrences_in f)) (StandsAt (n + length (occurrences_in e)) (occurrences_in f))
           (λ place x w s. stands_in_right n (occurrences_in e) (occurrences_in f) place (n + length (occurrences_in e) + length (occurrences_in f)) x w s) m.1 p.second (places_within (n + length (occurrences_in e)) f m.1 m.4) p.seconds),
     )
-word_spelled {L} n (star e) places word m z =
+word_written {L} n (star e) places word m z =
     let P : List ℕ → Type 0 = λ w. AllZip (StandsAt n (occurrences_in e)) w word in
-    let s = pieces_spelled n e (word_spelled n e) m.0 word m.2 (subst P m.1 z) in
+    let s = pieces_written n e (word_written n e) m.0 word m.2 (subst P m.1 z) in
     (s.pieces, s.split, s.matched)
-word_spelled {L} n (plus e) places word m z =
+word_written {L} n (plus e) places word m z =
     let P : List ℕ → Type 0 = λ w. AllZip (StandsAt n (occurrences_in e)) w word in
-    let s = pieces_spelled n e (word_spelled n e) m.0 word m.3 (subst P m.2 z) in
+    let s = pieces_written n e (word_written n e) m.0 word m.3 (subst P m.2 z) in
     (s.pieces, s.some m.1, s.split, s.matched)
-word_spelled {L} n (optional e) places word m z =
+word_written {L} n (optional e) places word m z =
     elim m [
       | inl h ↦ let P : List ℕ → Type 0 = λ w. AllZip (StandsAt n (occurrences_in e)) w word in inl (nothing word (subst P h z))
-      | inr h ↦ inr (word_spelled n e places word h z)
+      | inr h ↦ inr (word_written n e places word h z)
     ]
   where
     nothing : (word : List L) → AllZip (StandsAt n (occurrences_in e)) [] word → word ≡ []

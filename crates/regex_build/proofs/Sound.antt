@@ -1,4 +1,4 @@
--- After a token that the machine reads is a derivation that spells it.
+-- After a token that the machine reads there is a derivation of it.
 use Rattle.std.proofs.Common.{◌≡◌, refl, sym, ◌∙◌, subst, ℕ, Bool, true, false, List, [], ◌∷◌, length, map, Option, None, Some, arith}
 use Rattle.std.specs.Prelude.{ℤ, nat_lt, ◌==◌, ⊤}
 use Rattle.std.proofs.lemmas.List.{length-append}
@@ -13,7 +13,7 @@ use Rattle.regex_build.proofs.Zippers.{Prefix, Position, at_post, after_token, a
 pub record Extends (tracks : ℕ) (z : Zipper) (t : Token) (s : State) : Type 0 where
   pub next : Zipper
   pub state_is : state_of next ≡ s
-  pub spells : (r : List Token) → zipper_then next r ≡ zipper_then z (t ∷ r)
+  pub derives : (r : List Token) → zipper_then next r ≡ zipper_then z (t ∷ r)
   pub fits : ZipperFits tracks z → ZipperFits tracks next
 
 abbrev pub Leads : ℕ → Zipper → Token → Option State → Type 0
@@ -28,7 +28,7 @@ pair a c = record { alternatives = a; sequence = c }
 
 -- the position that follows in the same group
 moves : (tracks : ℕ) (z : Zipper) (t : Token) (p : Position) → ((r : List Token) → zipper_then (record z { position = p }) r ≡ zipper_then z (t ∷ r)) → (ZipperFits tracks z → PositionFits tracks p) → Extends tracks z t (state_of (record z { position = p }))
-moves tracks z t p e f = record { next = record z { position = p }; state_is = refl; spells = e; fits = λ h. record { outer = h.outer; prefix = h.prefix; position = f h } }
+moves tracks z t p e f = record { next = record z { position = p }; state_is = refl; derives = e; fits = λ h. record { outer = h.outer; prefix = h.prefix; position = f h } }
 
 gated : (tracks : ℕ) (z : Zipper) (t : Token) (b : Bool) (o : Option State) → (b ≡ true → Leads tracks z t o) → Leads tracks z t (gate b o)
 gated tracks z t true o h = h refl
@@ -43,7 +43,7 @@ module _ (tracks : ℕ) where
   enters fs f opening = record {
     next = zip (f ∷ fs) no_prefix at_post;
     state_is = refl;
-    spells = λ r. refl;
+    derives = λ r. refl;
     fits = λ h. record { outer = (h.prefix, h.outer); prefix = (tt, tt); position = tt };
   }
   enters fs f bracket =
@@ -64,7 +64,7 @@ module _ (tracks : ℕ) where
   closes_empty (g ∷ fs) None None = record {
     next = zip fs g (after_token (bare grammar.empty));
     state_is = refl;
-    spells = λ r. refl;
+    derives = λ r. refl;
     fits = λ h. record { outer = h.outer.1; prefix = h.outer.0; position = tt };
   }
   closes_empty fs (Some a) c = tt
@@ -92,9 +92,9 @@ module _ (tracks : ℕ) where
   enters_after fs a (Some c) p (digit d) = refl
   enters_after fs a (Some c) p _ = refl
 
-  spells_after : (fs : List Prefix) (a : Option Alt) (c : Option Cat) (p : Post) (r : List Token) → zipper_then (zip fs (pair a (Some (cat_with c p))) at_post) r ≡ zipper_then (zip fs (pair a c) (after_token p)) r
-  spells_after fs a None p r = refl
-  spells_after fs a (Some c) p r = refl
+  derives_after : (fs : List Prefix) (a : Option Alt) (c : Option Cat) (p : Post) (r : List Token) → zipper_then (zip fs (pair a (Some (cat_with c p))) at_post) r ≡ zipper_then (zip fs (pair a c) (after_token p)) r
+  derives_after fs a None p r = refl
+  derives_after fs a (Some c) p r = refl
 
   pub cat_fits : (c : Option Cat) (p : Post) → CatsFit tracks c → grammar.PostFits tracks p → grammar.CatFits tracks (cat_with c p)
   cat_fits None p h k = k
@@ -109,7 +109,7 @@ module _ (tracks : ℕ) where
   from_ended fs a c p t (Some s) h = record {
     next = h.next;
     state_is = h.state_is;
-    spells = λ r. h.spells r ∙ spells_after fs a c p (t ∷ r);
+    derives = λ r. h.derives r ∙ derives_after fs a c p (t ∷ r);
     fits = λ k. h.fits (record { outer = k.outer; prefix = (k.prefix.0, cat_fits c p k.prefix.1 k.position); position = tt });
   }
 
@@ -121,7 +121,7 @@ module _ (tracks : ℕ) where
   new_cat fs a c p = record {
     next = zip fs (pair (Some (alt_with a (cat_with c p))) None) at_post;
     state_is = state_joined a c;
-    spells = spells_joined a c;
+    derives = derives_joined a c;
     fits = λ h. record { outer = h.outer; prefix = (alt_fits a (cat_with c p) h.prefix.0 (cat_fits c p h.prefix.1 h.position), tt); position = tt };
   }
     where
@@ -131,18 +131,18 @@ module _ (tracks : ℕ) where
       state_joined (Some a) None = refl
       state_joined (Some a) (Some c) = refl
 
-      spells_joined : (a : Option Alt) (c : Option Cat) (r : List Token) → zipper_then (zip fs (pair (Some (alt_with a (cat_with c p))) None) at_post) r ≡ zipper_then (zip fs (pair a c) (after_token p)) (bar ∷ r)
-      spells_joined None None r = refl
-      spells_joined None (Some c) r = refl
-      spells_joined (Some a) None r = refl
-      spells_joined (Some a) (Some c) r = refl
+      derives_joined : (a : Option Alt) (c : Option Cat) (r : List Token) → zipper_then (zip fs (pair (Some (alt_with a (cat_with c p))) None) at_post) r ≡ zipper_then (zip fs (pair a c) (after_token p)) (bar ∷ r)
+      derives_joined None None r = refl
+      derives_joined None (Some c) r = refl
+      derives_joined (Some a) None r = refl
+      derives_joined (Some a) (Some c) r = refl
 
   closes : (fs : List Prefix) (a : Option Alt) (c : Option Cat) (p : Post) → Leads tracks (zip fs (pair a c) (after_token p)) closing (step tracks (state_of (zip fs (pair a c) (after_token p))) closing)
   closes [] a c p = tt
   closes (g ∷ fs) a c p = record {
     next = zip fs g (after_token (bare (grammar.group (alt_with a (cat_with c p)))));
     state_is = state_closed a c;
-    spells = spells_closed a c;
+    derives = derives_closed a c;
     fits = λ h. record { outer = h.outer.1; prefix = h.outer.0; position = alt_fits a (cat_with c p) h.prefix.0 (cat_fits c p h.prefix.1 h.position) };
   }
     where
@@ -152,11 +152,11 @@ module _ (tracks : ℕ) where
       state_closed (Some a) None = refl
       state_closed (Some a) (Some c) = refl
 
-      spells_closed : (a : Option Alt) (c : Option Cat) (r : List Token) → zipper_then (zip fs g (after_token (bare (grammar.group (alt_with a (cat_with c p)))))) r ≡ zipper_then (zip (g ∷ fs) (pair a c) (after_token p)) (closing ∷ r)
-      spells_closed None None r = refl
-      spells_closed None (Some c) r = refl
-      spells_closed (Some a) None r = refl
-      spells_closed (Some a) (Some c) r = refl
+      derives_closed : (a : Option Alt) (c : Option Cat) (r : List Token) → zipper_then (zip fs g (after_token (bare (grammar.group (alt_with a (cat_with c p)))))) r ≡ zipper_then (zip (g ∷ fs) (pair a c) (after_token p)) (closing ∷ r)
+      derives_closed None None r = refl
+      derives_closed None (Some c) r = refl
+      derives_closed (Some a) None r = refl
+      derives_closed (Some a) (Some c) r = refl
 
   after_post : (fs : List Prefix) (f : Prefix) (p : Post) (t : Token) → Leads tracks (zip fs f (after_token p)) t (step tracks (state_of (zip fs f (after_token p))) t)
   after_post fs f p star = moves tracks (zip fs f (after_token p)) star (after_token (grammar.star p)) (λ r. refl) (λ h. h.position)

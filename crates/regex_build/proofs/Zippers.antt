@@ -1,4 +1,4 @@
--- A part of a derivation that has been read: what it spells, and the machine's state after it.
+-- A part of a derivation that has been read: what it derives, and the machine's state after it.
 use Rattle.std.proofs.Common.{ℕ, ◌<◌, ◌≤◌, Bool, true, false, List, [], ◌∷◌, length, map, Option, None, Some}
 use Rattle.std.specs.Prelude.{ℤ, ⊤}
 use Rattle.std.specs.List.{AllByRecursion}

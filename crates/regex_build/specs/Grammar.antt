@@ -1,4 +1,4 @@
--- The grammar: which tokens spell which expression, over a number of tracks.
+-- The grammar: which expression derives which tokens, over a number of tracks.
 use Rattle.std.specs.Prelude.{◌≡◌, ℕ, ◌<◌, ℤ, pos, List, [], ◌∷◌, ◌++◌, length, ⊤}
 use Rattle.regex_build.specs.Tokens as tokens
 use Rattle.regex_build.specs.Tokens.{Token}
@@ -34,7 +34,7 @@ mutual
     only : Cat → Alt
     either : Alt → Cat → Alt
 
--- the tokens that are spelled, and the rest after them
+-- the tokens that are derived, and the rest after them
 abbrev pub numbers_then : Numbers → List Token → List Token
 numbers_then (one z) r = tokens.number z ∷ r
 numbers_then (more ns z) r = numbers_then ns (tokens.comma ∷ tokens.number z ∷ r)
@@ -111,9 +111,9 @@ abbrev mutual
   AltFits tracks (only c) = CatFits tracks c
   AltFits tracks (either a c) = AltFits tracks a × CatFits tracks c
 
--- the tokens spell the expression
-pub record Spells (tracks : ℕ) (ts : List Token) (tree : Expression (List ℤ)) : Type 0 where
+-- the tokens derive from the expression
+pub record Derives (tracks : ℕ) (ts : List Token) (tree : Expression (List ℤ)) : Type 0 where
   pub text : Alt
-  pub spells : alt_then text [] ≡ ts
+  pub derives : alt_then text [] ≡ ts
   pub fits : AltFits tracks text
   pub tree_is : alt_tree text ≡ tree

@@ -7,7 +7,7 @@ use Rattle.regex_build.specs.Expression.{Expression, empty, letter, any, either,
 abbrev pub joined : {L : Type 0} → List (List L) → List L
 joined pieces = flat_map (λ piece. piece) pieces
 
--- whether a word is one of those that the expression stands for
+-- whether the expression matches a word
 abbrev pub Matches : {L : Type 0} → Expression L → List L → Type 0
 Matches empty w = w ≡ []
 Matches (letter x) w = w ≡ x ∷ []

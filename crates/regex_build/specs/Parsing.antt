@@ -6,7 +6,7 @@ use Rattle.regex_build.specs.declared.fault.RegexFault.TheVariants.{Syntax, Numb
 use Rattle.regex_build.specs.Tokens.{Token, opening, digit, number, other}
 use Rattle.regex_build.specs.Spots.{tokens, byte_of}
 use Rattle.regex_build.specs.Patterns.{Pattern}
-use Rattle.regex_build.specs.Grammar.{Spells}
+use Rattle.regex_build.specs.Grammar.{Derives}
 use Rattle.regex_build.specs.Limits.{nothing, after_all, IsAllowed, AreAllowed}
 
 abbrev pub token_at : List Token → ℕ → Token
@@ -24,19 +24,19 @@ IsOpening _ = ⊥
 
 -- no text goes on with this token, or the text ends too early here, and the tokens before are allowed
 pub record IsStuckAt (sets : List (List ℤ)) (ts : List Token) (i : ℕ) : Type 0 where
-  pub breaks : BreaksAt (Spells (length sets)) ts i
+  pub breaks : BreaksAt (Derives (length sets)) ts i
   pub before : AreAllowed sets nothing (take i ts)
 
 -- some text goes on with this token, it is not allowed, and those before it are
 pub record IsRefusedAt (sets : List (List ℤ)) (ts : List Token) (i : ℕ) : Type 0 where
   pub within : i < length ts
-  pub begins : Begins (Spells (length sets)) (take (i + 1) ts)
+  pub begins : Begins (Derives (length sets)) (take (i + 1) ts)
   pub before : AreAllowed sets nothing (take i ts)
   pub refused : IsAllowed sets (after_all nothing (take i ts)) (token_at ts i) → ⊥
 
--- the text spells the pattern's expression, whose letters have a member of each set
+-- the text derives from the pattern's expression, whose letters have a member of each set
 pub record IsTextOf (sets : List (List ℤ)) (text : List ℕ) (pattern : Pattern) : Type 0 where
-  pub spells : Spells (length sets) (tokens text) pattern.tree
+  pub derives : Derives (length sets) (tokens text) pattern.tree
   pub allowed : AreAllowed sets nothing (tokens text)
   pub sets_are : pattern.sets ≡ sets
 

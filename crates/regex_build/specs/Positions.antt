@@ -33,7 +33,7 @@ pub record IsPositionTable {L : Type 0} (code : L → ℕ → Type 0) (e : Expre
   pub accepts : (q : ℕ) → IsTrue (accepting_of n q) ↔ MayEnd (placed 1 e) q
   pub leads : (q a place : ℕ) → Leads n q a place ↔ (ComesNext (placed 1 e) q place × IsWritten code (occurrences_in e) place a)
 
--- the automaton accepts a word of letters if and only if the expression matches the word of tuples that it stands for
+-- the automaton accepts a word of letters if and only if the expression matches the word of tuples that it denotes
 abbrev pub AcceptsTheMatches : List (List ℤ) → Expression (List ℤ) → Branching → Type 0
 AcceptsTheMatches sets e n = (tuples : List (List ℤ)) (word : List ℕ) → Codes sets tuples word → Accepts n word ↔ Matches e tuples
 

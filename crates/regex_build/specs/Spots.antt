@@ -25,7 +25,7 @@ signs =
     ∷ (codes "]", unbracket)
     ∷ []
 
--- a number, whose digits blanks may divide, after a sign of so many bytes; 2 ^ 32 - 1 stands for each distance from 0 that is greater
+-- a number, whose digits blanks may divide, after a sign of so many bytes; 2 ^ 32 - 1 means each distance from 0 that is greater
 abbrev pub number_lexeme : Bool → ℕ → List ℕ → Lexeme Token
 number_lexeme negative sign bytes =
     lexeme_of (number (signed negative (min (value_of (filter is_digit (prefix_of DigitOrBlank bytes))) 4294967295))) (sign + prefix_len DigitOrBlank bytes)

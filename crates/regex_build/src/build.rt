@@ -25,8 +25,8 @@ use std::alloc::Global;
 /// The canonical automaton of the words that the expression matches, over a track for each set, on
 /// which each member of the set has its place in the set as its digit.
 ///
-/// The width is the number of sets of last marks: mark each letter of the expression with its place; the last marks of
-/// a word are the places at which the beginnings of matches that spell the word end. The empty word counts as one of
+/// The width is the number of sets of last marks. Mark each letter of the expression with its place: a word's last marks
+/// are the last places of those prefixes of matches that are the word. The empty word counts as one of
 /// its own. `Letters` comes if and only if there are more than 16 tracks or more than 65,536 letters, and is looked at
 /// first; `States` only where the width passes the limit.
 ///

@@ -15,7 +15,7 @@ ghost use Rattle.regex_build.specs.Reading.{token_view, lexeme_view, IsWritten, 
 use crate::token::Token;
 use text_grammar::{Class, begins_in as begins_in_class, prefix_len};
 
-/// What stands for each greater number: no such number has 32 bits, with either sign.
+/// The value of each greater number: no such number has 32 bits, with either sign.
 const GREATEST: u64 = 4294967295;
 
 /// A token that begins at a byte, and how many bytes it has.

@@ -13,7 +13,7 @@ use digit_tuple::header::Header;
 use digit_tuple::sets::Sets;
 use std::alloc::Global;
 
-/// The expression that the text spells over the header's sets, by this grammar:
+/// The expression of the text over the header's sets, by this grammar:
 ///
 /// ```text
 /// alt := cat { "|" cat }

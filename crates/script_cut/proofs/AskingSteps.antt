@@ -8,11 +8,11 @@ use Rattle.wal_outside.specs.Views.{SourceView}
 use Rattle.script_cut.specs.Asking.{calls_after, Gives, AreAsked}
 use Rattle.script_cut.specs.Passing.{AllGave, AsksOnce}
 
-pub consumes-none : (told : Option (List ℕ)) → Consumes told told []
+pub consumes-none : (was : Option (List ℕ)) → Consumes was was []
 consumes-none None = tt
 consumes-none (Some xs) = refl
 
-pub consumes-then : (told mid now : Option (List ℕ)) (a b : List ℕ) → Consumes told mid a → Consumes mid now b → Consumes told now (a ++ b)
+pub consumes-then : (was mid now : Option (List ℕ)) (a b : List ℕ) → Consumes was mid a → Consumes mid now b → Consumes was now (a ++ b)
 consumes-then None mid now a b p q = tt
 consumes-then (Some xs) None now a b p q = absurd p
 consumes-then (Some xs) (Some ys) None a b p q = absurd q
@@ -23,16 +23,16 @@ calls_after-append [] qs n = refl
 calls_after-append (p ∷ ps) qs n = calls_after-append ps qs (one_more n)
 
 -- no call
-pub gives-none : (told : SourceView) → Gives told [] told
-gives-none told = record { taken = consumes-none told.left; calls = refl }
+pub gives-none : (was : SourceView) → Gives was [] was
+gives-none was = record { taken = consumes-none was.left; calls = refl }
 
 -- calls, and then more of them
-pub gives-then : (told mid now : SourceView) (ps qs : List (List ℕ)) → Gives told ps mid → Gives mid qs now → Gives told (ps ++ qs) now
-gives-then told mid now ps qs p q =
-    let P : List ℕ → Type 0 = λ xs. Consumes told.left now.left xs in
+pub gives-then : (was mid now : SourceView) (ps qs : List (List ℕ)) → Gives was ps mid → Gives mid qs now → Gives was (ps ++ qs) now
+gives-then was mid now ps qs p q =
+    let P : List ℕ → Type 0 = λ xs. Consumes was.left now.left xs in
     record {
-      taken = subst P (sym (concat-append ps qs)) (consumes-then told.left mid.left now.left (concat ps) (concat qs) p.taken q.taken);
-      calls = q.calls ∙ ap (λ n. calls_after n qs) p.calls ∙ sym (calls_after-append ps qs told.calls);
+      taken = subst P (sym (concat-append ps qs)) (consumes-then was.left mid.left now.left (concat ps) (concat qs) p.taken q.taken);
+      calls = q.calls ∙ ap (λ n. calls_after n qs) p.calls ∙ sym (calls_after-append ps qs was.calls);
     }
 
 -- pieces that all gave bytes, and then one that did

@@ -20,7 +20,7 @@ not_ended true false is = cc
 not_ended false true is = refl
 not_ended false false is = refl
 
--- the text at the front has no terminator outside quotes
+-- the leading text has no terminator outside quotes
 pub unbroken-prefix : (inside : Bool) (bytes : List ℕ) → IsTrue (unbroken inside (take (text_count inside bytes) bytes))
 unbroken-prefix inside [] = refl
 unbroken-prefix inside (b ∷ bs) = more inside b bs (is_terminator b && not inside) refl (unbroken-prefix (after_byte inside b) bs)

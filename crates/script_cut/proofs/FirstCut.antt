@@ -105,7 +105,7 @@ open_first old text line new next cut =
       room_is = rw cut.split (omega (arith, length-append next.before text, cut.room));
     }
 
--- how far the gaps and the text at the front go
+-- how far the leading gaps and the text after them go
 unfoldable reach : List ℕ → ℕ
 reach bytes = gap_count false bytes + text_count false (drop (gap_count false bytes) bytes)
 

@@ -25,7 +25,7 @@ all_gaps-append inside (x ∷ xs) ys a b =
     let parts : ((inside || is_gap x) ≡ true) × (all_gaps (comment_after inside x) xs ≡ true) = both_true (inside || is_gap x) (all_gaps (comment_after inside x) xs) a in
     both (inside || is_gap x) (all_gaps (comment_after inside x) (xs ++ ys)) parts.0 (all_gaps-append (comment_after inside x) xs ys parts.1 b)
 
--- the gaps at the front are gaps
+-- the leading gaps are gaps
 pub all_gaps-prefix : (inside : Bool) (bytes : List ℕ) → IsTrue (all_gaps inside (take (gap_count inside bytes) bytes))
 all_gaps-prefix inside [] = refl
 all_gaps-prefix inside (b ∷ bs) = more inside b bs (inside || is_gap b) refl (all_gaps-prefix (comment_after inside b) bs)

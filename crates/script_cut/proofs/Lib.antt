@@ -5,5 +5,5 @@ pub mod PassingSteps
 pub mod CutSteps
 pub mod FirstCut
 pub mod OneList
-pub mod ToldItem
+pub mod ReportedItem
 pub mod ReadingSteps

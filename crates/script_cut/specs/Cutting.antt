@@ -18,7 +18,7 @@ place_of kept more = record { left = if kept.over then [] else kept.held ++ more
 
 -- these bytes may still come: all that the source reports, any where it reports nothing, and none after its end
 abbrev pub MayCome : Bool → Option (List ℕ) → List ℕ → Type 0
-MayCome true told more = more ≡ []
+MayCome true was more = more ≡ []
 MayCome false None more = ⊤
 MayCome false (Some left) more = more ≡ left
 
@@ -46,9 +46,9 @@ pub record HasFailed (old : Kept) (given : List ℕ) : Type 0 where
 -- the last one no command had its terminator in what was held and given; so no call is made once a whole command is there or the source has
 -- ended. Where calls are made, at most one byte past those that may be passed is held and given; and with each byte that is passed one less
 -- may be.
-pub record HasCut (old : Kept) (told : SourceView) (result : Result Cut CutFault) (new : Kept) (now : SourceView) : Type 0 where
+pub record HasCut (old : Kept) (was : SourceView) (result : Result Cut CutFault) (new : Kept) (now : SourceView) : Type 0 where
   pub pieces : List (List ℕ)
-  pub given : Gives told pieces now
+  pub given : Gives was pieces now
   pub asked : AreAsked HasNoCommand old.held pieces
   pub within : pieces ≢ [] → length (old.held ++ concat pieces) ≤ old.room + 1
   pub room : new.room + length (old.held ++ concat pieces) ≡ old.room + length new.held

@@ -25,7 +25,7 @@ pub record IsWithin (kept : Kept) : Type 0 where
   pub bytes : length kept.text + length kept.held ≤ 65537
   pub lines : kept.line + kept.room ≤ 16777217
 
--- bytes at the front are passed
+-- the first bytes held are passed
 abbrev pub advance : ℕ → Kept → Kept
 advance n kept = record kept {
   held = drop n kept.held;

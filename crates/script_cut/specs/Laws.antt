@@ -16,5 +16,5 @@ abbrev pub HasOneList : Rest → Type 0
 HasOneList place = (is js : List Item) → HasItems place is → HasItems place js → is ≡ js
 
 -- where the source reports what it has left, the item is the next one of what was held and what was left
-abbrev pub GivesToldItem : Kept → SourceView → Result Cut CutFault → Kept → SourceView → Type 0
-GivesToldItem old from result new to = HasCut old from result new to → (left now : List ℕ) → from.left ≡ Some left → to.left ≡ Some now → GivesItem (place_of old left) result (place_of new now)
+abbrev pub GivesReportedItem : Kept → SourceView → Result Cut CutFault → Kept → SourceView → Type 0
+GivesReportedItem old from result new to = HasCut old from result new to → (left now : List ℕ) → from.left ≡ Some left → to.left ≡ Some now → GivesItem (place_of old left) result (place_of new now)

@@ -1,8 +1,8 @@
--- How long the parts at the front of some bytes are, and what is open after them.
+-- How long the leading parts of some bytes are, and what is open after them.
 use Rattle.std.specs.Prelude.{ℕ, suc, Bool, not, ◌||◌, ◌&&◌, if◌then◌else◌, List, [], ◌∷◌}
 use Rattle.script_cut.specs.Texts.{is_gap, is_terminator, comment_after, after_byte}
 
--- how many bytes at the front belong to no command
+-- how many leading bytes belong to no command
 abbrev pub gap_count : Bool → List ℕ → ℕ
 gap_count inside [] = 0
 gap_count inside (b ∷ bs) = if inside || is_gap b then suc (gap_count (comment_after inside b) bs) else 0

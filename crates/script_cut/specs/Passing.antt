@@ -13,17 +13,17 @@ use Rattle.wal_outside.specs.declared.source.Failed.{Failed}
 
 -- one call of a source has filled the room for bytes
 abbrev pub Fills : SourceView → Result (Unit {0}) Failed → List ℕ → SourceView → Type 0
-Fills told (Ok done) held now = Gives told (held ∷ []) now × (held ≡ [] → HasGivenAll now.left)
-Fills told (Err fault) held now = Gives told ([] ∷ []) now × (held ≡ [])
+Fills was (Ok done) held now = Gives was (held ∷ []) now × (held ≡ [] → HasGivenAll now.left)
+Fills was (Err fault) held now = Gives was ([] ∷ []) now × (held ≡ [])
 
 abbrev pub is_failed_fill : Result (Unit {0}) Failed → Bool
 is_failed_fill (Ok done) = false
 is_failed_fill (Err fault) = true
 
 -- a source gave pieces, and of the bytes held and given these were passed
-pub record Passes (old : Kept) (told : SourceView) (new : Kept) (now : SourceView) (passed : List ℕ) : Type 0 where
+pub record Passes (old : Kept) (was : SourceView) (new : Kept) (now : SourceView) (passed : List ℕ) : Type 0 where
   pub pieces : List (List ℕ)
-  pub given : Gives told pieces now
+  pub given : Gives was pieces now
   pub split : old.held ++ concat pieces ≡ passed ++ new.held
   pub line_is : new.line ≡ old.line + line_ends passed
   pub room_is : new.room + length passed ≡ old.room
@@ -43,8 +43,8 @@ AsksOnce held (piece ∷ []) = held ≡ []
 AsksOnce held (piece ∷ next ∷ pieces) = ⊥
 
 -- bytes are held: those that were, or those that one call gave
-pub record IsSupplied (old : Kept) (told : SourceView) (new : Kept) (now : SourceView) : Type 0 where
-  pub passes : Passes old told new now []
+pub record IsSupplied (old : Kept) (was : SourceView) (new : Kept) (now : SourceView) : Type 0 where
+  pub passes : Passes old was new now []
   pub once : AsksOnce old.held passes.pieces
   pub bounded : IsBounded passes.pieces new
 
@@ -98,9 +98,9 @@ StopsGaps (Ok false) before pieces new now = IsOver new now
 StopsGaps (Err fault) before pieces new now = Stops fault new
 
 -- the gaps were passed, and a call was made only where no more than gaps was held and given
-pub record PassesGaps (old : Kept) (told : SourceView) (result : Result Bool CutFault) (new : Kept) (now : SourceView) : Type 0 where
+pub record PassesGaps (old : Kept) (was : SourceView) (result : Result Bool CutFault) (new : Kept) (now : SourceView) : Type 0 where
   pub before : List ℕ
-  pub passes : Passes old told new now before
+  pub passes : Passes old was new now before
   pub gaps : IsTrue (all_gaps false before)
   pub asked : AreAsked (λ bytes. IsTrue (all_gaps false bytes)) old.held passes.pieces
   pub bounded : IsBounded passes.pieces new
@@ -132,10 +132,10 @@ StopsText (Ok scanned) text end new now = HasScanned scanned text end new now
 StopsText (Err fault) text end new now = (end ≡ []) × Stops fault new
 
 -- a command's text was passed, and a call was made only where no terminator was in what was held and given
-pub record PassesText (old : Kept) (told : SourceView) (result : Result Scanned CutFault) (new : Kept) (now : SourceView) : Type 0 where
+pub record PassesText (old : Kept) (was : SourceView) (result : Result Scanned CutFault) (new : Kept) (now : SourceView) : Type 0 where
   pub text : List ℕ
   pub end : List ℕ
-  pub passes : Passes old told new now (text ++ end)
+  pub passes : Passes old was new now (text ++ end)
   pub whole : IsTrue (unbroken false text)
   pub asked : AreAsked (λ bytes. IsTrue (unbroken false bytes)) old.held passes.pieces
   pub bounded : IsBounded passes.pieces new

@@ -228,7 +228,7 @@ impl Cutter {
         Ok(())
     }
 
-    /// The gaps at the front of the next `count` bytes.
+    /// The gaps that the next `count` bytes begin with.
     fn gaps_ahead(&self, count: usize, commented: bool) -> Stretch
         requires { count ≤ length self.now.held }
         ensures len { result.len ≡ gap_count commented (take count self.now.held) }
@@ -238,7 +238,7 @@ impl Cutter {
         gaps_of(&self.window.bytes()[..count], commented)
     }
 
-    /// The text at the front of the next `count` bytes.
+    /// The text that the next `count` bytes begin with.
     fn text_ahead(&self, count: usize, quoted: bool) -> Stretch
         requires { count ≤ length self.now.held }
         ensures len { result.len ≡ text_count quoted (take count self.now.held) }
@@ -248,7 +248,7 @@ impl Cutter {
         text_of(&self.window.bytes()[..count], quoted)
     }
 
-    /// Passes bytes at the front.
+    /// Passes the next bytes.
     fn pass(&mut self, count: usize)
         requires held { count ≤ length self.old.held }
         requires room { count ≤ self.old.room }
@@ -271,8 +271,8 @@ impl Cutter {
         shown
     }
 
-    /// Passes bytes at the front that belong to a command's text, which has `len` bytes with them. They are
-    /// kept where the text is not too long, and else nothing of it is.
+    /// Passes the next bytes, which belong to a command's text of `len` bytes with them. They are kept if
+    /// the text is not too long; else nothing of it is.
     fn take(&mut self, count: usize, len: usize) -> Result<(), CutFault>
         requires held { count ≤ length self.old.held }
         requires room { count ≤ self.old.room }

@@ -2,7 +2,7 @@ ghost use Rattle.std.specs.Prelude.{Result};
 ghost use Rattle.wal_outside.specs.Views.{SourceView};
 ghost use Rattle.script_cut.specs.Cuts.{Rest};
 ghost use Rattle.script_cut.specs.Kept.{Kept};
-ghost use Rattle.script_cut.specs.Laws.{HasOneNext, HasOneList, GivesToldItem};
+ghost use Rattle.script_cut.specs.Laws.{HasOneNext, HasOneList, GivesReportedItem};
 ghost use Rattle.script_cut.specs.declared.cut.Cut.{Cut};
 ghost use Rattle.script_cut.specs.declared.cut.CutFault.{CutFault};
 
@@ -14,6 +14,6 @@ pub fn one_cut()
 
 /// A law, with nothing to run: where the source reports what it has left, a call gives the next item of what the cutter
 /// held and the source had left, and what both have then is what follows it.
-pub fn told_cut()
-    ensures { (old : Kept) (from : SourceView) (result : Result Cut CutFault) (new : Kept) (to : SourceView) → GivesToldItem old from result new to }
+pub fn reported_cut()
+    ensures { (old : Kept) (from : SourceView) (result : Result Cut CutFault) (new : Kept) (to : SourceView) → GivesReportedItem old from result new to }
 {}

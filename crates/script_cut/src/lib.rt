@@ -6,7 +6,7 @@
 
 // what a call of a cutter gives
 mod cut;
-// the gaps and the texts at the front of some bytes
+// the gaps and the texts that bytes begin with
 mod scanning;
 // bytes that were read and not yet passed
 mod window;

@@ -1,11 +1,11 @@
-// The gaps and the texts at the front of some bytes.
+// The gaps and the texts that bytes begin with.
 ghost use Rattle.std.specs.Prelude.{◌≡◌, ◌≤◌, length};
 ghost use Rattle.script_cut.specs.Texts.{is_gap as is_gap_byte, is_terminator as is_terminator_byte, comment_after, after_byte, line_ends as line_ends_of};
 ghost use Rattle.script_cut.specs.Lengths.{gap_count, gap_open, text_count, text_open};
 
 use text_grammar::Class;
 
-/// How many bytes a stretch at the front has, and whether a comment or a quote is open after it.
+/// How many bytes a leading stretch has, and whether a comment or a quote is open after it.
 #[derive(Clone, Copy, Debug)]
 pub(crate) struct Stretch {
     pub(crate) len: usize,

@@ -44,7 +44,7 @@ impl Window {
         &self.bytes[self.start..self.end]
     }
 
-    /// Lets go of bytes at the front.
+    /// Lets go of the first bytes.
     pub(crate) fn pass(&mut self, count: usize)
         requires { count ≤ length self.old }
         ensures { self.new ≡ drop count self.old }

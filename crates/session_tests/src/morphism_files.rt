@@ -175,7 +175,7 @@ fn promote_file(alloc: Global, text: &'static str) -> Ran {
 }
 
 #[test]
-fn files_of_rules_are_told_by_the_line_of_their_fault(rt: HostRuntime) {
+fn faults_of_files_of_rules_are_reported_by_line(rt: HostRuntime) {
     for (text, printed, code, count) in &READ {
         let ran = promote_file(rt.alloc(), *text);
         expect_printed(&rt, text, &ran, printed);

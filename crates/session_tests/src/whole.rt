@@ -7,7 +7,7 @@ use std::fmt::Debug;
 use std::process::Abort;
 use wal_outside::{Folder, MemSink, MemSource, MemStore};
 
-/// What a run is over: lengths of pieces, and the numbers of the calls that fail. An empty list stands for whole pieces
+/// What a run is over: lengths of pieces, and the numbers of the calls that fail. An empty list means whole pieces
 /// and no failure.
 #[derive(Clone, Copy)]
 pub struct Outside {

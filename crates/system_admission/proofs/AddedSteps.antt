@@ -68,8 +68,8 @@ lifted_adds does one old new (Ok a) done = one old new (Ok a) done
 lifted_adds does one old new (Err fault) (f, done, is) = one old new (Err f) done
 
 tells_adds : (a b : Automaton) → AddsSteps (TellsSame a b)
-tells_adds a b old new (Ok is) told = same_adds old new told.1
-tells_adds a b old new (Err f) told = absurd told
+tells_adds a b old new (Ok is) known = same_adds old new known.1
+tells_adds a b old new (Err f) known = absurd known
 
 reversal_adds : (reversed : Bool) (read : Automaton) → AddsSteps (DoesReversal reversed read)
 reversal_adds true read = step_adds (reverse_step read)
@@ -132,7 +132,7 @@ files_add direction files old new r (inr (inr (language, table, inr (adder, sums
 
 module _ (custom : Custom) (name : List ℕ) where
   refused_adds : (old new : StepLog) (fault : SystemFault) → RefusesName custom name old fault new → Adds old new
-  refused_adds old new fault (inl (none, told, same)) = same_adds old new same
+  refused_adds old new fault (inl (none, known, same)) = same_adds old new same
   refused_adds old new fault (inr (inl (direction, part, named, refuses, same))) = same_adds old new same
   refused_adds old new fault (inr (inr not)) = files_add not.direction not.files old new (Err not.refusal) not.admits
 
@@ -141,7 +141,7 @@ module _ (custom : Custom) (name : List ℕ) where
   other_adds old new (Err fault) refuses = refused_adds old new fault refuses
 
   name_adds : AddsSteps (AdmitsName custom name)
-  name_adds old new r (inl (built_in, told, same)) = same_adds old new same
+  name_adds old new r (inl (built_in, known, same)) = same_adds old new same
   name_adds old new r (inr (none, other)) = other_adds old new r other
 
 pub names_add : AdmissionsAddSteps

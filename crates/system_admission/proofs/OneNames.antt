@@ -43,9 +43,9 @@ module _ (custom : Custom) (name : List ℕ) where
 
   same_files : (direction turn : Direction) (files others : SystemFiles) → HasFiles custom name direction files → HasFiles custom name turn others → files ≡ others
   same_files direction turn files others one other =
-      let told = one_user_system direction turn one.part other.part name one.is_name other.is_name in
+      let known = one_user_system direction turn one.part other.part name one.is_name other.is_name in
       one_files custom turn other.part files others
-      (subst (λ (w : Direction). AreFilesOf custom w other.part files) told.0 (subst (λ (p : List ℕ). AreFilesOf custom direction p files) told.1 one.found)) other.found
+      (subst (λ (w : Direction). AreFilesOf custom w other.part files) known.0 (subst (λ (p : List ℕ). AreFilesOf custom direction p files) known.1 one.found)) other.found
 
   -- and one admission
   both : (direction turn : Direction) (files others : SystemFiles) (old m n : StepLog) (r s : Result UserSystem AdmitFault) → HasFiles custom name direction files → HasFiles custom name turn others
@@ -59,8 +59,8 @@ module _ (custom : Custom) (name : List ℕ) where
   -- files that are there are not refused
   there_or_not : (direction turn : Direction) (part : List ℕ) (files : SystemFiles) (load : LoadFault) → HasFiles custom name direction files → IsUserName turn part name → RefusesFiles custom turn part load → ⊥
   there_or_not direction turn part files load has named refuses =
-      let told = one_user_system direction turn has.part part name has.is_name named in
-      not_refused custom turn part files load (subst (λ (w : Direction). AreFilesOf custom w part files) told.0 (subst (λ (p : List ℕ). AreFilesOf custom direction p files) told.1 has.found)) refuses
+      let known = one_user_system direction turn has.part part name has.is_name named in
+      not_refused custom turn part files load (subst (λ (w : Direction). AreFilesOf custom w part files) known.0 (subst (λ (p : List ℕ). AreFilesOf custom direction p files) known.1 has.found)) refuses
 
   abbrev memory : SystemFault
   memory = faults.Step steps.Memory
@@ -71,8 +71,8 @@ module _ (custom : Custom) (name : List ℕ) where
       not.fault_is ∙ ap (fault_of name) (memory_alone admits.Memory m n user not.refusal (both is.direction not.direction is.files not.files old m n (Ok user) (Err not.refusal) is.has_files not.has_files is.admits not.admits))
 
   admitted_or_refused : (old m n : StepLog) (user : UserSystem) (fault : SystemFault) → IsAdmittedName custom name old user m → RefusesName custom name old fault n → fault ≡ memory
-  admitted_or_refused old m n user fault is (inl (none, told, same)) = absurd (none (is.direction, is.has_files.part, is.has_files.is_name))
-  admitted_or_refused old m n user fault is (inr (inl (direction, part, named, (load, refuses, told), same))) = absurd (there_or_not is.direction direction part is.files load is.has_files named refuses)
+  admitted_or_refused old m n user fault is (inl (none, known, same)) = absurd (none (is.direction, is.has_files.part, is.has_files.is_name))
+  admitted_or_refused old m n user fault is (inr (inl (direction, part, named, (load, refuses, known), same))) = absurd (there_or_not is.direction direction part is.files load is.has_files named refuses)
   admitted_or_refused old m n user fault is (inr (inr not)) = not_both old m n user fault is not
 
   abbrev AreOneFault : (fault other : SystemFault) (m n : StepLog) → Type 0
@@ -82,17 +82,17 @@ module _ (custom : Custom) (name : List ℕ) where
   one_fault fault other m n same after = inl (ap (λ (f : SystemFault). Err f) same, after)
 
   refused_one : (old m n : StepLog) (fault other : SystemFault) → RefusesName custom name old fault m → RefusesName custom name old other n → AreOneFault fault other m n
-  refused_one old m n fault other (inl (none, told, same)) (inl (also_none, also_told, also_same)) = one_fault fault other m n (told ∙ sym also_told) (same ∙ sym also_same)
-  refused_one old m n fault other (inl (none, told, same)) (inr (inl (direction, part, named, rest, also))) = absurd (none (direction, part, named))
-  refused_one old m n fault other (inl (none, told, same)) (inr (inr not)) = absurd (none (not.direction, not.has_files.part, not.has_files.is_name))
-  refused_one old m n fault other (inr (inl (direction, part, named, rest, also))) (inl (none, told, same)) = absurd (none (direction, part, named))
-  refused_one old m n fault other (inr (inr not)) (inl (none, told, same)) = absurd (none (not.direction, not.has_files.part, not.has_files.is_name))
-  refused_one old m n fault other (inr (inl (direction, part, named, (load, refuses, told), same))) (inr (inl (turn, another, also_named, (also_load, also_refuses, also_told), also_same))) =
+  refused_one old m n fault other (inl (none, known, same)) (inl (also_none, also_known, also_same)) = one_fault fault other m n (known ∙ sym also_known) (same ∙ sym also_same)
+  refused_one old m n fault other (inl (none, known, same)) (inr (inl (direction, part, named, rest, also))) = absurd (none (direction, part, named))
+  refused_one old m n fault other (inl (none, known, same)) (inr (inr not)) = absurd (none (not.direction, not.has_files.part, not.has_files.is_name))
+  refused_one old m n fault other (inr (inl (direction, part, named, rest, also))) (inl (none, known, same)) = absurd (none (direction, part, named))
+  refused_one old m n fault other (inr (inr not)) (inl (none, known, same)) = absurd (none (not.direction, not.has_files.part, not.has_files.is_name))
+  refused_one old m n fault other (inr (inl (direction, part, named, (load, refuses, known), same))) (inr (inl (turn, another, also_named, (also_load, also_refuses, also_known), also_same))) =
       let names = one_user_system direction turn part another name named also_named in
       let here = subst (λ (w : Direction). RefusesFiles custom w another load) names.0 (subst (λ (p : List ℕ). RefusesFiles custom direction p load) names.1 refuses) in
-      one_fault fault other m n (told ∙ ap faults.Load (one_refusal custom turn another load also_load here also_refuses) ∙ sym also_told) (same ∙ sym also_same)
-  refused_one old m n fault other (inr (inl (direction, part, named, (load, refuses, told), same))) (inr (inr not)) = absurd (there_or_not not.direction direction part not.files load not.has_files named refuses)
-  refused_one old m n fault other (inr (inr not)) (inr (inl (direction, part, named, (load, refuses, told), same))) = absurd (there_or_not not.direction direction part not.files load not.has_files named refuses)
+      one_fault fault other m n (known ∙ ap faults.Load (one_refusal custom turn another load also_load here also_refuses) ∙ sym also_known) (same ∙ sym also_same)
+  refused_one old m n fault other (inr (inl (direction, part, named, (load, refuses, known), same))) (inr (inr not)) = absurd (there_or_not not.direction direction part not.files load not.has_files named refuses)
+  refused_one old m n fault other (inr (inr not)) (inr (inl (direction, part, named, (load, refuses, known), same))) = absurd (there_or_not not.direction direction part not.files load not.has_files named refuses)
   refused_one old m n fault other (inr (inr one)) (inr (inr not)) =
       subst (λ (f : SystemFault). AreOneFault f other m n) (sym one.fault_is)
       (subst (λ (f : SystemFault). AreOneFault (fault_of name one.refusal) f m n) (sym not.fault_is)

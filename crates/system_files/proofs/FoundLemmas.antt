@@ -97,7 +97,7 @@ kept_at found place one within at =
     by (f ∷ some) zero less same = ap found_view same
     by (f ∷ some) (suc place) less same = by some place (omega (arith, less)) same
 
--- none of those in front has the name, nor has the next
+-- none of the earlier ones has the name, nor has the next
 pub none_in_prefix : (found : List TextKept) (place : ℕ) (one : TextKept) (name : List ℕ) → ((k : ℕ) (f : FoundText) → k < place → slice_get (texts_in found) k ≡ Some f → f.name ≢ name) → place < length found → one ≡ get_or found place one → one.name ≢ name
     → (k : ℕ) (f : FoundText) → k < place + 1 → slice_get (texts_in found) k ≡ Some f → f.name ≢ name
 none_in_prefix found place one name prefix within at apart k f less there = elim (cases_lt k place) [

@@ -1,4 +1,4 @@
--- What the texts that the code keeps stand for.
+-- What the texts that the code keeps mean.
 use Rattle.std.specs.Prelude.{List, map}
 use Rattle.system_files.specs.SystemTexts.{Finding, FoundText, Absent, Text, TooLong}
 use Rattle.system_files.specs.declared.texts.Finding.{Finding as FindingKept}

@@ -1,4 +1,4 @@
-//! The names of numeration systems: the direction and the kind that a name of a built-in one stands for, and the names of those
+//! The names of numeration systems: the direction and the kind of a built-in one, by its name, and the names of those
 //! that users define.
 #![tactic(auto)]
 

@@ -1,4 +1,4 @@
-//! The system that a name stands for, of those that are built in.
+//! The system that a name means, of those that are built in.
 ghost use Rattle.std.specs.Prelude.{◌≡◌, ◌≢◌, ℕ, MatchOption, decimal};
 ghost use Rattle.digit_tuple.specs.declared.direction.Direction.{Direction};
 ghost use Rattle.system_names.specs.declared.system_kind.SystemKind.{SystemKind};

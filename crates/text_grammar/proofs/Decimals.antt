@@ -22,7 +22,7 @@ all_append : (P : ℕ → Type 0) (xs ys : List ℕ) → AllByRecursion P xs →
 all_append P [] ys h k = k
 all_append P (x ∷ xs) ys h k = (h.0, all_append P xs ys h.1 k)
 
--- digits that spell a number
+-- digits that denote a number
 pub record AreDigitsOf (n : ℕ) (ds : List ℕ) : Type 0 where
   pub value : value_of ds ≡ n
   pub some : 0 < length ds

@@ -8,12 +8,12 @@ abbrev pub begins_with : ℕ → List ℕ → Bool
 begins_with byte [] = false
 begins_with byte (b ∷ bs) = b == byte
 
--- the number that digits spell, after those that spell the number so far
+-- the number that digits denote, after those that denote the number so far
 abbrev pub value_after : ℕ → List ℕ → ℕ
 value_after so_far [] = so_far
 value_after so_far (digit ∷ digits) = value_after (10 * so_far + (digit - 48)) digits
 
--- the number that digits spell
+-- the number that digits denote
 abbrev pub value_of : List ℕ → ℕ
 value_of digits = value_after 0 digits
 
@@ -38,7 +38,7 @@ are_digits bytes = not (length bytes == 0) && all_in Digit bytes
 abbrev pub is_number : List ℕ → Bool
 is_number bytes = are_digits (unsigned bytes)
 
--- the number that they spell
+-- the number that they denote
 abbrev pub number_of : List ℕ → ℤ
 number_of bytes = signed (begins_with 45 bytes) (value_of (unsigned bytes))
 

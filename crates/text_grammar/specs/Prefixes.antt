@@ -20,12 +20,12 @@ abbrev pub begins_in : Class → List ℕ → Bool
 begins_in class [] = false
 begins_in class (b ∷ bs) = is_in class b
 
--- how many bytes at the front are of a class
+-- the length of the longest prefix of a class
 abbrev pub prefix_len : Class → List ℕ → ℕ
 prefix_len class [] = 0
 prefix_len class (b ∷ bs) = if is_in class b then suc (prefix_len class bs) else 0
 
--- the bytes at the front that are of a class
+-- the longest prefix of a class
 abbrev pub prefix_of : Class → List ℕ → List ℕ
 prefix_of class bytes = take (prefix_len class bytes) bytes
 

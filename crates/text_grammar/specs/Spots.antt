@@ -11,7 +11,7 @@ abbrev pub lexeme_of : {T : Type 0} → T → ℕ → Lexeme T
 lexeme_of token len = record { token = token; len = len }
 
 -- How texts are cut, where a mode says what may come next: the token with which a byte and those after it begin, the byte's place being
--- known; the mode after a token; the bytes that divide tokens and are in none; and the tokens that stand for the end of a text.
+-- known; the mode after a token; the bytes that divide tokens and are in none; and the tokens of the end of a text.
 pub record Lexing (M T : Type 0) : Type 0 where
   pub lexeme : M → ℕ → ℕ → List ℕ → Lexeme T
   pub mode_after : M → T → M

@@ -6,7 +6,7 @@
 mod class;
 // the longest prefix of a text that is of one class
 mod prefix;
-// the numbers that digits spell, with a sign or without
+// the numbers that digits denote, with a sign or without
 mod numbers;
 // the form of systems' names
 mod systems;

@@ -17,7 +17,7 @@ pub fn begins_with(byte: u8, bytes: &[u8]) -> bool
     }
 }
 
-/// The number that these digits spell, negative where that is asked for, if it fits 32 bits, signed.
+/// The number that these digits denote, negative where that is asked for, if it fits 32 bits, signed.
 /// Its time is linear in the number of digits.
 pub fn short_number(negative: bool, digits: &[u8]) -> Option<i32>
     ensures { MatchOption result (is_short (2 ^ 31) (signed_number negative (value_of digits.now)) ≡ false)
@@ -29,7 +29,7 @@ pub fn short_number(negative: bool, digits: &[u8]) -> Option<i32>
     }
 }
 
-/// The number that these digits spell, if it is at most `most`. Its time is linear in the number of digits.
+/// The number that these digits denote, if it is at most `most`. Its time is linear in the number of digits.
 #[tactic(auto, using(crate::proofs::NumberSteps::value_reaches))]
 pub fn value_within(most: u64, digits: &[u8]) -> Option<u64>
     ensures { MatchOption result (most < value_of digits.now) (λ n. (n ≡ value_of digits.now) × (n ≤ most)) }
@@ -86,7 +86,7 @@ pub fn is_number(bytes: &[u8]) -> bool
     are_digits(unsigned(bytes))
 }
 
-/// The number that the bytes spell, if it fits 32 bits, signed.
+/// The number that the bytes denote, if it fits 32 bits, signed.
 pub fn number_of(bytes: &[u8]) -> Option<i32>
     ensures { MatchOption result (is_short (2 ^ 31) (number_of_text bytes.now) ≡ false)
         (λ n. (n ≡ number_of_text bytes.now) × (is_short (2 ^ 31) n ≡ true)) }

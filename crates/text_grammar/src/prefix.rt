@@ -3,7 +3,7 @@ ghost use Rattle.text_grammar.specs.Prefixes.{prefix_len as len_of_prefix, begin
 
 use super::class::Class;
 
-/// How many bytes at the front of `bytes` are of the class.
+/// The length of the longest prefix of `bytes` that is of the class.
 pub fn prefix_len(class: Class, bytes: &[u8]) -> usize
     ensures len { result ≡ len_of_prefix class bytes.now }
     ensures within { result ≤ length bytes.now }

@@ -1,4 +1,4 @@
--- A text in front of a list, in place of the one that it follows.
+-- A text before a list, in place of the one that it replaces.
 use Rattle.std.proofs.Common.{◌≡◌, ℕ, suc, zero, ◌+◌, ◌==◌, Bool, true, false, cond, ◌&&◌, List, [], ◌∷◌, Option, Some, refl, ap, arith, add-one}
 use Rattle.std.specs.List.{remove}
 use Rattle.std.specs.Str.{bytes_eq}
@@ -38,7 +38,7 @@ cond_same : (b : Bool) (x y z : Option (List ℕ)) → (b ≡ false → y ≡ z)
 cond_same true x y z same = refl
 cond_same false x y z same = same refl
 
--- a new text in front, and the one in whose place it is taken out, at one name
+-- a new text before the list, and the one that it replaces taken out, at one name
 replaced_at : (text : Text) (texts : List Text) (i : ℕ) (g : Folder) (m bytes : List ℕ) → text.folder ≡ g → string_bytes text.name ≡ m → text.bytes.items ≡ bytes → HasAt texts i g m → (h : Folder) (p : List ℕ) → lookup (remove (text ∷ texts) (i + 1)) h p ≡ put (lookup texts) g m bytes h p
 replaced_at text texts i g m bytes folder name is has h p =
     let prefix : remove (text ∷ texts) (i + 1) ≡ text ∷ remove texts i = rw add-one in

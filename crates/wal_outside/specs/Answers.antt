@@ -17,7 +17,7 @@ Answers there answers.Memory into = ⊤
 
 -- what a read of a name answers, where the files are reported
 abbrev pub Finds : Option Files → Folder → List ℕ → Found → List ℕ → Type 0
-Finds told folder name result into = IfSome told (λ files. Answers (files folder name) result into)
+Finds stored folder name result into = IfSome stored (λ files. Answers (files folder name) result into)
 
 -- a write that answers Ok changes the files at one name; every other write, and what isn't reported, leaves them
 abbrev pub Keeps : Option Files → Option Files → Folder → List ℕ → List ℕ → Result (Unit {0}) WriteFault → Type 0

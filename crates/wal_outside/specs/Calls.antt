@@ -21,7 +21,7 @@ is_failed_find answers.Absent = false
 is_failed_find answers.TooLong = false
 is_failed_find answers.Memory = false
 
--- a read takes bytes off the front of what is left and puts them at the front of the buffer, and is one call
+-- a read moves a prefix of what is left to the first bytes of the buffer, and is one call
 pub record Reads (old : SourceView) (result : Result ℕ Failed) (buffer : List ℕ) (new : SourceView) : Type 0 where
   pub bytes : ReadConsumes old.left new.left result buffer
   pub calls : new.calls ≡ one_more old.calls
@@ -39,7 +39,7 @@ abbrev pub CountsWrite : Result ℕ WriteFault → List ℕ → ℕ → ℕ → 
 CountsWrite (Ok taken) piece before now = TakesBytes taken piece before now
 CountsWrite (Err fault) piece before now = CountsFault (is_failure fault) before now
 
--- a write appends bytes from the front of a piece to what was written
+-- a write appends a prefix of a piece to what was written
 pub record Writes (old : SinkView) (result : Result ℕ WriteFault) (piece : List ℕ) (new : SinkView) : Type 0 where
   pub bytes : WriteAppends old.held new.held result piece
   pub faults : CountsWrite result piece old.faults new.faults

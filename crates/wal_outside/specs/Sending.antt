@@ -4,7 +4,7 @@ use Rattle.wal_outside.specs.declared.sink.WriteFault.{WriteFault}
 use Rattle.wal_outside.specs.Causes.{CountsFault, is_failed}
 use Rattle.wal_outside.specs.Views.{SinkView}
 
--- some bytes at the front of a text, and not all of it
+-- a prefix of a text, and not all of it
 pub record IsProperPrefix (prefix text : List ℕ) : Type 0 where
   pub rest : List ℕ
   pub some : rest ≢ []

@@ -109,7 +109,7 @@ fn rest_of(bytes: &[u8], at: usize) -> &[u8]
     &bytes[at.min(bytes.len())..]
 }
 
-// Copies the first bytes, at most `most`, to the front of `buf`, and gives how many these are.
+// Copies the first bytes, at most `most`, to the beginning of `buf`, and gives how many these are.
 fn give(bytes: &[u8], most: usize, buf: &mut [u8]) -> usize
     ensures count { result ≡ min (min most (length bytes.now)) (length buf.old) }
     ensures copied { take result buf.new ≡ take result bytes.now }

@@ -18,11 +18,11 @@ pub enum WriteFault {
 
 /// Where answers are printed.
 pub trait Sink {
-    // the bytes that were written, where they are reported, and how many faults there were; this count never falls, and stands
-    // still at its last value
+    // the bytes that were written, where they are reported, and how many faults there were; this count never falls, and stops
+    // at its last value
     ghost view: { Self → SinkView };
 
-    /// Appends bytes from the front of the piece to what was written, and gives how many.
+    /// Appends a prefix of the piece to what was written, and gives its length.
     ///
     /// # Errors
     /// `Failed` where the call failed, and `Memory` where it had none: nothing was appended. The

@@ -10,11 +10,11 @@ pub struct Failed;
 /// Where the bytes of a script are read.
 pub trait Source {
     // the bytes that are left to be read, where they are reported, and how many calls and faults there were; these counts never fall,
-    // and stand still at their last value
+    // and stop at their last value
     ghost view: { Self → SourceView };
 
-    /// Takes bytes off the front of what is left, at most as many as `buf` has room for, and puts
-    /// them at the front of `buf`. Gives how many; 0 for a `buf` with room means the end.
+    /// Moves a prefix of what is left, at most as many bytes as `buf` has room for, to the beginning
+    /// of `buf`. Gives its length; 0 for a `buf` with room means the end.
     ///
     /// # Errors
     /// `Failed` where the call failed: nothing was taken, and the count of faults rose. Else it stays.

@@ -30,7 +30,7 @@ pub enum Found {
 
 /// Where texts are kept, each under a name in a folder.
 pub trait Store {
-    // the texts by folder and name, where they are reported; how many faults there were, which never falls, and stands still at its
+    // the texts by folder and name, where they are reported; how many faults there were, which never falls, and stops at its
     // last value; and the folder and name of the last call that answered Failed, if one did, where that is reported
     ghost view: { Self → StoreView };
 

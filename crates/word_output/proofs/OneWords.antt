@@ -25,7 +25,6 @@ use Rattle.word_output.specs.LetterReadings.{letter_read_step}
 use Rattle.word_output.specs.ValidLetters.{valid_letters_step}
 use Rattle.word_output.specs.WordReadings.{DoesWord, DoesWordSteps, HasWordGap}
 use Rattle.word_output.specs.Words.{WordValue}
-use Rattle.word_output.specs.declared.word_fault.WordFault.{WordFault}
 use Rattle.word_output.specs.declared.word_fault.WordFault.TheVariants.{Gap, Step}
 use Rattle.word_output.proofs.StepOutcomes.{pad_outcome, read_outcome, valid_outcome}
 use Rattle.word_output.proofs.TupleWords.{one_tuples}

@@ -18,8 +18,8 @@ use Rattle.product_op.proofs.SizeLemmas.{AreDistinct-ordered}
 use Rattle.numeration.specs.Systems.{System}
 use Rattle.numeration.specs.SomeTracks.{system_at, systems_at}
 use Rattle.numeration.specs.Representation.{Represents, letters_in, sizes_of}
-use Rattle.numeration.proofs.PartRepresentation.{AreValid, IsWord-at, numerals_at, numerals_valid, ranks, sizes_at}
-use Rattle.numeration.proofs.TrackLemmas.{numerals_from_representation, representation_from_numerals, track}
+use Rattle.numeration.proofs.PartRepresentation.{AreValid, IsWord-at, represented_at, valid_represented, ranks, sizes_at}
+use Rattle.numeration.proofs.TrackLemmas.{tracks_represent, represents_from_tracks, track}
 use Rattle.num_system.specs.Sealed.{SystemValue, system_of}
 use Rattle.num_system.specs.Tracks.{AgreeUnder, ShareDirection, absent_system, number_under, system_under, systems_of, systems_under, direction_of}
 use Rattle.num_system.specs.declared.comparison.Comparison.{Comparison}
@@ -61,8 +61,8 @@ module _ (direction : Direction) (ss : List System) (places : List ℕ) (inside 
   pub part_represents : (ns : List ℕ) → Represents ss (in_order direction w) ns → RepresentsPlace own (picked places ns) read
   part_represents ns represented =
       let tracks : List System = systems_at places ss in
-      let numerals = numerals_at ss places inside (in_order direction w) ns turned (numerals_from_representation ss (in_order direction w) ns represented) in
-      let here : Represents tracks (part (sizes_of ss) places (in_order direction w)) (picked places ns) = representation_from_numerals tracks (part (sizes_of ss) places (in_order direction w)) (picked places ns) numerals in
+      let each_represents = represented_at ss places inside (in_order direction w) ns turned (tracks_represent ss (in_order direction w) ns represented) in
+      let here : Represents tracks (part (sizes_of ss) places (in_order direction w)) (picked places ns) = represents_from_tracks tracks (part (sizes_of ss) places (in_order direction w)) (picked places ns) each_represents in
       record {
         over = subst (λ (ts : List System). IsWord (letters_in ts) read) at (IsWord-at ss places inside w over);
         represents = subst (λ (d : Direction). Represents (systems_of own) (in_order d read) (picked places ns)) (sym own_direction)
@@ -256,7 +256,7 @@ module _ (v u : WordValue) (under others : List (List ℕ)) (comparison : Compar
         let first_is : letter_after v.function first ≡ Some x = sym first_read ∙ x_is in
         let second_is : letter_after u.function second ≡ Some y = sym second_read ∙ y_is in
         let ns : List ℕ = ranks ss (in_order direction w) in
-        let represented : Represents ss (in_order direction w) ns = representation_from_numerals ss (in_order direction w) ns (numerals_valid ss (in_order direction w) (both_valid x y first_is second_is)) in
+        let represented : Represents ss (in_order direction w) ns = represents_from_tracks ss (in_order direction w) ns (valid_represented ss (in_order direction w) (both_valid x y first_is second_is)) in
         (ns, represented, (x, y, (first, first_represents ns represented, first_is), (second, second_represents ns represented, second_is), compares))
 
     compares_accepted : (ns : List ℕ) × Represents ss (in_order direction w) ns × Compare ns → IsTrue (accepts_of paired.automaton w)

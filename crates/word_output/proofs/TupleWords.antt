@@ -1,4 +1,4 @@
--- Lists of tuples that stand for a word: one more tuple, and one list alone.
+-- Lists of tuples that a word denotes: one more tuple, and one list alone.
 use Rattle.std.proofs.Common.{◌≡◌, ℕ, ◌+◌, ◌<◌, List, [], ◌∷◌, ◌++◌, get_or, length, take, sym, ◌∙◌, subst}
 use Rattle.std.specs.List.{AllZip}
 use Rattle.std.proofs.lemmas.List.{take_more}
@@ -14,7 +14,7 @@ tuples_more sizes tuples tuple word i d within before here =
     subst (AllZip (IsLetterOfDigits sizes) (tuples ++ tuple ∷ [])) (sym (take_more word i d within))
     (AllZip-append (IsLetterOfDigits sizes) tuples (tuple ∷ []) (take i word) (get_or word i d ∷ []) before (here, tt))
 
--- a word stands for one list of tuples
+-- a word denotes one list of tuples
 pub one_tuples : (sizes : List ℕ) (tuples others : List (List ℕ)) (word : List ℕ) → AllZip (IsLetterOfDigits sizes) tuples word → AllZip (IsLetterOfDigits sizes) others word → tuples ≡ others
 one_tuples sizes [] [] word one other = λ i. []
 one_tuples sizes [] (t ∷ others) [] one other = absurd other

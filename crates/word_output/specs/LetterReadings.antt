@@ -7,7 +7,7 @@ use Rattle.dfa_reading.specs.Listed.{Listed, MovesAlong, output_of}
 use Rattle.automaton_steps.specs.Makings.{Making}
 use Rattle.word_output.specs.LetterFunctions.{LetterFunctionValue, IsLetterFunction, letter_after}
 
--- a path of listed transitions spells the tuples, and ends in a state with this letter
+-- a path of listed transitions by these tuples ends in a state with this letter
 abbrev pub HasListedLetter : List ℕ → Listed → List (List ℕ) → ℤ → Type 0
 HasListedLetter sizes listed tuples letter = (q : ℕ) × MovesAlong sizes listed 0 tuples q × (output_of listed q ≡ letter)
 

@@ -1,4 +1,4 @@
--- States that stand for the listed ones which words lead to. Nobody has to believe this: it serves the code of the step `read`.
+-- States for the listed ones that words lead to. Nobody has to believe this: it serves the code of the step `read`.
 use Rattle.std.specs.Prelude.{◌≡◌, ◌↔◌, ℕ, ◌<◌, ℤ, List, Option, length, map, MatchOption, slice_get, slice_index}
 use Rattle.std.specs.List.{All, AllZip}
 use Rattle.digit_tuple.specs.Deterministic.{Automaton, states_of, run_of}

@@ -23,7 +23,7 @@ use Rattle.word_output.specs.Words.{WordValue}
 use Rattle.word_output.specs.declared.word_fault.WordFault.{WordFault}
 use Rattle.word_output.specs.declared.word_fault.WordFault.TheVariants.{Gap, Step}
 
--- the numbers, and their representation without leading zeros, which a listed path spells that ends in a state with this letter
+-- the numbers, and their representation without leading zeros, by which a listed path ends in a state with this letter
 pub record HasListedLetterAt (direction : Direction) (ss : List System) (listed : Listed) (ns : List ℕ) (letter : ℤ) : Type 0 where
   pub tuples : List (List ℕ)
   pub word : List ℕ

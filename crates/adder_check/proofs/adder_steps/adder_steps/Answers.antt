@@ -5,7 +5,7 @@ use Rattle.minimise.specs.Tracked.{NamedAutomaton}
 use Rattle.automaton_steps.specs.Makings.{DoesStep}
 use Rattle.automaton_steps.specs.ValiditySteps.{valid_step}
 use Rattle.adder_check.specs.AdderRelation.{adder_names}
-use Rattle.adder_check.proofs.AdderLemmas.{adder_holds, runs_out, valid_made}
+use Rattle.adder_check.proofs.AdderLemmas.{adder_done, adder_holds, runs_out, valid_made}
 use Rattle.adder_check.proofs.adder_steps.adder_steps.Goals as goal
 
 pub returns-in_err-closed-clause-steps : goal.returns-in_err-closed-clause-steps
@@ -19,32 +19,16 @@ returns-in_err-closed-clause-steps c =
 
 pub returns-in_err-adder-clause-steps : goal.returns-in_err-adder-clause-steps
 returns-in_err-adder-clause-steps c =
-    inl (
-      c.in_ok-read.read,
-      c.file_steps.new.steps,
-      c.in_ok-read.ensures.steps,
-      inl (
-        c.in_ok-closed.closed,
-        c.pad_step.new.steps,
-        c.in_ok-closed.ensures,
-        runs_out (valid_step (map rc_value c.args.languages.now) (record { names = adder_names; automaton = c.in_ok-closed.closed })) c.pad_step.new.steps c.from_residual-in_err-adder.result
-            (let e = c.from_residual-in_err-adder.ensures in search rules),
-      ),
-    )
+    adder_done c.args.direction c.args.file.listed.now c.args.file.reversed (map rc_value c.args.languages.now) c.args.steps.now c.file_steps.new.steps c.pad_step.new.steps c.pad_step.new.steps c.in_ok-read.read
+    c.in_ok-closed.closed c.from_residual-in_err-adder.result c.in_ok-read.ensures.steps c.in_ok-closed.ensures
+    (runs_out (valid_step (map rc_value c.args.languages.now) (record { names = adder_names; automaton = c.in_ok-closed.closed })) c.pad_step.new.steps c.from_residual-in_err-adder.result
+    (let e = c.from_residual-in_err-adder.ensures in search rules))
 
 pub returns-clause-steps : goal.returns-clause-steps
 returns-clause-steps c =
-    inl (
-      c.in_ok-read.read,
-      c.file_steps.new.steps,
-      c.in_ok-read.ensures.steps,
-      inl (
-        c.in_ok-closed.closed,
-        c.pad_step.new.steps,
-        c.in_ok-closed.ensures,
-        subst (λ (n : NamedAutomaton). DoesStep (valid_step (map rc_value c.args.languages.now) n) c.pad_step.new.steps c.valid_step.result c.valid_step.new.steps) c.in_ok-adder.ensures c.valid_step.ensures,
-      ),
-    )
+    adder_done c.args.direction c.args.file.listed.now c.args.file.reversed (map rc_value c.args.languages.now) c.args.steps.now c.file_steps.new.steps c.pad_step.new.steps c.valid_step.new.steps c.in_ok-read.read
+    c.in_ok-closed.closed c.valid_step.result c.in_ok-read.ensures.steps c.in_ok-closed.ensures
+    (subst (λ (n : NamedAutomaton). DoesStep (valid_step (map rc_value c.args.languages.now) n) c.pad_step.new.steps c.valid_step.result c.valid_step.new.steps) c.in_ok-adder.ensures c.valid_step.ensures)
 
 pub returns-clause-relation : goal.returns-clause-relation
 returns-clause-relation c =

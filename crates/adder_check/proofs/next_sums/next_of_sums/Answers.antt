@@ -1,8 +1,6 @@
-use Rattle.std.proofs.Common.{List, ℕ, subst, sym}
+use Rattle.std.proofs.Common.{subst, sym}
 use Rattle.std.specs.List.{Contains}
 use Rattle.std.proofs.lemmas.Result.{IfOk-weaker}
-use Rattle.automaton_steps.specs.Makings.{DoesStep}
-use Rattle.automaton_steps.specs.ProjectSteps.{project_step}
 use Rattle.adder_check.specs.NextSums.{name_w}
 use Rattle.adder_check.proofs.PlanLemmas.{projected}
 use Rattle.adder_check.proofs.NextSumSizes.{of_sums_agree, of_sums_projected, of_sums_there}
@@ -24,13 +22,11 @@ returns-clause-sizes c =
     IfOk-weaker c.project_step.result _ _
     (λ sums made. of_sums_projected c.args.direction c.args.adder.now c.args.next.now c.in_ok-sum.sum c.in_ok-following.following c.in_ok-joined.joined sums c.requires.tracks.0 c.requires.tracks.1 c.requires.tracks.2 c.in_ok-sum.ensures
     c.in_ok-following.ensures c.in_ok-joined.ensures.step.made_is made)
-    (projected c.join_step.new.steps c.project_step.new.steps c.args.direction name_w c.in_ok-joined.joined c.project_step.result
-    (subst (λ (track : List ℕ). DoesStep (project_step c.args.direction track c.in_ok-joined.joined) c.join_step.new.steps c.project_step.result c.project_step.new.steps) c.in_ok-w.ensures c.project_step.ensures))
+    (projected c.join_step.new.steps c.project_step.new.steps c.args.direction _ name_w c.in_ok-joined.joined c.project_step.result c.in_ok-w.ensures c.project_step.ensures)
 
 pub returns-clause-sums : goal.returns-clause-sums
 returns-clause-sums c =
     IfOk-weaker c.project_step.result _ _
     (λ sums made s test system adds follows. of_sums_holds c.args.direction s system test c.args.adder.now c.args.next.now adds follows c.in_ok-sum.sum c.in_ok-following.following c.in_ok-joined.joined sums c.in_ok-sum.ensures
     c.in_ok-following.ensures c.in_ok-joined.ensures.step.made_is made)
-    (projected c.join_step.new.steps c.project_step.new.steps c.args.direction name_w c.in_ok-joined.joined c.project_step.result
-    (subst (λ (track : List ℕ). DoesStep (project_step c.args.direction track c.in_ok-joined.joined) c.join_step.new.steps c.project_step.result c.project_step.new.steps) c.in_ok-w.ensures c.project_step.ensures))
+    (projected c.join_step.new.steps c.project_step.new.steps c.args.direction _ name_w c.in_ok-joined.joined c.project_step.result c.in_ok-w.ensures c.project_step.ensures)

@@ -1,8 +1,5 @@
-use Rattle.std.proofs.Common.{List, ℕ, subst}
 use Rattle.std.proofs.lemmas.Result.{IfOk-weaker}
 use Rattle.num_system.specs.SuccessorSteps.{name_y}
-use Rattle.automaton_steps.specs.Makings.{DoesStep}
-use Rattle.automaton_steps.specs.ProjectSteps.{project_step}
 use Rattle.adder_check.proofs.PlanLemmas.{projected}
 use Rattle.adder_check.proofs.ZeroSumLemmas.{zero_sums_hold, zero_sums_sizes}
 use Rattle.adder_check.proofs.zero_sums.zero_sums.Goals as goal
@@ -12,13 +9,11 @@ returns-clause-sizes c =
     IfOk-weaker c.project_step.result _ _
     (λ sums made. zero_sums_sizes c.args.direction c.args.adder.now c.in_ok-zero_y.zero_y c.in_ok-joined.joined sums c.args.zero.now c.requires.tracks.0 c.requires.tracks.1 c.requires.tracks.2 c.requires.names c.in_ok-zero_y.ensures
     c.in_ok-joined.ensures.step.made_is made)
-    (projected c.join_step.new.steps c.project_step.new.steps c.args.direction name_y c.in_ok-joined.joined c.project_step.result
-    (subst (λ (track : List ℕ). DoesStep (project_step c.args.direction track c.in_ok-joined.joined) c.join_step.new.steps c.project_step.result c.project_step.new.steps) c.in_ok-y.ensures c.project_step.ensures))
+    (projected c.join_step.new.steps c.project_step.new.steps c.args.direction _ name_y c.in_ok-joined.joined c.project_step.result c.in_ok-y.ensures c.project_step.ensures)
 
 pub returns-clause-sums : goal.returns-clause-sums
 returns-clause-sums c =
     IfOk-weaker c.project_step.result _ _
     (λ sums made s test system adds nothing.
     zero_sums_hold c.args.direction s test c.args.adder.now c.in_ok-zero_y.zero_y c.in_ok-joined.joined sums c.args.zero.now system adds nothing c.requires.names c.in_ok-zero_y.ensures c.in_ok-joined.ensures.step.made_is made)
-    (projected c.join_step.new.steps c.project_step.new.steps c.args.direction name_y c.in_ok-joined.joined c.project_step.result
-    (subst (λ (track : List ℕ). DoesStep (project_step c.args.direction track c.in_ok-joined.joined) c.join_step.new.steps c.project_step.result c.project_step.new.steps) c.in_ok-y.ensures c.project_step.ensures))
+    (projected c.join_step.new.steps c.project_step.new.steps c.args.direction _ name_y c.in_ok-joined.joined c.project_step.result c.in_ok-y.ensures c.project_step.ensures)

@@ -1,7 +1,7 @@
 use Rattle.std.proofs.Common.{◌≡◌, arith, [], ◌∷◌, map, refl, ◌∙◌, ap, codes}
 use Rattle.std.proofs.lemmas.Result.{err_from_is_err_and}
 use Rattle.command_head.specs.Parts.{first_word_of, is_word}
-use Rattle.command_head.specs.Grammar.{SpellsCombine}
+use Rattle.command_head.specs.Grammar.{DerivesCombine}
 use Rattle.command_head.specs.HeadViews.{valued_view}
 use Rattle.command_head.proofs.PartShape.{IsAscii-word}
 use Rattle.command_head.proofs.PartsRead.{word_read, part_read}
@@ -15,14 +15,14 @@ use Rattle.command_head.proofs.combining.combine_parts.Goals.{then-is_empty, els
 pub returns-in_err-suffix-clause-head : goal.returns-in_err-suffix-clause-head
 returns-in_err-suffix-clause-head c =
     let p = err_from_is_err_and c.from_residual.result c.from_residual.ensures.1 in
-    rw (p.1, p.2, c.in_err-suffix.ensures.1) (word_syntax SpellsCombine _ c.args.text.now first_expects c.in_err-suffix.ensures.0 (first_long (first_word_of c.args.text.now)))
+    rw (p.1, p.2, c.in_err-suffix.ensures.1) (word_syntax DerivesCombine _ c.args.text.now first_expects c.in_err-suffix.ensures.0 (first_long (first_word_of c.args.text.now)))
 
 pub returns-in_err-word-clause-head : goal.returns-in_err-word-clause-head
 returns-in_err-word-clause-head c =
     let p = err_from_is_err_and c.from_residual-in_err-word.result c.from_residual-in_err-word.ensures.1 in
     let read = word_read c.args.text.now (codes "combine") _ _ _ c.in_ok-suffix.ensures.0 c.in_ok-suffix.ensures.1 c.in_ok-suffix.ensures.2 c.in_ok-suffix.ensures.3 in
     rw (p.1, p.2, c.in_err-word.ensures.1)
-    (refused_syntax SpellsCombine (codes "combine" ∷ []) _ c.args.text.now _ _ _ c.first_part-first.result.bytes.now _ word_expects (λ none. word_unended) read
+    (refused_syntax DerivesCombine (codes "combine" ∷ []) _ c.args.text.now _ _ _ c.first_part-first.result.bytes.now _ word_expects (λ none. word_unended) read
     c.first_part-first.ensures.at c.first_part-first.ensures.bytes (refuted _ c.in_err-word.ensures.0) (word_long c.first_part-first.result.bytes.now))
 
 pub automata-init : goal.automata-init

@@ -1,7 +1,7 @@
 use Rattle.std.proofs.Common.{◌≡◌, ℕ, ◌<◌, length, get_or, pos}
 use Rattle.dfa_reading.proofs.headed_draft.is_digits.Given as goal
 
--- so many members, and those in front are the digits from 0 on
+-- there are so many members, and the earlier ones are the digits from 0 on
 abbrev pub invariant-loop-place : goal.invariant-loop-place
 invariant-loop-place l = record {
   members : l.members ≡ l.set;

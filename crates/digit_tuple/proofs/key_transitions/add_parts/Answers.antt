@@ -20,19 +20,19 @@ loop-letter-preserved c =
     let f : ℕ → Option (List ℕ) = λ a. some_nonzero (part_of numbers width a) in
     let next = AreKeyTransitions-more letter f (transitions_in numbers spans) c.loop-letter.invariant.parts in
     let fits : letter * width + width ≤ length numbers = omega (arith, c.requires.room, row_fits letter width c.args.letters width (omega arith) (omega arith)) in
-    let stand : KeySpan → Type 0 = λ span. (span.start ≤ span.end) × (span.end ≤ length numbers) in
+    let is_within : KeySpan → Type 0 = λ span. (span.start ≤ span.end) × (span.end ≤ length numbers) in
     elim c.if-has_nonzero.branch [
       | then-has_nonzero+in_ok-push w ↦
           let span : KeySpan = record { letter = letter; start = letter * width; end = letter * width + width } in
           let pushed : c.if-has_nonzero.spans.items ≡ spans ++ span ∷ [] = ap (λ (v : Vec KeySpan Global). v.items) w.spans-is ∙ w.in_ok-push.ensures.items in
           record {
-            within = All-same stand c.if-has_nonzero.spans.items (spans ++ span ∷ []) pushed (All-push stand spans span c.loop-letter.invariant.within (omega arith, fits));
+            within = All-same is_within c.if-has_nonzero.spans.items (spans ++ span ∷ []) pushed (All-push is_within spans span c.loop-letter.invariant.within (omega arith, fits));
             parts = subst (AreKeyTransitions (letter + 1) f) (sym (ap (transitions_in numbers) pushed ∙ transitions_in-part numbers spans letter width c.has_nonzero.result c.has_nonzero.ensures w.if-has_nonzero.true)) next;
           }
       | else-has_nonzero w ↦
           let kept : c.if-has_nonzero.spans.items ≡ spans = ap (λ (v : Vec KeySpan Global). v.items) w.spans-is in
           record {
-            within = All-same stand c.if-has_nonzero.spans.items spans kept c.loop-letter.invariant.within;
+            within = All-same is_within c.if-has_nonzero.spans.items spans kept c.loop-letter.invariant.within;
             parts = subst (AreKeyTransitions (letter + 1) f) (sym (ap (transitions_in numbers) kept ∙ transitions_in-no_part numbers spans letter width c.has_nonzero.result c.has_nonzero.ensures w.if-has_nonzero.false)) next;
           }
     ]

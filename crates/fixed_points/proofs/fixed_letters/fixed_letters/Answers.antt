@@ -15,7 +15,7 @@ use Rattle.fixed_points.proofs.WordLemmas.{letter_reached, one_alphabet}
 use Rattle.fixed_points.proofs.fixed_letters.fixed_letters.Goals as goal
 
 graph_of : (rules : Rules) (k : ℕ) → IsMorphism rules → HasFixedPoint rules k → IsLetterGraph rules k
-graph_of rules k is has = record { has = has; told = λ letter ruled. bits_back rules letter is ruled }
+graph_of rules k is has = record { has = has; letter_back = λ letter ruled. bits_back rules letter is ruled }
 
 one_times : (k : ℕ) → k * 1 ≡ k
 one_times k = omega arith

@@ -18,10 +18,10 @@ make-requires c =
     let marks = c.in_ok-needed.needed.items in
     let items = c.makings-makings.result.now in
     let i = c.loop-place.place in
-    let told : is_marked marks i ≡ true = mark_read marks i c.index.result.now true (omega (arith, c.loop-place-test.true, loop.needed.count, loop.makings.as_many)) c.index.ensures c.if-index.true in
+    let argument_known : is_marked marks i ≡ true = mark_read marks i c.index.result.now true (omega (arith, c.loop-place-test.true, loop.needed.count, loop.makings.as_many)) c.index.ensures c.if-index.true in
     subst (λ (found : List RelationValue). MayMake (known_value c.args.known) found c.index-makings-place.result) (sym c.deref.ensures.value)
     (turn_ready c.args.steps.now c.loop-place.steps (known_value c.args.known) c.args.plans.now marks c.loop-place.made.items c.args.last items i c.index-makings-place.result loop.so_far loop.count loop.makings loop.needed
-    c.loop-place-test.true c.index-makings-place.is c.requires.parts c.requires.ready told)
+    c.loop-place-test.true c.index-makings-place.is c.requires.parts c.requires.ready argument_known)
 
 pub returns-in_err-relation : goal.returns-in_err-relation
 returns-in_err-relation c =
@@ -32,12 +32,12 @@ returns-in_err-relation c =
     let m = c.index-makings-place.result in
     let l = (known_value c.args.known) in
     let fault = c.in_err-relation.field-0.0 in
-    let told : is_marked marks i ≡ true = mark_read marks i c.index.result.now true (omega (arith, c.loop-place-test.true, loop.needed.count, loop.makings.as_many)) c.index.ensures c.if-index.true in
+    let argument_known : is_marked marks i ≡ true = mark_read marks i c.index.result.now true (omega (arith, c.loop-place-test.true, loop.needed.count, loop.makings.as_many)) c.index.ensures c.if-index.true in
     let does : DoesMaking c.loop-place.steps l c.loop-place.made.items m (Err fault) c.make.new.steps =
     subst (λ (found : List RelationValue). DoesMaking c.loop-place.steps l found m (Err fault) c.make.new.steps) c.deref.ensures.value c.in_err-relation.ensures in
     handed_on (λ r. Builds l (filter is_step c.args.plans.now) (plan_at c.args.plans.now c.args.last) c.args.steps.now r c.make.new.steps) c.from_residual-in_err-relation.result fault c.from_residual-in_err-relation.ensures.1
     (turn_stopped c.args.steps.now c.loop-place.steps l c.args.plans.now marks c.loop-place.made.items c.args.last items i m loop.so_far loop.count loop.makings loop.needed c.loop-place-test.true c.index-makings-place.is
-    c.make.new.steps fault told does)
+    c.make.new.steps fault argument_known does)
 
 pub loop-place-preserved : goal.loop-place-preserved
 loop-place-preserved c =
@@ -57,10 +57,10 @@ loop-place-preserved c =
           let r = w.in_ok-relation.relation in
           let log = w.make.new.steps in
           let does : DoesMaking c.loop-place.steps l rs m (Ok r) log = subst (λ (found : List RelationValue). DoesMaking c.loop-place.steps l found m (Ok r) log) w.deref.ensures.value w.in_ok-relation.ensures in
-          let told : is_marked marks i ≡ true = mark_read marks i c.index.result.now true inside c.index.ensures w.if-index.true in
+          let argument_known : is_marked marks i ≡ true = mark_read marks i c.index.result.now true inside c.index.ensures w.if-index.true in
           subst (λ (found : StepLog). IsUnderWay c.args.steps.now l plans (plan_at plans c.args.last) marks (rs ++ made ∷ []) found) (sym w.steps-is)
           (subst (λ (found : RelationValue). IsUnderWay c.args.steps.now l plans (plan_at plans c.args.last) marks (rs ++ found ∷ []) log) (sym w.relation-is)
-          (turn_made c.args.steps.now c.loop-place.steps l plans marks rs c.args.last items i m loop.so_far loop.count loop.makings loop.needed c.loop-place-test.true c.index-makings-place.is log r told does)))
+          (turn_made c.args.steps.now c.loop-place.steps l plans marks rs c.args.last items i m loop.so_far loop.count loop.makings loop.needed c.loop-place-test.true c.index-makings-place.is log r argument_known does)))
       | else-index+in_ok-relation-2 w ↦ (
           let unmarked : is_marked marks i ≡ false = mark_read marks i c.index.result.now false inside c.index.ensures w.if-index.false in
           subst (λ (found : StepLog). IsUnderWay c.args.steps.now l plans (plan_at plans c.args.last) marks (rs ++ made ∷ []) found) (sym w.steps-is)

@@ -15,7 +15,7 @@ returns-in_err-check_system c =
     (sym (clash_step c.args.occurrences.now c.loop-occurrence.occurrence-index c.occurrence-item.result c.loop-occurrence.firsts c.loop-occurrence-test.true c.occurrence-item.is c.loop-occurrence.invariant.firsts c.loop-occurrence.invariant.clash))
     (tells_prefix (Unit {0}) (Unit {0}) (clash_with (get c.loop-occurrence.firsts (binding c.occurrence-item.result)) c.occurrence-item.result)
     (clash_after (take (c.loop-occurrence.occurrence-index + 1) c.args.occurrences.now) (drop (c.loop-occurrence.occurrence-index + 1) c.args.occurrences.now))
-    c.in_err-check_system.field-0.0 c.in_err-check_system.ensures.told) in
+    c.in_err-check_system.field-0.0 c.in_err-check_system.ensures.clash_is) in
     search rules
 
 pub loop-occurrence-preserved : goal.loop-occurrence-preserved
@@ -23,5 +23,5 @@ loop-occurrence-preserved c = record {
   firsts = firsts_more c.args.occurrences.now c.loop-occurrence.occurrence-index c.occurrence-item.result c.loop-occurrence.firsts c.check_system.new.firsts c.loop-occurrence-test.true c.occurrence-item.is c.loop-occurrence.invariant.firsts c.in_ok-check_system.ensures.firsts;
   clash =
       clash_step c.args.occurrences.now c.loop-occurrence.occurrence-index c.occurrence-item.result c.loop-occurrence.firsts c.loop-occurrence-test.true c.occurrence-item.is c.loop-occurrence.invariant.firsts c.loop-occurrence.invariant.clash
-      ∙ ap (λ x. option_or x (clash_after (take (c.loop-occurrence.occurrence-index + 1) c.args.occurrences.now) (drop (c.loop-occurrence.occurrence-index + 1) c.args.occurrences.now))) c.in_ok-check_system.ensures.told;
+      ∙ ap (λ x. option_or x (clash_after (take (c.loop-occurrence.occurrence-index + 1) c.args.occurrences.now) (drop (c.loop-occurrence.occurrence-index + 1) c.args.occurrences.now))) c.in_ok-check_system.ensures.clash_is;
 }

@@ -67,12 +67,12 @@ returns-in_ok-walk_formula-in-Quantified t c =
     (on_ok c.restore.result
     ((b : Binders) → c.deref-in-Quantified-4.result.now ≡ map b c.deref-in-Quantified-3.result.now → binders_of c.restore.new.self ≡ restored (names_view c.deref-in-Quantified-3.result.now) b (binders_of c.walk_formula-in-Quantified.new.walk.scope))
     (Walked c.args.headers.now (trees.quantified (quantifier_view c.in-Quantified.field-0) (names_view c.in-Quantified.names.items) (formula_view c.deref-in-Quantified-2.result.now)) c.args.walk.now (left c.restore.new.self c.walk_formula-in-Quantified.new.walk))
-    (λ told. walked_quantified c.args.headers.now (quantifier_view c.in-Quantified.field-0) (names_view c.in-Quantified.names.items) (formula_view c.deref-in-Quantified-2.result.now)
+    (λ known. walked_quantified c.args.headers.now (quantifier_view c.in-Quantified.field-0) (names_view c.in-Quantified.names.items) (formula_view c.deref-in-Quantified-2.result.now)
     c.args.walk.now c.enter.new.self c.walk_formula-in-Quantified.new.walk (left c.restore.new.self c.walk_formula-in-Quantified.new.walk)
     (c.in_ok-outside-in-Quantified.ensures.scope ∙ ap (λ ns. bound_by c.args.walk.now.next (names_view ns) (binders_of c.args.walk.now.scope)) c.deref-in-Quantified.ensures.value)
     c.in_ok-outside-in-Quantified.ensures.next c.in_ok-outside-in-Quantified.ensures.occurrences c.in_ok-outside-in-Quantified.ensures.conflict
     c.in_ok-walk_formula-in-Quantified.ensures
-    (told (binders_of c.args.walk.now.scope)
+    (known (binders_of c.args.walk.now.scope)
     (c.deref-in-Quantified-4.ensures.value ∙ c.in_ok-outside-in-Quantified.ensures.outside
     ∙ ap (λ ns. map (binders_of c.args.walk.now.scope) ns) (c.deref-in-Quantified.ensures.value ∙ sym c.deref-in-Quantified-3.ensures.value))
     ∙ ap (λ ns. restored (names_view ns) (binders_of c.args.walk.now.scope) (binders_of c.walk_formula-in-Quantified.new.walk.scope)) c.deref-in-Quantified-3.ensures.value)

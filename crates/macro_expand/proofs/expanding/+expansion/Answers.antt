@@ -14,28 +14,28 @@ use Rattle.macro_expand.proofs.expanding.+expansion.Goals as goal
 
 pub expand_text-pieces-init : goal.expand_text-pieces-init
 expand_text-pieces-init g t c = record {
-  told = all_left g.M.MacroTexts.found g.M.MacroTexts.becomes _ _ c.args.macros.now (g.met.M.MacroTexts.stays c.args.macros.now)
+  whole_is = all_left g.M.MacroTexts.found g.M.MacroTexts.becomes _ _ c.args.macros.now (g.met.M.MacroTexts.stays c.args.macros.now)
       (λ texts. ap (λ (bs : List ℕ). each (expand_piece (expand_call_within texts c.args.levels)) (pieces c.args.text.now) (record { bytes = bs; calls = c.args.calls })) c.new.ensures.items);
   short = rw c.new.ensures.items (omega arith);
   within = omega arith;
 }
 
 pub expand_text-returns : goal.expand_text-returns
-expand_text-returns g t c = left_value g.M.MacroTexts.found g.M.MacroTexts.becomes g.M.MacroTexts.lacks expanded_view _ _ c.args.macros.now c.pieces.macros c.pieces.done c.pieces.invariant.told
+expand_text-returns g t c = left_value g.M.MacroTexts.found g.M.MacroTexts.becomes g.M.MacroTexts.lacks expanded_view _ _ c.args.macros.now c.pieces.macros c.pieces.done c.pieces.invariant.whole_is
     (λ texts. nothing_left (expand_call_within texts c.args.levels) c.args.text.now c.pieces.at (expanded_view c.pieces.done) (omega arith))
 
 pub expand_text-returns-in_err-expand_piece : goal.expand_text-returns-in_err-expand_piece
 expand_text-returns-in_err-expand_piece g t c = left_refused g.M.MacroTexts.found g.M.MacroTexts.becomes g.M.MacroTexts.lacks g.met.M.MacroTexts.goes_on g.met.M.MacroTexts.lacks_then _ expanded_view
     (λ texts. each (expand_piece (expand_call_within texts c.args.levels)) (pieces_view c.first_piece-piece.result) (expanded_view c.pieces.done)) _ _ c.args.macros.now c.pieces.macros c.expand_piece.new.macros c.in_err-expand_piece.field-0.0 c.from_residual.result
     (λ texts e h. left_refused_so (expand_call_within texts c.args.levels) c.args.text.now c.pieces.at _ c.first_piece-piece.result c.after.result.now c.after.ensures c.first_piece-piece.ensures refl (expanded_view c.pieces.done) e h)
-    c.pieces.invariant.told c.in_err-expand_piece.ensures.made c.from_residual.ensures.1
+    c.pieces.invariant.whole_is c.in_err-expand_piece.ensures.made c.from_residual.ensures.1
 
 pub expand_text-pieces-preserved : goal.expand_text-pieces-preserved
 expand_text-pieces-preserved g t c = record {
-  told = left_more g.M.MacroTexts.found g.M.MacroTexts.becomes g.M.MacroTexts.lacks g.met.M.MacroTexts.goes_on g.met.M.MacroTexts.lacks_then (λ nothing. expanded_view c.expand_piece.new.done)
+  whole_is = left_more g.M.MacroTexts.found g.M.MacroTexts.becomes g.M.MacroTexts.lacks g.met.M.MacroTexts.goes_on g.met.M.MacroTexts.lacks_then (λ nothing. expanded_view c.expand_piece.new.done)
       (λ texts. each (expand_piece (expand_call_within texts c.args.levels)) (pieces_view c.first_piece-piece.result) (expanded_view c.pieces.done)) _ _ _ c.args.macros.now c.pieces.macros c.expand_piece.new.macros _
       (λ texts h. sym (left_after (expand_call_within texts c.args.levels) c.args.text.now c.pieces.at c.len-at.result c.first_piece-piece.result c.after.result.now c.after.ensures c.first_piece-piece.ensures c.len-at.ensures (expanded_view c.pieces.done) _ _ refl h))
-      c.pieces.invariant.told c.in_ok-expand_piece.ensures.made;
+      c.pieces.invariant.whole_is c.in_ok-expand_piece.ensures.made;
   short = c.in_ok-expand_piece.ensures.short;
   within = left_within (expand_call_within (g.M.MacroTexts.found c.pieces.macros) c.args.levels) c.args.text.now c.pieces.at c.len-at.result c.first_piece-piece.result c.after.result.now c.after.ensures c.first_piece-piece.ensures c.len-at.ensures c.pieces.invariant.within;
 }

@@ -8,7 +8,7 @@ use Rattle.macro_expand.proofs.expanding.+expansion.Given as goal
 -- what is left, after what was expanded, expands to what the whole does
 abbrev pub invariant-expand_text-pieces : goal.invariant-expand_text-pieces
 invariant-expand_text-pieces g l = record {
-  told : IsLeft g.M.MacroTexts.found g.M.MacroTexts.becomes (λ texts. each (expand_piece (expand_call_within texts l.levels)) (pieces_from l.at 0 (drop l.at l.text)) (expanded_view l.done)) (λ texts. expand_text (expand_call_within texts l.levels) l.text l.calls) l.initial.macros l.macros;
+  whole_is : IsLeft g.M.MacroTexts.found g.M.MacroTexts.becomes (λ texts. each (expand_piece (expand_call_within texts l.levels)) (pieces_from l.at 0 (drop l.at l.text)) (expanded_view l.done)) (λ texts. expand_text (expand_call_within texts l.levels) l.text l.calls) l.initial.macros l.macros;
   short : length l.done.bytes.items ≤ 65536;
   within : l.at ≤ length l.text;
 }

@@ -5,7 +5,7 @@ use Rattle.macro_expand.proofs.filling.fill.Given as goal
 -- what was made, and what is left with arguments in its places, is the whole
 abbrev pub invariant-loop-rest : goal.invariant-loop-rest
 invariant-loop-rest l = record {
-  told : l.made.items ++ filled (map (λ argument. argument.items) l.arguments) (segments l.rest) ≡ filled (map (λ argument. argument.items) l.arguments) (segments l.text);
+  whole_is : l.made.items ++ filled (map (λ argument. argument.items) l.arguments) (segments l.rest) ≡ filled (map (λ argument. argument.items) l.arguments) (segments l.text);
   short : length l.made.items ≤ 65536;
 }
 

@@ -25,8 +25,8 @@ without_limit-requires c letters =
 
 pub successor_without_limit-requires : goal.successor_without_limit-requires
 successor_without_limit-requires c =
-    let told = IfOk-at_ok (Tells c.args.direction c.args.language.now) c.in_ok-relations.ensures c.order_relations.ensures.relations in
-    let so_far = told c.requires.system.0 c.requires.system.1 c.requires.system.2.accepts in
+    let are_relations = IfOk-at_ok (Tells c.args.direction c.args.language.now) c.in_ok-relations.ensures c.order_relations.ensures.relations in
+    let so_far = are_relations c.requires.system.0 c.requires.system.1 c.requires.system.2.accepts in
     record {
       less = so_far.order_canonical;
       zero = so_far.zeros_canonical;

@@ -7,6 +7,6 @@ use Rattle.regex_build.proofs.lexing.distance.Given as goal
 
 abbrev pub invariant-loop-byte : goal.invariant-loop-byte
 invariant-loop-byte l = record {
-  told : min (value_after l.value (filter is_digit (drop l.byte-index l.bytes))) 4294967295 ≡ min (value_of (filter is_digit l.bytes)) 4294967295;
+  value_is : min (value_after l.value (filter is_digit (drop l.byte-index l.bytes))) 4294967295 ≡ min (value_of (filter is_digit l.bytes)) 4294967295;
   low : l.value ≤ 4294967295;
 }

@@ -2,7 +2,7 @@ use Rattle.std.proofs.Common.{◌≡◌, ◌+◌, drop}
 use Rattle.script_cut.specs.Lengths.{text_count, text_open}
 use Rattle.script_cut.proofs.scanning.text_of.Given as goal
 
--- the text of what is left, with the quote as it stands, is the rest of that of the whole
+-- the text of what is left, with the quote open or not, is the rest of that of the whole
 abbrev pub invariant-loop-index : goal.invariant-loop-index
 invariant-loop-index l =
     (l.index + text_count l.open (drop l.index l.bytes) ≡ text_count l.quoted l.bytes)

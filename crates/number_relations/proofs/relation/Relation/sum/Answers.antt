@@ -3,7 +3,7 @@ use Rattle.std.proofs.lemmas.Result.{IfOk-weaker}
 use Rattle.digit_tuple.specs.Deterministic.{Automaton}
 use Rattle.num_system.specs.Sealed.{SystemValue, IsSealed}
 use Rattle.number_relations.specs.Comparisons.{IsOverOne}
-use Rattle.number_relations.proofs.ArithmeticLemmas.{Holds, adder_closed, sum_told}
+use Rattle.number_relations.proofs.ArithmeticLemmas.{Holds, adder_closed, sum_holds}
 use Rattle.number_relations.proofs.relation.Relation.sum.Goals as goal
 
 pub over_one-requires-clause-closed : goal.over_one-requires-clause-closed
@@ -27,5 +27,5 @@ returns c =
     ∙ ap (λ (n : List ℕ). x ∷ n ∷ c.in_ok-third.third ∷ []) c.in_ok-second.ensures
     ∙ ap (λ (n : List ℕ). x ∷ y ∷ n ∷ []) c.in_ok-third.ensures in
     IfOk-weaker c.over_one.result _ _
-    (λ r over. sum_told s sealed r x y z c.deref.result.now names (subst (λ (d : Automaton). IsOverOne s c.deref.result.now (Holds s c.deref.result.now d) r) same over))
+    (λ r over. sum_holds s sealed r x y z c.deref.result.now names (subst (λ (d : Automaton). IsOverOne s c.deref.result.now (Holds s c.deref.result.now d) r) same over))
     c.over_one.ensures

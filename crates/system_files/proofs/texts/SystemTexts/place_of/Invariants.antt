@@ -4,7 +4,7 @@ use Rattle.system_files.specs.SystemTexts.{FoundText}
 use Rattle.system_files.specs.TextViews.{texts_in}
 use Rattle.system_files.proofs.texts.SystemTexts.place_of.Given as goal
 
--- none in front has the name
+-- none of the earlier ones has the name
 abbrev pub invariant-loop-place : goal.invariant-loop-place
 invariant-loop-place l = record {
   texts : texts_in l.found-items ≡ l.self;

@@ -1,4 +1,4 @@
--- A head that is spelled so is read.
+-- A head is read from what it derives.
 use Rattle.std.proofs.Common.{◌≡◌, ℕ, Bool, true, false, cond, List, [], ◌∷◌, ◌++◌, ℤ, Ok, refl, sym, ◌∙◌, ap, subst, codes, bytes_eq, ◌^◌}
 use Rattle.std.specs.List.{AllByRecursion}
 use Rattle.std.proofs.lemmas.List.{append-nil, append_assoc}
@@ -7,13 +7,13 @@ use Rattle.command_head.specs.Members.{has, put, with_member}
 use Rattle.text_grammar.specs.Systems.{is_system}
 use Rattle.command_head.specs.Parts.{is_name, is_quoted}
 use Rattle.command_head.specs.Heads.{Alphabets, Sets, Systems, RegHead, AtWord, AtName, AfterName, AtNumber, AfterSet, AfterSystem, AtEnd, body_step, step}
-use Rattle.command_head.specs.Grammar.{SpellsNumber, SpellsMentions, SpellSets, SpellAlphabets, AreUnquoted, quoted, SpellsReg}
+use Rattle.command_head.specs.Grammar.{DerivesNumber, DerivesMentions, DeriveSets, DeriveAlphabets, AreUnquoted, quoted, DerivesReg}
 use Rattle.command_head.proofs.PartShape.{quoted_is, quoted-system, system-brace}
 use Rattle.command_head.proofs.Gathering.{Gathers, set_gathered}
 use Rattle.command_head.proofs.Walks.{goes, goes_step}
 
 -- a new number is put to the members
-pub member_read : (members : List ℤ) (part : List ℕ) (n : ℤ) → SpellsNumber part n → has members n ≡ false → with_member members part ≡ Ok (put members n)
+pub member_read : (members : List ℤ) (part : List ℕ) (n : ℤ) → DerivesNumber part n → has members n ≡ false → with_member members part ≡ Ok (put members n)
 unfolding with_member
 member_read members part n s new =
     let short : is_short (2 ^ 31) (number_of part) ≡ true = subst (λ (m : ℤ). is_short (2 ^ 31) m ≡ true) (sym s.value) s.short in
@@ -34,17 +34,17 @@ unfolding step
 number_more name sets members more part parts h = rw h refl
 
 -- the numbers of a set
-mentions_read : (mentions : List ℤ) (name : List ℕ) (sets : List (List ℤ)) (members out : List ℤ) (inside parts : List (List ℕ)) → SpellsMentions inside mentions → Gathers members mentions out →
+mentions_read : (mentions : List ℤ) (name : List ℕ) (sets : List (List ℤ)) (members out : List ℤ) (inside parts : List (List ℕ)) → DerivesMentions inside mentions → Gathers members mentions out →
     goes (AtNumber name sets members) (inside ++ codes "}" ∷ parts) ≡ goes (AfterSet name (sets ++ out ∷ [])) parts
-mentions_read [] name sets members out inside parts spelled gathers = absurd spelled
-mentions_read (n ∷ []) name sets members out inside parts spelled gathers =
-    ap (λ (l : List (List ℕ)). goes (AtNumber name sets members) (l ++ codes "}" ∷ parts)) spelled.1
-    ∙ last_number name sets members (put members n) spelled.0 parts (member_read members spelled.0 n spelled.2 gathers.0)
+mentions_read [] name sets members out inside parts derived gathers = absurd derived
+mentions_read (n ∷ []) name sets members out inside parts derived gathers =
+    ap (λ (l : List (List ℕ)). goes (AtNumber name sets members) (l ++ codes "}" ∷ parts)) derived.1
+    ∙ last_number name sets members (put members n) derived.0 parts (member_read members derived.0 n derived.2 gathers.0)
     ∙ ap (λ (l : List ℤ). goes (AfterSet name (sets ++ l ∷ [])) parts) gathers.1
-mentions_read (n ∷ m ∷ ns) name sets members out inside parts spelled gathers =
-    ap (λ (l : List (List ℕ)). goes (AtNumber name sets members) (l ++ codes "}" ∷ parts)) spelled.2
-    ∙ number_more name sets members (put members n) spelled.0 (spelled.1 ++ codes "}" ∷ parts) (member_read members spelled.0 n spelled.3 gathers.0)
-    ∙ mentions_read (m ∷ ns) name sets (put members n) out spelled.1 parts spelled.4 gathers.1
+mentions_read (n ∷ m ∷ ns) name sets members out inside parts derived gathers =
+    ap (λ (l : List (List ℕ)). goes (AtNumber name sets members) (l ++ codes "}" ∷ parts)) derived.2
+    ∙ number_more name sets members (put members n) derived.0 (derived.1 ++ codes "}" ∷ parts) (member_read members derived.0 n derived.3 gathers.0)
+    ∙ mentions_read (m ∷ ns) name sets (put members n) out derived.1 parts derived.4 gathers.1
 
 -- the text in quotes
 body_read : (name : List ℕ) (alphabets : Alphabets) (body : List ℕ) → AreUnquoted body → body_step name alphabets (quoted body) ≡ Ok (AtEnd (record { name = name; alphabets = alphabets; body = body }))
@@ -74,19 +74,19 @@ regrouped first others parts inside first_is =
     ∙ append_assoc (codes "{" ∷ (inside ++ codes "}" ∷ [])) others parts
     ∙ ap (λ (l : List (List ℕ)). codes "{" ∷ l) (append_assoc inside (codes "}" ∷ []) (others ++ parts))
 
-sets_read : (more : List (List ℤ)) (name : List ℕ) (sets : List (List ℤ)) (parts : List (List ℕ)) (body : List ℕ) → SpellSets parts more → AreUnquoted body →
+sets_read : (more : List (List ℤ)) (name : List ℕ) (sets : List (List ℤ)) (parts : List (List ℕ)) (body : List ℕ) → DeriveSets parts more → AreUnquoted body →
     goes (AfterSet name sets) (parts ++ quoted body ∷ []) ≡ Ok (record { name = name; alphabets = Sets (sets ++ more); body = body })
-sets_read [] name sets parts body spelled all =
-    ap (λ (l : List (List ℕ)). goes (AfterSet name sets) (l ++ quoted body ∷ [])) spelled
+sets_read [] name sets parts body derived all =
+    ap (λ (l : List (List ℕ)). goes (AfterSet name sets) (l ++ quoted body ∷ [])) derived
     ∙ goes_step (AfterSet name sets) _ (quoted body) [] (set_closes name sets body ∙ body_read name (Sets sets) body all)
     ∙ ap (λ (l : List (List ℤ)). Ok (record { name = name; alphabets = Sets l; body = body })) (sym (append-nil sets))
-sets_read (set ∷ more) name sets parts body spelled all =
-    let s = spelled.3 in
-    ap (λ (l : List (List ℕ)). goes (AfterSet name sets) (l ++ quoted body ∷ [])) spelled.2
-    ∙ ap (goes (AfterSet name sets)) (regrouped spelled.0 spelled.1 (quoted body ∷ []) s.inside s.parts_are)
-    ∙ set_opens name sets (s.inside ++ codes "}" ∷ (spelled.1 ++ quoted body ∷ []))
-    ∙ mentions_read s.mentions name sets [] set s.inside (spelled.1 ++ quoted body ∷ []) s.spelled (set_gathered s.mentions set s.members)
-    ∙ sets_read more name (sets ++ set ∷ []) spelled.1 body spelled.4 all
+sets_read (set ∷ more) name sets parts body derived all =
+    let s = derived.3 in
+    ap (λ (l : List (List ℕ)). goes (AfterSet name sets) (l ++ quoted body ∷ [])) derived.2
+    ∙ ap (goes (AfterSet name sets)) (regrouped derived.0 derived.1 (quoted body ∷ []) s.inside s.parts_are)
+    ∙ set_opens name sets (s.inside ++ codes "}" ∷ (derived.1 ++ quoted body ∷ []))
+    ∙ mentions_read s.mentions name sets [] set s.inside (derived.1 ++ quoted body ∷ []) s.derived (set_gathered s.mentions set s.members)
+    ∙ sets_read more name (sets ++ set ∷ []) derived.1 body derived.4 all
     ∙ ap (λ (l : List (List ℤ)). Ok (record { name = name; alphabets = Sets l; body = body })) (append_assoc sets (set ∷ []) more)
 
 system_more : (name : List ℕ) (names : List (List ℕ)) (part : List ℕ) → is_system part ≡ true → step (AfterSystem name names) part ≡ Ok (AfterSystem name (names ++ part ∷ []))
@@ -120,22 +120,22 @@ systems_read (part ∷ more) name names body systems all =
     ∙ systems_read more name (names ++ part ∷ []) body systems.1 all
     ∙ ap (λ (l : List (List ℕ)). Ok (record { name = name; alphabets = Systems l; body = body })) (append_assoc names (part ∷ []) more)
 
-alphabets_read : (name : List ℕ) (alphabets : Alphabets) (parts : List (List ℕ)) (body : List ℕ) → SpellAlphabets parts alphabets → AreUnquoted body →
+alphabets_read : (name : List ℕ) (alphabets : Alphabets) (parts : List (List ℕ)) (body : List ℕ) → DeriveAlphabets parts alphabets → AreUnquoted body →
     goes (AfterName name) (parts ++ quoted body ∷ []) ≡ Ok (record { name = name; alphabets = alphabets; body = body })
-alphabets_read name (Sets []) parts body spelled all = absurd (spelled.0 refl)
-alphabets_read name (Sets (set ∷ sets)) parts body spelled all =
-    let sets_are = spelled.1 in
+alphabets_read name (Sets []) parts body derived all = absurd (derived.0 refl)
+alphabets_read name (Sets (set ∷ sets)) parts body derived all =
+    let sets_are = derived.1 in
     let s = sets_are.3 in
     ap (λ (l : List (List ℕ)). goes (AfterName name) (l ++ quoted body ∷ [])) sets_are.2
     ∙ ap (goes (AfterName name)) (regrouped sets_are.0 sets_are.1 (quoted body ∷ []) s.inside s.parts_are)
     ∙ first_set_opens name (s.inside ++ codes "}" ∷ (sets_are.1 ++ quoted body ∷ []))
-    ∙ mentions_read s.mentions name [] [] set s.inside (sets_are.1 ++ quoted body ∷ []) s.spelled (set_gathered s.mentions set s.members)
+    ∙ mentions_read s.mentions name [] [] set s.inside (sets_are.1 ++ quoted body ∷ []) s.derived (set_gathered s.mentions set s.members)
     ∙ sets_read sets name (set ∷ []) sets_are.1 body sets_are.4 all
-alphabets_read name (Systems []) parts body spelled all = absurd (spelled.0 refl)
-alphabets_read name (Systems (first ∷ more)) parts body spelled all =
-    ap (λ (l : List (List ℕ)). goes (AfterName name) (l ++ quoted body ∷ [])) spelled.1
-    ∙ goes_step (AfterName name) _ first (more ++ quoted body ∷ []) (first_system name first spelled.2.0)
-    ∙ systems_read more name (first ∷ []) body spelled.2.1 all
+alphabets_read name (Systems []) parts body derived all = absurd (derived.0 refl)
+alphabets_read name (Systems (first ∷ more)) parts body derived all =
+    ap (λ (l : List (List ℕ)). goes (AfterName name) (l ++ quoted body ∷ [])) derived.1
+    ∙ goes_step (AfterName name) _ first (more ++ quoted body ∷ []) (first_system name first derived.2.0)
+    ∙ systems_read more name (first ∷ []) body derived.2.1 all
 
 word_read : (parts : List (List ℕ)) → goes AtWord (codes "reg" ∷ parts) ≡ goes AtName parts
 unfolding step
@@ -149,9 +149,9 @@ name_read name h = taken (is_name name) _ _ h
     taken a x y h = rw h refl
 
 -- the parts of a head lead to it
-pub reg_goes : (parts : List (List ℕ)) (head : RegHead) → SpellsReg parts head → goes AtWord parts ≡ Ok head
+pub reg_goes : (parts : List (List ℕ)) (head : RegHead) → DerivesReg parts head → goes AtWord parts ≡ Ok head
 reg_goes parts head s =
     ap (goes AtWord) s.parts_are
     ∙ word_read (head.name ∷ (s.alphabets ++ quoted head.body ∷ []))
     ∙ goes_step AtName _ head.name (s.alphabets ++ quoted head.body ∷ []) (name_read head.name s.name)
-    ∙ alphabets_read head.name head.alphabets s.alphabets head.body s.spelled s.body
+    ∙ alphabets_read head.name head.alphabets s.alphabets head.body s.derived s.body
