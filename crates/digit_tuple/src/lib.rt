@@ -28,9 +28,6 @@ pub mod alphabet;
 /// Names of tracks, and their places.
 pub mod names;
 
-/// Parts of letters on some of their tracks.
-pub mod letter_parts;
-
 /// The parts of letters, and the letters of each part.
 pub mod part_index;
 

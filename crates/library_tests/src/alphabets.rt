@@ -7,9 +7,9 @@ use crate::row_fault::RowFault;
 use digit_tuple::alphabet::Alphabet;
 use digit_tuple::faults::OpFault;
 use digit_tuple::kind::Kind;
-use digit_tuple::letter_parts::letter_parts;
 use digit_tuple::steps::Steps;
 use std::alloc::Global;
+use track_parts::track_parts::TrackParts;
 
 // The alphabet of two tracks of 2 and 3 digits, by way of a copy.
 fn two_and_three(alloc: Global) -> Result<Alphabet, RowFault>
@@ -73,18 +73,29 @@ fn sixteen_tracks_and_65536_letters_are_the_most(rt: HostRuntime) {
     }
 }
 
+// The parts of all letters, in order.
+fn all_parts(alloc: Global, parts: &TrackParts) -> Result<Vec<u32>, RowFault> {
+    let mut all = Vec::new(alloc);
+    for letter in 0..parts.letters() {
+        all.push(parts.part(letter))?;
+    }
+    Ok(all)
+}
+
 // Whether the letters of two tracks of 2 and 3 digits are these with the tracks exchanged.
 fn are_turned(alloc: Global, parts: &[u32]) -> Result<bool, RowFault> {
     let alphabet = Alphabet::new(alloc, &[2, 3])?;
     let turned = Alphabet::new(alloc, &[3, 2])?;
-    Ok(letter_parts(alloc, &alphabet, &[1, 0], &turned)?.as_slice() == parts)
+    let found = TrackParts::new(alloc, &alphabet, &[1, 0], &turned)?;
+    Ok(all_parts(alloc, &found)?.as_slice() == parts)
 }
 
 // Whether they are these on the second track alone.
 fn are_second(alloc: Global, parts: &[u32]) -> Result<bool, RowFault> {
     let alphabet = Alphabet::new(alloc, &[2, 3])?;
     let second = Alphabet::new(alloc, &[3])?;
-    Ok(letter_parts(alloc, &alphabet, &[1], &second)?.as_slice() == parts)
+    let found = TrackParts::new(alloc, &alphabet, &[1], &second)?;
+    Ok(all_parts(alloc, &found)?.as_slice() == parts)
 }
 
 #[test]
