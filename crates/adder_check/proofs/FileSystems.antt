@@ -24,7 +24,7 @@ use Rattle.adder_check.specs.Admission.{IsSystemOfFile, IsFirstFaultOfFiles}
 use Rattle.adder_check.specs.LanguageLaws.{KeepsZeros, IsEndless, language_in, system_of}
 use Rattle.adder_check.specs.LanguageSteps.{IsOfFile, IsFirstLanguageFault, in_file}
 use Rattle.adder_check.specs.ZeroSums.{AreZeroAndEquality}
-use Rattle.adder_check.proofs.SystemLemmas.{laws_tell_system}
+use Rattle.adder_check.proofs.SystemLemmas.{laws_determine_system}
 use mathlib.Core.Path.{fun_ext}
 use Rattle.digit_tuple.specs.Deterministic.{accepts_of}
 use Rattle.digit_tuple.proofs.TruthLemmas.{same_tests}
@@ -67,7 +67,7 @@ module _ (direction : Direction) (listed : Branching) (reversed : Bool) (d : Aut
       tests = fun_ext (λ w. same_tests (s.test w) (language_in direction d w) ((λ t. (same_words w).1 ((is.language w).0 t)), (λ t. (is.language w).1 ((same_words w).0 t))))
 
   pub system_from_laws : KeepsZeros (language_in direction d) → IsEndless (language_in direction d) → IsSystem (system_of direction d)
-  system_from_laws keeps endless = (laws_tell_system direction (get_or d.sizes 0 0) d (own_size d.sizes k sizes_of_one) file.canonical.table).0 (keeps, endless)
+  system_from_laws keeps endless = (laws_determine_system direction (get_or d.sizes 0 0) d (own_size d.sizes k sizes_of_one) file.canonical.table).0 (keeps, endless)
 
   -- what is wrong with the automaton's language is wrong with the file's system
   pub language_fault : (fault : AdmitFault) → IsFirstLanguageFault direction d fault → (adder : Branching) → IsFirstFaultOfFiles direction listed adder reversed fault

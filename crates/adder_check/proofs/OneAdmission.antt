@@ -28,7 +28,7 @@ use Rattle.adder_check.specs.ZeroSums.{DoesZeroLaw}
 use Rattle.adder_check.proofs.FileSystems.{own_language, own_size}
 use Rattle.adder_check.proofs.OneAnswers.{then_one_where, lifted_one, where_one, through_one}
 use Rattle.adder_check.proofs.OneSteps.{file_one, adder_one, successor_one, next_sums_one, zero_law_one}
-use Rattle.adder_check.proofs.SystemLemmas.{laws_tell_system}
+use Rattle.adder_check.proofs.SystemLemmas.{laws_determine_system}
 use mathlib.Core.HLevel.{is_prop→PathP}
 
 -- what the steps of a file make
@@ -111,7 +111,7 @@ language_made : (direction : Direction) (listed : Branching) (reversed : Bool) (
 language_made direction listed reversed digits one old new d (inr (f, does, none)) = absurd (no_fault d f none)
 language_made direction listed reversed digits one old new d (inl (made, mid, does, kept)) =
     subst (λ (e : Automaton). IsSystem (system_of direction e) × (e.sizes ≡ digits ∷ [])) (sym kept.1.0)
-    ((laws_tell_system direction (get_or made.sizes 0 0) made (own_size made.sizes digits sizes) is.1.table).0 (kept.1.1, kept.1.2), sizes)
+    ((laws_determine_system direction (get_or made.sizes 0 0) made (own_size made.sizes digits sizes) is.1.table).0 (kept.1.1, kept.1.2), sizes)
   where
     is : (made.sizes ≡ listed.sizes) × IsCanonical made
     is = file_made listed reversed old mid made does

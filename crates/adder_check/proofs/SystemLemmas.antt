@@ -5,10 +5,10 @@ use Rattle.digit_tuple.specs.Letters.{IsWord, product}
 use Rattle.digit_tuple.specs.Paddings.{in_order}
 use Rattle.digit_tuple.proofs.AcceptedLemmas.{accepted_over}
 use Rattle.digit_tuple.proofs.PaddingLemmas.{in_order-twice, IsWord-in_order}
-use Rattle.adder_check.specs.LanguageLaws.{language_in, LawsTellSystems}
+use Rattle.adder_check.specs.LanguageLaws.{language_in, LawsDetermineSystems}
 
-pub laws_tell_system : LawsTellSystems
-laws_tell_system direction digits d sizes table = (
+pub laws_determine_system : LawsDetermineSystems
+laws_determine_system direction digits d sizes table = (
   (λ both. record { over = over; empty = both.0.empty; zeros = both.0.zeros; endless = both.1 }),
   (λ system. (record { empty = system.empty; zeros = system.zeros }, system.endless)),
 )

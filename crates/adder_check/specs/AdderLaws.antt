@@ -14,5 +14,5 @@ abbrev pub IsAddition : (ℕ → ℕ → ℕ → Type 0) → Type 0
 IsAddition adds = (x y z : ℕ) → adds x y z ↔ (x + y ≡ z)
 
 -- a relation meets both laws if and only if it is addition
-abbrev pub LawsTellAddition : Type 0
-LawsTellAddition = (test : ℕ → ℕ → ℕ → Bool) → (ZeroLaw (λ x y z. IsTrue (test x y z)) × SuccessorLaw (λ x y z. IsTrue (test x y z))) ↔ IsAddition (λ x y z. IsTrue (test x y z))
+abbrev pub LawsDetermineAddition : Type 0
+LawsDetermineAddition = (test : ℕ → ℕ → ℕ → Bool) → (ZeroLaw (λ x y z. IsTrue (test x y z)) × SuccessorLaw (λ x y z. IsTrue (test x y z))) ↔ IsAddition (λ x y z. IsTrue (test x y z))

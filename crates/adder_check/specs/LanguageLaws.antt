@@ -28,6 +28,6 @@ abbrev pub system_of : Direction → Automaton → System
 system_of direction d = system_in direction (slice_index_or d.sizes 0 0) d
 
 -- both laws hold if and only if the language of the automaton is that of a numeration system
-abbrev pub LawsTellSystems : Type 0
-LawsTellSystems = (direction : Direction) (digits : ℕ) (d : Automaton) → d.sizes ≡ digits ∷ [] → IsTable (letters_of d) d.states
+abbrev pub LawsDetermineSystems : Type 0
+LawsDetermineSystems = (direction : Direction) (digits : ℕ) (d : Automaton) → d.sizes ≡ digits ∷ [] → IsTable (letters_of d) d.states
     → (KeepsZeros (language_in direction d) × IsEndless (language_in direction d)) ↔ IsSystem (system_in direction digits d)

@@ -1,19 +1,19 @@
 //! Laws of the definitions, each a call that does nothing.
 
-ghost use Rattle.adder_check.specs.AdderLaws.{LawsTellAddition};
+ghost use Rattle.adder_check.specs.AdderLaws.{LawsDetermineAddition};
 ghost use Rattle.adder_check.specs.Admission.{FaultsExclude};
 ghost use Rattle.adder_check.specs.OneAnswer.{AdmissionHasOneAnswer};
-ghost use Rattle.adder_check.specs.LanguageLaws.{LawsTellSystems};
+ghost use Rattle.adder_check.specs.LanguageLaws.{LawsDetermineSystems};
 
 /// A relation of three numbers is addition if and only if it meets the laws of zero and of the successor.
-pub fn laws_tell_addition()
-    ensures { LawsTellAddition }
+pub fn laws_determine_addition()
+    ensures { LawsDetermineAddition }
 {}
 
 /// The language of an automaton is that of a numeration system if and only if leading zeros keep its words and it has
 /// no end.
-pub fn laws_tell_systems()
-    ensures { LawsTellSystems }
+pub fn laws_determine_systems()
+    ensures { LawsDetermineSystems }
 {}
 
 /// Where a law does not hold of a system or its adder, the two are not a numeration system and its

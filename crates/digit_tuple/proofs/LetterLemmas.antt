@@ -4,7 +4,7 @@ use Rattle.std.proofs.lemmas.Bool.{cases_lt}
 use Rattle.std.proofs.lemmas.Nat.{mul-add-lt, div-mul-add, mod-mul-add, div_below, mod_below, div-add-mod', mul-le}
 use Rattle.std.proofs.lemmas.List.{take-append-drop, take_more, drop_more, take_more_set}
 use Rattle.std.proofs.lemmas.List.Elements.{AllZip-get_or, length_all_zip, AllZip-push}
-use Rattle.digit_tuple.specs.Letters.{product, code_of, AreDigits, IsWord, LettersTellDigits, DigitsHaveLetters, LettersHaveDigits, IsAlphabet, IsTooLarge}
+use Rattle.digit_tuple.specs.Letters.{product, code_of, AreDigits, IsWord, LettersDetermineDigits, DigitsHaveLetters, LettersHaveDigits, IsAlphabet, IsTooLarge}
 
 pub product-append : (ms ns : List ℕ) → product (ms ++ ns) ≡ product ms * product ns
 product-append [] ns = omega arith
@@ -75,7 +75,7 @@ code_of-append (s ∷ ss) ts (d ∷ ds) es fit =
     omega (arith, ap (λ n. d * n) (product-append ss ts), code_of-append ss ts ds es fit.1)
 
 -- digits are determined by their letter
-pub code_of-injective : LettersTellDigits
+pub code_of-injective : LettersDetermineDigits
 code_of-injective [] [] [] fd fe e = refl
 code_of-injective [] [] (x ∷ es) fd fe e = absurd fe
 code_of-injective [] (d ∷ ds) es fd fe e = absurd fd

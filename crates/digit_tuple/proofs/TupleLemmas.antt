@@ -5,7 +5,7 @@ use Rattle.std.proofs.lemmas.List.{get_or_default}
 use Rattle.std.proofs.lemmas.List.Elements.{All-head, All-tail}
 use Rattle.digit_tuple.specs.Letters.{product, code_of, AreDigits, IsWord}
 use Rattle.digit_tuple.specs.Sets.{IsAscending, sizes_of, members_at}
-use Rattle.digit_tuple.specs.Tuples.{IsLetterOf, Codes, TuplesTellLetters, LettersTellTuples, LettersHaveTuples}
+use Rattle.digit_tuple.specs.Tuples.{IsLetterOf, Codes, TuplesDetermineLetters, LettersDetermineTuples, LettersHaveTuples}
 use Rattle.digit_tuple.proofs.SetLemmas.{one_place}
 use Rattle.digit_tuple.proofs.LetterLemmas.{code_of-injective, code_of-below, digits_from_letter}
 
@@ -23,12 +23,12 @@ one_list_of_places (s ∷ ss) (d ∷ ds) (x ∷ es) up fd fe e =
     let rest : ds ≡ es = one_list_of_places ss ds es (All-tail IsAscending s ss up) fd.1 fe.1 tails in
     ap (λ n. n ∷ ds) same ∙ ap (λ ns. x ∷ ns) rest
 
-pub one_letter : TuplesTellLetters
+pub one_letter : TuplesDetermineLetters
 one_letter sets tuple a b up p q =
     let same : p.digits ≡ q.digits = one_list_of_places sets p.digits q.digits up p.fit q.fit (sym p.tuple_is ∙ q.tuple_is) in
     p.letter_is ∙ ap (code_of (sizes_of sets)) same ∙ sym q.letter_is
 
-pub one_tuple : LettersTellTuples
+pub one_tuple : LettersDetermineTuples
 one_tuple sets t u letter p q =
     let same : p.digits ≡ q.digits = code_of-injective (sizes_of sets) p.digits q.digits p.fit q.fit (sym p.letter_is ∙ q.letter_is) in
     p.tuple_is ∙ ap (members_at sets) same ∙ sym q.tuple_is

@@ -31,8 +31,8 @@ abbrev pub IsWord : ℕ → List ℕ → Type 0
 IsWord letters word = AllByRecursion (λ letter. letter < letters) word
 
 -- two lists of digits on the same tracks with the same letter are equal
-abbrev pub LettersTellDigits : Type 0
-LettersTellDigits = (sizes ds es : List ℕ) → AreDigits sizes ds → AreDigits sizes es → code_of sizes ds ≡ code_of sizes es → ds ≡ es
+abbrev pub LettersDetermineDigits : Type 0
+LettersDetermineDigits = (sizes ds es : List ℕ) → AreDigits sizes ds → AreDigits sizes es → code_of sizes ds ≡ code_of sizes es → ds ≡ es
 
 -- digits have a letter of their alphabet
 abbrev pub DigitsHaveLetters : Type 0

@@ -16,12 +16,12 @@ abbrev pub Codes : List (List ℤ) → List (List ℤ) → List ℕ → Type 0
 Codes sets tuples letters = AllZip (IsLetterOf sets) tuples letters
 
 -- a tuple has at most one letter
-abbrev pub TuplesTellLetters : Type 0
-TuplesTellLetters = (sets : List (List ℤ)) (tuple : List ℤ) (a b : ℕ) → All IsAscending sets → IsLetterOf sets tuple a → IsLetterOf sets tuple b → a ≡ b
+abbrev pub TuplesDetermineLetters : Type 0
+TuplesDetermineLetters = (sets : List (List ℤ)) (tuple : List ℤ) (a b : ℕ) → All IsAscending sets → IsLetterOf sets tuple a → IsLetterOf sets tuple b → a ≡ b
 
 -- a letter denotes at most one tuple
-abbrev pub LettersTellTuples : Type 0
-LettersTellTuples = (sets : List (List ℤ)) (t u : List ℤ) (letter : ℕ) → IsLetterOf sets t letter → IsLetterOf sets u letter → t ≡ u
+abbrev pub LettersDetermineTuples : Type 0
+LettersDetermineTuples = (sets : List (List ℤ)) (t u : List ℤ) (letter : ℕ) → IsLetterOf sets t letter → IsLetterOf sets u letter → t ≡ u
 
 -- each letter of the alphabet denotes a tuple
 abbrev pub LettersHaveTuples : Type 0

@@ -1,12 +1,12 @@
 //! Laws of the definitions, each a call that does nothing.
 
-ghost use Rattle.digit_tuple.specs.Letters.{LettersTellDigits, DigitsHaveLetters, LettersHaveDigits};
-ghost use Rattle.digit_tuple.specs.Tuples.{TuplesTellLetters, LettersTellTuples, LettersHaveTuples};
+ghost use Rattle.digit_tuple.specs.Letters.{LettersDetermineDigits, DigitsHaveLetters, LettersHaveDigits};
+ghost use Rattle.digit_tuple.specs.Tuples.{TuplesDetermineLetters, LettersDetermineTuples, LettersHaveTuples};
 ghost use Rattle.digit_tuple.specs.ExploredWidth.{LeadAlikeIsEquivalence, OneExploredWidth};
 
 /// Two lists of digits on the same tracks with the same letter are equal.
-pub fn letters_tell_digits()
-    ensures { LettersTellDigits }
+pub fn letters_determine_digits()
+    ensures { LettersDetermineDigits }
 {}
 
 /// Digits have a letter of their alphabet.
@@ -20,13 +20,13 @@ pub fn letters_have_digits()
 {}
 
 /// A tuple has at most one letter.
-pub fn tuples_tell_letters()
-    ensures { TuplesTellLetters }
+pub fn tuples_determine_letters()
+    ensures { TuplesDetermineLetters }
 {}
 
 /// A letter denotes at most one tuple.
-pub fn letters_tell_tuples()
-    ensures { LettersTellTuples }
+pub fn letters_determine_tuples()
+    ensures { LettersDetermineTuples }
 {}
 
 /// Each letter of the alphabet denotes a tuple.

@@ -17,8 +17,8 @@ same_table d e sizes states =
     ∙ ap (λ (ss : List State). let x : Automaton = record { sizes = e.sizes; states = ss } in x) states
 
 -- canonical automata have equal states if and only if they have one language
-pub states_tell_language : (d e : Automaton) → IsCanonical d → IsCanonical e → d.sizes ≡ e.sizes → (d.states ≡ e.states) ↔ SameLanguage d e
-states_tell_language d e canonical other sizes = (
+pub states_determine_language : (d e : Automaton) → IsCanonical d → IsCanonical e → d.sizes ≡ e.sizes → (d.states ≡ e.states) ↔ SameLanguage d e
+states_determine_language d e canonical other sizes = (
   (λ states. subst (SameLanguage d) (same_table d e sizes states) (λ w over. refl)),
   (λ same. ap (λ (x : Automaton). x.states) (canonical_forms d e canonical other sizes same)),
 )

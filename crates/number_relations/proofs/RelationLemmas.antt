@@ -15,7 +15,7 @@ use Rattle.numeration.specs.Representation.{letters_in}
 use Rattle.num_system.specs.Sealed.{SystemValue, system_of, IsSealed}
 use Rattle.num_system.specs.Tracks.{systems_of, direction_of, number_under}
 use Rattle.number_relations.specs.Relations.{RelationValue, IsRelationOf, IsClosedOver, HoldsOver, RelationHolds}
-use Rattle.number_relations.specs.Laws.{RelationsAreDecided, TuplesTellRelations}
+use Rattle.number_relations.specs.Laws.{RelationsAreDecided, TuplesDetermineRelations}
 use Rattle.num_system.proofs.HoldLemmas.{decided, represented_count}
 use Rattle.num_system.proofs.SealedLemmas.{are_systems}
 
@@ -45,7 +45,7 @@ same_automaton systems d e closed also canonical other agree = canonical_forms d
             let count = represented_count (systems_of systems) (in_order (direction_of systems) w) found.0 found.1 ∙ length-map systems system_of in
             (closed.accepts w inside).1 (found.0, found.1, (agree found.0 count).1 found.2)
 
-pub tuples_tell : TuplesTellRelations
+pub tuples_tell : TuplesDetermineRelations
 tuples_tell r s is also names systems same = λ i. record { names = names i; systems = systems i; automaton = automata i }
   where
     closed : IsClosedOver r.systems s.automaton

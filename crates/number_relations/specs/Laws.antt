@@ -15,8 +15,8 @@ abbrev pub RelationsAreDecided : Type 0
 RelationsAreDecided = (r : RelationValue) (ns : List ℕ) → IsRelation r → RelationHolds r ns ⊎ (RelationHolds r ns → ⊥)
 
 -- a relation is determined by its tracks and its tuples: two that have the same are equal
-abbrev pub TuplesTellRelations : Type 0
-TuplesTellRelations = (r s : RelationValue) → IsRelation r → IsRelation s → r.names ≡ s.names → r.systems ≡ s.systems
+abbrev pub TuplesDetermineRelations : Type 0
+TuplesDetermineRelations = (r s : RelationValue) → IsRelation r → IsRelation s → r.names ≡ s.names → r.systems ≡ s.systems
     → ((ns : List ℕ) → length ns ≡ length r.names → RelationHolds r ns ↔ RelationHolds s ns) → r ≡ s
 
 -- a placed automaton holds of numbers where it holds of those that its tracks have under their names

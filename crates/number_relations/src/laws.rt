@@ -1,6 +1,6 @@
 //! Laws of relations, on tuples of numbers, each a call that does nothing.
 
-ghost use Rattle.number_relations.specs.Laws.{ComparisonsHold, NumbersHold, OneAnyNumber, OneComparison, OnePlaced, OneSum, PlacedHolds, RelationsAreDecided, SumsHold, TuplesTellRelations};
+ghost use Rattle.number_relations.specs.Laws.{ComparisonsHold, NumbersHold, OneAnyNumber, OneComparison, OnePlaced, OneSum, PlacedHolds, RelationsAreDecided, SumsHold, TuplesDetermineRelations};
 
 /// Whether a relation holds of a tuple is decided.
 pub fn relations_are_decided()
@@ -8,8 +8,8 @@ pub fn relations_are_decided()
 {}
 
 /// Relations over the same tracks that hold of the same tuples are equal.
-pub fn tuples_tell_relations()
-    ensures { TuplesTellRelations }
+pub fn tuples_determine_relations()
+    ensures { TuplesDetermineRelations }
 {}
 
 /// A placed automaton holds of numbers where it holds of those that its tracks have under their names.

@@ -3,7 +3,7 @@ use Rattle.std.proofs.Common.{◌≡◌, ℕ, zero, suc, ◌+◌, ◌<◌, ◌�
 use Rattle.std.proofs.lemmas.Bool.{false≢true, cases_lt, lt-ltb, le-ltb, eq-eqb, ne_eqb, and_right}
 use Rattle.digit_tuple.specs.Letters.{IsWord}
 use Rattle.digit_tuple.specs.Paddings.{zeros, without_zeros}
-use Rattle.numeration.specs.Words.{words, words_to, is_plain, is_less, is_before, rank, IsLanguage, ZerosKeepTheRank, RanksTellWords, RanksAreInOrder}
+use Rattle.numeration.specs.Words.{words, words_to, is_plain, is_less, is_before, rank, IsLanguage, ZerosKeepTheRank, RanksDetermineWords, RanksAreInOrder}
 use Rattle.numeration.specs.Systems.{IsRep}
 use Rattle.numeration.proofs.CountLemmas.{sum_below, sum_below-same, sum_below-first, sum_below-le, count_by-append, count_by-words, count_by-same, count_by-same_to, count_by-none}
 use Rattle.digit_tuple.proofs.PaddingLemmas.{length-zeros, without_zeros-short, zeros_in_front, without_zeros-zeros}
@@ -157,7 +157,7 @@ rank-apart d test w v language valid also long same =
     let second = language.over v also in
     below-apart d test w v first second valid also long (sym (rank_is_below d test w language first) ∙ same ∙ rank_is_below d test v language second)
 
-pub strip_from_rank : RanksTellWords
+pub strip_from_rank : RanksDetermineWords
 strip_from_rank d test w v language valid also same =
     let m : ℕ = length w in
     let n : ℕ = length v in

@@ -30,5 +30,5 @@ abbrev pub NumbersHaveWords : Type 0
 NumbersHaveWords = (s : System) (n : ℕ) → IsSystem s → (w : List ℕ) × IsRep s.digits s.test n w
 
 -- by one word alone
-abbrev pub NumbersTellWords : Type 0
-NumbersTellWords = (s : System) (n : ℕ) (w v : List ℕ) → IsSystem s → IsRep s.digits s.test n w → IsRep s.digits s.test n v → w ≡ v
+abbrev pub NumbersDetermineWords : Type 0
+NumbersDetermineWords = (s : System) (n : ℕ) (w v : List ℕ) → IsSystem s → IsRep s.digits s.test n w → IsRep s.digits s.test n v → w ≡ v

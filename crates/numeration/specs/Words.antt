@@ -52,8 +52,8 @@ abbrev pub ZerosKeepTheRank : Type 0
 ZerosKeepTheRank = (d : ℕ) (test : List ℕ → Bool) (k : ℕ) (w : List ℕ) → rank d test (zeros k ++ w) ≡ rank d test w
 
 -- words of one rank differ in leading zeros alone
-abbrev pub RanksTellWords : Type 0
-RanksTellWords = (d : ℕ) (test : List ℕ → Bool) (w v : List ℕ) → IsLanguage d test → IsTrue (test w) → IsTrue (test v)
+abbrev pub RanksDetermineWords : Type 0
+RanksDetermineWords = (d : ℕ) (test : List ℕ → Bool) (w v : List ℕ) → IsLanguage d test → IsTrue (test w) → IsTrue (test v)
     → rank d test w ≡ rank d test v → without_zeros w ≡ without_zeros v
 
 -- of two words of one length in the language, the one that is less in lexicographic order has the smaller rank

@@ -1,7 +1,7 @@
 //! Laws of the definitions, each a call that does nothing.
 
-ghost use Rattle.numeration.specs.Words.{ZerosKeepTheRank, RanksTellWords, RanksAreInOrder};
-ghost use Rattle.numeration.specs.Systems.{NumbersHaveWords, NumbersTellWords};
+ghost use Rattle.numeration.specs.Words.{ZerosKeepTheRank, RanksDetermineWords, RanksAreInOrder};
+ghost use Rattle.numeration.specs.Systems.{NumbersHaveWords, NumbersDetermineWords};
 ghost use Rattle.numeration.specs.Representation.{TuplesHaveRepresentations, RepresentationsArePaddings};
 
 /// Leading zeros do not change the rank of a word.
@@ -10,8 +10,8 @@ pub fn zeros_keep_the_rank()
 {}
 
 /// Words of one rank differ in leading zeros alone.
-pub fn ranks_tell_words()
-    ensures { RanksTellWords }
+pub fn ranks_determine_words()
+    ensures { RanksDetermineWords }
 {}
 
 /// Ranks of words of one length are in the order of the words.
@@ -25,8 +25,8 @@ pub fn numbers_have_words()
 {}
 
 /// Each number is the rank of one word without leading zero alone.
-pub fn numbers_tell_words()
-    ensures { NumbersTellWords }
+pub fn numbers_determine_words()
+    ensures { NumbersDetermineWords }
 {}
 
 /// Each tuple of numbers has a representation.

@@ -5,7 +5,7 @@ use Rattle.digit_tuple.specs.declared.direction.Direction.{Direction}
 use Rattle.digit_tuple.specs.declared.direction.Direction.TheVariants.{Msd, Lsd}
 use Rattle.system_names.specs.declared.system_kind.SystemKind.{SystemKind}
 use Rattle.system_names.specs.declared.system_kind.SystemKind.TheVariants.{Base, Fibonacci}
-use Rattle.system_names.specs.Names.{direction_part, kind_part, system_name, IsBase, IsSystemKind, NamesTellSystems}
+use Rattle.system_names.specs.Names.{direction_part, kind_part, system_name, IsBase, IsSystemKind, NamesDetermineSystems}
 
 -- the prefix of a name says the direction, and what follows it the kind
 pub prefix_of : (direction : Direction) (kind : SystemKind) → take 4 (system_name direction kind) ≡ direction_part direction
@@ -37,7 +37,7 @@ one_kind (Base k) Fibonacci one two same = absurd (base_is_short k one same)
 one_kind Fibonacci (Base n) one two same = absurd (base_is_short n two (sym same))
 one_kind Fibonacci Fibonacci one two same = refl
 
-pub one_system : NamesTellSystems
+pub one_system : NamesDetermineSystems
 one_system direction other kind another name (is, named) (is', named') =
     let same : system_name direction kind ≡ system_name other another = sym named ∙ named' in (
       one_direction direction other (sym (prefix_of direction kind) ∙ (ap (λ (xs : List ℕ). take 4 xs) same ∙ prefix_of other another)),

@@ -9,7 +9,7 @@ use Rattle.digit_tuple.specs.declared.direction.Direction.TheVariants.{Msd, Lsd}
 use Rattle.system_names.specs.declared.system_kind.SystemKind.{SystemKind}
 use Rattle.system_names.specs.declared.system_kind.SystemKind.TheVariants.{Base, Fibonacci}
 use Rattle.system_names.specs.Names.{direction_part, kind_part, IsBuiltIn}
-use Rattle.system_names.specs.UserNames.{is_word_of_letters, IsUserPart, user_name, UserNamesTellSystems, UserNamesAreNotBuiltIn}
+use Rattle.system_names.specs.UserNames.{is_word_of_letters, IsUserPart, user_name, UserNamesDetermineSystems, UserNamesAreNotBuiltIn}
 use Rattle.system_names.proofs.OneSystem.{one_direction, rest_of}
 
 -- the prefix of a name says the direction, and what follows it the part
@@ -28,7 +28,7 @@ one_user_name direction other part another same = (
   sym (user_rest direction part) ∙ (ap (λ (xs : List ℕ). drop 4 xs) same ∙ user_rest other another),
 )
 
-pub one_user_system : UserNamesTellSystems
+pub one_user_system : UserNamesDetermineSystems
 one_user_system direction other part another name (is, named) (is', named') = one_user_name direction other part another (sym named ∙ named')
 
 -- a number begins with a digit

@@ -43,5 +43,5 @@ abbrev pub IsBuiltInName : List ℕ → Type 0
 IsBuiltInName name = (direction : Direction) × (kind : SystemKind) × IsBuiltIn direction kind name
 
 -- a name has one direction and one kind, at most
-abbrev pub NamesTellSystems : Type 0
-NamesTellSystems = (direction other : Direction) (kind another : SystemKind) (name : List ℕ) → IsBuiltIn direction kind name → IsBuiltIn other another name → (direction ≡ other) × (kind ≡ another)
+abbrev pub NamesDetermineSystems : Type 0
+NamesDetermineSystems = (direction other : Direction) (kind another : SystemKind) (name : List ℕ) → IsBuiltIn direction kind name → IsBuiltIn other another name → (direction ≡ other) × (kind ≡ another)

@@ -40,8 +40,8 @@ abbrev pub adder_name : List ℕ → List ℕ
 adder_name name = name ++ codes "_addition"
 
 -- a name says one direction and one system at most
-abbrev pub UserNamesTellSystems : Type 0
-UserNamesTellSystems = (direction other : Direction) (part another : List ℕ) (name : List ℕ) → IsUserName direction part name → IsUserName other another name → (direction ≡ other) × (part ≡ another)
+abbrev pub UserNamesDetermineSystems : Type 0
+UserNamesDetermineSystems = (direction other : Direction) (part another : List ℕ) (name : List ℕ) → IsUserName direction part name → IsUserName other another name → (direction ≡ other) × (part ≡ another)
 
 -- and it is the name of none that is built in
 abbrev pub UserNamesAreNotBuiltIn : Type 0

@@ -1,15 +1,15 @@
 //! Laws of the names, each a call that does nothing.
-ghost use Rattle.system_names.specs.Names.{NamesTellSystems};
-ghost use Rattle.system_names.specs.UserNames.{UserNamesTellSystems, UserNamesAreNotBuiltIn};
+ghost use Rattle.system_names.specs.Names.{NamesDetermineSystems};
+ghost use Rattle.system_names.specs.UserNames.{UserNamesDetermineSystems, UserNamesAreNotBuiltIn};
 
 /// A name is that of one kind of system in one direction, at most.
-pub fn names_tell_systems()
-    ensures { NamesTellSystems }
+pub fn names_determine_systems()
+    ensures { NamesDetermineSystems }
 {}
 
 /// A name is that of one system of a user in one direction, at most.
-pub fn user_names_tell_systems()
-    ensures { UserNamesTellSystems }
+pub fn user_names_determine_systems()
+    ensures { UserNamesDetermineSystems }
 {}
 
 /// The name of a user's system is that of none that is built in.

@@ -11,7 +11,9 @@ mod users;
 // a name determines its system
 mod laws;
 
-pub use laws::{names_tell_systems, user_names_are_not_built_in, user_names_tell_systems};
+pub use laws::{
+    names_determine_systems, user_names_are_not_built_in, user_names_determine_systems,
+};
 pub use naming::{BuiltIn, GREATEST_BASE, LEAST_BASE, built_in};
 pub use system_kind::SystemKind;
 pub use users::{LONGEST_PART, UserName, adder_name, user_name};

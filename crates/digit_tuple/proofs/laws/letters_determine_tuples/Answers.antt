@@ -1,5 +1,5 @@
 use Rattle.digit_tuple.proofs.TupleLemmas.{one_tuple}
-use Rattle.digit_tuple.proofs.laws.letters_tell_tuples.Goals as goal
+use Rattle.digit_tuple.proofs.laws.letters_determine_tuples.Goals as goal
 
 pub returns : goal.returns
 returns c = one_tuple

@@ -1,5 +1,5 @@
 use Rattle.number_relations.proofs.RelationLemmas.{tuples_tell}
-use Rattle.number_relations.proofs.laws.tuples_tell_relations.Goals as goal
+use Rattle.number_relations.proofs.laws.tuples_determine_relations.Goals as goal
 
 pub returns : goal.returns
 returns c = tuples_tell
