@@ -75,7 +75,7 @@ no_memory file store (Err fault) same =
     let some : (found : Files) × IfSome store.files (λ files. found ≡ files) = some_files store.files in
     subst (λ (f : LoadFault). IsLoadedFile file store (Err f) store) (sym same) (record {
       found = some.0;
-      told = some.1;
+      reported = some.1;
       gives = tt;
       has_read = nothing_refused store faults.Memory refl;
     })

@@ -22,8 +22,8 @@ abbrev with_file : Files → Files → File → Files
 with_file found there file = λ folder name. if is_under file folder name then there folder name else found folder name
 
 -- files that have one file as others have it, and are else as they were; the reported ones, where files are reported
-pub record IsMore (told : Option Files) (found there : Files) (file : File) (more : Files) : Type 0 where
-  pub reported_is : IfSome told (λ files. more ≡ files)
+pub record IsMore (reported : Option Files) (found there : Files) (file : File) (more : Files) : Type 0 where
+  pub reported_is : IfSome reported (λ files. more ≡ files)
   pub new_is : at_file more file ≡ at_file there file
   pub kept : (other : File) → is_same_file other file ≡ false → at_file more other ≡ at_file found other
 
@@ -40,6 +40,6 @@ others_kept found there (Automaton name) (Word other) apart = refl
 others_kept found there (Word name) (Automaton other) apart = refl
 others_kept found there (Word name) (Word other) apart = ap (λ b. cond b (there Words other) (found Words other)) apart
 
-pub one_more_file : (told : Option Files) (found there : Files) (file : File) → IfSome told (λ files. found ≡ files) → IfSome told (λ files. there ≡ files) → (more : Files) × IsMore told found there file more
+pub one_more_file : (reported : Option Files) (found there : Files) (file : File) → IfSome reported (λ files. found ≡ files) → IfSome reported (λ files. there ≡ files) → (more : Files) × IsMore reported found there file more
 one_more_file None found there file is is' = (with_file found there file, record { reported_is = tt; new_is = new_there found there file; kept = others_kept found there file })
 one_more_file (Some files) found there file is is' = (found, record { reported_is = is; new_is = ap (λ (fs : Files). at_file fs file) (is ∙ sym is'); kept = λ other apart. refl })

@@ -23,7 +23,7 @@ none_loaded store tables empty =
     let some : (found : Files) × IfSome store.files (λ files. found ≡ files) = some_files store.files in
     record {
       found = some.0;
-      told = some.1;
+      reported = some.1;
       gives = subst (λ (ts : List Loaded). AreListedBy some.0 [] ts) (sym empty) tt;
       has_read = nothing_read store tables;
     }
@@ -32,7 +32,7 @@ none_loaded store tables empty =
 found_next : (named : List File) (file : File) (old mid new : StoreView) (tables : Vec Loaded Global) (result : Result Loaded LoadFault) → (prefix : IsLoaded named old (Ok tables) mid) → (next : IsLoadedFile file mid result new)
     → (more : Files) × IsMore old.files prefix.found next.found file more
 found_next named file old mid new tables result prefix next =
-    one_more_file old.files prefix.found next.found file prefix.told (subst (λ (told : Option Files). IfSome told (λ files. next.found ≡ files)) prefix.has_read.files next.told)
+    one_more_file old.files prefix.found next.found file prefix.reported (subst (λ (reported : Option Files). IfSome reported (λ files. next.found ≡ files)) prefix.has_read.files next.reported)
 
 -- one file more gives its table
 pub loaded_more : (files : List File) (i : ℕ) (file : File) (old mid new : StoreView) (tables more : Vec Loaded Global) (table : Loaded) → i < length files → file ≡ get_or files i file → IsOnce files → more.items ≡ tables.items ++ table ∷ []
@@ -44,7 +44,7 @@ loaded_more files i file old mid new tables more table within is once pushed pre
     let named : take (i + 1) files ≡ take i files ++ file ∷ [] = take_more files i file within ∙ ap (λ (f : File). take i files ++ f ∷ []) (sym is) in
     record {
       found = found.0;
-      told = found.1.reported_is;
+      reported = found.1.reported_is;
       gives = subst (λ (fs : List File). AreListedBy found.0 fs more.items) (sym named) (subst (λ (ts : List Loaded). AreListedBy found.0 (take i files ++ file ∷ []) ts) (sym pushed) all);
       has_read = reads_both old mid new tables (Ok more) prefix.has_read (reads_ok mid new table more next.has_read);
     }
@@ -60,7 +60,7 @@ stopped files i file old mid new tables fault within is once prefix next =
     let named : take i files ++ file ∷ drop (suc i) files ≡ files = ap (λ (fs : List File). take i files ++ fs) (sym suffix) ∙ take-append-drop i files in
     record {
       found = found.0;
-      told = found.1.reported_is;
+      reported = found.1.reported_is;
       gives = subst (λ (fs : List File). FirstFails found.0 fs fault) named first;
       has_read = reads_both old mid new tables (Err fault) prefix.has_read (reads_so mid new fault next.has_read);
     }

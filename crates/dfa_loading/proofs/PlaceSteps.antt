@@ -24,17 +24,17 @@ abbrev pub files_by : Option Files → Option (List ℕ) → Files
 files_by None there = λ folder name. there
 files_by (Some files) there = files
 
-pub reported_by : (told : Option Files) (there : Option (List ℕ)) → IfSome told (λ files. files_by told there ≡ files)
+pub reported_by : (reported : Option Files) (there : Option (List ℕ)) → IfSome reported (λ files. files_by reported there ≡ files)
 reported_by None there = tt
 reported_by (Some files) there = refl
 
-there_by : (told : Option Files) (there : Option (List ℕ)) (file : File) → IfSome told (λ files. files (place_of file).0 (place_of file).1 ≡ there) → files_by told there (place_of file).0 (place_of file).1 ≡ there
+there_by : (reported : Option Files) (there : Option (List ℕ)) (file : File) → IfSome reported (λ files. files (place_of file).0 (place_of file).1 ≡ there) → files_by reported there (place_of file).0 (place_of file).1 ≡ there
 there_by None there file is = refl
 there_by (Some files) there file is = is
 
 -- some files, where the store reports its files by these
-pub some_files : (told : Option Files) → (found : Files) × IfSome told (λ files. found ≡ files)
-some_files told = (files_by told None, reported_by told None)
+pub some_files : (reported : Option Files) → (found : Files) × IfSome reported (λ files. found ≡ files)
+some_files reported = (files_by reported None, reported_by reported None)
 
 -- a text that is too long
 pub text_past : (n : ℕ) → (text : List ℕ) × (n < length text)
@@ -44,16 +44,16 @@ at_place : (old new : StoreView) (file : File) (there : Option (List ℕ)) (resu
     → ((found : Files) → found (place_of file).0 (place_of file).1 ≡ there → MatchResult result (IsListedBy found file) (Fails found file)) → HasRead old result new → IsLoadedFile file old result new
 at_place old new file there result is gives read = record {
   found = files_by old.files there;
-  told = reported_by old.files there;
+  reported = reported_by old.files there;
   gives = gives (files_by old.files there) (there_by old.files there file is);
   has_read = read;
 }
 
-found_so : (told : Option Files) (file : File) (text : List ℕ) → Finds told (place_of file).0 (place_of file).1 answers.Found text → IfSome told (λ files. files (place_of file).0 (place_of file).1 ≡ Some text)
+found_so : (reported : Option Files) (file : File) (text : List ℕ) → Finds reported (place_of file).0 (place_of file).1 answers.Found text → IfSome reported (λ files. files (place_of file).0 (place_of file).1 ≡ Some text)
 found_so None file text finds = tt
 found_so (Some files) file text finds = finds.0
 
-long_so : (told : Option Files) (file : File) (into : List ℕ) → Finds told (place_of file).0 (place_of file).1 answers.TooLong into → (text : List ℕ) × IfSome told (λ files. files (place_of file).0 (place_of file).1 ≡ Some text) × (TEXT_LIMIT < length text)
+long_so : (reported : Option Files) (file : File) (into : List ℕ) → Finds reported (place_of file).0 (place_of file).1 answers.TooLong into → (text : List ℕ) × IfSome reported (λ files. files (place_of file).0 (place_of file).1 ≡ Some text) × (TEXT_LIMIT < length text)
 long_so None file into finds = let past = text_past TEXT_LIMIT in (past.0, tt, past.1)
 long_so (Some files) file into finds = finds
 
@@ -88,7 +88,7 @@ module _ (file : File) (folder : Folder) (name : List ℕ) (at : IsReadAt file f
   pub failed_there : (old new : StoreView) → new.files ≡ old.files → CountsFault true old.faults new.faults → FailedAt true (folder, name) old.failed new.failed → IsLoadedFile file old (Err (faults.Store folder name)) new
   failed_there old new files counts failed = record {
     found = files_by old.files None;
-    told = reported_by old.files None;
+    reported = reported_by old.files None;
     gives = at;
     has_read = record { files = files; later = counts.0; cause = (counts.1, failed) };
   }
@@ -97,7 +97,7 @@ module _ (file : File) (folder : Folder) (name : List ℕ) (at : IsReadAt file f
 pub memory_there : (old new : StoreView) (file : File) → new.files ≡ old.files → new.faults ≡ old.faults → new.failed ≡ old.failed → IsLoadedFile file old (Err faults.Memory) new
 memory_there old new file files counts failed = record {
   found = files_by old.files None;
-  told = reported_by old.files None;
+  reported = reported_by old.files None;
   gives = tt;
   has_read = quiet_read old new (Err faults.Memory) files counts failed;
 }

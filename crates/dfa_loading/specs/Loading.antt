@@ -36,6 +36,6 @@ FirstFails files named (faults.File folder name flaw) = FirstRefuses files named
 -- All files were loaded, or the first that was not says why; by some files, which are the store's where it reports them.
 pub record IsLoaded (named : List File) (old : StoreView) (result : Result (Vec Loaded Global) LoadFault) (new : StoreView) : Type 0 where
   pub found : Files
-  pub told : AreReported old found
+  pub reported : AreReported old found
   pub gives : MatchResult result (λ tables. AreListedBy found named tables.items) (FirstFails found named)
   pub has_read : HasRead old result new

@@ -91,6 +91,6 @@ AreReported store found = IfSome store.files (λ files. found ≡ files)
 -- the file was loaded, or not, by some files, which are the store's where it reports them
 pub record IsLoadedFile (file : File) (old : StoreView) (result : Result Loaded LoadFault) (new : StoreView) : Type 0 where
   pub found : Files
-  pub told : AreReported old found
+  pub reported : AreReported old found
   pub gives : MatchResult result (IsListedBy found file) (Fails found file)
   pub has_read : HasRead old result new

@@ -2,7 +2,7 @@
 
 ghost use Rattle.std.specs.Prelude.{◌≡◌, IfOk};
 ghost use Rattle.formula_parse.specs.Views.{formula_view};
-ghost use Rattle.formula_resolve.specs.Answers.{Tells};
+ghost use Rattle.formula_resolve.specs.Answers.{Reports};
 ghost use Rattle.formula_resolve.specs.Resolving.{fault_of};
 ghost use Rattle.formula_build.specs.Resolved.{AreDirections};
 ghost use Rattle.formula_build.specs.ResolvedViews.{IsPlanned};
@@ -41,7 +41,7 @@ pub fn resolve<'a>(
 ) -> Result<Resolved<'a>, ResolveFault>
     requires formed { IsFormed (formula_view formula.now) }
     requires directions { AreDirections names.now.headers direction_named }
-    ensures told { Tells (fault_of names.now.headers (formula_view formula.now)) result }
+    ensures reported { Reports (fault_of names.now.headers (formula_view formula.now)) result }
     ensures formula { IfOk result (λ r. r.formula.now ≡ formula.now) }
     ensures names { IfOk result (λ r. r.names.now ≡ names.now) }
     ensures planned { IfOk result IsPlanned }

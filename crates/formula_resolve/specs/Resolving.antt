@@ -8,7 +8,7 @@ use Rattle.formula_resolve.specs.Arity.{first_misuse}
 use Rattle.formula_resolve.specs.Occurrences.{all_occurrences}
 use Rattle.formula_resolve.specs.Clashes.{first_clash}
 use Rattle.formula_resolve.specs.Directions.{first_conflict}
-use Rattle.formula_resolve.specs.Answers.{Tells}
+use Rattle.formula_resolve.specs.Answers.{Reports}
 use Rattle.formula_resolve.specs.FreeVariables.{free_variables}
 use Rattle.formula_resolve.specs.declared.direction.Conflict.{Conflict}
 use Rattle.formula_resolve.specs.declared.resolution.Resolved.{Resolved}
@@ -24,5 +24,5 @@ fault_of h f = option_or (first_misuse h (mentions f)) (option_or (first_clash (
 
 -- what an answer reports of a formula; Ok has the free variables in byte order with their systems
 pub record Resolves (h : Headers) (f : Formula) (result : Result Resolved ResolveFault) : Type 0 where
-  pub told : Tells (fault_of h f) result
+  pub reported : Reports (fault_of h f) result
   pub variables : IfOk result (λ r. r.variables.items ≡ free_variables (all_occurrences h f))

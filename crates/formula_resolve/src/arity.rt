@@ -2,7 +2,7 @@
 
 ghost use Rattle.std.specs.Prelude.{◌≡◌};
 ghost use Rattle.formula_resolve.specs.Arity.{first_misuse, misuse, miscount, kept_count};
-ghost use Rattle.formula_resolve.specs.Answers.{Tells};
+ghost use Rattle.formula_resolve.specs.Answers.{Reports};
 
 use crate::fault::ResolveFault;
 use crate::headers::Headers;
@@ -17,7 +17,7 @@ pub(crate) fn check_uses(
     mentions: &[Mention],
     headers: &Headers,
 ) -> Result<(), ResolveFault>
-    ensures { Tells (first_misuse headers.now mentions.now) result }
+    ensures { Reports (first_misuse headers.now mentions.now) result }
 {
     for mention in mentions {
         check_use(alloc, mention, headers)?;
@@ -26,7 +26,7 @@ pub(crate) fn check_uses(
 }
 
 fn check_use(alloc: Global, mention: &Mention, headers: &Headers) -> Result<(), ResolveFault>
-    ensures { Tells (misuse headers.now mention.now) result }
+    ensures { Reports (misuse headers.now mention.now) result }
 {
     match mention {
         Mention::Marked(_) => Ok(()),
@@ -43,7 +43,7 @@ fn check_use(alloc: Global, mention: &Mention, headers: &Headers) -> Result<(), 
 }
 
 fn check_count(alloc: Global, name: &Name, tracks: usize, given: usize) -> Result<(), ResolveFault>
-    ensures { Tells (miscount name.now tracks given) result }
+    ensures { Reports (miscount name.now tracks given) result }
 {
     if tracks == given {
         return Ok(());

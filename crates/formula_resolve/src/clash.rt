@@ -3,7 +3,7 @@
 ghost use Rattle.std.specs.Prelude.{◌≡◌, Some, IfOk, OnOk};
 ghost use Rattle.std.specs.Option.{option_copied};
 ghost use Rattle.std.specs.FinMap as finite;
-ghost use Rattle.formula_resolve.specs.Answers.{Tells};
+ghost use Rattle.formula_resolve.specs.Answers.{Reports};
 ghost use Rattle.formula_resolve.specs.Clashes.{first_clash, clash_with};
 ghost use Rattle.formula_resolve.specs.Firsts.{binding as binding_of, with_absent};
 
@@ -63,7 +63,7 @@ impl FirstSystems {
 /// Ok where all occurrences under each binding have one system; else the first that differs from the
 /// first one under its binding.
 pub(crate) fn check_systems(alloc: Global, occurrences: &[Occurrence]) -> Result<(), ResolveFault>
-    ensures { Tells (first_clash occurrences.now) result }
+    ensures { Reports (first_clash occurrences.now) result }
 {
     let mut firsts = FirstSystems::new(alloc);
     for occurrence in occurrences {
@@ -78,7 +78,7 @@ fn check_system(
     occurrence: &Occurrence,
     firsts: &mut FirstSystems,
 ) -> Result<(), ResolveFault>
-    ensures clash_is { Tells (clash_with (finite.get firsts.old (binding_of occurrence.now)) occurrence.now) result }
+    ensures clash_is { Reports (clash_with (finite.get firsts.old (binding_of occurrence.now)) occurrence.now) result }
     ensures firsts { OnOk result (firsts.new ≡ with_absent (finite.get firsts.old (binding_of occurrence.now)) firsts.old (binding_of occurrence.now) occurrence.now.system) }
 {
     let key = binding(alloc, occurrence)?;
@@ -93,7 +93,7 @@ fn check_system(
 
 /// Ok where an occurrence has this system.
 fn check_same(alloc: Global, first: &Name, occurrence: &Occurrence) -> Result<(), ResolveFault>
-    ensures { Tells (clash_with (Some first.now) occurrence.now) result }
+    ensures { Reports (clash_with (Some first.now) occurrence.now) result }
 {
     if first.as_bytes() == occurrence.system.as_bytes() {
         return Ok(());

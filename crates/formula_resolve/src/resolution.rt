@@ -4,7 +4,7 @@ ghost use Rattle.std.specs.Prelude.{◌≡◌, IfOk, [], None};
 ghost use Rattle.std.specs.Option.{option_map};
 ghost use Rattle.std.specs.FinMap as finite;
 ghost use Rattle.formula_parse.specs.Views.{formula_view};
-ghost use Rattle.formula_resolve.specs.Answers.{Tells};
+ghost use Rattle.formula_resolve.specs.Answers.{Reports};
 ghost use Rattle.formula_resolve.specs.Occurrences.{all_occurrences};
 ghost use Rattle.formula_resolve.specs.Directions.{first_conflict};
 ghost use Rattle.formula_resolve.specs.Resolving.{direction_fault, Resolves};
@@ -78,7 +78,7 @@ fn walk_whole(alloc: Global, formula: &Formula, headers: &Headers) -> Result<Wal
 
 /// Ok where no two directions meet.
 fn check_directions(conflict: Option<Conflict>) -> Result<(), ResolveFault>
-    ensures { Tells (option_map direction_fault conflict) result }
+    ensures { Reports (option_map direction_fault conflict) result }
 {
     match conflict {
         Some(Conflict { first, other }) => Err(ResolveFault::Direction(first, other)),

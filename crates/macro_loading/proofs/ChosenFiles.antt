@@ -18,7 +18,7 @@ use Rattle.macro_loading.proofs.ShortTexts.{macro_short}
 -- files that are the store's, where it reports them, among whose macros these texts are
 pub record Chosen (store : StoreView) (texts : TextOf) (Holds : Files → Type 0) : Type 0 where
   pub files : Files
-  pub told : AreReported store files
+  pub reported : AreReported store files
   pub among : AreAmong (macros_of files) texts
   pub holds : Holds files
 
@@ -28,16 +28,16 @@ in_each there = λ folder. there
 
 module _ (store : StoreView) (texts : TextOf) (read : AreRead store texts) where
   chosen : (Holds : Files → Type 0) (there : TextOf) → IfSome store.files Holds → AreAmong there texts → Holds (in_each there) → Chosen store texts Holds
-  chosen Holds there told among holds = by store.files read.told told refl
+  chosen Holds there reported among holds = by store.files read.reported reported refl
     where
       by : (files : Option Files) → IfSome files (λ (f : Files). AreAmong (macros_of f) texts) → IfSome files Holds → store.files ≡ files → Chosen store texts Holds
       by None all so is = record {
         files = in_each there;
-        told = rw is tt;
+        reported = rw is tt;
         among = λ name text e. macro_short (in_each there) name text (among name text e) (read.short name text e);
         holds = holds;
       }
-      by (Some files) all so is = record { files = files; told = rw is refl; among = all; holds = so }
+      by (Some files) all so is = record { files = files; reported = rw is refl; among = all; holds = so }
 
   -- nothing is asked of a list of files
   nothing : (files : Option Files) → IfSome files (λ _. ⊤)
@@ -50,7 +50,7 @@ module _ (store : StoreView) (texts : TextOf) (read : AreRead store texts) where
 
   -- and so where nothing is under a name
   pub chosen_absent : (name : List ℕ) → texts name ≡ None → IfSome store.files (λ files. files Macros name ≡ None) → Chosen store texts (λ files. files Macros name ≡ None)
-  chosen_absent name none told = chosen (λ files. files Macros name ≡ None) texts told (λ name' text e. e) none
+  chosen_absent name none reported = chosen (λ files. files Macros name ≡ None) texts reported (λ name' text e. e) none
 
   -- the texts with one more under a name that has none
   abbrev with_text : List ℕ → List ℕ → TextOf
@@ -70,9 +70,9 @@ module _ (store : StoreView) (texts : TextOf) (read : AreRead store texts) where
 
   -- and where a text is there that is too long
   pub chosen_long : (name : List ℕ) → texts name ≡ None → IfSome store.files (λ files. IsTooLong (files Macros name)) → Chosen store texts (λ files. IsTooLong (files Macros name))
-  chosen_long name none told =
+  chosen_long name none reported =
       let past = text_past TEXT_LIMIT in
-      chosen (λ files. IsTooLong (files Macros name)) (with_text name past.0) told (with_among name past.0 none) (past.0, with_there name past.0, past.1)
+      chosen (λ files. IsTooLong (files Macros name)) (with_text name past.0) reported (with_among name past.0 none) (past.0, with_there name past.0, past.1)
 
 -- the others are all that are not of this name
 pub without_among : (macros texts : TextOf) (name : List ℕ) → AreAmong macros texts → texts name ≡ None → AreAmong (without name macros) texts

@@ -28,12 +28,12 @@ ready_first held texts want =
     record {
       read = record {
         short = λ name text e. absurd (cc (none name, e));
-        told = by held.store.files (λ files name text e. absurd (cc (none name, e)));
+        reported = by held.store.files (λ files name text e. absurd (cc (none name, e)));
       };
       all_found = want;
     }
   where
-    by : (told : Option Files) → ((files : Files) → AreAmong (macros_of files) (text_in held.texts)) → IfSome told (λ files. AreAmong (macros_of files) (text_in held.texts))
+    by : (reported : Option Files) → ((files : Files) → AreAmong (macros_of files) (text_in held.texts)) → IfSome reported (λ files. AreAmong (macros_of files) (text_in held.texts))
     by None all = tt
     by (Some files) all = all files
 
@@ -47,17 +47,17 @@ module _ (text : List ℕ) (old : StoreView) (texts : TextOf) where
   expanded_made new made read same gives =
       let chosen = chosen_plain old texts read in
       subst (λ (store : StoreView). IsExpanded text old (Ok made) store) (sym same)
-      (record { found = chosen.files; told = chosen.told; gives = gives (macros_of chosen.files) chosen.among tt; has_read = record { files = refl; faults = refl; cause = refl } })
+      (record { found = chosen.files; reported = chosen.reported; gives = gives (macros_of chosen.files) chosen.among tt; has_read = record { files = refl; faults = refl; cause = refl } })
 
   -- it has a fault
   expanded_fault : (new : StoreView) (fault : ExpansionFault) → AreRead old texts → new ≡ old → HasRead {X = Vec ℕ Global} old (Err fault) old → ((files : Files) → AreAmong (macros_of files) texts → Fails files text fault) → IsExpanded text old (Err fault) new
   expanded_fault new fault read same has gives =
       let chosen = chosen_plain old texts read in
       subst (λ (store : StoreView). IsExpanded text old (Err fault) store) (sym same)
-      (record { found = chosen.files; told = chosen.told; gives = gives chosen.files chosen.among; has_read = has })
+      (record { found = chosen.files; reported = chosen.reported; gives = gives chosen.files chosen.among; has_read = has })
 
   read_before : (new : StoreView) → new.files ≡ old.files → AreRead new texts → AreRead old texts
-  read_before new same read = record { short = read.short; told = subst (λ (told : Option Files). IfSome told (λ files. AreAmong (macros_of files) texts)) same read.told }
+  read_before new same read = record { short = read.short; reported = subst (λ (reported : Option Files). IfSome reported (λ files. AreAmong (macros_of files) texts)) same read.reported }
 
   -- a macro is not found
   expanded_wanting : (new : StoreView) (name : List ℕ) (want : Want) → AreRead new texts → texts name ≡ None → IsWanting name want old new → GivesBy text texts (Err (macros.Unknown name)) → IsExpanded text old (Err (faults.Load (wanting name want))) new
@@ -66,7 +66,7 @@ module _ (text : List ℕ) (old : StoreView) (texts : TextOf) where
       subst (λ (store : StoreView). IsExpanded text old (Err (faults.Load (wanting name Absent))) store) (sym is.0)
       (record {
         found = chosen.files;
-        told = chosen.told;
+        reported = chosen.reported;
         gives = (refl, gives (macros_of chosen.files) chosen.among (macro_absent chosen.files name chosen.holds), chosen.holds);
         has_read = record { files = refl; faults = refl; cause = refl };
       })
@@ -75,7 +75,7 @@ module _ (text : List ℕ) (old : StoreView) (texts : TextOf) where
       subst (λ (store : StoreView). IsExpanded text old (Err (faults.Load (wanting name TooLong))) store) (sym is.0)
       (record {
         found = chosen.files;
-        told = chosen.told;
+        reported = chosen.reported;
         gives = (refl, refl, gives (macros_of chosen.files) chosen.among (macro_long chosen.files name chosen.holds), chosen.holds);
         has_read = record { files = refl; faults = refl; cause = refl };
       })
@@ -83,7 +83,7 @@ module _ (text : List ℕ) (old : StoreView) (texts : TextOf) where
       let chosen = chosen_plain old texts (read_before new is.0 read) in
       record {
         found = chosen.files;
-        told = chosen.told;
+        reported = chosen.reported;
         gives = (refl, gives (without name (macros_of chosen.files)) (without_among (macros_of chosen.files) texts name chosen.among none) (without_lacks (macros_of chosen.files) name));
         has_read = record { files = is.0; faults = is.1; cause = (is.1.1, is.2) };
       }
@@ -160,9 +160,9 @@ module _ {S : Type 0} (Same : S → S → Type 0) (held : S → Held) where
     refused macros.MacroLong gives came = quiet _ came.1 (record { files = refl; faults = refl; cause = refl }) (λ files among. gives (macros_of files) among tt)
 
     -- the text has a fault
-    pub refused_by : (result : Result (Vec ℕ Global) MacroFault) (fault : MacroFault) (told : ExpansionFault) (store : StoreView) → result ≡ Err fault → told ≡ fault_of fault (held new).want → (held old).store ≡ store → Answered text old result new
-        → IsExpanded text store (Err told) (held new).store
-    refused_by result fault told store is reported_is first answers =
+    pub refused_by : (result : Result (Vec ℕ Global) MacroFault) (fault : MacroFault) (reported : ExpansionFault) (store : StoreView) → result ≡ Err fault → reported ≡ fault_of fault (held new).want → (held old).store ≡ store → Answered text old result new
+        → IsExpanded text store (Err reported) (held new).store
+    refused_by result fault reported store is reported_is first answers =
         let refused_so = subst (λ (r : Result (Vec ℕ Global) MacroFault). Answered text old r new) is answers in
-        subst (λ (s : StoreView). IsExpanded text s (Err told) (held new).store) first
+        subst (λ (s : StoreView). IsExpanded text s (Err reported) (held new).store) first
         (subst (λ (e : ExpansionFault). IsExpanded text (held old).store (Err e) (held new).store) (sym reported_is) (refused fault refused_so.gives refused_so.came))

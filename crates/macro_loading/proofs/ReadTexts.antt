@@ -20,7 +20,7 @@ use Rattle.macro_loading.specs.declared.macro_files.Want.{Want}
 use Rattle.macro_loading.proofs.ShortTexts.{macro_short}
 
 -- what holds of some files, where these are reported
-pub both_reported : {X : Type 0} (told : Option X) (P Q R : X → Type 0) → ((x : X) → P x → Q x → R x) → IfSome told P → IfSome told Q → IfSome told R
+pub both_reported : {X : Type 0} (reported : Option X) (P Q R : X → Type 0) → ((x : X) → P x → Q x → R x) → IfSome reported P → IfSome reported Q → IfSome reported R
 both_reported None P Q R both p q = tt
 both_reported (Some x) P Q R both p q = both x p q
 
@@ -77,8 +77,8 @@ module _ (texts : Texts) (name text : List ℕ) where
   added_read : (store : StoreView) → AreRead store (text_in texts) → Finds store.files Macros name answers.Found text → length text ≤ TEXT_LIMIT → AreRead store (text_in (insert texts name text))
   added_read store read answer size = record {
     short = each_added (λ other there. length there ≤ TEXT_LIMIT) size read.short;
-    told = both_reported store.files (λ (files : Files). AreAmong (macros_of files) (text_in texts)) (λ (files : Files). (files Macros name ≡ Some text) × (length text ≤ TEXT_LIMIT)) (λ (files : Files). AreAmong (macros_of files) (text_in (insert texts name text)))
-        (λ files among new. each_added (λ other there. macros_of files other ≡ Some there) (macro_short files name text new.0 new.1) among) read.told answer;
+    reported = both_reported store.files (λ (files : Files). AreAmong (macros_of files) (text_in texts)) (λ (files : Files). (files Macros name ≡ Some text) × (length text ≤ TEXT_LIMIT)) (λ (files : Files). AreAmong (macros_of files) (text_in (insert texts name text)))
+        (λ files among new. each_added (λ other there. macros_of files other ≡ Some there) (macro_short files name text new.0 new.1) among) read.reported answer;
   }
 
   same_store : (old new : StoreView) → new.files ≡ old.files → new.faults ≡ old.faults → new.failed ≡ old.failed → new ≡ old

@@ -93,7 +93,7 @@ pub record HasRead {X : Type 0} (old : StoreView) (result : Result X ExpansionFa
 -- the text was expanded, or not, by some files, which are the store's where it reports them
 pub record IsExpanded (text : List ℕ) (old : StoreView) (result : Result (Vec ℕ Global) ExpansionFault) (new : StoreView) : Type 0 where
   pub found : Files
-  pub told : AreReported old found
+  pub reported : AreReported old found
   pub gives : Expands (λ made. made.items) found text result
   pub has_read : HasRead old result new
 

@@ -28,7 +28,7 @@ pub record Held : Type 0 where
 -- these texts are short enough, and the macros of the store, where it reports its files
 pub record AreRead (store : StoreView) (texts : TextOf) : Type 0 where
   pub short : (name text : List ℕ) → texts name ≡ Some text → length text ≤ TEXT_LIMIT
-  pub told : IfSome store.files (λ files. AreAmong (macros_of files) texts)
+  pub reported : IfSome store.files (λ files. AreAmong (macros_of files) texts)
 
 -- each one was found so far
 pub record IsReady (held : Held) : Type 0 where

@@ -21,7 +21,7 @@ use Rattle.dfa_loading.proofs.ReadSteps.{nothing_refused, quiet_read}
 use Rattle.morphism_loading.specs.MorphismFiles.{IsMorphismIn, IsNoMorphism, FailsMorphism, IsLoadedMorphism}
 
 module _ (name : List ℕ) where
-  there_by : (told : Option Files) (there : Option (List ℕ)) → IfSome told (λ files. files Morphisms name ≡ there) → files_by told there Morphisms name ≡ there
+  there_by : (reported : Option Files) (there : Option (List ℕ)) → IfSome reported (λ files. files Morphisms name ≡ there) → files_by reported there Morphisms name ≡ there
   there_by None there is = refl
   there_by (Some files) there is = is
 
@@ -29,16 +29,16 @@ module _ (name : List ℕ) where
       → ((found : Files) → found Morphisms name ≡ there → MatchResult result (IsMorphismIn found name) (FailsMorphism found name)) → HasRead old result new → IsLoadedMorphism name old result new
   at_place old new there result is gives read = record {
     found = files_by old.files there;
-    told = reported_by old.files there;
+    reported = reported_by old.files there;
     gives = gives (files_by old.files there) (there_by old.files there is);
     has_read = read;
   }
 
-  found_so : (told : Option Files) (text : List ℕ) → Finds told Morphisms name answers.Found text → IfSome told (λ files. files Morphisms name ≡ Some text)
+  found_so : (reported : Option Files) (text : List ℕ) → Finds reported Morphisms name answers.Found text → IfSome reported (λ files. files Morphisms name ≡ Some text)
   found_so None text finds = tt
   found_so (Some files) text finds = finds.0
 
-  long_so : (told : Option Files) (into : List ℕ) → Finds told Morphisms name answers.TooLong into → (text : List ℕ) × IfSome told (λ files. files Morphisms name ≡ Some text) × (TEXT_LIMIT < length text)
+  long_so : (reported : Option Files) (into : List ℕ) → Finds reported Morphisms name answers.TooLong into → (text : List ℕ) × IfSome reported (λ files. files Morphisms name ≡ Some text) × (TEXT_LIMIT < length text)
   long_so None into finds = let past = text_past TEXT_LIMIT in (past.0, tt, past.1)
   long_so (Some files) into finds = finds
 
@@ -71,7 +71,7 @@ module _ (name : List ℕ) where
   pub failed_there : (old new : StoreView) → new.files ≡ old.files → CountsFault true old.faults new.faults → FailedAt true (Morphisms, name) old.failed new.failed → IsLoadedMorphism name old (Err (faults.Store Morphisms name)) new
   failed_there old new files counts failed = record {
     found = files_by old.files None;
-    told = reported_by old.files None;
+    reported = reported_by old.files None;
     gives = (refl, refl);
     has_read = record { files = files; later = counts.0; cause = (counts.1, failed) };
   }
@@ -80,7 +80,7 @@ module _ (name : List ℕ) where
   pub memory_there : (old new : StoreView) → new.files ≡ old.files → new.faults ≡ old.faults → new.failed ≡ old.failed → IsLoadedMorphism name old (Err faults.Memory) new
   memory_there old new files counts failed = record {
     found = files_by old.files None;
-    told = reported_by old.files None;
+    reported = reported_by old.files None;
     gives = tt;
     has_read = quiet_read old new (Err faults.Memory) files counts failed;
   }
@@ -92,7 +92,7 @@ module _ (name : List ℕ) where
       let some : (found : Files) × IfSome store.files (λ files. found ≡ files) = some_files store.files in
       subst (λ (f : LoadFault). IsLoadedMorphism name store (Err f) store) (sym same) (record {
         found = some.0;
-        told = some.1;
+        reported = some.1;
         gives = tt;
         has_read = nothing_refused store faults.Memory refl;
       })

@@ -63,7 +63,7 @@ FailsMorphism files name faults.Memory = ⊤
 -- the morphism was loaded, or not, by some files, which are the store's where it reports them
 pub record IsLoadedMorphism (name : List ℕ) (old : StoreView) (result : Result Rules LoadFault) (new : StoreView) : Type 0 where
   pub found : Files
-  pub told : AreReported old found
+  pub reported : AreReported old found
   pub gives : MatchResult result (IsMorphismIn found name) (FailsMorphism found name)
   pub has_read : HasRead old result new
 

@@ -21,15 +21,15 @@ use Rattle.session_cli.specs.Whole.{HasGiven, SourceFailed, WantedMemory, HasRun
 use Rattle.session_cli.specs.Tallies.{tally_status}
 use Rattle.session_cli.specs.Ending.{Finishes}
 use Rattle.session_cli.proofs.CheckNames.{Ran}
-use Rattle.session_cli.proofs.Coming.{some_more, may_come_before, told_of, told_when}
+use Rattle.session_cli.proofs.Coming.{some_more, may_come_before, reported_left, reported_when}
 use Rattle.session_cli.proofs.Standing.{Stands, begins, ends_there, open_step, limit_step, none_left, finishes}
 
 -- the items so far are those of what the source gave, with whatever may come after that
-pub record IsBetween (limit : ℕ) (from to : SourceView) (kept : Kept) (old now : StoreView) (held told : SinkView) (tally : Tally) : Type 0 where
+pub record IsBetween (limit : ℕ) (from to : SourceView) (kept : Kept) (old now : StoreView) (held out : SinkView) (tally : Tally) : Type 0 where
   pub gave : List ℕ
   pub taken : Consumes from.left to.left gave
   pub ended : kept.over ≡ true → HasGivenAll to.left
-  pub stands : (more : List ℕ) → MayCome kept.over to.left more → Stands limit (gave ++ more) old now held told (place_of kept more) tally
+  pub stands : (more : List ℕ) → MayCome kept.over to.left more → Stands limit (gave ++ more) old now held out (place_of kept more) tally
   pub source_kept : to.faults ≡ from.faults
   pub room : kept.room + length gave ≡ 16777216 + length kept.held
   pub few : length kept.held ≤ kept.room + 1
@@ -61,20 +61,20 @@ few_next : (kept next : Kept) (to now : SourceView) (result : Result Cut CutFaul
 few_next kept next to now result few c = few_by kept next c.pieces few c.within c.room
 
 -- what was given up to a cut, and what may come after it
-given_next : (limit : ℕ) (from to now : SourceView) (kept next : Kept) (result : Result Cut CutFault) (old mid : StoreView) (held told : SinkView) (tally : Tally) (more : List ℕ)
-    → (b : IsBetween limit from to kept old mid held told tally) → (c : HasCut kept to result next now) → IfSome now.left (λ left. more ≡ left) → HasGiven from now (b.gave ++ concat c.pieces) more
-given_next limit from to now kept next result old mid held told tally more b c is = record {
+given_next : (limit : ℕ) (from to now : SourceView) (kept next : Kept) (result : Result Cut CutFault) (old mid : StoreView) (held out : SinkView) (tally : Tally) (more : List ℕ)
+    → (b : IsBetween limit from to kept old mid held out tally) → (c : HasCut kept to result next now) → IfSome now.left (λ left. more ≡ left) → HasGiven from now (b.gave ++ concat c.pieces) more
+given_next limit from to now kept next result old mid held out tally more b c is = record {
   taken = consumes-then from.left to.left now.left b.gave (concat c.pieces) b.taken c.given.taken;
   within = omega (arith, room_next kept next to now result b.gave b.room c, few_next kept next to now result b.few c);
-  told = is;
+  reported = is;
 }
 
 -- an item was answered
-pub between_next : (limit : ℕ) (from to now : SourceView) (kept next : Kept) (result : Result Cut CutFault) (old mid new : StoreView) (held told then : SinkView) (tally counted : Tally)
-    → kept.over ≡ false → IsBetween limit from to kept old mid held told tally → HasCut kept to result next now → now.faults ≡ to.faults
-    → ((script : List ℕ) (place suffix : Rest) → Stands limit script old mid held told place tally → GivesItem place result suffix → Stands limit script old new held then suffix counted)
+pub between_next : (limit : ℕ) (from to now : SourceView) (kept next : Kept) (result : Result Cut CutFault) (old mid new : StoreView) (held out then : SinkView) (tally counted : Tally)
+    → kept.over ≡ false → IsBetween limit from to kept old mid held out tally → HasCut kept to result next now → now.faults ≡ to.faults
+    → ((script : List ℕ) (place suffix : Rest) → Stands limit script old mid held out place tally → GivesItem place result suffix → Stands limit script old new held then suffix counted)
     → IsBetween limit from now next old new held then counted
-between_next limit from to now kept next result old mid new held told then tally counted begun b c source step = record {
+between_next limit from to now kept next result old mid new held out then tally counted begun b c source step = record {
   gave = b.gave ++ concat c.pieces;
   taken = consumes-then from.left to.left now.left b.gave (concat c.pieces) b.taken c.given.taken;
   ended = c.ended begun;
@@ -87,72 +87,72 @@ between_next limit from to now kept next result old mid new held told then tally
 }
 
 -- the run ended with an item
-pub between_ends : (limit : ℕ) (from to now : SourceView) (kept next : Kept) (result : Result Cut CutFault) (old mid new : StoreView) (held told then : SinkView) (tally : Tally) (state : Status)
-    → kept.over ≡ false → IsBetween limit from to kept old mid held told tally → HasCut kept to result next now → now.faults ≡ to.faults
-    → ((gave more : List ℕ) (place suffix : Rest) → Stands limit (gave ++ more) old mid held told place tally → GivesItem place result suffix → now.faults ≡ from.faults → Ran limit gave more from now old new held then state)
+pub between_ends : (limit : ℕ) (from to now : SourceView) (kept next : Kept) (result : Result Cut CutFault) (old mid new : StoreView) (held out then : SinkView) (tally : Tally) (state : Status)
+    → kept.over ≡ false → IsBetween limit from to kept old mid held out tally → HasCut kept to result next now → now.faults ≡ to.faults
+    → ((gave more : List ℕ) (place suffix : Rest) → Stands limit (gave ++ more) old mid held out place tally → GivesItem place result suffix → now.faults ≡ from.faults → Ran limit gave more from now old new held then state)
     → HasRun limit from now old new held then state
-between_ends limit from to now kept next result old mid new held told then tally state begun b c source step =
+between_ends limit from to now kept next result old mid new held out then tally state begun b c source step =
     let more : (more : List ℕ) × MayCome next.over now.left more = some_more next.over now.left in
     let may : MayCome kept.over to.left (concat c.pieces ++ more.0) = came kept next to now result more.0 begun c more.1 in
-    let is : IfSome now.left (λ left. more.0 ≡ left) = told_when next.over now.left more.0 (c.ended begun) more.1 in
-    let P : List ℕ → Type 0 = λ script. Stands limit script old mid held told (place_of kept (concat c.pieces ++ more.0)) tally in (
+    let is : IfSome now.left (λ left. more.0 ≡ left) = reported_when next.over now.left more.0 (c.ended begun) more.1 in
+    let P : List ℕ → Type 0 = λ script. Stands limit script old mid held out (place_of kept (concat c.pieces ++ more.0)) tally in (
       b.gave ++ concat c.pieces,
       more.0,
-      given_next limit from to now kept next result old mid held told tally more.0 b c is,
+      given_next limit from to now kept next result old mid held out tally more.0 b c is,
       step (b.gave ++ concat c.pieces) more.0 (place_of kept (concat c.pieces ++ more.0)) (place_of next more.0) (subst P (sym (append_assoc b.gave (concat c.pieces) more.0)) (b.stands (concat c.pieces ++ more.0) may)) (c.item more.0 more.1) (source ∙ b.source_kept),
     )
 
 -- the script's end
-pub between_end : (limit : ℕ) (over : Bool) (from to now : SourceView) (kept next : Kept) (old mid : StoreView) (held told : SinkView) (tally : Tally) (state : Status)
-    → kept.over ≡ over → IsBetween limit from to kept old mid held told tally → HasCut kept to (Ok cuts.End) next now → now.faults ≡ to.faults → (kept.over ≡ true → now ≡ to) → state ≡ tally_status tally
-    → HasRun limit from now old mid held told state
-between_end limit false from to now kept next old mid held told tally state begun b c source still is =
-    between_ends limit from to now kept next (Ok cuts.End) old mid mid held told told tally state begun b c source
-    (λ gave more place suffix stands end source'. inl (ends_there limit (gave ++ more) from now old mid held told place tally state stands end source' is))
-between_end limit true from to now kept next old mid held told tally state over b c source still is =
+pub between_end : (limit : ℕ) (over : Bool) (from to now : SourceView) (kept next : Kept) (old mid : StoreView) (held out : SinkView) (tally : Tally) (state : Status)
+    → kept.over ≡ over → IsBetween limit from to kept old mid held out tally → HasCut kept to (Ok cuts.End) next now → now.faults ≡ to.faults → (kept.over ≡ true → now ≡ to) → state ≡ tally_status tally
+    → HasRun limit from now old mid held out state
+between_end limit false from to now kept next old mid held out tally state begun b c source still is =
+    between_ends limit from to now kept next (Ok cuts.End) old mid mid held out out tally state begun b c source
+    (λ gave more place suffix stands end source'. inl (ends_there limit (gave ++ more) from now old mid held out place tally state stands end source' is))
+between_end limit true from to now kept next old mid held out tally state over b c source still is =
     let may : MayCome kept.over to.left [] = rw over refl in
     let none : (place_of kept []).left ≡ [] = rw over refl in
-    let P : SourceView → Type 0 = λ end. HasRun limit from end old mid held told state in
-    let given : HasGiven from to b.gave [] = record { taken = b.taken; within = omega (arith, b.room, b.few); told = told_when kept.over to.left [] b.ended may } in
-    subst P (sym (still over)) (b.gave, [], given, inl (ends_there limit (b.gave ++ []) from to old mid held told (place_of kept []) tally state (b.stands [] may) (none_left (place_of kept []) none) b.source_kept is))
+    let P : SourceView → Type 0 = λ end. HasRun limit from end old mid held out state in
+    let given : HasGiven from to b.gave [] = record { taken = b.taken; within = omega (arith, b.room, b.few); reported = reported_when kept.over to.left [] b.ended may } in
+    subst P (sym (still over)) (b.gave, [], given, inl (ends_there limit (b.gave ++ []) from to old mid held out (place_of kept []) tally state (b.stands [] may) (none_left (place_of kept []) none) b.source_kept is))
 
 -- a text without terminator, or the limit of the script
-pub between_finishes : (limit : ℕ) (from to now : SourceView) (kept next : Kept) (line len : ℕ) (old mid : StoreView) (held told then : SinkView) (tally : Tally) (state : Status)
-    → kept.over ≡ false → IsBetween limit from to kept old mid held told tally → HasCut kept to (Err (cut_faults.Syntax line len)) next now → now.faults ≡ to.faults
-    → Finishes told line (faults.Syntax grammars.Command len) tally then state
+pub between_finishes : (limit : ℕ) (from to now : SourceView) (kept next : Kept) (line len : ℕ) (old mid : StoreView) (held out then : SinkView) (tally : Tally) (state : Status)
+    → kept.over ≡ false → IsBetween limit from to kept old mid held out tally → HasCut kept to (Err (cut_faults.Syntax line len)) next now → now.faults ≡ to.faults
+    → Finishes out line (faults.Syntax grammars.Command len) tally then state
     → HasRun limit from now old mid held then state
-between_finishes limit from to now kept next line len old mid held told then tally state begun b c source ends =
-    between_ends limit from to now kept next (Err (cut_faults.Syntax line len)) old mid mid held told then tally state begun b c source
-    (λ gave more place suffix stands (text, cut, len_is, short) source'. finishes limit gave more from now old mid held told then place suffix tally (record { text = text; line = line; ended = Unterminated }) (faults.Syntax grammars.Command len) state stands cut (at_end place text suffix cut.before cut.cut) source'
+between_finishes limit from to now kept next line len old mid held out then tally state begun b c source ends =
+    between_ends limit from to now kept next (Err (cut_faults.Syntax line len)) old mid mid held out then tally state begun b c source
+    (λ gave more place suffix stands (text, cut, len_is, short) source'. finishes limit gave more from now old mid held out then place suffix tally (record { text = text; line = line; ended = Unterminated }) (faults.Syntax grammars.Command len) state stands cut (at_end place text suffix cut.before cut.cut) source'
     (λ ledger. open_step limit ledger mid text line len (omega arith) len_is) ends)
   where
     at_end : (place : Rest) (text : List ℕ) (suffix : Rest) (before : List ℕ) → CutsOpen place before text suffix → IsAtEnd suffix
     at_end place text suffix before cut = none_left suffix cut.nothing_left
 
-pub between_limit : (limit : ℕ) (from to now : SourceView) (kept next : Kept) (line : ℕ) (old mid : StoreView) (held told then : SinkView) (tally : Tally) (state : Status)
-    → kept.over ≡ false → IsBetween limit from to kept old mid held told tally → HasCut kept to (Err (cut_faults.ScriptLimit line)) next now → now.faults ≡ to.faults
-    → Finishes told line faults.ScriptLimit tally then state
+pub between_limit : (limit : ℕ) (from to now : SourceView) (kept next : Kept) (line : ℕ) (old mid : StoreView) (held out then : SinkView) (tally : Tally) (state : Status)
+    → kept.over ≡ false → IsBetween limit from to kept old mid held out tally → HasCut kept to (Err (cut_faults.ScriptLimit line)) next now → now.faults ≡ to.faults
+    → Finishes out line faults.ScriptLimit tally then state
     → HasRun limit from now old mid held then state
-between_limit limit from to now kept next line old mid held told then tally state begun b c source ends =
-    between_ends limit from to now kept next (Err (cut_faults.ScriptLimit line)) old mid mid held told then tally state begun b c source
-    (λ gave more place suffix stands (last, cut) source'. finishes limit gave more from now old mid held told then place last tally (record { text = []; line = line; ended = PastLimit }) faults.ScriptLimit state stands cut (at_end place last cut.before cut.cut) source'
+between_limit limit from to now kept next line old mid held out then tally state begun b c source ends =
+    between_ends limit from to now kept next (Err (cut_faults.ScriptLimit line)) old mid mid held out then tally state begun b c source
+    (λ gave more place suffix stands (last, cut) source'. finishes limit gave more from now old mid held out then place last tally (record { text = []; line = line; ended = PastLimit }) faults.ScriptLimit state stands cut (at_end place last cut.before cut.cut) source'
     (λ ledger. limit_step limit ledger mid line) ends)
   where
     at_end : (place last : Rest) (before : List ℕ) → CutsOff place before [] last → IsAtEnd last
     at_end place last before off = none_left last off.nothing_left
 
 -- the source failed, or there was no memory for the next item
-pub between_fault : (limit : ℕ) (from to then : SourceView) (kept next : Kept) (result : Result Cut CutFault) (old mid : StoreView) (held told : SinkView) (tally : Tally) (state : Status)
-    → kept.over ≡ false → (b : IsBetween limit from to kept old mid held told tally) → (c : HasCut kept to result next then)
+pub between_fault : (limit : ℕ) (from to then : SourceView) (kept next : Kept) (result : Result Cut CutFault) (old mid : StoreView) (held out : SinkView) (tally : Tally) (state : Status)
+    → kept.over ≡ false → (b : IsBetween limit from to kept old mid held out tally) → (c : HasCut kept to result next then)
     → SourceFailed from then (b.gave ++ concat c.pieces) (kept.held ++ concat c.pieces) state ⊎ WantedMemory from then state
-    → HasRun limit from then old mid held told state
-between_fault limit from to then kept next result old mid held told tally state begun b c cause =
+    → HasRun limit from then old mid held out state
+between_fault limit from to then kept next result old mid held out tally state begun b c cause =
     let more : (more : List ℕ) × MayCome false then.left more = some_more false then.left in
-    let s : Stands limit (b.gave ++ (concat c.pieces ++ more.0)) old mid held told (place_of kept (concat c.pieces ++ more.0)) tally = b.stands (concat c.pieces ++ more.0) (rw begun (may_come_before false to.left then.left (concat c.pieces) more.0 c.given.taken (λ is. cc) more.1)) in
+    let s : Stands limit (b.gave ++ (concat c.pieces ++ more.0)) old mid held out (place_of kept (concat c.pieces ++ more.0)) tally = b.stands (concat c.pieces ++ more.0) (rw begun (may_come_before false to.left then.left (concat c.pieces) more.0 c.given.taken (λ is. cc) more.1)) in
     let P : List ℕ → Type 0 = λ script. CutsTo (start script) s.items (place_of kept (concat c.pieces ++ more.0)) in (
       b.gave ++ concat c.pieces,
       more.0,
-      given_next limit from to then kept next result old mid held told tally more.0 b c (told_of then.left more.0 more.1),
+      given_next limit from to then kept next result old mid held out tally more.0 b c (reported_left then.left more.0 more.1),
       inr (inr (record {
         items = s.items;
         answers = s.answers;
@@ -169,12 +169,12 @@ between_fault limit from to then kept next result old mid held told tally state 
     )
 
 -- the source failed
-pub between_failed : (limit : ℕ) (from to then : SourceView) (kept next : Kept) (old mid : StoreView) (held told : SinkView) (tally : Tally)
-    → kept.over ≡ false → IsBetween limit from to kept old mid held told tally → HasCut kept to (Err cut_faults.Failed) next then → Rose to.faults then.faults
-    → HasRun limit from then old mid held told status.Outside
-between_failed limit from to then kept next old mid held told tally begun b c rose =
+pub between_failed : (limit : ℕ) (from to then : SourceView) (kept next : Kept) (old mid : StoreView) (held out : SinkView) (tally : Tally)
+    → kept.over ≡ false → IsBetween limit from to kept old mid held out tally → HasCut kept to (Err cut_faults.Failed) next then → Rose to.faults then.faults
+    → HasRun limit from then old mid held out status.Outside
+between_failed limit from to then kept next old mid held out tally begun b c rose =
     let failed : HasFailed kept (concat c.pieces) = c.failed refl in
-    between_fault limit from to then kept next (Err cut_faults.Failed) old mid held told tally status.Outside begun b c (inl (record {
+    between_fault limit from to then kept next (Err cut_faults.Failed) old mid held out tally status.Outside begun b c (inl (record {
       rose = rw b.source_kept at rose;
       none = failed.none;
       within = omega (arith, failed.within, b.room, length-append kept.held (concat c.pieces), length-append b.gave (concat c.pieces));
@@ -182,11 +182,11 @@ between_failed limit from to then kept next old mid held told tally begun b c ro
     }))
 
 -- no memory
-pub between_memory : (limit : ℕ) (from to then : SourceView) (kept next : Kept) (old mid : StoreView) (held told : SinkView) (tally : Tally)
-    → kept.over ≡ false → IsBetween limit from to kept old mid held told tally → HasCut kept to (Err cut_faults.Memory) next then → then.faults ≡ to.faults
-    → HasRun limit from then old mid held told status.Memory
-between_memory limit from to then kept next old mid held told tally begun b c source =
-    between_fault limit from to then kept next (Err cut_faults.Memory) old mid held told tally status.Memory begun b c (inr (record { source_kept = source ∙ b.source_kept; state_is = refl }))
+pub between_memory : (limit : ℕ) (from to then : SourceView) (kept next : Kept) (old mid : StoreView) (held out : SinkView) (tally : Tally)
+    → kept.over ≡ false → IsBetween limit from to kept old mid held out tally → HasCut kept to (Err cut_faults.Memory) next then → then.faults ≡ to.faults
+    → HasRun limit from then old mid held out status.Memory
+between_memory limit from to then kept next old mid held out tally begun b c source =
+    between_fault limit from to then kept next (Err cut_faults.Memory) old mid held out tally status.Memory begun b c (inr (record { source_kept = source ∙ b.source_kept; state_is = refl }))
 
 command_room : (place : Rest) (before text : List ℕ) (shown : Bool) (suffix : Rest) → CutsCommand shown place before text suffix → suffix.room < place.room
 command_room place before text shown suffix cut = omega (arith, cut.room)

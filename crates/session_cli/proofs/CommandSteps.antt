@@ -21,7 +21,7 @@ use Rattle.session_cli.specs.StoreReads.{IsReadFault, HasRead}
 use Rattle.session_cli.proofs.StoreReads.{rises}
 
 -- where the ledger is the one by which a command is answered, it is so whatever the store reports
-pub own_ledger : (told : Option Files) (ledger : Ledger) → IfSome told (λ files. ledger ≡ ledger)
+pub own_ledger : (reported : Option Files) (ledger : Ledger) → IfSome reported (λ files. ledger ≡ ledger)
 own_ledger None ledger = tt
 own_ledger (Some files) ledger = refl
 
@@ -60,9 +60,9 @@ pub kept_store : (custom : Custom) (store : StoreView) (fault : Fault) → is_st
 kept_store custom store fault other = record { files = refl; later = omega arith; cause = λ is. cc; failed = kept_failed store.failed fault other }
 
 -- a ledger by which a command over these files is answered: that of the files where they are reported, and else that of what was found
-pub record IsAnswering (told : Option Files) (ledger : Ledger) (found : Files) : Type 0 where
+pub record IsAnswering (reported : Option Files) (ledger : Ledger) (found : Files) : Type 0 where
   known : Ledger
-  known_is : IfSome told (λ files. known ≡ ledger)
+  known_is : IfSome reported (λ files. known ≡ ledger)
   stores : Stores known found
 
 entry_stores : (custom : Custom) (folder : Folder) (found : Option (List ℕ)) → HasTextAt custom folder (option_map (λ (bytes : List ℕ). Bytes bytes) found) found
@@ -73,7 +73,7 @@ entry_stores custom folder (Some text) = (tt, refl)
 pub files_store : (found : Files) → Stores (ledger_of found) found
 files_store found = λ folder name. entry_stores (custom_of (ledger_of found)) folder (found folder name)
 
-pub answering : (told : Option Files) (ledger : Ledger) (found : Files) → IfSome told (Stores ledger) → IfSome told (λ files. found ≡ files) → IsAnswering told ledger found
+pub answering : (reported : Option Files) (ledger : Ledger) (found : Files) → IfSome reported (Stores ledger) → IfSome reported (λ files. found ≡ files) → IsAnswering reported ledger found
 answering None ledger found stores is = record { known = ledger_of found; known_is = tt; stores = files_store found }
 answering (Some files) ledger found stores is = record { known = ledger; known_is = refl; stores = subst (Stores ledger) (sym is) stores }
 

@@ -33,7 +33,7 @@ use Rattle.session_cli.specs.TableReading.{IsReadingFault}
 
 -- a formula that was resolved has no fault
 pub resolves_here : (tables : List Loaded) (formula : trees.Formula) (headers : Headers) → headers ≡ headers_of tables → fault_of headers formula ≡ None → ResolvedAnswers tables formula (Ok tt)
-resolves_here tables formula headers is told = subst (λ (h : Headers). fault_of h formula ≡ None) is told
+resolves_here tables formula headers is reported = subst (λ (h : Headers). fault_of h formula ≡ None) is reported
 
 -- what is known of a formula that was resolved with the names of a session
 pub record IsSetUp (r : Resolved) (read : ReadValue) (reads : List TableRead) (formula : trees.Formula) (tables : List Loaded) (systems : List NamedSystem) : Type 0 where

@@ -7,7 +7,7 @@ use Rattle.formula_parse.specs.Parsing.{Parses}
 use Rattle.formula_parse.specs.Trees as trees
 use Rattle.formula_parse.specs.declared.fault.ParseFault.{ParseFault}
 use Rattle.formula_parse.specs.declared.fault.ParseFault.TheVariants as parses
-use Rattle.formula_resolve.specs.Answers.{Tells}
+use Rattle.formula_resolve.specs.Answers.{Reports}
 use Rattle.formula_resolve.specs.Headers.{Headers}
 use Rattle.formula_resolve.specs.Resolving.{fault_of}
 use Rattle.formula_resolve.specs.declared.fault.ResolveFault.{ResolveFault}
@@ -34,12 +34,12 @@ unparsed_formula body (parses.NotLinear at) breaks = breaks
 unparsed_formula body parses.Memory breaks = tt
 
 -- there is no resolution
-pub unresolved : (X : Type 0) (tables : List Loaded) (formula : trees.Formula) (headers : Headers) (fault : ResolveFault) → headers ≡ headers_of tables → Tells {X = X} (fault_of headers formula) (Err fault) → Fails (Pure (ResolvedAnswers tables formula)) (fault_of_resolution fault)
-unresolved X tables formula headers (resolves.Plain name) is told = subst (λ (h : Headers). fault_of h formula ≡ Some (resolves.Plain name)) is told
-unresolved X tables formula headers (resolves.Arity name tracks given) is told = subst (λ (h : Headers). fault_of h formula ≡ Some (resolves.Arity name tracks given)) is told
-unresolved X tables formula headers (resolves.Clash name first other) is told = subst (λ (h : Headers). fault_of h formula ≡ Some (resolves.Clash name first other)) is told
-unresolved X tables formula headers (resolves.Direction first other) is told = subst (λ (h : Headers). fault_of h formula ≡ Some (resolves.Direction first other)) is told
-unresolved X tables formula headers resolves.Memory is told = tt
+pub unresolved : (X : Type 0) (tables : List Loaded) (formula : trees.Formula) (headers : Headers) (fault : ResolveFault) → headers ≡ headers_of tables → Reports {X = X} (fault_of headers formula) (Err fault) → Fails (Pure (ResolvedAnswers tables formula)) (fault_of_resolution fault)
+unresolved X tables formula headers (resolves.Plain name) is reported = subst (λ (h : Headers). fault_of h formula ≡ Some (resolves.Plain name)) is reported
+unresolved X tables formula headers (resolves.Arity name tracks given) is reported = subst (λ (h : Headers). fault_of h formula ≡ Some (resolves.Arity name tracks given)) is reported
+unresolved X tables formula headers (resolves.Clash name first other) is reported = subst (λ (h : Headers). fault_of h formula ≡ Some (resolves.Clash name first other)) is reported
+unresolved X tables formula headers (resolves.Direction first other) is reported = subst (λ (h : Headers). fault_of h formula ≡ Some (resolves.Direction first other)) is reported
+unresolved X tables formula headers resolves.Memory is reported = tt
 
 -- a step passes a limit
 pub unbuilt : (admitted : StepLog) (custom : Custom) (tables : List Loaded) (formula : trees.Formula) (fault : StepFault) → AreStepsRefused admitted custom tables formula fault → Fails (Pure (BuiltAnswers admitted custom tables formula)) (track_systems.fault_of fault)

@@ -107,15 +107,15 @@ module _ (files others : Files) where
   loads_with named (Err fault) refused = unloaded_with named fault refused
 
 -- files that are the store's where it reports them, of which both properties are known
-record AreBoth (P Q : Files → Type 0) (told : Option Files) : Type 0 where
+record AreBoth (P Q : Files → Type 0) (reported : Option Files) : Type 0 where
   found : Files
-  told_so : IfSome told (λ (files : Files). found ≡ files)
+  reported_so : IfSome reported (λ (files : Files). found ≡ files)
   first : P found
   second : Q found
 
-both : (P Q : Files → Type 0) (told : Option Files) (a b : Files) → IfSome told (λ (t : Files). a ≡ t) → IfSome told (λ (t : Files). b ≡ t) → P a → Q b → P (with_morphisms b a) → Q (with_morphisms b a) → AreBoth P Q told
-both P Q None a b here there p q pp qq = record { found = with_morphisms b a; told_so = tt; first = pp; second = qq }
-both P Q (Some t) a b here there p q pp qq = record { found = a; told_so = here; first = p; second = subst Q (there ∙ sym here) q }
+both : (P Q : Files → Type 0) (reported : Option Files) (a b : Files) → IfSome reported (λ (t : Files). a ≡ t) → IfSome reported (λ (t : Files). b ≡ t) → P a → Q b → P (with_morphisms b a) → Q (with_morphisms b a) → AreBoth P Q reported
+both P Q None a b here there p q pp qq = record { found = with_morphisms b a; reported_so = tt; first = pp; second = qq }
+both P Q (Some t) a b here there p q pp qq = record { found = a; reported_so = here; first = p; second = subst Q (there ∙ sym here) q }
 
 -- what was read of a morphism and of tables after it
 abbrev pub LoadsBoth : List ℕ → Rules → List File → Files → Result (Vec Loaded Global) Fault → Type 0
@@ -123,17 +123,17 @@ LoadsBoth name rules named files r = IsMorphismIn files name rules × LoadsTable
 
 pub then_tables : (name : List ℕ) (rules : Rules) (named : List File) (old mid new : StoreView) (r : Result (Vec Loaded Global) Fault) → IsLoadedMorphism name old (Ok rules) mid → FromFiles (LoadsTables named) mid r new → FromFiles (LoadsBoth name rules named) old r new
 then_tables name rules named old mid new r first second =
-    let there : IfSome old.files (λ (t : Files). second.found ≡ t) = subst (λ (o : Option Files). IfSome o (λ (t : Files). second.found ≡ t)) first.has_read.files second.told in
-    let c = both (λ (files : Files). IsMorphismIn files name rules) (λ (files : Files). LoadsTables named files r) old.files first.found second.found first.told there first.gives second.gives
+    let there : IfSome old.files (λ (t : Files). second.found ≡ t) = subst (λ (o : Option Files). IfSome o (λ (t : Files). second.found ≡ t)) first.has_read.files second.reported in
+    let c = both (λ (files : Files). IsMorphismIn files name rules) (λ (files : Files). LoadsTables named files r) old.files first.found second.found first.reported there first.gives second.gives
     (morphism_with second.found first.found name rules first.gives) (loads_with second.found first.found named r second.gives) in
     let read : HasRead {X = Rules} old (Ok rules) mid = record { files = first.has_read.files; later = first.has_read.later; cause = first.has_read.cause } in
-    record { found = c.found; told = c.told_so; gives = (c.first, c.second); has_read = reads_both old mid new rules r read second.has_read }
+    record { found = c.found; reported = c.reported_so; gives = (c.first, c.second); has_read = reads_both old mid new rules r read second.has_read }
 
 pub from_no_morphism : {X : Type 0} (Gives : Files → Result X Fault → Type 0) (name : List ℕ) (old new : StoreView) (f : LoadFault) → IsLoadedMorphism name old (Err f) new
     → ((found : Files) → ((ledger : Ledger) → Stores ledger found → Fails (morphism_loaded ledger name) (fault_of_loading f)) → Gives found (Err (fault_of_loading f))) → FromFiles Gives old (Err (fault_of_loading f)) new
 from_no_morphism Gives name old new f l so = record {
   found = l.found;
-  told = l.told;
+  reported = l.reported;
   gives = so l.found (λ ledger stores. morphism_unloaded ledger l.found name f stores l.gives);
   has_read = record { files = l.has_read.files; later = l.has_read.later; cause = caused_so f old new l.has_read.cause };
 }

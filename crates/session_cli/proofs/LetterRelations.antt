@@ -8,7 +8,7 @@ use Rattle.formula_parse.specs.Tokens.{Name}
 use Rattle.formula_parse.specs.Trees.{Formula}
 use Rattle.formula_parse.specs.Views.{formula_view}
 use Rattle.formula_truth.specs.Truth.{Holds}
-use Rattle.formula_resolve.specs.Answers.{Tells}
+use Rattle.formula_resolve.specs.Answers.{Reports}
 use Rattle.formula_resolve.specs.FreeVariables.{free_variables}
 use Rattle.formula_resolve.specs.Headers.{Headers}
 use Rattle.formula_resolve.specs.Occurrences.{all_occurrences}
@@ -42,12 +42,12 @@ if_ok_both P Q R (Ok x) p q both = both x p q
 if_ok_both P Q R (Err e) p q both = tt
 
 -- where there is no fault, only memory can be wanting
-pub only_memory : (X : Type 0) (fault : ResolveFault) → Tells {X = X} None (Err fault) → fault ≡ resolve_faults.Memory
-only_memory X (resolve_faults.Plain n) told = absurd (none-some _ told)
-only_memory X (resolve_faults.Arity n tracks given) told = absurd (none-some _ told)
-only_memory X (resolve_faults.Clash n s t) told = absurd (none-some _ told)
-only_memory X (resolve_faults.Direction s t) told = absurd (none-some _ told)
-only_memory X resolve_faults.Memory told = refl
+pub only_memory : (X : Type 0) (fault : ResolveFault) → Reports {X = X} None (Err fault) → fault ≡ resolve_faults.Memory
+only_memory X (resolve_faults.Plain n) reported = absurd (none-some _ reported)
+only_memory X (resolve_faults.Arity n tracks given) reported = absurd (none-some _ reported)
+only_memory X (resolve_faults.Clash n s t) reported = absurd (none-some _ reported)
+only_memory X (resolve_faults.Direction s t) reported = absurd (none-some _ reported)
+only_memory X resolve_faults.Memory reported = refl
 
 -- a fault that is found in a formula
 abbrev pub IsFound : ResolveFault → Type 0
@@ -59,13 +59,13 @@ IsFound resolve_faults.Memory = ⊥
 
 module _ (t : Setting) (s : Name) (k : ℕ) (b : ℤ) (usable : IsUsable t s k) where
   -- a formula of a letter is refused only because memory ran out
-  pub refused_for_memory : (X : Type 0) (h : Headers) (f : Formula) (fault : ResolveFault) → h ≡ t.names.headers → f ≡ image_formula s k b → Tells {X = X} (fault_of h f) (Err fault) → fault ≡ resolve_faults.Memory
-  refused_for_memory X h f fault headers is told =
-      only_memory X fault (subst (λ o. Tells {X = X} o (Err fault)) ((λ i. fault_of ((headers ∙ usable.setting.headers) i) (is i)) ∙ no_fault s k b usable.few usable.some) told)
+  pub refused_for_memory : (X : Type 0) (h : Headers) (f : Formula) (fault : ResolveFault) → h ≡ t.names.headers → f ≡ image_formula s k b → Reports {X = X} (fault_of h f) (Err fault) → fault ≡ resolve_faults.Memory
+  refused_for_memory X h f fault headers is reported =
+      only_memory X fault (subst (λ o. Reports {X = X} o (Err fault)) ((λ i. fault_of ((headers ∙ usable.setting.headers) i) (is i)) ∙ no_fault s k b usable.few usable.some) reported)
 
   -- and for nothing else
-  pub not_refused : (X : Type 0) (h : Headers) (f : Formula) (fault other : ResolveFault) → h ≡ t.names.headers → f ≡ image_formula s k b → fault ≡ other → IsFound other → Tells {X = X} (fault_of h f) (Err fault) → ⊥
-  not_refused X h f fault other headers is same found told = subst IsFound (sym same ∙ refused_for_memory X h f fault headers is told) found
+  pub not_refused : (X : Type 0) (h : Headers) (f : Formula) (fault other : ResolveFault) → h ≡ t.names.headers → f ≡ image_formula s k b → fault ≡ other → IsFound other → Reports {X = X} (fault_of h f) (Err fault) → ⊥
+  not_refused X h f fault other headers is same found reported = subst IsFound (sym same ∙ refused_for_memory X h f fault headers is reported) found
 
   module _ (r : Resolved) (names : r.names.now ≡ t.names) (is : formula_view r.formula.now ≡ image_formula s k b) where
     library_same : library_of r t.words ≡ library_in t

@@ -21,12 +21,12 @@ abbrev pub GivesMorphism : List ℕ → Files → Result Rules Fault → Type 0
 GivesMorphism name files result = MatchResult result (IsMorphismIn files name) (λ fault. (load : LoadFault) × FailsMorphism files name load × (fault ≡ fault_of_loading load))
 
 pub morphism_there : (name : List ℕ) (old new : StoreView) (rules : Rules) → IsLoadedMorphism name old (Ok rules) new → FromFiles (GivesMorphism name) old (Ok rules) new
-morphism_there name old new rules l = record { found = l.found; told = l.told; gives = l.gives; has_read = record { files = l.has_read.files; later = l.has_read.later; cause = l.has_read.cause } }
+morphism_there name old new rules l = record { found = l.found; reported = l.reported; gives = l.gives; has_read = record { files = l.has_read.files; later = l.has_read.later; cause = l.has_read.cause } }
 
 pub morphism_not_there : (name : List ℕ) (old new : StoreView) (f : LoadFault) → IsLoadedMorphism name old (Err f) new → FromFiles {X = Rules} (GivesMorphism name) old (Err (fault_of_loading f)) new
 morphism_not_there name old new f l = record {
   found = l.found;
-  told = l.told;
+  reported = l.reported;
   gives = (f, l.gives, refl);
   has_read = record { files = l.has_read.files; later = l.has_read.later; cause = caused_so f old new l.has_read.cause };
 }

@@ -80,21 +80,21 @@ same_others files others Results name other = refl
 same_others files others Commands name other = refl
 
 -- files that are the store's where it reports them, with the macros of one and all else of the other
-record AreJoined (told : Option Files) (one two : Files) : Type 0 where
+record AreJoined (reported : Option Files) (one two : Files) : Type 0 where
   found : Files
-  told_so : IfSome told (λ (files : Files). found ≡ files)
+  reported_so : IfSome reported (λ (files : Files). found ≡ files)
   same_macros : (name : List ℕ) → found Macros name ≡ one Macros name
   others : SameButMacros found two
 
-joined : (told : Option Files) (one two : Files) → IfSome told (λ (files : Files). one ≡ files) → IfSome told (λ (files : Files). two ≡ files) → AreJoined told one two
+joined : (reported : Option Files) (one two : Files) → IfSome reported (λ (files : Files). one ≡ files) → IfSome reported (λ (files : Files). two ≡ files) → AreJoined reported one two
 unfolding with_macros
-joined None one two a b = record { found = with_macros two one; told_so = tt; same_macros = λ name. refl; others = same_others two one }
-joined (Some files) one two a b = record { found = one; told_so = a; same_macros = λ name. refl; others = λ folder name other. ap (λ (f : Files). f folder name) (a ∙ sym b) }
+joined None one two a b = record { found = with_macros two one; reported_so = tt; same_macros = λ name. refl; others = same_others two one }
+joined (Some files) one two a b = record { found = one; reported_so = a; same_macros = λ name. refl; others = λ folder name other. ap (λ (f : Files). f folder name) (a ∙ sym b) }
 
 -- what is read of other folders after the macros is read beside them
 pub then_macros : {X Y : Type 0} (First : Files → Result X Fault → Type 0) (Second : Files → Result Y Fault → Type 0) (Gives : Files → Result Y Fault → Type 0) (old mid new : StoreView) (x : X) (r : Result Y Fault) → FromFiles First old (Ok x) mid → FromFiles Second mid r new
     → ((one two found : Files) → ((name : List ℕ) → found Macros name ≡ one Macros name) → SameButMacros found two → First one (Ok x) → Second two r → Gives found r) → FromFiles Gives old r new
 then_macros First Second Gives old mid new x r first second so =
-    let there : IfSome old.files (λ (files : Files). second.found ≡ files) = subst (λ (o : Option Files). IfSome o (λ (files : Files). second.found ≡ files)) first.has_read.files second.told in
-    let j = joined old.files first.found second.found first.told there in
-    record { found = j.found; told = j.told_so; gives = so first.found second.found j.found j.same_macros j.others first.gives second.gives; has_read = reads_both old mid new x r first.has_read second.has_read }
+    let there : IfSome old.files (λ (files : Files). second.found ≡ files) = subst (λ (o : Option Files). IfSome o (λ (files : Files). second.found ≡ files)) first.has_read.files second.reported in
+    let j = joined old.files first.found second.found first.reported there in
+    record { found = j.found; reported = j.reported_so; gives = so first.found second.found j.found j.same_macros j.others first.gives second.gives; has_read = reads_both old mid new x r first.has_read second.has_read }

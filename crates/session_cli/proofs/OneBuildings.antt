@@ -40,18 +40,18 @@ record IsBuilding (admitted : StepLog) (custom : Custom) (tables : List Loaded) 
   result : Result RelationValue StepFault
   lines : List StepLine
   done : AreFormulaSteps admitted custom tables formula result lines
-  told : result ≢ Err steps.Memory
+  not_memory : result ≢ Err steps.Memory
   is : r ≡ of_steps result lines
 
 abbrev IsOutcome : StepLog → Custom → List Loaded → trees.Formula → Result (List StepLine) Fault → Type 0
 IsOutcome admitted custom tables formula r = IsBuilding admitted custom tables formula r ⊎ IsStopped admitted custom tables r
 
 built_is : (admitted : StepLog) (custom : Custom) (tables : List Loaded) (formula : trees.Formula) (r : Result (List StepLine) Fault) → BuiltAnswers admitted custom tables formula r → IsOutcome admitted custom tables formula r
-built_is admitted custom tables formula (Ok lines) (relation, a) = inl (record { result = Ok relation; lines = lines; done = a; told = λ is. cc; is = refl })
+built_is admitted custom tables formula (Ok lines) (relation, a) = inl (record { result = Ok relation; lines = lines; done = a; not_memory = λ is. cc; is = refl })
 built_is admitted custom tables formula (Err (faults.Letters step)) (inl a) = inr (stopped_by admitted custom tables (steps.Letters step) (λ is. cc) a)
-built_is admitted custom tables formula (Err (faults.Letters step)) (inr (lines, a)) = inl (record { result = Err (steps.Letters step); lines = lines; done = a; told = λ is. cc; is = refl })
+built_is admitted custom tables formula (Err (faults.Letters step)) (inr (lines, a)) = inl (record { result = Err (steps.Letters step); lines = lines; done = a; not_memory = λ is. cc; is = refl })
 built_is admitted custom tables formula (Err (faults.States step)) (inl a) = inr (stopped_by admitted custom tables (steps.States step) (λ is. cc) a)
-built_is admitted custom tables formula (Err (faults.States step)) (inr (lines, a)) = inl (record { result = Err (steps.States step); lines = lines; done = a; told = λ is. cc; is = refl })
+built_is admitted custom tables formula (Err (faults.States step)) (inr (lines, a)) = inl (record { result = Err (steps.States step); lines = lines; done = a; not_memory = λ is. cc; is = refl })
 built_is admitted custom tables formula (Err faults.Command) a = absurd a
 built_is admitted custom tables formula (Err (faults.Syntax grammar at)) a = absurd a
 built_is admitted custom tables formula (Err (faults.MixedChain byte)) a = absurd a
@@ -96,7 +96,7 @@ module _ (admitted : StepLog) (custom : Custom) (tables : List Loaded) (formula 
       (subst (λ (old : StepLog). BuildsFormula (library_with b.reads b.systems) (formula_plan (headers_of tables) formula) old q.result b.log) (sym same.1) b.builds) in
       let one : (p.result ≡ q.result) × (a.log ≡ b.log) =
       one_result steps.Memory a.log b.log p.result q.result
-      (one_building (library_with a.reads a.systems) (library_with a.reads b.systems) a.reading a.log b.log (formula_plan (headers_of tables) formula) p.result q.result library other agree a.builds builds) p.told q.told in
+      (one_building (library_with a.reads a.systems) (library_with a.reads b.systems) a.reading a.log b.log (formula_plan (headers_of tables) formula) p.result q.result library other agree a.builds builds) p.not_memory q.not_memory in
       let lines : p.lines ≡ q.lines = a.lines_are ∙ (ap (λ (log : StepLog). log.lines) one.1 ∙ sym b.lines_are) in
       p.is ∙ ((λ i. of_steps (one.0 i) (lines i)) ∙ sym q.is)
 

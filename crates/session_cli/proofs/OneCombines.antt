@@ -164,8 +164,8 @@ shape_single h names r s a b = by (shape_is h names r a) (shape_is h names s b)
     by (inr (first, other, apart, is)) (inl (one, is')) = absurd (not_shaped h names first other one apart)
     by (inr (first, other, apart, is)) (inr (first', other', apart', is')) =
         let same = one_shape_fault h names first other first' other' apart apart' in
-        let told : (let x : Result (Unit {0}) Fault = Err (faults.CombineShape first other) in x) ≡ Err (faults.CombineShape first' other') = λ i. Err (faults.CombineShape (same.0 i) (same.1 i)) in
-        is ∙ (told ∙ sym is')
+        let same_faults : (let x : Result (Unit {0}) Fault = Err (faults.CombineShape first other) in x) ≡ Err (faults.CombineShape first' other') = λ i. Err (faults.CombineShape (same.0 i) (same.1 i)) in
+        is ∙ (same_faults ∙ sym is')
 
 -- systems that names mean are determined by the names, and some determine their direction
 one_named : (custom : Custom) (direction direction' : Direction) (xs ys : List tracks.NamedSystem) → names_of xs ≡ names_of ys → AreNamed custom direction xs → AreNamed custom direction' ys → xs ≡ ys
@@ -230,7 +230,7 @@ record IsWordMade (admitted : StepLog) (custom : Custom) (tables : List Loaded) 
 
 record IsWordRefused (admitted : StepLog) (custom : Custom) (tables : List Loaded) (automata : List ValuedName) (r : Result (List StepLine) Fault) : Type 0 where
   fault : StepFault
-  told : fault ≢ steps.Memory
+  not_memory : fault ≢ steps.Memory
   stops : IsCombiningStopped admitted custom tables automata fault
   is : r ≡ Err (fault_of fault)
 
@@ -241,9 +241,9 @@ IsOutcome admitted custom tables automata r = IsWordMade admitted custom tables 
 combined_is : (admitted : StepLog) (custom : Custom) (tables : List Loaded) (automata : List ValuedName) (r : Result (List StepLine) Fault) → CombinedAnswers admitted custom tables automata r → IsOutcome admitted custom tables automata r
 combined_is admitted custom tables automata (Ok lines) (word, a) = inl (record { word = word; lines = lines; done = a; is = refl })
 combined_is admitted custom tables automata (Err (faults.Letters step)) (inl a) = inr (inr (stopped_by admitted custom tables (steps.Letters step) (λ is. cc) a))
-combined_is admitted custom tables automata (Err (faults.Letters step)) (inr a) = inr (inl (record { fault = steps.Letters step; told = λ is. cc; stops = a; is = refl }))
+combined_is admitted custom tables automata (Err (faults.Letters step)) (inr a) = inr (inl (record { fault = steps.Letters step; not_memory = λ is. cc; stops = a; is = refl }))
 combined_is admitted custom tables automata (Err (faults.States step)) (inl a) = inr (inr (stopped_by admitted custom tables (steps.States step) (λ is. cc) a))
-combined_is admitted custom tables automata (Err (faults.States step)) (inr a) = inr (inl (record { fault = steps.States step; told = λ is. cc; stops = a; is = refl }))
+combined_is admitted custom tables automata (Err (faults.States step)) (inr a) = inr (inl (record { fault = steps.States step; not_memory = λ is. cc; stops = a; is = refl }))
 combined_is admitted custom tables automata (Err faults.Command) a = absurd a
 combined_is admitted custom tables automata (Err (faults.Syntax grammar at)) a = absurd a
 combined_is admitted custom tables automata (Err (faults.MixedChain byte)) a = absurd a
@@ -307,7 +307,7 @@ module _ (admitted : StepLog) (custom : Custom) (tables : List Loaded) (automata
       let a = p.done.before in
       let b = q.stops.before in
       let there = moved (λ old ps ts. DoesStep (combine_step ps ts) old (Err q.fault) q.stops.log) a b q.stops.refused in
-      q.told (memory_alone steps.Memory p.done.log q.stops.log p.word q.fault (step_outcome a.parts a.tracks a.reading p.done.log q.stops.log (Ok p.word) (Err q.fault) p.done.done there))
+      q.not_memory (memory_alone steps.Memory p.done.log q.stops.log p.word q.fault (step_outcome a.parts a.tracks a.reading p.done.log q.stops.log (Ok p.word) (Err q.fault) p.done.done there))
 
   both_refused : (r s : Result (List StepLine) Fault) → IsWordRefused admitted custom tables automata r → IsWordRefused admitted custom tables automata s → r ≡ s
   both_refused r s p q =
@@ -315,7 +315,7 @@ module _ (admitted : StepLog) (custom : Custom) (tables : List Loaded) (automata
       let b = q.stops.before in
       let there = moved (λ old ps ts. DoesStep (combine_step ps ts) old (Err q.fault) q.stops.log) a b q.stops.refused in
       let same : p.fault ≡ q.fault =
-      same_fault steps.Memory p.stops.log q.stops.log p.fault q.fault (step_outcome a.parts a.tracks a.reading p.stops.log q.stops.log (Err p.fault) (Err q.fault) p.stops.refused there) p.told q.told in
+      same_fault steps.Memory p.stops.log q.stops.log p.fault q.fault (step_outcome a.parts a.tracks a.reading p.stops.log q.stops.log (Err p.fault) (Err q.fault) p.stops.refused there) p.not_memory q.not_memory in
       p.is ∙ (ap (λ (f : StepFault). let x : Result (List StepLine) Fault = Err (fault_of f) in x) same ∙ sym q.is)
 
   not_both : (a : AreListedParts admitted custom tables automata) (s : Result (List StepLine) Fault) → IsStopped admitted custom tables s → ⊥

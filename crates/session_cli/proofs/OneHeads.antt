@@ -20,13 +20,13 @@ of_head (Err head_faults.Memory) = Err faults.Memory
 record IsHead {H : Type 0} (grammar : List (List ℕ) → H → Type 0) (text : List ℕ) (r : Result H Fault) : Type 0 where
   head : Result H HeadFault
   has : HasHead grammar (λ h. h) text head
-  told : head ≢ Err head_faults.Memory
+  not_memory : head ≢ Err head_faults.Memory
   is : r ≡ of_head head
 
 head_is : {H : Type 0} (grammar : List (List ℕ) → H → Type 0) (text : List ℕ) (r : Result H Fault) → HeadAnswers grammar text r → IsHead grammar text r
-head_is grammar text (Ok head) a = record { head = Ok head; has = a; told = λ is. cc; is = refl }
-head_is grammar text (Err (faults.Syntax grammars.Command at)) a = record { head = Err (head_faults.Syntax at); has = a; told = λ is. cc; is = refl }
-head_is grammar text (Err (faults.Number grammars.Command at)) a = record { head = Err (head_faults.Number at); has = a; told = λ is. cc; is = refl }
+head_is grammar text (Ok head) a = record { head = Ok head; has = a; not_memory = λ is. cc; is = refl }
+head_is grammar text (Err (faults.Syntax grammars.Command at)) a = record { head = Err (head_faults.Syntax at); has = a; not_memory = λ is. cc; is = refl }
+head_is grammar text (Err (faults.Number grammars.Command at)) a = record { head = Err (head_faults.Number at); has = a; not_memory = λ is. cc; is = refl }
 head_is grammar text (Err (faults.Syntax grammars.Regex at)) a = absurd a
 head_is grammar text (Err (faults.Syntax grammars.Macro at)) a = absurd a
 head_is grammar text (Err (faults.Syntax grammars.Rules at)) a = absurd a
@@ -65,4 +65,4 @@ pub head_single : {H : Type 0} (grammar : List (List ℕ) → H → Type 0) → 
 head_single {H} grammar one text r s a b =
     let p : IsHead grammar text r = head_is grammar text r a in
     let q : IsHead grammar text s = head_is grammar text s b in
-    p.is ∙ (ap (λ (h : Result H HeadFault). of_head h) (one text p.head q.head p.has q.has p.told q.told) ∙ sym q.is)
+    p.is ∙ (ap (λ (h : Result H HeadFault). of_head h) (one text p.head q.head p.has q.has p.not_memory q.not_memory) ∙ sym q.is)

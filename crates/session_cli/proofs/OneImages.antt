@@ -192,7 +192,7 @@ record IsImageMade (admitted : StepLog) (custom : Custom) (tables : List Loaded)
 
 record IsImageStoppedBy (admitted : StepLog) (custom : Custom) (tables : List Loaded) (old name : List ℕ) (rules : Rules) (r : Result (List StepLine) Fault) : Type 0 where
   fault : ImageFault
-  told : fault ≢ images.Step steps.Memory
+  not_memory : fault ≢ images.Step steps.Memory
   stops : IsImagingStopped admitted custom tables old name rules fault
   is : r ≡ Err (fault_of_imaging fault)
 
@@ -203,11 +203,11 @@ IsOutcome admitted custom tables old name rules r = IsImageMade admitted custom 
 imaged_is : (admitted : StepLog) (custom : Custom) (tables : List Loaded) (old name : List ℕ) (rules : Rules) (r : Result (List StepLine) Fault) → ImagedAnswers admitted custom tables old name rules r → IsOutcome admitted custom tables old name rules r
 imaged_is admitted custom tables old name rules (Ok lines) (word, a) = inl (record { word = word; lines = lines; done = a; is = refl })
 imaged_is admitted custom tables old name rules (Err (faults.Letters step)) (inl a) = inr (inr (stopped_by admitted custom tables (steps.Letters step) (λ is. cc) a))
-imaged_is admitted custom tables old name rules (Err (faults.Letters step)) (inr a) = inr (inl (record { fault = images.Step (steps.Letters step); told = λ is. cc; stops = a; is = refl }))
+imaged_is admitted custom tables old name rules (Err (faults.Letters step)) (inr a) = inr (inl (record { fault = images.Step (steps.Letters step); not_memory = λ is. cc; stops = a; is = refl }))
 imaged_is admitted custom tables old name rules (Err (faults.States step)) (inl a) = inr (inr (stopped_by admitted custom tables (steps.States step) (λ is. cc) a))
-imaged_is admitted custom tables old name rules (Err (faults.States step)) (inr a) = inr (inl (record { fault = images.Step (steps.States step); told = λ is. cc; stops = a; is = refl }))
+imaged_is admitted custom tables old name rules (Err (faults.States step)) (inr a) = inr (inl (record { fault = images.Step (steps.States step); not_memory = λ is. cc; stops = a; is = refl }))
 imaged_is admitted custom tables old name rules (Err (faults.WordGap of representation)) a = inr (inr (missing_by admitted custom tables of representation a))
-imaged_is admitted custom tables old name rules (Err (faults.LetterMissing letter)) a = inr (inl (record { fault = images.Missing letter; told = λ is. cc; stops = a; is = refl }))
+imaged_is admitted custom tables old name rules (Err (faults.LetterMissing letter)) a = inr (inl (record { fault = images.Missing letter; not_memory = λ is. cc; stops = a; is = refl }))
 imaged_is admitted custom tables old name rules (Err faults.Command) a = absurd a
 imaged_is admitted custom tables old name rules (Err (faults.Syntax grammar at)) a = absurd a
 imaged_is admitted custom tables old name rules (Err (faults.MixedChain byte)) a = absurd a
@@ -275,13 +275,13 @@ module _ (law : ImagesHaveOneOutcome) (admitted : StepLog) (custom : Custom) (ta
   made_refused r s p q =
       let a = p.done.before in
       let there = moved (λ l w. DoesImage rules w name l (Err q.fault) q.stops.log) a q.stops.before q.stops.refused in
-      q.told (memory_alone (images.Step steps.Memory) p.done.log q.stops.log p.word q.fault (one_at a a.reading p.done.log q.stops.log (Ok p.word) (Err q.fault) p.done.done there))
+      q.not_memory (memory_alone (images.Step steps.Memory) p.done.log q.stops.log p.word q.fault (one_at a a.reading p.done.log q.stops.log (Ok p.word) (Err q.fault) p.done.done there))
 
   both_refused : (r s : Result (List StepLine) Fault) → IsImageStoppedBy admitted custom tables old name rules r → IsImageStoppedBy admitted custom tables old name rules s → r ≡ s
   both_refused r s p q =
       let a = p.stops.before in
       let there = moved (λ l w. DoesImage rules w name l (Err q.fault) q.stops.log) a q.stops.before q.stops.refused in
-      let same : p.fault ≡ q.fault = same_fault (images.Step steps.Memory) p.stops.log q.stops.log p.fault q.fault (one_at a a.reading p.stops.log q.stops.log (Err p.fault) (Err q.fault) p.stops.refused there) p.told q.told in
+      let same : p.fault ≡ q.fault = same_fault (images.Step steps.Memory) p.stops.log q.stops.log p.fault q.fault (one_at a a.reading p.stops.log q.stops.log (Err p.fault) (Err q.fault) p.stops.refused there) p.not_memory q.not_memory in
       p.is ∙ (ap (λ (f : ImageFault). let x : Result (List StepLine) Fault = Err (fault_of_imaging f) in x) same ∙ sym q.is)
 
   not_both : (a : IsOldWordRead admitted custom tables old) (s : Result (List StepLine) Fault) → IsStopped admitted custom tables s → ⊥

@@ -75,7 +75,7 @@ pub record IsStopped (admitted : StepLog) (custom : Custom) (tables : List Loade
 
 -- reading is stopped by a step, or for want of a letter
 pub stopped_by : (admitted : StepLog) (custom : Custom) (tables : List Loaded) (fault : StepFault) → fault ≢ steps.Memory → IsReadingStopped admitted custom tables fault → IsStopped admitted custom tables (Err (fault_of fault))
-stopped_by admitted custom tables fault told a = record { systems = a.systems; sealed = a.sealed; meant = a.meant; fault = Step fault; stops = refusal_stops a.systems admitted tables fault told a.refused; is = refl }
+stopped_by admitted custom tables fault not_memory a = record { systems = a.systems; sealed = a.sealed; meant = a.meant; fault = Step fault; stops = refusal_stops a.systems admitted tables fault not_memory a.refused; is = refl }
 
 pub missing_by : (admitted : StepLog) (custom : Custom) (tables : List Loaded) (name : List ℕ) (representation : List (List ℕ)) → IsLetterMissing admitted custom tables name representation → IsStopped admitted custom tables (Err (faults.WordGap name representation))
 missing_by admitted custom tables name representation a = record { systems = a.systems; sealed = a.sealed; meant = a.meant; fault = Gap name representation; stops = gap_stops a.systems admitted tables name representation a.gap; is = refl }

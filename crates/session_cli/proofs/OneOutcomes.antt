@@ -62,13 +62,13 @@ record AreSteps (admitted : StepLog) (tracks : Tracks) (e : Expression (List ℤ
   result : Result NamedAutomaton StepFault
   log : StepLog
   does : DoesExpression tracks e admitted result log
-  told : result ≢ Err steps.Memory
+  not_memory : result ≢ Err steps.Memory
   is : r ≡ of_steps result log
 
 steps_is : (admitted : StepLog) (tracks : Tracks) (e : Expression (List ℤ)) (r : Result (List StepLine) Fault) → StepsAnswers admitted tracks e r → AreSteps admitted tracks e r
-steps_is admitted tracks e (Ok lines) (made, log, does, lines_are) = record { result = Ok made; log = log; does = does; told = λ is. cc; is = ap Ok lines_are }
-steps_is admitted tracks e (Err (faults.Letters step)) (log, does) = record { result = Err (steps.Letters step); log = log; does = does; told = λ is. cc; is = refl }
-steps_is admitted tracks e (Err (faults.States step)) (log, does) = record { result = Err (steps.States step); log = log; does = does; told = λ is. cc; is = refl }
+steps_is admitted tracks e (Ok lines) (made, log, does, lines_are) = record { result = Ok made; log = log; does = does; not_memory = λ is. cc; is = ap Ok lines_are }
+steps_is admitted tracks e (Err (faults.Letters step)) (log, does) = record { result = Err (steps.Letters step); log = log; does = does; not_memory = λ is. cc; is = refl }
+steps_is admitted tracks e (Err (faults.States step)) (log, does) = record { result = Err (steps.States step); log = log; does = does; not_memory = λ is. cc; is = refl }
 steps_is admitted tracks e (Err faults.Command) a = absurd a
 steps_is admitted tracks e (Err (faults.Syntax grammar at)) a = absurd a
 steps_is admitted tracks e (Err (faults.Number grammar at)) a = absurd a
@@ -100,7 +100,7 @@ steps_single admitted tracks e r s a b = by (steps_is admitted tracks e r a) (st
   where
     by : AreSteps admitted tracks e r → AreSteps admitted tracks e s → r ≡ s
     by p q =
-        let one = one_result steps.Memory p.log q.log p.result q.result (expression_one tracks e admitted p.log q.log p.result q.result p.does q.does) p.told q.told in
+        let one = one_result steps.Memory p.log q.log p.result q.result (expression_one tracks e admitted p.log q.log p.result q.result p.does q.does) p.not_memory q.not_memory in
         p.is ∙ ((λ i. of_steps (one.0 i) (one.1 i)) ∙ sym q.is)
 
 -- the fault of an expression

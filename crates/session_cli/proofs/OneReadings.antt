@@ -25,12 +25,12 @@ use Rattle.session_cli.specs.FormulaOutcomes.{FormulaAnswers}
 use Rattle.session_cli.proofs.CheckSteps.{IsSingle}
 
 -- a formula that is read, or a fault
-abbrev Told : Type 0
-Told = Result trees.Formula ParseFault
+abbrev ReadResult : Type 0
+ReadResult = Result trees.Formula ParseFault
 
-abbrev Tells : List ℕ → Told → Type 0
-Tells text (Ok formula) = Reads (tokens (spots text)) formula
-Tells text (Err fault) = (fault ≢ parses.Memory) × (let r : Result Tree ParseFault = Err fault in Parses text r)
+abbrev IsReadAs : List ℕ → ReadResult → Type 0
+IsReadAs text (Ok formula) = Reads (tokens (spots text)) formula
+IsReadAs text (Err fault) = (fault ≢ parses.Memory) × (let r : Result Tree ParseFault = Err fault in Parses text r)
 
 -- what is derived of a text that is read, and of one with a flaw
 derived : (text : List ℕ) (formula : trees.Formula) → Reads (tokens (spots text)) formula → WholeDerived (tokens (spots text)) formula None
@@ -54,47 +54,47 @@ module _ (text : List ℕ) (formula : trees.Formula) (reads : Reads (tokens (spo
       let whole : WholeDerived (tokens (spots text)) formula None = derived text formula reads in
       whole_stops text whole.text cut whole.derives stops
 
-  not_refused : (fault : ParseFault) → Tells text (Err fault) → ⊥
-  not_refused (parses.Syntax at) (told, is) = not_stopped is.cut (breaks_stop (tokens is.cut.prefix) is.cut.spot.token (breaks_derived (tokens is.cut.prefix) is.cut.spot.token is.breaks))
-  not_refused (parses.Number at) (told, is) =
+  not_refused : (fault : ParseFault) → IsReadAs text (Err fault) → ⊥
+  not_refused (parses.Syntax at) (not_memory, is) = not_stopped is.cut (breaks_stop (tokens is.cut.prefix) is.cut.spot.token (breaks_derived (tokens is.cut.prefix) is.cut.spot.token is.breaks))
+  not_refused (parses.Number at) (not_memory, is) =
       not_stopped is.cut (reaches_stop (tokens is.cut.prefix) is.cut.spot.token is.passes.place (reaches_derived (tokens is.cut.prefix) is.cut.spot.token is.passes.place is.passes.reaches) (λ allowed. is.passes.out allowed.1))
-  not_refused (parses.Depth at) (told, is) =
+  not_refused (parses.Depth at) (not_memory, is) =
       not_stopped is.cut (reaches_stop (tokens is.cut.prefix) is.cut.spot.token is.passes.place (reaches_derived (tokens is.cut.prefix) is.cut.spot.token is.passes.place is.passes.reaches) (λ allowed. let low = allowed.0 in let deep = is.passes.deep in omega arith))
-  not_refused (parses.MixedChain at) (told, is) = not_flawed (mixed_chain at) is
-  not_refused (parses.NotLinear at) (told, is) = not_flawed (not_linear at) is
-  not_refused parses.Memory (told, is) = told refl
+  not_refused (parses.MixedChain at) (not_memory, is) = not_flawed (mixed_chain at) is
+  not_refused (parses.NotLinear at) (not_memory, is) = not_flawed (not_linear at) is
+  not_refused parses.Memory (not_memory, is) = not_memory refl
 
 -- a fault that is not out of memory is of the text
 of_text : (fault : ParseFault) → fault ≢ parses.Memory → (let r : Result Tree ParseFault = Err fault in IsOfTheText r)
-of_text (parses.Syntax at) told = tt
-of_text (parses.Number at) told = tt
-of_text (parses.Depth at) told = tt
-of_text (parses.MixedChain at) told = tt
-of_text (parses.NotLinear at) told = tt
-of_text parses.Memory told = told refl
+of_text (parses.Syntax at) not_memory = tt
+of_text (parses.Number at) not_memory = tt
+of_text (parses.Depth at) not_memory = tt
+of_text (parses.MixedChain at) not_memory = tt
+of_text (parses.NotLinear at) not_memory = tt
+of_text parses.Memory not_memory = not_memory refl
 
-one_telling : (text : List ℕ) (r s : Told) → Tells text r → Tells text s → r ≡ s
-one_telling text (Ok formula) (Ok other) a b = ap (λ (f : trees.Formula). let t : Told = Ok f in t) (one_tree_of (tokens (spots text)) formula other a b)
-one_telling text (Ok formula) (Err fault) a b = absurd (not_refused text formula a fault b)
-one_telling text (Err fault) (Ok formula) a b = absurd (not_refused text formula b fault a)
-one_telling text (Err fault) (Err other) (told, a) (told', b) = one_answer_of text (Err fault) (Err other) (of_text fault told) (of_text other told') a b
+one_result_of : (text : List ℕ) (r s : ReadResult) → IsReadAs text r → IsReadAs text s → r ≡ s
+one_result_of text (Ok formula) (Ok other) a b = ap (λ (f : trees.Formula). let t : ReadResult = Ok f in t) (one_tree_of (tokens (spots text)) formula other a b)
+one_result_of text (Ok formula) (Err fault) a b = absurd (not_refused text formula a fault b)
+one_result_of text (Err fault) (Ok formula) a b = absurd (not_refused text formula b fault a)
+one_result_of text (Err fault) (Err other) (not_memory, a) (not_memory', b) = one_answer_of text (Err fault) (Err other) (of_text fault not_memory) (of_text other not_memory') a b
 
-abbrev of_told : Told → Result trees.Formula Fault
-of_told (Ok formula) = Ok formula
-of_told (Err fault) = Err (fault_of_formula fault)
+abbrev of_result : ReadResult → Result trees.Formula Fault
+of_result (Ok formula) = Ok formula
+of_result (Err fault) = Err (fault_of_formula fault)
 
 record IsReading (text : List ℕ) (r : Result trees.Formula Fault) : Type 0 where
-  told : Told
-  tells : Tells text told
-  is : r ≡ of_told told
+  answer : ReadResult
+  holds : IsReadAs text answer
+  is : r ≡ of_result answer
 
 reading_is : (text : List ℕ) (r : Result trees.Formula Fault) → FormulaAnswers text r → IsReading text r
-reading_is text (Ok formula) a = record { told = Ok formula; tells = a; is = refl }
-reading_is text (Err (faults.Syntax grammars.Formula at)) a = record { told = Err (parses.Syntax at); tells = ((λ is. cc), a); is = refl }
-reading_is text (Err (faults.Number grammars.Formula at)) a = record { told = Err (parses.Number at); tells = ((λ is. cc), a); is = refl }
-reading_is text (Err (faults.Depth grammars.Formula at)) a = record { told = Err (parses.Depth at); tells = ((λ is. cc), a); is = refl }
-reading_is text (Err (faults.MixedChain at)) a = record { told = Err (parses.MixedChain at); tells = ((λ is. cc), a); is = refl }
-reading_is text (Err (faults.NotLinear at)) a = record { told = Err (parses.NotLinear at); tells = ((λ is. cc), a); is = refl }
+reading_is text (Ok formula) a = record { answer = Ok formula; holds = a; is = refl }
+reading_is text (Err (faults.Syntax grammars.Formula at)) a = record { answer = Err (parses.Syntax at); holds = ((λ is. cc), a); is = refl }
+reading_is text (Err (faults.Number grammars.Formula at)) a = record { answer = Err (parses.Number at); holds = ((λ is. cc), a); is = refl }
+reading_is text (Err (faults.Depth grammars.Formula at)) a = record { answer = Err (parses.Depth at); holds = ((λ is. cc), a); is = refl }
+reading_is text (Err (faults.MixedChain at)) a = record { answer = Err (parses.MixedChain at); holds = ((λ is. cc), a); is = refl }
+reading_is text (Err (faults.NotLinear at)) a = record { answer = Err (parses.NotLinear at); holds = ((λ is. cc), a); is = refl }
 reading_is text (Err (faults.Syntax grammars.Command at)) a = absurd a
 reading_is text (Err (faults.Syntax grammars.Regex at)) a = absurd a
 reading_is text (Err (faults.Syntax grammars.Macro at)) a = absurd a
@@ -134,4 +134,4 @@ pub reading_single : (text : List ℕ) → IsSingle (Pure (FormulaAnswers text))
 reading_single text r s a b =
     let p : IsReading text r = reading_is text r a in
     let q : IsReading text s = reading_is text s b in
-    p.is ∙ (ap of_told (one_telling text p.told q.told p.tells q.tells) ∙ sym q.is)
+    p.is ∙ (ap of_result (one_result_of text p.answer q.answer p.holds q.holds) ∙ sym q.is)

@@ -116,14 +116,14 @@ same_open text answer other a b = by_cases (open_is text answer a) (open_is text
     by_cases (inr (short, is)) (inr (short', is')) = is ∙ sym is'
 
 -- where the files are reported, an item is answered by its ledger
-known_same : (told : Option Files) (files : Files) (ledger known : Ledger) → told ≡ Some files → IfSome told (λ files. known ≡ ledger) → known ≡ ledger
+known_same : (reported : Option Files) (files : Files) (ledger known : Ledger) → reported ≡ Some files → IfSome reported (λ files. known ≡ ledger) → known ≡ ledger
 known_same None files ledger known is same = cc
 known_same (Some others) files ledger known is same = same
 
 -- and they stay reported
-still_told : (custom : Custom) (answer : Answer) (old new : Option Files) (files : Files) → old ≡ Some files → Changes custom old answer new → (after : Files) × (new ≡ Some after)
-still_told custom (Ok success) old new files is (stored, has, new_is) = (put files success.folder success.name stored, new_is ∙ ap (λ (o : Option Files). option_map (λ fs. put fs success.folder success.name stored) o) is)
-still_told custom (Err fault) old new files is new_is = (files, new_is ∙ is)
+still_reported : (custom : Custom) (answer : Answer) (old new : Option Files) (files : Files) → old ≡ Some files → Changes custom old answer new → (after : Files) × (new ≡ Some after)
+still_reported custom (Ok success) old new files is (stored, has, new_is) = (put files success.folder success.name stored, new_is ∙ ap (λ (o : Option Files). option_map (λ fs. put fs success.folder success.name stored) o) is)
+still_reported custom (Err fault) old new files is new_is = (files, new_is ∙ is)
 
 module _ (promotions : PromotionsHaveOneOutcome) where
   -- an item has one answer that is neither the store's nor memory's
@@ -166,25 +166,25 @@ module _ (promotions : PromotionsHaveOneOutcome) where
 
   same_answers : (limit : ℕ) (items : List Item) (answers others : List Answer) (ledger last last' : Ledger) (old old' new new' : StoreView) (files : Files) → old.files ≡ Some files → old'.files ≡ Some files → Run limit ledger old items answers last new → Run limit ledger old' items others last' new'
       → AreProper answers → AreProper others → SameEnd answers others new new'
-  same_answers limit [] [] [] ledger last last' old old' new new' files told told' run run' are are' = record {
+  same_answers limit [] [] [] ledger last last' old old' new new' files reported reported' run run' are are' = record {
     answers_are = refl;
-    files = ap (λ (s : StoreView). s.files) run.1 ∙ (told ∙ (sym told' ∙ sym (ap (λ (s : StoreView). s.files) run'.1)));
+    files = ap (λ (s : StoreView). s.files) run.1 ∙ (reported ∙ (sym reported' ∙ sym (ap (λ (s : StoreView). s.files) run'.1)));
   }
-  same_answers limit [] [] (b ∷ others) ledger last last' old old' new new' files told told' run run' are are' = absurd run'
-  same_answers limit [] (a ∷ answers) others ledger last last' old old' new new' files told told' run run' are are' = absurd run
-  same_answers limit (item ∷ items) [] others ledger last last' old old' new new' files told told' run run' are are' = absurd run
-  same_answers limit (item ∷ items) (a ∷ answers) [] ledger last last' old old' new new' files told told' run run' are are' = absurd run'
-  same_answers limit (item ∷ items) (a ∷ answers) (b ∷ others) ledger last last' old old' new new' files told told' run run' are are' =
+  same_answers limit [] [] (b ∷ others) ledger last last' old old' new new' files reported reported' run run' are are' = absurd run'
+  same_answers limit [] (a ∷ answers) others ledger last last' old old' new new' files reported reported' run run' are are' = absurd run
+  same_answers limit (item ∷ items) [] others ledger last last' old old' new new' files reported reported' run run' are are' = absurd run
+  same_answers limit (item ∷ items) (a ∷ answers) [] ledger last last' old old' new new' files reported reported' run run' are are' = absurd run'
+  same_answers limit (item ∷ items) (a ∷ answers) (b ∷ others) ledger last last' old old' new new' files reported reported' run run' are are' =
       let first : a ≡ b = same_item limit item.ended ledger item.text a b
-      (subst (λ (l : Ledger). IsAnswerOf limit item.ended l item.text a) (known_same old.files files ledger run.1.known told run.1.known_is) run.1.answered)
-      (subst (λ (l : Ledger). IsAnswerOf limit item.ended l item.text b) (known_same old'.files files ledger run'.1.known told' run'.1.known_is) run'.1.answered)
+      (subst (λ (l : Ledger). IsAnswerOf limit item.ended l item.text a) (known_same old.files files ledger run.1.known reported run.1.known_is) run.1.answered)
+      (subst (λ (l : Ledger). IsAnswerOf limit item.ended l item.text b) (known_same old'.files files ledger run'.1.known reported' run'.1.known_is) run'.1.answered)
       (none_first (of_fault is_store_fault a) (some_of (of_fault is_store_fault) answers) are.store) (none_first (of_fault is_memory_fault a) (some_of (of_fault is_memory_fault) answers) are.memory)
       (none_first (of_fault is_store_fault b) (some_of (of_fault is_store_fault) others) are'.store) (none_first (of_fault is_memory_fault b) (some_of (of_fault is_memory_fault) others) are'.memory) in
-      let mine : Changes (custom_of ledger) old.files a run.0.files = subst (λ (l : Ledger). Changes (custom_of l) old.files a run.0.files) (known_same old.files files ledger run.1.known told run.1.known_is) run.1.files in
-      let theirs : Changes (custom_of ledger) old'.files b run'.0.files = subst (λ (l : Ledger). Changes (custom_of l) old'.files b run'.0.files) (known_same old'.files files ledger run'.1.known told' run'.1.known_is) run'.1.files in
+      let mine : Changes (custom_of ledger) old.files a run.0.files = subst (λ (l : Ledger). Changes (custom_of l) old.files a run.0.files) (known_same old.files files ledger run.1.known reported run.1.known_is) run.1.files in
+      let theirs : Changes (custom_of ledger) old'.files b run'.0.files = subst (λ (l : Ledger). Changes (custom_of l) old'.files b run'.0.files) (known_same old'.files files ledger run'.1.known reported' run'.1.known_is) run'.1.files in
       let P : Answer → Type 0 = λ x. Changes (custom_of ledger) old'.files x run'.0.files in
-      let mids : run.0.files ≡ run'.0.files = same_changes (custom_of ledger) a old.files old'.files run.0.files run'.0.files (told ∙ sym told') mine (subst P (sym first) theirs) in
-      let more = still_told (custom_of ledger) a old.files run.0.files files told mine in
+      let mids : run.0.files ≡ run'.0.files = same_changes (custom_of ledger) a old.files old'.files run.0.files run'.0.files (reported ∙ sym reported') mine (subst P (sym first) theirs) in
+      let more = still_reported (custom_of ledger) a old.files run.0.files files reported mine in
       let Q : Answer → Type 0 = λ x. Run limit (after ledger x) run'.0 items others last' new' in
       let rest : SameEnd answers others new new' = same_answers limit items answers others (after ledger a) last last' run.0 run'.0 new new' more.0 more.1 (sym mids ∙ more.1) run.2 (subst Q (sym first) run'.2) (proper_rest a answers are) (proper_rest b others are') in
       record { answers_are = λ i. first i ∷ rest.answers_are i; files = rest.files }
@@ -204,13 +204,13 @@ module _ (promotions : PromotionsHaveOneOutcome) where
 
   through_alike : (limit : ℕ) (script : List ℕ) (files : Files) (from to from' to' : SourceView) (old new old' new' : StoreView) (held now held' now' : SinkView) (state state' : Status) → RanThrough limit script from to old new held now state → RanThrough limit script from' to' old' new' held' now' state'
       → old.files ≡ Some files → old'.files ≡ Some files → IsClean state → IsClean state' → EndAlike new new' held now held' now' state state'
-  through_alike limit script files from to from' to' old new old' new' held now held' now' state state' a b told told' clean clean' =
-      let same : old.files ≡ old'.files = told ∙ sym told' in
+  through_alike limit script files from to from' to' old new old' new' held now held' now' state state' a b reported reported' clean clean' =
+      let same : old.files ≡ old'.files = reported ∙ sym reported' in
       let items : a.items ≡ b.items = same_lists (start script) a.items b.items (record { last = a.last; cut = a.cut; end = a.end }) (record { last = b.last; cut = b.cut; end = b.end }) in
       let P : List Item → Type 0 = λ is. Run limit (first_ledger old'.files) old' is b.answers b.ledger new' in
       let Q : Option Files → Type 0 = λ files. Run limit (first_ledger files) old' a.items b.answers b.ledger new' in
       let run : Run limit (first_ledger old.files) old' a.items b.answers b.ledger new' = subst Q (sym same) (subst P (sym items) b.run) in
-      let ends : SameEnd a.answers b.answers new new' = same_answers limit a.items a.answers b.answers (first_ledger old.files) a.ledger b.ledger old old' new new' files told told' a.run run (clean_answers a.answers state a.state_is clean) (clean_answers b.answers state' b.state_is clean') in
+      let ends : SameEnd a.answers b.answers new new' = same_answers limit a.items a.answers b.answers (first_ledger old.files) a.ledger b.ledger old old' new new' files reported reported' a.run run (clean_answers a.answers state a.state_is clean) (clean_answers b.answers state' b.state_is clean') in
       let texts : printed b.items b.answers ≡ printed a.items a.answers = λ i. printed (sym items i) (sym ends.answers_are i) in
       record {
         status = a.state_is ∙ (ap (λ (xs : List Answer). status_of xs) ends.answers_are ∙ sym b.state_is);
@@ -246,13 +246,13 @@ module _ (promotions : PromotionsHaveOneOutcome) where
 
   -- all of the script is what was given and what is left
   whole_script : (from to : Option (List ℕ)) (gave more script : List ℕ) → Consumes from to gave → IfSome to (λ left. more ≡ left) → from ≡ Some script → gave ++ more ≡ script
-  whole_script None to gave more script taken told is = cc
-  whole_script (Some left) None gave more script taken told is = absurd taken
-  whole_script (Some left) (Some rest) gave more script taken told is = let same : left ≡ script = cc in ap (λ (xs : List ℕ). gave ++ xs) told ∙ (sym taken ∙ same)
+  whole_script None to gave more script taken reported is = cc
+  whole_script (Some left) None gave more script taken reported is = absurd taken
+  whole_script (Some left) (Some rest) gave more script taken reported is = let same : left ≡ script = cc in ap (λ (xs : List ℕ). gave ++ xs) reported ∙ (sym taken ∙ same)
 
   clean_through : (limit : ℕ) (script : List ℕ) (from to : SourceView) (old new : StoreView) (held now : SinkView) (state : Status) → HasRun limit from to old new held now state → from.left ≡ Some script → IsClean state → RanThrough limit script from to old new held now state
   clean_through limit script from to old new held now state (gave, more, given, inl ran) is clean =
-      let same : gave ++ more ≡ script = whole_script from.left to.left gave more script given.taken given.told is in
+      let same : gave ++ more ≡ script = whole_script from.left to.left gave more script given.taken given.reported is in
       let Q : List ℕ → Type 0 = λ s. RanThrough limit s from to old new held now state in subst Q same ran
   clean_through limit script from to old new held now state (gave, more, given, inr (inl ran)) is clean = absurd (not_stopped ran.fault state ran.state_is clean)
   clean_through limit script from to old new held now state (gave, more, given, inr (inr ran)) is clean = absurd (no_fault from to gave ran.suffix state ran.cause clean)
@@ -272,10 +272,10 @@ module _ (promotions : PromotionsHaveOneOutcome) where
       → HasCalled words from to old new held now state → HasCalled words from' to' old' new' held' now' state'
       → from.left ≡ Some script → from'.left ≡ Some script → old.files ≡ Some files → old'.files ≡ Some files → IsClean state → IsClean state'
       → EndAlike new new' held now held' now' state state'
-  calls_alike words script files from to from' to' old new old' new' held now held' now' state state' call call' is is' told told' clean clean' =
+  calls_alike words script files from to from' to' old new old' new' held now held' now' state state' call call' is is' reported reported' clean clean' =
       let ran : (limit : ℕ) × GivesLimit words limit × HasRun limit from to old new held now state = clean_run words from to old new held now state call clean in
       let ran' : (limit : ℕ) × GivesLimit words limit × HasRun limit from' to' old' new' held' now' state' = clean_run words from' to' old' new' held' now' state' call' clean' in
       let limits : ran'.0 ≡ ran.0 = one_limit words ran'.0 ran.0 ran'.1 ran.1 in
       let P : ℕ → Type 0 = λ limit. HasRun limit from' to' old' new' held' now' state' in
       through_alike ran.0 script files from to from' to' old new old' new' held now held' now' state state' (clean_through ran.0 script from to old new held now state ran.2 is clean)
-      (clean_through ran.0 script from' to' old' new' held' now' state' (subst P limits ran'.2) is' clean') told told' clean clean'
+      (clean_through ran.0 script from' to' old' new' held' now' state' (subst P limits ran'.2) is' clean') reported reported' clean clean'

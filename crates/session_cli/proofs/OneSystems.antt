@@ -26,14 +26,14 @@ record IsAdmission (limit : ℕ) (custom : Custom) (names : List (List ℕ)) (r 
   result : Result ⊤ SystemFault
   log : StepLog
   admits : AdmitsNames custom names (no_steps limit) result log
-  told : result ≢ Err (systems.Step steps.Memory)
+  not_memory : result ≢ Err (systems.Step steps.Memory)
   is : r ≡ of_names result log
 
 refused_by : (limit : ℕ) (custom : Custom) (names : List (List ℕ)) (fault : SystemFault) → fault ≢ systems.Step steps.Memory → ((log : StepLog) × AdmitsNames custom names (no_steps limit) (Err fault) log) → IsAdmission limit custom names (Err (fault_of_system fault))
-refused_by limit custom names fault told (log, admits) = record { result = Err fault; log = log; admits = admits; told = λ is. told cc; is = refl }
+refused_by limit custom names fault not_memory (log, admits) = record { result = Err fault; log = log; admits = admits; not_memory = λ is. not_memory cc; is = refl }
 
 systems_is : (limit : ℕ) (custom : Custom) (names : List (List ℕ)) (r : Result StepLog Fault) → SystemsAnswers limit custom names r → IsAdmission limit custom names r
-systems_is limit custom names (Ok log) a = record { result = Ok tt; log = log; admits = a; told = λ is. cc; is = refl }
+systems_is limit custom names (Ok log) a = record { result = Ok tt; log = log; admits = a; not_memory = λ is. cc; is = refl }
 systems_is limit custom names (Err (faults.SystemUnknown name)) a = refused_by limit custom names (systems.Load (loads.Unknown Bases name)) (λ is. cc) a
 systems_is limit custom names (Err (faults.File folder name flaw)) a = refused_by limit custom names (systems.Load (loads.File folder name flaw)) (λ is. cc) a
 systems_is limit custom names (Err (faults.NotAdmitted name law)) a = refused_by limit custom names (systems.NotAdmitted name law) (λ is. cc) a
@@ -67,5 +67,5 @@ systems_single limit custom names r s a b = by (systems_is limit custom names r 
   where
     by : IsAdmission limit custom names r → IsAdmission limit custom names s → r ≡ s
     by p q =
-        let one = one_result (systems.Step steps.Memory) p.log q.log p.result q.result (names_one custom names (no_steps limit) p.log q.log p.result q.result p.admits q.admits) p.told q.told in
+        let one = one_result (systems.Step steps.Memory) p.log q.log p.result q.result (names_one custom names (no_steps limit) p.log q.log p.result q.result p.admits q.admits) p.not_memory q.not_memory in
         p.is ∙ ((λ i. of_names (one.0 i) (one.1 i)) ∙ sym q.is)

@@ -124,14 +124,14 @@ of_loading (Err fault) = Err (fault_of_loading fault)
 record IsLoading (ledger : Ledger) (name : List ℕ) (r : Result Rules Fault) : Type 0 where
   files : Files
   stores : Stores ledger files
-  told : Result Rules LoadFault
-  answers : AnswersMorphism files name told
-  is : r ≡ of_loading told
+  loaded : Result Rules LoadFault
+  answers : AnswersMorphism files name loaded
+  is : r ≡ of_loading loaded
 
 loading_is : (ledger : Ledger) (name : List ℕ) (r : Result Rules Fault) → MorphismAnswers ledger name r → IsLoading ledger name r
-loading_is ledger name (Ok rules) (files, stores, there) = record { files = files; stores = stores; told = Ok rules; answers = there; is = refl }
-loading_is ledger name (Err (faults.Unknown folder under)) (files, stores, refuses) = record { files = files; stores = stores; told = Err (loads.Unknown folder under); answers = refuses; is = refl }
-loading_is ledger name (Err (faults.File folder under flaw)) (files, stores, refuses) = record { files = files; stores = stores; told = Err (loads.File folder under flaw); answers = refuses; is = refl }
+loading_is ledger name (Ok rules) (files, stores, there) = record { files = files; stores = stores; loaded = Ok rules; answers = there; is = refl }
+loading_is ledger name (Err (faults.Unknown folder under)) (files, stores, refuses) = record { files = files; stores = stores; loaded = Err (loads.Unknown folder under); answers = refuses; is = refl }
+loading_is ledger name (Err (faults.File folder under flaw)) (files, stores, refuses) = record { files = files; stores = stores; loaded = Err (loads.File folder under flaw); answers = refuses; is = refl }
 loading_is ledger name (Err faults.Command) a = absurd a
 loading_is ledger name (Err (faults.Syntax grammar at)) a = absurd a
 loading_is ledger name (Err (faults.MixedChain at)) a = absurd a
@@ -163,8 +163,8 @@ loading_single ledger name r s a b =
     let p : IsLoading ledger name r = loading_is ledger name r a in
     let q : IsLoading ledger name s = loading_is ledger name s b in
     let same : q.files ≡ p.files = λ i folder under. same_there ledger q.files p.files q.stores p.stores folder under i in
-    let also : AnswersMorphism p.files name q.told = subst (λ (files : Files). AnswersMorphism files name q.told) same q.answers in
-    p.is ∙ (ap of_loading (files_have_one_answer one_answer p.files name p.told q.told p.answers also) ∙ sym q.is)
+    let also : AnswersMorphism p.files name q.loaded = subst (λ (files : Files). AnswersMorphism files name q.loaded) same q.answers in
+    p.is ∙ (ap of_loading (files_have_one_answer one_answer p.files name p.loaded q.loaded p.answers also) ∙ sym q.is)
 
 -- the steps, or why there is no fixed point, as a command's
 abbrev of_promotion : Result WordValue PromoteFault → StepLog → Result (List StepLine) Fault
@@ -175,14 +175,14 @@ record IsPromotion (limit : ℕ) (rules : Rules) (r : Result (List StepLine) Fau
   result : Result WordValue PromoteFault
   log : StepLog
   does : DoesPromote rules (no_steps limit) result log
-  told : result ≢ Err (promotes.Step steps.Memory)
+  not_memory : result ≢ Err (promotes.Step steps.Memory)
   is : r ≡ of_promotion result log
 
 promotion_is : (limit : ℕ) (rules : Rules) (r : Result (List StepLine) Fault) → PromotedAnswers limit rules r → IsPromotion limit rules r
-promotion_is limit rules (Ok lines) (word, log, does, lines_are) = record { result = Ok word; log = log; does = does; told = λ is. cc; is = ap Ok lines_are }
-promotion_is limit rules (Err (faults.Morphism kind)) (log, does) = record { result = Err (promotes.Morphism kind); log = log; does = does; told = λ is. cc; is = refl }
-promotion_is limit rules (Err (faults.Letters step)) (log, does) = record { result = Err (promotes.Step (steps.Letters step)); log = log; does = does; told = λ is. cc; is = refl }
-promotion_is limit rules (Err (faults.States step)) (log, does) = record { result = Err (promotes.Step (steps.States step)); log = log; does = does; told = λ is. cc; is = refl }
+promotion_is limit rules (Ok lines) (word, log, does, lines_are) = record { result = Ok word; log = log; does = does; not_memory = λ is. cc; is = ap Ok lines_are }
+promotion_is limit rules (Err (faults.Morphism kind)) (log, does) = record { result = Err (promotes.Morphism kind); log = log; does = does; not_memory = λ is. cc; is = refl }
+promotion_is limit rules (Err (faults.Letters step)) (log, does) = record { result = Err (promotes.Step (steps.Letters step)); log = log; does = does; not_memory = λ is. cc; is = refl }
+promotion_is limit rules (Err (faults.States step)) (log, does) = record { result = Err (promotes.Step (steps.States step)); log = log; does = does; not_memory = λ is. cc; is = refl }
 promotion_is limit rules (Err faults.Command) a = absurd a
 promotion_is limit rules (Err (faults.Syntax grammar at)) a = absurd a
 promotion_is limit rules (Err (faults.MixedChain at)) a = absurd a
@@ -213,7 +213,7 @@ promoted_single promotions limit rules r s a b = by (promotion_is limit rules r 
   where
     by : IsPromotion limit rules r → IsPromotion limit rules s → r ≡ s
     by p q =
-        let one = one_result (promotes.Step steps.Memory) p.log q.log p.result q.result (promotions rules (no_steps limit) p.log q.log p.result q.result p.does q.does) p.told q.told in
+        let one = one_result (promotes.Step steps.Memory) p.log q.log p.result q.result (promotions rules (no_steps limit) p.log q.log p.result q.result p.does q.does) p.not_memory q.not_memory in
         p.is ∙ ((λ i. of_promotion (one.0 i) (one.1 i)) ∙ sym q.is)
 
 -- a `promote` has one fixed point

@@ -32,7 +32,7 @@ pub stores_after : (ledger known : Ledger) (answer : Answer) (old new : Option F
 stores_after ledger known (Ok success) None new may stores known_is (stored, has, is) = let P : Option Files → Type 0 = λ files. IfSome files (Stores (after ledger (Ok success))) in subst P (sym is) tt
 stores_after ledger known (Ok success) (Some files) new may stores known_is (stored, has, is) =
     let own : HasText (custom_of ledger) success.entry stored = subst (λ (l : Ledger). HasText (custom_of l) success.entry stored) known_is has in
-    let P : Option Files → Type 0 = λ told. IfSome told (Stores (after ledger (Ok success))) in
+    let P : Option Files → Type 0 = λ reported. IfSome reported (Stores (after ledger (Ok success))) in
     let there : (folder : Folder) (name : List ℕ) → HasTextAt (custom_of ledger) folder (entered ledger success.folder success.name success.entry folder name) (put files success.folder success.name stored folder name) = λ folder name.
     one_entered (custom_of ledger) folder (same_file success.folder success.name folder name) success.entry stored (ledger folder name) (files folder name)
     (λ same. (stands_there success.folder folder success.name name (tree_of success.entry) same may.1, own)) (stores folder name) in

@@ -26,14 +26,14 @@ use Rattle.session_cli.proofs.StoredEntries.{answer_stands}
 use Rattle.session_cli.proofs.RunSteps.{stores_first, stores_after, run_more, cuts_more, printed_more, some_of-append}
 
 -- what was answered and printed so far
-pub record Stands (limit : ℕ) (script : List ℕ) (old now : StoreView) (held told : SinkView) (place : Rest) (tally : Tally) : Type 0 where
+pub record Stands (limit : ℕ) (script : List ℕ) (old now : StoreView) (held out : SinkView) (place : Rest) (tally : Tally) : Type 0 where
   pub items : List Item
   pub answers : List Answer
   pub ledger : Ledger
   pub cut : CutsTo (start script) items place
   pub run : Run limit (first_ledger old.files) old items answers ledger now
   pub stores : IfSome now.files (Stores ledger)
-  pub sent : HasSent held (printed items answers) told
+  pub sent : HasSent held (printed items answers) out
   pub counts : Counts tally answers
 
 -- before the first item
@@ -50,12 +50,12 @@ begins limit script old held = record {
 }
 
 -- a command was answered, its answer counted, and its text handed over, or a prefix of that where the sink stopped
-pub record HasAnswered (limit : ℕ) (ledger : Ledger) (old : StoreView) (text : List ℕ) (shown : Bool) (line : ℕ) (told : SinkView) (tally : Tally) (sent : Result (Unit {0}) WriteFault)
+pub record HasAnswered (limit : ℕ) (ledger : Ledger) (old : StoreView) (text : List ℕ) (shown : Bool) (line : ℕ) (out : SinkView) (tally : Tally) (sent : Result (Unit {0}) WriteFault)
     (new : StoreView) (now : SinkView) (counted : Tally) : Type 0 where
   pub result : Result (Unit {0}) Fault
   pub printed : List ℕ
   pub commands : Commands limit ledger old text shown result printed new
-  pub sends : Sends told (result_text line printed result) sent now
+  pub sends : Sends out (result_text line printed result) sent now
   pub adds : AddsResult tally result counted
 
 -- the same text
@@ -106,12 +106,12 @@ step_of limit ledger old new text shown line result printed c = record {
 }
 
 -- a command was answered and its line handed over
-pub goes_on : (limit : ℕ) (script : List ℕ) (old mid new : StoreView) (held told now : SinkView) (place next : Rest) (tally counted : Tally) (text : List ℕ) (shown : Bool) (line : ℕ)
-    → Stands limit script old mid held told place tally → Next place (record { text = text; line = line; ended = Terminated shown }) next
-    → ((ledger : Ledger) → IfSome mid.files (Stores ledger) → HasAnswered limit ledger mid text shown line told tally (Ok tt) new now counted)
+pub goes_on : (limit : ℕ) (script : List ℕ) (old mid new : StoreView) (held out now : SinkView) (place next : Rest) (tally counted : Tally) (text : List ℕ) (shown : Bool) (line : ℕ)
+    → Stands limit script old mid held out place tally → Next place (record { text = text; line = line; ended = Terminated shown }) next
+    → ((ledger : Ledger) → IfSome mid.files (Stores ledger) → HasAnswered limit ledger mid text shown line out tally (Ok tt) new now counted)
     → Stands limit script old new held now next counted
-goes_on limit script old mid new held told now place next tally counted text shown line stands cut answered =
-    let a : HasAnswered limit stands.ledger mid text shown line told tally (Ok tt) new now counted = answered stands.ledger stands.stores in
+goes_on limit script old mid new held out now place next tally counted text shown line stands cut answered =
+    let a : HasAnswered limit stands.ledger mid text shown line out tally (Ok tt) new now counted = answered stands.ledger stands.stores in
     let c : Commands limit stands.ledger mid text shown a.result a.printed new = a.commands in
     let item : Item = record { text = text; line = line; ended = Terminated shown } in
     let text_is : result_text line a.printed a.result ≡ line_of item c.answer = text_same text line shown a.result a.printed c.answer c.gives in
@@ -123,17 +123,17 @@ goes_on limit script old mid new held told now place next tally counted text sho
       run = run_more limit stands.items stands.answers (first_ledger old.files) stands.ledger old mid item c.answer new stands.run (step_of limit stands.ledger mid new text shown line a.result a.printed c);
       stores = stores_after stands.ledger c.known c.answer mid.files new.files (answer_stands limit c.known text c.answer c.answered) stands.stores c.known_is c.stored.files;
       sent = rw (printed_more limit stands.items stands.answers (first_ledger old.files) stands.ledger old mid item c.answer stands.run)
-          (sends_then held told now (printed stands.items stands.answers) (line_of item c.answer) (Ok tt) stands.sent (rw text_is at a.sends));
+          (sends_then held out now (printed stands.items stands.answers) (line_of item c.answer) (Ok tt) stands.sent (rw text_is at a.sends));
       counts = counts_more tally counted stands.answers shown a.result a.printed c.answer c.gives stands.counts a.adds;
     }
 
 -- a command was answered, and the sink stopped in its line
-pub stops : (limit : ℕ) (script : List ℕ) (from to : SourceView) (old mid new : StoreView) (held told now : SinkView) (place next : Rest) (tally counted : Tally) (text : List ℕ) (shown : Bool) (line : ℕ) (fault : WriteFault) (state : Status)
-    → Stands limit script old mid held told place tally → Next place (record { text = text; line = line; ended = Terminated shown }) next
-    → ((ledger : Ledger) → IfSome mid.files (Stores ledger) → HasAnswered limit ledger mid text shown line told tally (Err fault) new now counted)
+pub stops : (limit : ℕ) (script : List ℕ) (from to : SourceView) (old mid new : StoreView) (held out now : SinkView) (place next : Rest) (tally counted : Tally) (text : List ℕ) (shown : Bool) (line : ℕ) (fault : WriteFault) (state : Status)
+    → Stands limit script old mid held out place tally → Next place (record { text = text; line = line; ended = Terminated shown }) next
+    → ((ledger : Ledger) → IfSome mid.files (Stores ledger) → HasAnswered limit ledger mid text shown line out tally (Err fault) new now counted)
     → to.faults ≡ from.faults → state ≡ stop_status fault → RanToStop limit script from to old new held now state
-stops limit script from to old mid new held told now place next tally counted text shown line fault state stands cut answered kept state_is =
-    let a : HasAnswered limit stands.ledger mid text shown line told tally (Err fault) new now counted = answered stands.ledger stands.stores in
+stops limit script from to old mid new held out now place next tally counted text shown line fault state stands cut answered kept state_is =
+    let a : HasAnswered limit stands.ledger mid text shown line out tally (Err fault) new now counted = answered stands.ledger stands.stores in
     let c : Commands limit stands.ledger mid text shown a.result a.printed new = a.commands in
     let item : Item = record { text = text; line = line; ended = Terminated shown } in
     record {
@@ -146,7 +146,7 @@ stops limit script from to old mid new held told now place next tally counted te
       ledger = after stands.ledger c.answer;
       run = run_more limit stands.items stands.answers (first_ledger old.files) stands.ledger old mid item c.answer new stands.run (step_of limit stands.ledger mid new text shown line a.result a.printed c);
       stores = stores_after stands.ledger c.known c.answer mid.files new.files (answer_stands limit c.known text c.answer c.answered) stands.stores c.known_is c.stored.files;
-      mid = told;
+      mid = out;
       sent = stands.sent;
       fault = fault;
       stopped = rw (text_same text line shown a.result a.printed c.answer c.gives) at a.sends;
@@ -155,8 +155,8 @@ stops limit script from to old mid new held told now place next tally counted te
     }
 
 -- nothing but gaps is left
-pub ends_there : (limit : ℕ) (script : List ℕ) (from to : SourceView) (old now : StoreView) (held told : SinkView) (place : Rest) (tally : Tally) (state : Status) → Stands limit script old now held told place tally → IsAtEnd place → to.faults ≡ from.faults → state ≡ tally_status tally → RanThrough limit script from to old now held told state
-ends_there limit script from to old now held told place tally state stands end kept state_is = record {
+pub ends_there : (limit : ℕ) (script : List ℕ) (from to : SourceView) (old now : StoreView) (held out : SinkView) (place : Rest) (tally : Tally) (state : Status) → Stands limit script old now held out place tally → IsAtEnd place → to.faults ≡ from.faults → state ≡ tally_status tally → RanThrough limit script from to old now held out state
+ends_there limit script from to old now held out place tally state stands end kept state_is = record {
   items = stands.items;
   answers = stands.answers;
   last = place;
@@ -199,10 +199,10 @@ pub none_left : (place : Rest) → place.left ≡ [] → IsAtEnd place
 none_left place is = record { gaps = rw is refl; within = omega (arith, ap length is) }
 
 -- an item was refused, its line handed over, and the store stays
-pub refuses : (limit : ℕ) (script : List ℕ) (old mid : StoreView) (held told now : SinkView) (place next : Rest) (tally counted : Tally) (item : Item) (fault : Fault)
-    → Stands limit script old mid held told place tally → Next place item next → ((ledger : Ledger) → Answers limit ledger mid item (Err fault) mid)
-    → HasSent told (fault_line item.line fault) now → AddsFault tally fault counted → Stands limit script old mid held now next counted
-refuses limit script old mid held told now place next tally counted item fault stands cut step sent adds = record {
+pub refuses : (limit : ℕ) (script : List ℕ) (old mid : StoreView) (held out now : SinkView) (place next : Rest) (tally counted : Tally) (item : Item) (fault : Fault)
+    → Stands limit script old mid held out place tally → Next place item next → ((ledger : Ledger) → Answers limit ledger mid item (Err fault) mid)
+    → HasSent out (fault_line item.line fault) now → AddsFault tally fault counted → Stands limit script old mid held now next counted
+refuses limit script old mid held out now place next tally counted item fault stands cut step sent adds = record {
   items = stands.items ++ item ∷ [];
   answers = stands.answers ++ Err fault ∷ [];
   ledger = stands.ledger;
@@ -210,15 +210,15 @@ refuses limit script old mid held told now place next tally counted item fault s
   run = run_more limit stands.items stands.answers (first_ledger old.files) stands.ledger old mid item (Err fault) mid stands.run (step stands.ledger);
   stores = stands.stores;
   sent = rw (printed_more limit stands.items stands.answers (first_ledger old.files) stands.ledger old mid item (Err fault) stands.run)
-      (sends_then held told now (printed stands.items stands.answers) (fault_line item.line fault) (Ok tt) stands.sent sent);
+      (sends_then held out now (printed stands.items stands.answers) (fault_line item.line fault) (Ok tt) stands.sent sent);
   counts = counts_fault tally counted stands.answers fault stands.counts adds;
 }
 
 -- or the sink stopped in its line
-pub refuses_stop : (limit : ℕ) (script : List ℕ) (from to : SourceView) (old mid : StoreView) (held told now : SinkView) (place next : Rest) (tally : Tally) (item : Item) (fault : Fault) (stop : WriteFault) (state : Status)
-    → Stands limit script old mid held told place tally → Next place item next → ((ledger : Ledger) → Answers limit ledger mid item (Err fault) mid)
-    → Sends told (fault_line item.line fault) (Err stop) now → to.faults ≡ from.faults → state ≡ stop_status stop → RanToStop limit script from to old mid held now state
-refuses_stop limit script from to old mid held told now place next tally item fault stop state stands cut step stopped kept state_is = record {
+pub refuses_stop : (limit : ℕ) (script : List ℕ) (from to : SourceView) (old mid : StoreView) (held out now : SinkView) (place next : Rest) (tally : Tally) (item : Item) (fault : Fault) (stop : WriteFault) (state : Status)
+    → Stands limit script old mid held out place tally → Next place item next → ((ledger : Ledger) → Answers limit ledger mid item (Err fault) mid)
+    → Sends out (fault_line item.line fault) (Err stop) now → to.faults ≡ from.faults → state ≡ stop_status stop → RanToStop limit script from to old mid held now state
+refuses_stop limit script from to old mid held out now place next tally item fault stop state stands cut step stopped kept state_is = record {
   items = stands.items;
   answers = stands.answers;
   item = item;
@@ -228,7 +228,7 @@ refuses_stop limit script from to old mid held told now place next tally item fa
   ledger = stands.ledger;
   run = run_more limit stands.items stands.answers (first_ledger old.files) stands.ledger old mid item (Err fault) mid stands.run (step stands.ledger);
   stores = stands.stores;
-  mid = told;
+  mid = out;
   sent = stands.sent;
   fault = stop;
   stopped = stopped;
@@ -237,12 +237,12 @@ refuses_stop limit script from to old mid held told now place next tally item fa
 }
 
 -- the last item is a refusal that leaves the store
-pub finishes : (limit : ℕ) (gave more : List ℕ) (from to : SourceView) (old mid : StoreView) (held told now : SinkView) (place last : Rest) (tally : Tally) (item : Item) (fault : Fault) (state : Status)
-    → Stands limit (gave ++ more) old mid held told place tally → Next place item last → IsAtEnd last → to.faults ≡ from.faults
+pub finishes : (limit : ℕ) (gave more : List ℕ) (from to : SourceView) (old mid : StoreView) (held out now : SinkView) (place last : Rest) (tally : Tally) (item : Item) (fault : Fault) (state : Status)
+    → Stands limit (gave ++ more) old mid held out place tally → Next place item last → IsAtEnd last → to.faults ≡ from.faults
     → ((ledger : Ledger) → Answers limit ledger mid item (Err fault) mid)
-    → Finishes told item.line fault tally now state → Ran limit gave more from to old mid held now state
-finishes limit gave more from to old mid held told now place last tally item fault state stands cut end kept step f = by_sent f.sent f.sends f.state_is
+    → Finishes out item.line fault tally now state → Ran limit gave more from to old mid held now state
+finishes limit gave more from to old mid held out now place last tally item fault state stands cut end kept step f = by_sent f.sent f.sends f.state_is
   where
-    by_sent : (sent : Result (Unit {0}) WriteFault) → Sends told (fault_line item.line fault) sent now → state ≡ ended_status sent f.counted → Ran limit gave more from to old mid held now state
-    by_sent (Ok done) sends is = inl (ends_there limit (gave ++ more) from to old mid held now last f.counted state (refuses limit (gave ++ more) old mid held told now place last tally f.counted item fault stands cut step sends f.adds) end kept is)
-    by_sent (Err stop) sends is = inr (inl (refuses_stop limit (gave ++ more) from to old mid held told now place last tally item fault stop state stands cut step sends kept is))
+    by_sent : (sent : Result (Unit {0}) WriteFault) → Sends out (fault_line item.line fault) sent now → state ≡ ended_status sent f.counted → Ran limit gave more from to old mid held now state
+    by_sent (Ok done) sends is = inl (ends_there limit (gave ++ more) from to old mid held now last f.counted state (refuses limit (gave ++ more) old mid held out now place last tally f.counted item fault stands cut step sends f.adds) end kept is)
+    by_sent (Err stop) sends is = inr (inl (refuses_stop limit (gave ++ more) from to old mid held out now place last tally item fault stop state stands cut step sends kept is))

@@ -24,10 +24,10 @@ pub found_in : Option Files → Files
 found_in None = λ folder name. None
 found_in (Some files) = files
 
-pub found_told : (told : Option Files) → IfSome told (λ files. found_in told ≡ files)
+pub found_reported : (reported : Option Files) → IfSome reported (λ files. found_in reported ≡ files)
 unfolding found_in
-found_told None = tt
-found_told (Some files) = refl
+found_reported None = tt
+found_reported (Some files) = refl
 
 -- a fault that is not the store's leaves which call failed last
 kept : (store : StoreView) (f : Fault) → is_store_fault f ≡ false → IsReadFault f store store
@@ -110,19 +110,19 @@ read_on old new x (Err f) own first = record { files = first.files; later = firs
 
 -- what is given whatever files are found, where nothing is read
 pub from_none : {X : Type 0} (Gives : Files → Result X Fault → Type 0) (store : StoreView) (r : Result X Fault) → IsOwn r → ((found : Files) → Gives found r) → FromFiles Gives store r store
-from_none Gives store r own gives = record { found = found_in store.files; told = found_told store.files; gives = gives (found_in store.files); has_read = read_none store r own }
+from_none Gives store r own gives = record { found = found_in store.files; reported = found_reported store.files; gives = gives (found_in store.files); has_read = read_none store r own }
 
 -- a part that reads refuses, and so does the whole
 pub from_refused : {X Y : Type 0} (First : Files → Result X Fault → Type 0) (Gives : Files → Result Y Fault → Type 0) (old new : StoreView) (f : Fault) → FromFiles First old (Err f) new → ((found : Files) → First found (Err f) → Gives found (Err f)) → FromFiles Gives old (Err f) new
-from_refused First Gives old new f first so = record { found = first.found; told = first.told; gives = so first.found first.gives; has_read = record { files = first.has_read.files; later = first.has_read.later; cause = first.has_read.cause } }
+from_refused First Gives old new f first so = record { found = first.found; reported = first.reported; gives = so first.found first.gives; has_read = record { files = first.has_read.files; later = first.has_read.later; cause = first.has_read.cause } }
 
 -- a part that reads goes on to what reads nothing
 pub from_read : {X Y : Type 0} (First : Files → Result X Fault → Type 0) (Gives : Files → Result Y Fault → Type 0) (old new : StoreView) (x : X) (r : Result Y Fault) → IsOwn r → FromFiles First old (Ok x) new → ((found : Files) → First found (Ok x) → Gives found r) → FromFiles Gives old r new
-from_read First Gives old new x r own first so = record { found = first.found; told = first.told; gives = so first.found first.gives; has_read = read_on old new x r own first.has_read }
+from_read First Gives old new x r own first so = record { found = first.found; reported = first.reported; gives = so first.found first.gives; has_read = read_on old new x r own first.has_read }
 
 -- what is given by a part is given by the whole
 pub from_part : {X : Type 0} (First : Files → Result X Fault → Type 0) (Gives : Files → Result X Fault → Type 0) (old new : StoreView) (r : Result X Fault) → FromFiles First old r new → ((found : Files) → First found r → Gives found r) → FromFiles Gives old r new
-from_part First Gives old new r first so = record { found = first.found; told = first.told; gives = so first.found first.gives; has_read = first.has_read }
+from_part First Gives old new r first so = record { found = first.found; reported = first.reported; gives = so first.found first.gives; has_read = first.has_read }
 
 -- checks that read nothing are not refused by the store
 pub own_fault : {Y : Type 0} (check : Check Y) → ((place : Place) → check.reads place → ⊥) → (f : Fault) → Fails check f → is_store_fault f ≡ false

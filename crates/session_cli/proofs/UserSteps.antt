@@ -40,7 +40,7 @@ use Rattle.session_cli.specs.SystemChecks.{no_steps, systems_known}
 use Rattle.session_cli.specs.SystemFaults.{fault_of_system}
 use Rattle.session_cli.specs.UserSystems.{IsThere, AreAdmitted, AdmitsUsers, AdmitsUser}
 use Rattle.session_cli.proofs.SealedLemmas.{stays, last_stands, meant_push}
-use Rattle.session_cli.proofs.TextReads.{reads_both, none_told}
+use Rattle.session_cli.proofs.TextReads.{reads_both, none_reported}
 
 -- one more name
 names_more : (custom : Custom) (names : List (List ℕ)) (name : List ℕ) (old mid new : StepLog) → AdmitsNames custom names old (Ok tt) mid → AdmitsName custom name mid (Ok tt) new → AdmitsNames custom (names ++ name ∷ []) old (Ok tt) new
@@ -148,7 +148,7 @@ first_marks h marks names is = ap (first_systems h) is ∙ ap (each_once bytes_e
 pub record AreSoFar (limit : ℕ) (prefix : List (List ℕ)) (users : UserSystems) (old now : StoreView) : Type 0 where
   pub gives : (custom : Custom) → Agrees custom users.texts → AreAdmitted limit prefix custom users
   pub stands : CanStand users.texts
-  pub told : IfSome old.files (λ (files : Files). Agrees (files Bases) users.texts)
+  pub reported : IfSome old.files (λ (files : Files). Agrees (files Bases) users.texts)
   pub has_read : HasRead {X = ⊤} old (Ok tt) now
 
 -- at first there is none
@@ -156,7 +156,7 @@ pub none_so_far : (limit : ℕ) (users : UserSystems) (store : StoreView) → us
 none_so_far limit users store named texts log = record {
   gives = λ custom all. record { admits = (refl, log); meant = subst (AreMeant custom) (sym named) tt; there = tt };
   stands = ((λ name. None), subst (Agrees (λ name. None)) (sym texts) tt);
-  told = subst (λ (found : List FoundText). IfSome store.files (λ (files : Files). Agrees (files Bases) found)) (sym texts) (none_told store.files);
+  reported = subst (λ (found : List FoundText). IfSome store.files (λ (files : Files). Agrees (files Bases) found)) (sym texts) (none_reported store.files);
   has_read = record { files = refl; later = omega arith; cause = refl };
 }
 
@@ -189,14 +189,14 @@ module _ (limit : ℕ) (names : List (List ℕ)) (i : ℕ) (name : List ℕ) (wi
           there = there_more users.named (take i names) name before.there (inl built);
         });
     stands = so.stands;
-    told = so.told;
+    reported = so.reported;
     has_read = so.has_read;
   }
 
-  told_more : (told mid : Option Files) (before after : List FoundText) → mid ≡ told → IfSome mid (λ (files : Files). Agrees (files Bases) before → Agrees (files Bases) after) → IfSome told (λ (files : Files). Agrees (files Bases) before)
-      → IfSome told (λ (files : Files). Agrees (files Bases) after)
-  told_more None mid before after same found there = tt
-  told_more (Some files) mid before after same found there = (subst (λ (o : Option Files). IfSome o (λ (f : Files). Agrees (f Bases) before → Agrees (f Bases) after)) same found) there
+  reported_more : (reported mid : Option Files) (before after : List FoundText) → mid ≡ reported → IfSome mid (λ (files : Files). Agrees (files Bases) before → Agrees (files Bases) after) → IfSome reported (λ (files : Files). Agrees (files Bases) before)
+      → IfSome reported (λ (files : Files). Agrees (files Bases) after)
+  reported_more None mid before after same found there = tt
+  reported_more (Some files) mid before after same found there = (subst (λ (o : Option Files). IfSome o (λ (f : Files). Agrees (f Bases) before → Agrees (f Bases) after)) same found) there
 
   -- a user's system is admitted after them
   pub admitted_so_far : (users more : UserSystems) (old mid new : StoreView) → AreSoFar limit (take i names) users old mid → AdmitsUser name users mid (Ok tt) more new → AreSoFar limit (take (i + 1) names) more old new
@@ -212,7 +212,7 @@ module _ (limit : ℕ) (names : List (List ℕ)) (i : ℕ) (name : List ℕ) (wi
           there = there_more more.named (take i names) name (there_stay users.named more.named (take i names) stay before.there) (inr (subst (λ (ss : List NamedSystem). HasSystemIn ss name) (sym adds.named) (last_stands users.named name adds.system)));
         });
     stands = one.stands;
-    told = told_more old.files mid.files users.texts more.texts so.has_read.files one.found.told so.told;
+    reported = reported_more old.files mid.files users.texts more.texts so.has_read.files one.found.reported so.reported;
     has_read = reads_both old mid new tt (Ok tt) so.has_read one.has_read;
   }
 
@@ -221,7 +221,7 @@ module _ (limit : ℕ) (names : List (List ℕ)) (i : ℕ) (name : List ℕ) (wi
   refused_so_far users more old mid new fault so one = record {
     found = more.texts;
     stands = one.stands;
-    told = told_more old.files mid.files users.texts more.texts so.has_read.files one.found.told so.told;
+    reported = reported_more old.files mid.files users.texts more.texts so.has_read.files one.found.reported so.reported;
     gives = λ custom all.
         let refused = one.gives custom all in
         subst (Fails (systems_known limit custom names)) (sym refused.2) (refused_at limit custom names i name users.steps more.steps refused.0 within is (so.gives custom (one.found.kept custom all)).admits refused.1);
@@ -233,7 +233,7 @@ pub all_so_far : (limit : ℕ) (names : List (List ℕ)) (i : ℕ) (users : User
 all_so_far limit names i users old now end so = record {
   found = users.texts;
   stands = so.stands;
-  told = so.told;
+  reported = so.reported;
   gives = λ custom all. subst (λ (ns : List (List ℕ)). AreAdmitted limit ns custom users) (take_all i names end) (so.gives custom all);
   has_read = record { files = so.has_read.files; later = so.has_read.later; cause = so.has_read.cause };
 }

@@ -25,7 +25,7 @@ pub record HasRead {X : Type 0} (old : StoreView) (result : Result X Fault) (new
 -- what is given by the files that were found
 pub record FromFiles {X : Type 0} (Gives : Files → Result X Fault → Type 0) (old : StoreView) (result : Result X Fault) (new : StoreView) : Type 0 where
   pub found : Files
-  pub told : AreReported old found
+  pub reported : AreReported old found
   pub gives : Gives found result
   pub has_read : HasRead old result new
 
@@ -34,6 +34,6 @@ pub record FromFiles {X : Type 0} (Gives : Files → Result X Fault → Type 0) 
 pub record FromTexts {X : Type 0} (Gives : Custom → Result X Fault → Type 0) (old : StoreView) (result : Result X Fault) (new : StoreView) : Type 0 where
   pub found : List FoundText
   pub stands : CanStand found
-  pub told : IfSome old.files (λ (files : Files). Agrees (files Bases) found)
+  pub reported : IfSome old.files (λ (files : Files). Agrees (files Bases) found)
   pub gives : (custom : Custom) → Agrees custom found → Gives custom result
   pub has_read : HasRead old result new

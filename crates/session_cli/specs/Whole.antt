@@ -24,7 +24,7 @@ stop_status writes.Memory = status.Memory
 pub record HasGiven (from to : SourceView) (gave more : List ℕ) : Type 0 where
   pub taken : Consumes from.left to.left gave
   pub within : length gave ≤ 16777217
-  pub told : IfSome to.left (λ left. more ≡ left)
+  pub reported : IfSome to.left (λ left. more ≡ left)
 
 -- All items were answered and all lines printed. Neither source nor sink failed.
 pub record RanThrough (limit : ℕ) (script : List ℕ) (from to : SourceView) (old new : StoreView) (held now : SinkView) (state : Status) : Type 0 where

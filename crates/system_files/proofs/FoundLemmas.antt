@@ -129,9 +129,9 @@ fails_at part custom one faults.Memory stands fails = tt
 
 -- a text that was read is one more that was found
 pub found_more : (found : List FoundText) (one : FoundText) (store : StoreView) → IfSome store.files (λ (files : Files). StandsAs (files Bases one.name) one.finding) → HasFound found store (found ++ one ∷ [])
-found_more found one store stands = record { kept = λ custom agrees. agrees_before custom found (one ∷ []) agrees; told = by store.files stands }
+found_more found one store stands = record { kept = λ custom agrees. agrees_before custom found (one ∷ []) agrees; reported = by store.files stands }
   where
-    by : (told : Option Files) → IfSome told (λ (files : Files). StandsAs (files Bases one.name) one.finding) → IfSome told (λ (files : Files). Agrees (files Bases) found → Agrees (files Bases) (found ++ one ∷ []))
+    by : (reported : Option Files) → IfSome reported (λ (files : Files). StandsAs (files Bases one.name) one.finding) → IfSome reported (λ (files : Files). Agrees (files Bases) found → Agrees (files Bases) (found ++ one ∷ []))
     by None stands = tt
     by (Some files) stands = λ agrees. agrees_more (files Bases) found one agrees stands
 
@@ -146,10 +146,10 @@ added_at name before one named = record { finding = one.finding; there = at_end 
 pub looked : (name : List ℕ) (before : List FoundText) (one : FoundText) (old new : StoreView) {X : Type 0} (x : X) → one.name ≡ name → IfSome old.files (λ (files : Files). StandsAs (files Bases name) one.finding) → HasRead old (Ok x) new
     → Loads (λ custom found place. IsAt found name place) (λ custom fault. FailsLook name fault) before old (Ok (length before)) (before ++ one ∷ []) new
 looked name before one old new x named stands read =
-    let told : IfSome old.files (λ (files : Files). StandsAs (files Bases one.name) one.finding) = subst (λ (n : List ℕ). IfSome old.files (λ (files : Files). StandsAs (files Bases n) one.finding)) (sym named) stands in
+    let reported : IfSome old.files (λ (files : Files). StandsAs (files Bases one.name) one.finding) = subst (λ (n : List ℕ). IfSome old.files (λ (files : Files). StandsAs (files Bases n) one.finding)) (sym named) stands in
     record {
       gives = λ custom agrees. added_at name before one named;
-      found = found_more before one old told;
+      found = found_more before one old reported;
       has_read = reads_ok old new x (length before) read;
     }
 

@@ -14,12 +14,12 @@ use Rattle.system_files.specs.SystemFiles.{Custom}
 use Rattle.system_files.specs.SystemTexts.{FoundText, Agrees, HasFound}
 use Rattle.system_files.specs.Looks.{Loads}
 
-both_agree : (told later : Option Files) (before mid after : List FoundText) → later ≡ told → IfSome told (λ (files : Files). Agrees (files Bases) before → Agrees (files Bases) mid) → IfSome later (λ (files : Files). Agrees (files Bases) mid → Agrees (files Bases) after)
-    → IfSome told (λ (files : Files). Agrees (files Bases) before → Agrees (files Bases) after)
-both_agree told later before mid after same first next = by told first (rw same at next)
+both_agree : (reported later : Option Files) (before mid after : List FoundText) → later ≡ reported → IfSome reported (λ (files : Files). Agrees (files Bases) before → Agrees (files Bases) mid) → IfSome later (λ (files : Files). Agrees (files Bases) mid → Agrees (files Bases) after)
+    → IfSome reported (λ (files : Files). Agrees (files Bases) before → Agrees (files Bases) after)
+both_agree reported later before mid after same first next = by reported first (rw same at next)
   where
-    by : (told : Option Files) → IfSome told (λ (files : Files). Agrees (files Bases) before → Agrees (files Bases) mid) → IfSome told (λ (files : Files). Agrees (files Bases) mid → Agrees (files Bases) after)
-        → IfSome told (λ (files : Files). Agrees (files Bases) before → Agrees (files Bases) after)
+    by : (reported : Option Files) → IfSome reported (λ (files : Files). Agrees (files Bases) before → Agrees (files Bases) mid) → IfSome reported (λ (files : Files). Agrees (files Bases) mid → Agrees (files Bases) after)
+        → IfSome reported (λ (files : Files). Agrees (files Bases) before → Agrees (files Bases) after)
     by None first next = tt
     by (Some files) first next = λ agrees. next (first agrees)
 
@@ -27,7 +27,7 @@ both_agree told later before mid after same first next = by told first (rw same 
 pub found_both : (before mid after : List FoundText) (old later : StoreView) → later.files ≡ old.files → HasFound before old mid → HasFound mid later after → HasFound before old after
 found_both before mid after old later same first next = record {
   kept = λ custom agrees. first.kept custom (next.kept custom agrees);
-  told = both_agree old.files later.files before mid after same first.told next.told;
+  reported = both_agree old.files later.files before mid after same first.reported next.reported;
 }
 
 -- a fault of no call

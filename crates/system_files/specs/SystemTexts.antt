@@ -30,7 +30,7 @@ Agrees custom found = AllByRecursion (λ (f : FoundText). StandsAs (custom f.nam
 -- what was found before was found still; and it is in the store's folder, where the store reports that, if it did before
 pub record HasFound (before : List FoundText) (old : StoreView) (after : List FoundText) : Type 0 where
   pub kept : (custom : Custom) → Agrees custom after → Agrees custom before
-  pub told : IfSome old.files (λ (files : Files). Agrees (files Bases) before → Agrees (files Bases) after)
+  pub reported : IfSome old.files (λ (files : Files). Agrees (files Bases) before → Agrees (files Bases) after)
 
 -- some folder has all that was found
 abbrev pub CanStand : List FoundText → Type 0

@@ -39,7 +39,7 @@ pub(crate) fn look<T: Store>(
 /// What is under a name, read from the store.
 fn read<T: Store>(alloc: Global, name: Name, store: &mut T) -> Result<FoundText, LoadFault>
     ensures gives { MatchResult result (λ found. (found.name ≡ name) × CanBeFound (found_view found).finding) (FailsLook name) }
-    ensures told { IfOk result (λ found. IfSome (T.view store.old).files (λ (files : Files). StandsAs (files Bases name) (found_view found).finding)) }
+    ensures reported { IfOk result (λ found. IfSome (T.view store.old).files (λ (files : Files). StandsAs (files Bases name) (found_view found).finding)) }
     ensures has_read { HasRead (T.view store.old) result (T.view store.new) }
 {
     let mut text = Vec::new(alloc);

@@ -42,7 +42,7 @@ returns-in_err-resolved c =
     let tables = c.args.read.now.tables.items in
     let fault = c.in_err-resolved.field-0.0 in
     λ custom meant ledger files place stores same listed.
-    rw (p.1, p.2) (systems_unresolved c.args.steps ledger place tables f (fault_of_resolution fault) (unresolved Resolved tables f c.args.names.now.headers fault c.requires.headers c.in_err-resolved.ensures.told))
+    rw (p.1, p.2) (systems_unresolved c.args.steps ledger place tables f (fault_of_resolution fault) (unresolved Resolved tables f c.args.names.now.headers fault c.requires.headers c.in_err-resolved.ensures.reported))
 
 pub read_tables-requires : goal.read_tables-requires
 read_tables-requires c =
@@ -50,8 +50,8 @@ read_tables-requires c =
     let tables = c.args.read.now.tables.items in
     let systems = c.args.names.now.systems in
     let r = c.in_ok-resolved.resolved in
-    let told = resolves_here tables f c.args.names.now.headers c.requires.headers c.in_ok-resolved.ensures.told in
-    subst (λ (ts : List Loaded). AreReadable systems ts) (sym c.deref.ensures.value) (ground_readable f tables c.requires.read.files c.requires.read.listed systems c.are_sealed.ensures c.requires.meant.0 c.requires.meant.1 told c.requires.systems)
+    let no_fault = resolves_here tables f c.args.names.now.headers c.requires.headers c.in_ok-resolved.ensures.reported in
+    subst (λ (ts : List Loaded). AreReadable systems ts) (sym c.deref.ensures.value) (ground_readable f tables c.requires.read.files c.requires.read.listed systems c.are_sealed.ensures c.requires.meant.0 c.requires.meant.1 no_fault c.requires.systems)
 
 pub returns-in_err-library : goal.returns-in_err-library
 returns-in_err-library c =
@@ -60,11 +60,11 @@ returns-in_err-library c =
     let tables = c.args.read.now.tables.items in
     let systems = c.args.names.now.systems in
     let r = c.in_ok-resolved.resolved in
-    let told = resolves_here tables f c.args.names.now.headers c.requires.headers c.in_ok-resolved.ensures.told in
+    let no_fault = resolves_here tables f c.args.names.now.headers c.requires.headers c.in_ok-resolved.ensures.reported in
     let fault = c.in_err-library.field-0.0 in
     λ custom meant ledger files place stores same listed.
     let here = subst (λ (k : Custom). AreMeant k systems) (sym same) meant in
-    rw (p.1, p.2) (resolved_unbuilt c.args.steps ledger place tables f (fault_of_reading fault) told
+    rw (p.1, p.2) (resolved_unbuilt c.args.steps ledger place tables f (fault_of_reading fault) no_fault
     (unread c.args.steps (custom_of ledger) tables f fault (stopped_here systems c.args.steps (custom_of ledger) tables fault c.are_sealed.ensures here (rw c.deref.ensures.value at c.in_err-library.ensures))))
 
 pub build-requires-clause-fits : goal.build-requires-clause-fits
@@ -73,12 +73,12 @@ build-requires-clause-fits c =
     let tables = c.args.read.now.tables.items in
     let systems = c.args.names.now.systems in
     let r = c.in_ok-resolved.resolved in
-    let told = resolves_here tables f c.args.names.now.headers c.requires.headers c.in_ok-resolved.ensures.told in
+    let no_fault = resolves_here tables f c.args.names.now.headers c.requires.headers c.in_ok-resolved.ensures.reported in
     let done = rw c.deref.ensures.value at c.in_ok-library.ensures in
     let read = c.in_ok-library.library in
     let reads = done.0 in
     let up = set_up r read reads c.args.read.now.formula tables c.args.names.now systems c.in_ok-resolved.ensures.formula c.in_ok-resolved.ensures.names c.requires.headers refl done.2 in
-    fits_here r read reads f tables systems up (ground_fits f tables c.requires.read.files c.requires.read.listed systems c.are_sealed.ensures c.requires.meant.0 c.requires.meant.1 told c.requires.systems reads c.args.steps c.read_tables.new.steps done.1)
+    fits_here r read reads f tables systems up (ground_fits f tables c.requires.read.files c.requires.read.listed systems c.are_sealed.ensures c.requires.meant.0 c.requires.meant.1 no_fault c.requires.systems reads c.args.steps c.read_tables.new.steps done.1)
 
 pub build-requires-clause-known : goal.build-requires-clause-known
 build-requires-clause-known c =
@@ -86,13 +86,13 @@ build-requires-clause-known c =
     let tables = c.args.read.now.tables.items in
     let systems = c.args.names.now.systems in
     let r = c.in_ok-resolved.resolved in
-    let told = resolves_here tables f c.args.names.now.headers c.requires.headers c.in_ok-resolved.ensures.told in
+    let no_fault = resolves_here tables f c.args.names.now.headers c.requires.headers c.in_ok-resolved.ensures.reported in
     let done = rw c.deref.ensures.value at c.in_ok-library.ensures in
     let read = c.in_ok-library.library in
     let reads = done.0 in
     let up = set_up r read reads c.args.read.now.formula tables c.args.names.now systems c.in_ok-resolved.ensures.formula c.in_ok-resolved.ensures.names c.requires.headers refl done.2 in
     known_here r read reads f tables systems up
-    (ground_known f tables c.requires.read.files c.requires.read.listed systems c.are_sealed.ensures c.requires.meant.0 c.requires.meant.1 told c.requires.systems reads c.args.steps c.read_tables.new.steps done.1 (c.requires.read.text, c.requires.read.reads))
+    (ground_known f tables c.requires.read.files c.requires.read.listed systems c.are_sealed.ensures c.requires.meant.0 c.requires.meant.1 no_fault c.requires.systems reads c.args.steps c.read_tables.new.steps done.1 (c.requires.read.text, c.requires.read.reads))
 
 pub returns-in_err-relation : goal.returns-in_err-relation
 returns-in_err-relation c =
@@ -101,7 +101,7 @@ returns-in_err-relation c =
     let tables = c.args.read.now.tables.items in
     let systems = c.args.names.now.systems in
     let r = c.in_ok-resolved.resolved in
-    let told = resolves_here tables f c.args.names.now.headers c.requires.headers c.in_ok-resolved.ensures.told in
+    let no_fault = resolves_here tables f c.args.names.now.headers c.requires.headers c.in_ok-resolved.ensures.reported in
     let done = rw c.deref.ensures.value at c.in_ok-library.ensures in
     let read = c.in_ok-library.library in
     let reads = done.0 in
@@ -110,7 +110,7 @@ returns-in_err-relation c =
     λ custom meant ledger files place stores same listed.
     let here = subst (λ (k : Custom). AreMeant k systems) (sym same) meant in
     let steps = steps_here r read reads f tables systems up c.args.steps (custom_of ledger) c.read_tables.new.steps c.build.new.steps (Err fault) c.are_sealed.ensures here done.1 c.in_err-relation.ensures.steps in
-    rw (p.1, p.2) (resolved_unbuilt c.args.steps ledger place tables f (track_systems.fault_of fault) told (unbuilt c.args.steps (custom_of ledger) tables f fault (inr (c.build.new.steps.lines, steps))))
+    rw (p.1, p.2) (resolved_unbuilt c.args.steps ledger place tables f (track_systems.fault_of fault) no_fault (unbuilt c.args.steps (custom_of ledger) tables f fault (inr (c.build.new.steps.lines, steps))))
 
 pub formula_text-requires : goal.formula_text-requires
 formula_text-requires c =
@@ -118,7 +118,7 @@ formula_text-requires c =
     let tables = c.args.read.now.tables.items in
     let systems = c.args.names.now.systems in
     let r = c.in_ok-resolved.resolved in
-    let told = resolves_here tables f c.args.names.now.headers c.requires.headers c.in_ok-resolved.ensures.told in
+    let no_fault = resolves_here tables f c.args.names.now.headers c.requires.headers c.in_ok-resolved.ensures.reported in
     let done = rw c.deref.ensures.value at c.in_ok-library.ensures in
     let read = c.in_ok-library.library in
     let reads = done.0 in
@@ -138,7 +138,7 @@ returns-in_err-stored c =
     let tables = c.args.read.now.tables.items in
     let systems = c.args.names.now.systems in
     let r = c.in_ok-resolved.resolved in
-    let told = resolves_here tables f c.args.names.now.headers c.requires.headers c.in_ok-resolved.ensures.told in
+    let no_fault = resolves_here tables f c.args.names.now.headers c.requires.headers c.in_ok-resolved.ensures.reported in
     let done = rw c.deref.ensures.value at c.in_ok-library.ensures in
     let read = c.in_ok-library.library in
     let reads = done.0 in
@@ -151,10 +151,10 @@ returns-in_err-stored c =
     let refused = subst (λ (vs : List Variable). HasNoTextOf vs a c.in_err-stored.field-0.0) c.deref-2.ensures.value c.in_err-stored.ensures in
     λ custom meant ledger files place stores same listed.
     let here = subst (λ (k : Custom). AreMeant k systems) (sym same) meant in
-    let means = ground_means f tables files listed systems c.are_sealed.ensures custom meant told c.requires.systems reads c.args.steps c.read_tables.new.steps done.1 ledger stores same in
+    let means = ground_means f tables files listed systems c.are_sealed.ensures custom meant no_fault c.requires.systems reads c.args.steps c.read_tables.new.steps done.1 ledger stores same in
     let steps = steps_here r read reads f tables systems up c.args.steps (custom_of ledger) c.read_tables.new.steps c.build.new.steps (Ok a) c.are_sealed.ensures here done.1 c.in_ok-relation.ensures.steps in
     let are = subst (λ (vs : List Variable). AreVariables (custom_of ledger) vs (variables_over r.variables.items a.systems)) found (are_variables (custom_of ledger) l r.variables.items a.systems here over.systems_are) in
-    rw (p.1, p.2) (steps_made c.args.steps ledger place tables f (variables_over r.variables.items a.systems) c.build.new.steps.lines c.args.shown (Err c.in_err-stored.field-0.0) told (a, steps) are
+    rw (p.1, p.2) (steps_made c.args.steps ledger place tables f (variables_over r.variables.items a.systems) c.build.new.steps.lines c.args.shown (Err c.in_err-stored.field-0.0) no_fault (a, steps) are
     (text_refused (custom_of ledger) l (bindings_now ledger f) means here f r.variables.items a solution over place c.build.new.steps.lines c.in_err-stored.field-0.0 refused))
 
 pub returns : goal.returns
@@ -163,7 +163,7 @@ returns c =
     let tables = c.args.read.now.tables.items in
     let systems = c.args.names.now.systems in
     let r = c.in_ok-resolved.resolved in
-    let told = resolves_here tables f c.args.names.now.headers c.requires.headers c.in_ok-resolved.ensures.told in
+    let no_fault = resolves_here tables f c.args.names.now.headers c.requires.headers c.in_ok-resolved.ensures.reported in
     let done = rw c.deref.ensures.value at c.in_ok-library.ensures in
     let read = c.in_ok-library.library in
     let reads = done.0 in
@@ -177,9 +177,9 @@ returns c =
     let printed = c.in_ok-push_verdict.ensures ∙ ap (λ prefix. prefix ++ verdict_line c.verdict.result) c.in_ok-printed.ensures in
     λ custom meant ledger files place stores same listed.
     let here = subst (λ (k : Custom). AreMeant k systems) (sym same) meant in
-    let means = ground_means f tables files listed systems c.are_sealed.ensures custom meant told c.requires.systems reads c.args.steps c.read_tables.new.steps done.1 ledger stores same in
+    let means = ground_means f tables files listed systems c.are_sealed.ensures custom meant no_fault c.requires.systems reads c.args.steps c.read_tables.new.steps done.1 ledger stores same in
     let steps = steps_here r read reads f tables systems up c.args.steps (custom_of ledger) c.read_tables.new.steps c.build.new.steps (Ok a) c.are_sealed.ensures here done.1 c.in_ok-relation.ensures.steps in
     let are = subst (λ (vs : List Variable). AreVariables (custom_of ledger) vs (variables_over r.variables.items a.systems)) found (are_variables (custom_of ledger) l r.variables.items a.systems here over.systems_are) in
     let verdict = verdict_is (custom_of ledger) l (bindings_now ledger f) means here f r.variables.items a solution over c.verdict.result c.verdict.ensures.sentence c.verdict.ensures.truth in
-    steps_made c.args.steps ledger place tables f (variables_over r.variables.items a.systems) c.build.new.steps.lines c.args.shown (Ok _) told (a, steps) are
+    steps_made c.args.steps ledger place tables f (variables_over r.variables.items a.systems) c.build.new.steps.lines c.args.shown (Ok _) no_fault (a, steps) are
     (text_made (custom_of ledger) l (bindings_now ledger f) means here f r.variables.items a solution over place c.build.new.steps.lines c.verdict.result c.args.shown _ verdict text printed)

@@ -67,7 +67,7 @@ unreachable-requires c =
     let s = c.args.formulas.system.now in
     let k = c.args.formulas.length in
     let is = c.in_ok-formula.ensures ∙ ap (λ (b : ℤ). image_formula s k b) (to_z-of_z w32 c.args.letter fits) in
-    not_refused c.args.formulas.setting.now s k c.args.letter c.requires Resolved c.args.formulas.setting.now.names.headers (formula_view c.in_ok-formula.formula) c.in-Err-Plain.field-0 _ refl is c.in-Err-Plain.field-0-is tt c.in-Err-Plain.ensures.told
+    not_refused c.args.formulas.setting.now s k c.args.letter c.requires Resolved c.args.formulas.setting.now.names.headers (formula_view c.in_ok-formula.formula) c.in-Err-Plain.field-0 _ refl is c.in-Err-Plain.field-0-is tt c.in-Err-Plain.ensures.reported
 
 pub unreachable-requires-in-Err-Arity : goal.unreachable-requires-in-Err-Arity
 unreachable-requires-in-Err-Arity c =
@@ -75,7 +75,7 @@ unreachable-requires-in-Err-Arity c =
     let s = c.args.formulas.system.now in
     let k = c.args.formulas.length in
     let is = c.in_ok-formula.ensures ∙ ap (λ (b : ℤ). image_formula s k b) (to_z-of_z w32 c.args.letter fits) in
-    not_refused c.args.formulas.setting.now s k c.args.letter c.requires Resolved c.args.formulas.setting.now.names.headers (formula_view c.in_ok-formula.formula) c.in-Err-Arity.field-0 _ refl is c.in-Err-Arity.field-0-is tt c.in-Err-Arity.ensures.told
+    not_refused c.args.formulas.setting.now s k c.args.letter c.requires Resolved c.args.formulas.setting.now.names.headers (formula_view c.in_ok-formula.formula) c.in-Err-Arity.field-0 _ refl is c.in-Err-Arity.field-0-is tt c.in-Err-Arity.ensures.reported
 
 pub unreachable-requires-in-Err-Clash : goal.unreachable-requires-in-Err-Clash
 unreachable-requires-in-Err-Clash c =
@@ -83,7 +83,7 @@ unreachable-requires-in-Err-Clash c =
     let s = c.args.formulas.system.now in
     let k = c.args.formulas.length in
     let is = c.in_ok-formula.ensures ∙ ap (λ (b : ℤ). image_formula s k b) (to_z-of_z w32 c.args.letter fits) in
-    not_refused c.args.formulas.setting.now s k c.args.letter c.requires Resolved c.args.formulas.setting.now.names.headers (formula_view c.in_ok-formula.formula) c.in-Err-Clash.field-0 _ refl is c.in-Err-Clash.field-0-is tt c.in-Err-Clash.ensures.told
+    not_refused c.args.formulas.setting.now s k c.args.letter c.requires Resolved c.args.formulas.setting.now.names.headers (formula_view c.in_ok-formula.formula) c.in-Err-Clash.field-0 _ refl is c.in-Err-Clash.field-0-is tt c.in-Err-Clash.ensures.reported
 
 pub unreachable-requires-in-Err-Direction : goal.unreachable-requires-in-Err-Direction
 unreachable-requires-in-Err-Direction c =
@@ -91,4 +91,4 @@ unreachable-requires-in-Err-Direction c =
     let s = c.args.formulas.system.now in
     let k = c.args.formulas.length in
     let is = c.in_ok-formula.ensures ∙ ap (λ (b : ℤ). image_formula s k b) (to_z-of_z w32 c.args.letter fits) in
-    not_refused c.args.formulas.setting.now s k c.args.letter c.requires Resolved c.args.formulas.setting.now.names.headers (formula_view c.in_ok-formula.formula) c.in-Err-Direction.field-0 _ refl is c.in-Err-Direction.field-0-is tt c.in-Err-Direction.ensures.told
+    not_refused c.args.formulas.setting.now s k c.args.letter c.requires Resolved c.args.formulas.setting.now.names.headers (formula_view c.in_ok-formula.formula) c.in-Err-Direction.field-0 _ refl is c.in-Err-Direction.field-0-is tt c.in-Err-Direction.ensures.reported

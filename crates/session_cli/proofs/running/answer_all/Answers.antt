@@ -29,7 +29,7 @@ items-preserved-in-Ok-Command g c =
     let old : StoreView = g.T.Store.view c.args.store.now in
     let held : SinkView = g.K.Sink.view c.args.out.now in
     let mid : StoreView = g.T.Store.view c.items.store in
-    let told : SinkView = g.K.Sink.view c.items.out in
+    let sink : SinkView = g.K.Sink.view c.items.out in
     let from : SourceView = g.S.Source.view c.args.script.now in
     let to : SourceView = g.S.Source.view c.items.script in
     let then : SourceView = g.S.Source.view c.cut.new.from in
@@ -38,7 +38,7 @@ items-preserved-in-Ok-Command g c =
     let cut : HasCut c.items.cutter to (Ok (cuts.Command c.in-Ok-Command.text c.in-Ok-Command.shown c.in-Ok-Command.line)) c.cut.new.self then = rw c.in-Ok-Command.field-0-is at c.in-Ok-Command.ensures.cut in
     let begun : c.items.cutter.over ≡ false = begun_of c.items.cutter.over _ c.in-Ok-Command.ensures.again (λ is. cc) in
     let kept : then.faults ≡ to.faults = c.in-Ok-Command.ensures.faults in
-    let answered : (ledger : Ledger) → IfSome mid.files (Stores ledger) → HasAnswered c.args.session.now.limit ledger mid c.in-Ok-Command.text.items c.in-Ok-Command.shown c.in-Ok-Command.line told c.items.tally (Ok tt) new now c.answer_command-answered.new.tally =
+    let answered : (ledger : Ledger) → IfSome mid.files (Stores ledger) → HasAnswered c.args.session.now.limit ledger mid c.in-Ok-Command.text.items c.in-Ok-Command.shown c.in-Ok-Command.line sink c.items.tally (Ok tt) new now c.answer_command-answered.new.tally =
     λ ledger is. record {
       result = c.answer_command-answered.result.answer;
       printed = c.answer_command-answered.result.printed;
@@ -47,8 +47,8 @@ items-preserved-in-Ok-Command g c =
       adds = c.answer_command-answered.ensures.counts;
     } in
     record {
-      between = between_next c.args.session.now.limit from to then c.items.cutter c.cut.new.self (Ok (cuts.Command c.in-Ok-Command.text c.in-Ok-Command.shown c.in-Ok-Command.line)) old mid new held told now c.items.tally c.answer_command-answered.new.tally begun c.items.invariant.between cut kept
-          (λ script place suffix stands item. goes_on c.args.session.now.limit script old mid new held told now place suffix c.items.tally c.answer_command-answered.new.tally c.in-Ok-Command.text.items c.in-Ok-Command.shown c.in-Ok-Command.line stands item.0 answered);
+      between = between_next c.args.session.now.limit from to then c.items.cutter c.cut.new.self (Ok (cuts.Command c.in-Ok-Command.text c.in-Ok-Command.shown c.in-Ok-Command.line)) old mid new held sink now c.items.tally c.answer_command-answered.new.tally begun c.items.invariant.between cut kept
+          (λ script place suffix stands item. goes_on c.args.session.now.limit script old mid new held sink now place suffix c.items.tally c.answer_command-answered.new.tally c.in-Ok-Command.text.items c.in-Ok-Command.shown c.in-Ok-Command.line stands item.0 answered);
       session = c.answer_command-answered.ensures.session ∙ c.items.invariant.session;
     }
 
@@ -57,7 +57,7 @@ returns-in-Err g c =
     let old : StoreView = g.T.Store.view c.args.store.now in
     let held : SinkView = g.K.Sink.view c.args.out.now in
     let mid : StoreView = g.T.Store.view c.items.store in
-    let told : SinkView = g.K.Sink.view c.items.out in
+    let sink : SinkView = g.K.Sink.view c.items.out in
     let from : SourceView = g.S.Source.view c.args.script.now in
     let to : SourceView = g.S.Source.view c.items.script in
     let then : SourceView = g.S.Source.view c.cut.new.from in
@@ -66,7 +66,7 @@ returns-in-Err g c =
     let cut : HasCut c.items.cutter to (Ok (cuts.Command c.in-Ok-Command.text c.in-Ok-Command.shown c.in-Ok-Command.line)) c.cut.new.self then = rw c.in-Ok-Command.field-0-is at c.in-Ok-Command.ensures.cut in
     let begun : c.items.cutter.over ≡ false = begun_of c.items.cutter.over _ c.in-Ok-Command.ensures.again (λ is. cc) in
     let kept : then.faults ≡ to.faults = c.in-Ok-Command.ensures.faults in
-    let answered : (ledger : Ledger) → IfSome mid.files (Stores ledger) → HasAnswered c.args.session.now.limit ledger mid c.in-Ok-Command.text.items c.in-Ok-Command.shown c.in-Ok-Command.line told c.items.tally (Err c.in-Err.fault) new now c.answer_command-answered.new.tally =
+    let answered : (ledger : Ledger) → IfSome mid.files (Stores ledger) → HasAnswered c.args.session.now.limit ledger mid c.in-Ok-Command.text.items c.in-Ok-Command.shown c.in-Ok-Command.line sink c.items.tally (Err c.in-Err.fault) new now c.answer_command-answered.new.tally =
     λ ledger is. record {
       result = c.answer_command-answered.result.answer;
       printed = c.answer_command-answered.result.printed;
@@ -74,21 +74,21 @@ returns-in-Err g c =
       sends = c.in-Err.ensures;
       adds = c.answer_command-answered.ensures.counts;
     } in
-    between_ends c.args.session.now.limit from to then c.items.cutter c.cut.new.self (Ok (cuts.Command c.in-Ok-Command.text c.in-Ok-Command.shown c.in-Ok-Command.line)) old mid new held told now c.items.tally c.stop_status.result begun c.items.invariant.between cut kept
-    (λ gave more place suffix stands item source. inr (inl (stops c.args.session.now.limit _ from then old mid new held told now place suffix c.items.tally c.answer_command-answered.new.tally c.in-Ok-Command.text.items c.in-Ok-Command.shown c.in-Ok-Command.line c.in-Err.fault c.stop_status.result stands item.0 answered source c.stop_status.ensures)))
+    between_ends c.args.session.now.limit from to then c.items.cutter c.cut.new.self (Ok (cuts.Command c.in-Ok-Command.text c.in-Ok-Command.shown c.in-Ok-Command.line)) old mid new held sink now c.items.tally c.stop_status.result begun c.items.invariant.between cut kept
+    (λ gave more place suffix stands item source. inr (inl (stops c.args.session.now.limit _ from then old mid new held sink now place suffix c.items.tally c.answer_command-answered.new.tally c.in-Ok-Command.text.items c.in-Ok-Command.shown c.in-Ok-Command.line c.in-Err.fault c.stop_status.result stands item.0 answered source c.stop_status.ensures)))
 
 pub returns-in-Ok-End : goal.returns-in-Ok-End
 returns-in-Ok-End g c =
     let old : StoreView = g.T.Store.view c.args.store.now in
     let held : SinkView = g.K.Sink.view c.args.out.now in
     let mid : StoreView = g.T.Store.view c.items.store in
-    let told : SinkView = g.K.Sink.view c.items.out in
+    let sink : SinkView = g.K.Sink.view c.items.out in
     let from : SourceView = g.S.Source.view c.args.script.now in
     let to : SourceView = g.S.Source.view c.items.script in
     let then : SourceView = g.S.Source.view c.cut.new.from in
     let cut : HasCut c.items.cutter to (Ok cuts.End) c.cut.new.self then = rw c.in-Ok-End.field-0-is at c.in-Ok-End.ensures.cut in
     let kept : then.faults ≡ to.faults = c.in-Ok-End.ensures.faults in
-    between_end c.args.session.now.limit c.items.cutter.over from to then c.items.cutter c.cut.new.self old mid held told c.items.tally c.status.result refl c.items.invariant.between cut kept (λ over. ap (λ s. g.S.Source.view s) (c.in-Ok-End.ensures.again over).1.1) c.status.ensures
+    between_end c.args.session.now.limit c.items.cutter.over from to then c.items.cutter c.cut.new.self old mid held sink c.items.tally c.status.result refl c.items.invariant.between cut kept (λ over. ap (λ s. g.S.Source.view s) (c.in-Ok-End.ensures.again over).1.1) c.status.ensures
 
 pub items-smaller : goal.items-smaller
 items-smaller g c =
@@ -102,7 +102,7 @@ items-preserved g c =
     let old : StoreView = g.T.Store.view c.args.store.now in
     let held : SinkView = g.K.Sink.view c.args.out.now in
     let mid : StoreView = g.T.Store.view c.items.store in
-    let told : SinkView = g.K.Sink.view c.items.out in
+    let sink : SinkView = g.K.Sink.view c.items.out in
     let from : SourceView = g.S.Source.view c.args.script.now in
     let to : SourceView = g.S.Source.view c.items.script in
     let then : SourceView = g.S.Source.view c.cut.new.from in
@@ -111,8 +111,8 @@ items-preserved g c =
     let begun : c.items.cutter.over ≡ false = begun_of c.items.cutter.over _ c.in-Err-Long.ensures.again (λ is. cc) in
     let kept : then.faults ≡ to.faults = rw c.in-Err-Long.field-0-is at c.in-Err-Long.ensures.faults in
     record {
-      between = between_next c.args.session.now.limit from to then c.items.cutter c.cut.new.self (Err (cut_faults.Long c.in-Err-Long.line)) old mid mid held told now c.items.tally c.hand_over_fault.new.tally begun c.items.invariant.between cut kept
-          (λ script place suffix stands (text, ended, next, long). refuses c.args.session.now.limit script old mid held told now place suffix c.items.tally c.hand_over_fault.new.tally (record { text = text; line = c.in-Err-Long.line; ended = ended }) (faults.Long 65536) stands next
+      between = between_next c.args.session.now.limit from to then c.items.cutter c.cut.new.self (Err (cut_faults.Long c.in-Err-Long.line)) old mid mid held sink now c.items.tally c.hand_over_fault.new.tally begun c.items.invariant.between cut kept
+          (λ script place suffix stands (text, ended, next, long). refuses c.args.session.now.limit script old mid held sink now place suffix c.items.tally c.hand_over_fault.new.tally (record { text = text; line = c.in-Err-Long.line; ended = ended }) (faults.Long 65536) stands next
           (λ ledger. long_step c.args.session.now.limit ended ledger mid place text c.in-Err-Long.line suffix next long) c.in-Ok-hand_over_fault.ensures.sent c.in-Ok-hand_over_fault.ensures.counts);
       session = c.items.invariant.session;
     }
@@ -122,7 +122,7 @@ returns-in-Err-hand_over_fault g c =
     let old : StoreView = g.T.Store.view c.args.store.now in
     let held : SinkView = g.K.Sink.view c.args.out.now in
     let mid : StoreView = g.T.Store.view c.items.store in
-    let told : SinkView = g.K.Sink.view c.items.out in
+    let sink : SinkView = g.K.Sink.view c.items.out in
     let from : SourceView = g.S.Source.view c.args.script.now in
     let to : SourceView = g.S.Source.view c.items.script in
     let then : SourceView = g.S.Source.view c.cut.new.from in
@@ -130,8 +130,8 @@ returns-in-Err-hand_over_fault g c =
     let cut : HasCut c.items.cutter to (Err (cut_faults.Long c.in-Err-Long.line)) c.cut.new.self then = rw c.in-Err-Long.field-0-is at c.in-Err-Long.ensures.cut in
     let begun : c.items.cutter.over ≡ false = begun_of c.items.cutter.over _ c.in-Err-Long.ensures.again (λ is. cc) in
     let kept : then.faults ≡ to.faults = rw c.in-Err-Long.field-0-is at c.in-Err-Long.ensures.faults in
-    between_ends c.args.session.now.limit from to then c.items.cutter c.cut.new.self (Err (cut_faults.Long c.in-Err-Long.line)) old mid mid held told now c.items.tally c.stop_status-in-Err-hand_over_fault.result begun c.items.invariant.between cut kept
-    (λ gave more place suffix stands (text, ended, next, long) source. inr (inl (refuses_stop c.args.session.now.limit _ from then old mid held told now place suffix c.items.tally (record { text = text; line = c.in-Err-Long.line; ended = ended }) (faults.Long 65536) c.in-Err-hand_over_fault.fault c.stop_status-in-Err-hand_over_fault.result stands next
+    between_ends c.args.session.now.limit from to then c.items.cutter c.cut.new.self (Err (cut_faults.Long c.in-Err-Long.line)) old mid mid held sink now c.items.tally c.stop_status-in-Err-hand_over_fault.result begun c.items.invariant.between cut kept
+    (λ gave more place suffix stands (text, ended, next, long) source. inr (inl (refuses_stop c.args.session.now.limit _ from then old mid held sink now place suffix c.items.tally (record { text = text; line = c.in-Err-Long.line; ended = ended }) (faults.Long 65536) c.in-Err-hand_over_fault.fault c.stop_status-in-Err-hand_over_fault.result stands next
     (λ ledger. long_step c.args.session.now.limit ended ledger mid place text c.in-Err-Long.line suffix next long) c.in-Err-hand_over_fault.ensures.sent source c.stop_status-in-Err-hand_over_fault.ensures)))
 
 pub returns-in-Err-Syntax : goal.returns-in-Err-Syntax
@@ -139,7 +139,7 @@ returns-in-Err-Syntax g c =
     let old : StoreView = g.T.Store.view c.args.store.now in
     let held : SinkView = g.K.Sink.view c.args.out.now in
     let mid : StoreView = g.T.Store.view c.items.store in
-    let told : SinkView = g.K.Sink.view c.items.out in
+    let sink : SinkView = g.K.Sink.view c.items.out in
     let from : SourceView = g.S.Source.view c.args.script.now in
     let to : SourceView = g.S.Source.view c.items.script in
     let then : SourceView = g.S.Source.view c.cut.new.from in
@@ -147,14 +147,14 @@ returns-in-Err-Syntax g c =
     let cut : HasCut c.items.cutter to (Err (cut_faults.Syntax c.in-Err-Syntax.line c.in-Err-Syntax.len)) c.cut.new.self then = rw c.in-Err-Syntax.field-0-is at c.in-Err-Syntax.ensures.cut in
     let begun : c.items.cutter.over ≡ false = begun_of c.items.cutter.over _ c.in-Err-Syntax.ensures.again (λ is. cc) in
     let kept : then.faults ≡ to.faults = rw c.in-Err-Syntax.field-0-is at c.in-Err-Syntax.ensures.faults in
-    between_finishes c.args.session.now.limit from to then c.items.cutter c.cut.new.self c.in-Err-Syntax.line c.in-Err-Syntax.len old mid held told now c.items.tally c.finish.result begun c.items.invariant.between cut kept c.finish.ensures
+    between_finishes c.args.session.now.limit from to then c.items.cutter c.cut.new.self c.in-Err-Syntax.line c.in-Err-Syntax.len old mid held sink now c.items.tally c.finish.result begun c.items.invariant.between cut kept c.finish.ensures
 
 pub returns-in-Err-ScriptLimit : goal.returns-in-Err-ScriptLimit
 returns-in-Err-ScriptLimit g c =
     let old : StoreView = g.T.Store.view c.args.store.now in
     let held : SinkView = g.K.Sink.view c.args.out.now in
     let mid : StoreView = g.T.Store.view c.items.store in
-    let told : SinkView = g.K.Sink.view c.items.out in
+    let sink : SinkView = g.K.Sink.view c.items.out in
     let from : SourceView = g.S.Source.view c.args.script.now in
     let to : SourceView = g.S.Source.view c.items.script in
     let then : SourceView = g.S.Source.view c.cut.new.from in
@@ -162,32 +162,32 @@ returns-in-Err-ScriptLimit g c =
     let cut : HasCut c.items.cutter to (Err (cut_faults.ScriptLimit c.in-Err-ScriptLimit.line)) c.cut.new.self then = rw c.in-Err-ScriptLimit.field-0-is at c.in-Err-ScriptLimit.ensures.cut in
     let begun : c.items.cutter.over ≡ false = begun_of c.items.cutter.over _ c.in-Err-ScriptLimit.ensures.again (λ is. cc) in
     let kept : then.faults ≡ to.faults = rw c.in-Err-ScriptLimit.field-0-is at c.in-Err-ScriptLimit.ensures.faults in
-    between_limit c.args.session.now.limit from to then c.items.cutter c.cut.new.self c.in-Err-ScriptLimit.line old mid held told now c.items.tally c.finish-in-Err-ScriptLimit.result begun c.items.invariant.between cut kept c.finish-in-Err-ScriptLimit.ensures
+    between_limit c.args.session.now.limit from to then c.items.cutter c.cut.new.self c.in-Err-ScriptLimit.line old mid held sink now c.items.tally c.finish-in-Err-ScriptLimit.result begun c.items.invariant.between cut kept c.finish-in-Err-ScriptLimit.ensures
 
 pub returns-in-Err-Failed : goal.returns-in-Err-Failed
 returns-in-Err-Failed g c =
     let old : StoreView = g.T.Store.view c.args.store.now in
     let held : SinkView = g.K.Sink.view c.args.out.now in
     let mid : StoreView = g.T.Store.view c.items.store in
-    let told : SinkView = g.K.Sink.view c.items.out in
+    let sink : SinkView = g.K.Sink.view c.items.out in
     let from : SourceView = g.S.Source.view c.args.script.now in
     let to : SourceView = g.S.Source.view c.items.script in
     let then : SourceView = g.S.Source.view c.cut.new.from in
     let cut : HasCut c.items.cutter to (Err cut_faults.Failed) c.cut.new.self then = rw c.in-Err-Failed.field-0-is at c.in-Err-Failed.ensures.cut in
     let begun : c.items.cutter.over ≡ false = begun_of c.items.cutter.over _ c.in-Err-Failed.ensures.again (λ is. cc) in
     let counts : CountsFault true to.faults then.faults = rw c.in-Err-Failed.field-0-is at c.in-Err-Failed.ensures.faults in
-    between_failed c.args.session.now.limit from to then c.items.cutter c.cut.new.self old mid held told c.items.tally begun c.items.invariant.between cut counts.1
+    between_failed c.args.session.now.limit from to then c.items.cutter c.cut.new.self old mid held sink c.items.tally begun c.items.invariant.between cut counts.1
 
 pub returns-in-Err-Memory : goal.returns-in-Err-Memory
 returns-in-Err-Memory g c =
     let old : StoreView = g.T.Store.view c.args.store.now in
     let held : SinkView = g.K.Sink.view c.args.out.now in
     let mid : StoreView = g.T.Store.view c.items.store in
-    let told : SinkView = g.K.Sink.view c.items.out in
+    let sink : SinkView = g.K.Sink.view c.items.out in
     let from : SourceView = g.S.Source.view c.args.script.now in
     let to : SourceView = g.S.Source.view c.items.script in
     let then : SourceView = g.S.Source.view c.cut.new.from in
     let cut : HasCut c.items.cutter to (Err cut_faults.Memory) c.cut.new.self then = rw c.in-Err-Memory.field-0-is at c.in-Err-Memory.ensures.cut in
     let begun : c.items.cutter.over ≡ false = begun_of c.items.cutter.over _ c.in-Err-Memory.ensures.again (λ is. cc) in
     let kept : then.faults ≡ to.faults = rw c.in-Err-Memory.field-0-is at c.in-Err-Memory.ensures.faults in
-    between_memory c.args.session.now.limit from to then c.items.cutter c.cut.new.self old mid held told c.items.tally begun c.items.invariant.between cut kept
+    between_memory c.args.session.now.limit from to then c.items.cutter c.cut.new.self old mid held sink c.items.tally begun c.items.invariant.between cut kept

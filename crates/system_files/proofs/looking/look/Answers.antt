@@ -13,4 +13,4 @@ returns-clause-loads g c =
     let old : StoreView = g.T.Store.view c.args.store.now in
     let new : StoreView = g.T.Store.view c.read.new.store in
     let one : FoundText = found_view c.in_ok-found.found in
-    rw (c.in_ok-add.ensures.ok, c.in_ok-add.ensures.place) (looked c.args.name c.args.texts.now one old new c.in_ok-found.found c.in_ok-found.ensures.gives.0 c.in_ok-found.ensures.told c.in_ok-found.ensures.has_read)
+    rw (c.in_ok-add.ensures.ok, c.in_ok-add.ensures.place) (looked c.args.name c.args.texts.now one old new c.in_ok-found.found c.in_ok-found.ensures.gives.0 c.in_ok-found.ensures.reported c.in_ok-found.ensures.has_read)
