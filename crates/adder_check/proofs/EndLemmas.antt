@@ -7,7 +7,7 @@ use Rattle.digit_tuple.specs.declared.transitions.Transition.{Transition}
 use Rattle.digit_tuple.specs.Deterministic.{Automaton, states_of, transitions_of, step_of, accepting_of, accepts_from}
 use Rattle.digit_tuple.proofs.MemberLemmas.{list_any-contains, contains_from_list_any}
 use Rattle.minimise.specs.Canonical.{IsCanonical}
-use Rattle.adder_check.specs.Links.{TellsZero, IsEnd}
+use Rattle.adder_check.specs.Links.{IgnoresZero, IsEnd}
 use Rattle.adder_check.proofs.ZeroLemmas.{one_state, step_within, accepted_step, accepts_from-step}
 use Rattle.adder_check.proofs.LiveLemmas.{Reaches, Misses, reaches_or_misses, step_of_transition, transition_there, live_after}
 use Rattle.adder_check.proofs.RoundLemmas.{run_of-step}
@@ -64,7 +64,7 @@ module _ (d : Automaton) where
     bare_next : (q a p : ℕ) → IsBare q → step_of d q a ≡ Some p → IsBare p
     bare_next q a p bare leads v r led = bare (a ∷ v) r (run_of-step d q a p v leads ∙ led)
 
-    module _ (tells : (q : ℕ) → q < states_of d → TellsZero d q) where
+    module _ (tells : (q : ℕ) → q < states_of d → IgnoresZero d q) where
       bare_accepts : (v : List ℕ) (q : ℕ) → q < states_of d → IsBare q → accepts_from d q v ≡ true → accepting_of d q ≡ true
       bare_accepts [] q within bare accepted = accepted
       bare_accepts (zero ∷ v) q within bare accepted =

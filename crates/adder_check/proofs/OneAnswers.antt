@@ -13,7 +13,7 @@ use Rattle.adder_check.specs.declared.admit_fault.AdmitFault.{AdmitFault}
 use Rattle.adder_check.specs.declared.admit_fault.AdmitFault.TheVariants as faults
 use Rattle.adder_check.specs.declared.admit_fault.Law.{Law}
 use Rattle.adder_check.specs.Admission.{Where, IsThrough}
-use Rattle.adder_check.specs.Faults.{Lifted, TellsSame, fault_of}
+use Rattle.adder_check.specs.Faults.{Lifted, DecidesSame, fault_of}
 
 -- computations one after another, of which the next has one answer where this is true of what the first makes
 module _ {A B E : Type 0} (memory : E) (first : StepLog → Result A E → StepLog → Type 0) (next : A → StepLog → Result B E → StepLog → Type 0) (Holds : A → Type 0) where
@@ -43,10 +43,10 @@ module _ {A : Type 0} (does : StepLog → Result A StepFault → StepLog → Typ
       (raised_one fault_of steps.Memory m n e f (one old m n (Err e) (Err f) one_does also)))
 
 -- whether two are the same is reported in one way
-pub tells_one : (a b : Automaton) → HasOneAnswer steps.Memory (TellsSame a b)
-tells_one a b old m n (Ok is) (Ok also) one other = inl (ap (λ x. Ok x) (same_tests is also ((λ t. other.0.1 (one.0.0 t)), (λ t. one.0.1 (other.0.0 t)))), one.1 ∙ sym other.1)
-tells_one a b old m n (Ok is) (Err f) one other = absurd other
-tells_one a b old m n (Err e) s one other = absurd one
+pub decides_one : (a b : Automaton) → HasOneAnswer steps.Memory (DecidesSame a b)
+decides_one a b old m n (Ok is) (Ok also) one other = inl (ap (λ x. Ok x) (same_tests is also ((λ t. other.0.1 (one.0.0 t)), (λ t. one.0.1 (other.0.0 t)))), one.1 ∙ sym other.1)
+decides_one a b old m n (Ok is) (Err f) one other = absurd other
+decides_one a b old m n (Err e) s one other = absurd one
 
 pub where_one : {B : Type 0} (holds : Bool) (law : Law) (next : StepLog → Result B AdmitFault → StepLog → Type 0) → HasOneAnswer faults.Memory next → HasOneAnswer faults.Memory (Where holds law next)
 where_one true law next one old m n r s does also = one old m n r s does also

@@ -27,13 +27,13 @@ use Rattle.automaton_steps.proofs.StepAnswers.{step_one}
 use Rattle.automaton_steps.proofs.ThenAnswers.{then_one, gives_one}
 use Rattle.adder_check.specs.AdderRelation.{DoesAdder, adder_names, name_z}
 use Rattle.adder_check.specs.BothForSome.{DoesBothForSome}
-use Rattle.adder_check.specs.Faults.{TellsSame}
+use Rattle.adder_check.specs.Faults.{DecidesSame}
 use Rattle.adder_check.specs.LanguageLaws.{system_of}
 use Rattle.adder_check.specs.LanguageSteps.{DoesFile, DoesReversal}
 use Rattle.adder_check.specs.NextSums.{DoesNextSums, sum_on, name_v, name_w}
 use Rattle.adder_check.specs.SuccessorPlan.{DoesSuccessor, chain_step, next_step}
 use Rattle.adder_check.specs.ZeroSums.{DoesZeroLaw, on_y}
-use Rattle.adder_check.proofs.OneAnswers.{tells_one}
+use Rattle.adder_check.proofs.OneAnswers.{decides_one}
 use Rattle.adder_check.proofs.SameHolds.{same_holds}
 
 reversal_one : (reversed : Bool) (read : Automaton) → HasOneAnswer Memory (DoesReversal reversed read)
@@ -66,7 +66,7 @@ pub next_sums_one : (direction : Direction) (adder next : Automaton) → HasOneA
 next_sums_one direction adder next =
     then_one Memory (DoesBothForSome direction name_v (order_on next name_y name_v) (sum_on adder name_x name_v name_z)) _ (both_one direction name_v (order_on next name_y name_v) (sum_on adder name_x name_v name_z))
     (λ with_next. then_one Memory (DoesBothForSome direction name_w (sum_on adder name_x name_y name_w) (order_on next name_w name_z)) _
-    (both_one direction name_w (sum_on adder name_x name_y name_w) (order_on next name_w name_z)) (λ of_sums. tells_one with_next.automaton of_sums.automaton))
+    (both_one direction name_w (sum_on adder name_x name_y name_w) (order_on next name_w name_z)) (λ of_sums. decides_one with_next.automaton of_sums.automaton))
 
 -- canonical automata that hold of one relation are one
 one_automaton : (direction : Direction) (ss : List System) → AreSystems ss → (P : List ℕ → Type 0) (d e : Automaton) → IsCanonical d → IsCanonical e → HoldsOf direction ss P d → HoldsOf direction ss P e → d ≡ e
@@ -76,9 +76,9 @@ pub zero_law_one : (direction : Direction) (d : Automaton) (adder : NamedAutomat
 zero_law_one direction d adder system old m n r s (inl ran_out) also = inr (inl ran_out.0)
 zero_law_one direction d adder system old m n r s (inr does) (inl ran_out) = inr (inr ran_out.0)
 zero_law_one direction d adder system old m n r s (inr (zero, equal, are, does)) (inr (nothing, same, also_are, also)) =
-    then_one Memory (DoesBothForSome direction name_y adder (on_y zero)) (λ sums. TellsSame sums.automaton equal) (both_one direction name_y adder (on_y zero)) (λ sums. tells_one sums.automaton equal) old m n r s does
-    (subst (λ (z : Automaton). Then (DoesBothForSome direction name_y adder (on_y z)) (λ sums. TellsSame sums.automaton equal) old s n) (sym zeros)
-    (subst (λ (e : Automaton). Then (DoesBothForSome direction name_y adder (on_y nothing)) (λ sums. TellsSame sums.automaton e) old s n) (sym equals) also))
+    then_one Memory (DoesBothForSome direction name_y adder (on_y zero)) (λ sums. DecidesSame sums.automaton equal) (both_one direction name_y adder (on_y zero)) (λ sums. decides_one sums.automaton equal) old m n r s does
+    (subst (λ (z : Automaton). Then (DoesBothForSome direction name_y adder (on_y z)) (λ sums. DecidesSame sums.automaton equal) old s n) (sym zeros)
+    (subst (λ (e : Automaton). Then (DoesBothForSome direction name_y adder (on_y nothing)) (λ sums. DecidesSame sums.automaton e) old s n) (sym equals) also))
   where
     zeros : zero ≡ nothing
     zeros = one_automaton direction (system_of direction d ∷ []) (system, tt) IsZero zero nothing are.zero_canonical also_are.zero_canonical are.zero_is also_are.zero_is

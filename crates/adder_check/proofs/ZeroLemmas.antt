@@ -12,7 +12,7 @@ use Rattle.determinise.proofs.ReversalLemmas.{accepts_from-run, run_of-in_range,
 use Rattle.minimise.specs.Residuals.{SameResidual}
 use Rattle.minimise.specs.Canonical.{IsCanonical}
 use Rattle.adder_check.specs.LanguageLaws.{KeepsZeros, language_in}
-use Rattle.adder_check.specs.Links.{TellsZero}
+use Rattle.adder_check.specs.Links.{IgnoresZero}
 
 -- letters lead to states
 pub step_within : (d : Automaton) → IsTable (letters_of d) d.states → (p a q : ℕ) → p < states_of d → step_of d p a ≡ Some q → q < states_of d
@@ -70,20 +70,20 @@ module _ (d : Automaton) (canonical : IsCanonical d) where
       leads = first.1 ∙ ap Some (one_state first.0 0 (step_within d canonical.table 0 0 first.0 canonical.table.initial first.1) canonical.table.initial same)
 
   -- the most significant digit last: the initial state accepts, and from each state 0 alone is accepted where nothing is
-  zero_pushed : ((q : ℕ) → q < states_of d → TellsZero d q) → (w : List ℕ) → accepts_of d (w ++ 0 ∷ []) ≡ accepts_of d w
+  zero_pushed : ((q : ℕ) → q < states_of d → IgnoresZero d q) → (w : List ℕ) → accepts_of d (w ++ 0 ∷ []) ≡ accepts_of d w
   zero_pushed tells w = accepts_from-append d 0 w (0 ∷ []) ∙ by (run_of d 0 w) refl ∙ sym (accepts_from-run d 0 w)
     where
       by : (o : Option ℕ) → run_of d 0 w ≡ o → option_map_or (λ p. accepts_from d p (0 ∷ [])) o false ≡ option_map_or (accepting_of d) o false
       by None leads = refl
       by (Some p) leads = tells p (run_of-in_range d canonical.table w 0 p canonical.table.initial leads)
 
-  pub keeps_last : accepting_of d 0 ≡ true → ((q : ℕ) → q < states_of d → TellsZero d q) → KeepsZeros (language_in Lsd d)
+  pub keeps_last : accepting_of d 0 ≡ true → ((q : ℕ) → q < states_of d → IgnoresZero d q) → KeepsZeros (language_in Lsd d)
   keeps_last accepts tells = record {
     empty = accepts;
     zeros = λ w. let same : language_in Lsd d (0 ∷ w) ≡ language_in Lsd d w = ap (accepts_of d) (reverse-cons 0 w) ∙ zero_pushed tells (reverse w) in ((λ t. sym same ∙ t), (λ t. same ∙ t));
   }
 
-  pub kept_last : KeepsZeros (language_in Lsd d) → (q : ℕ) → q < states_of d → TellsZero d q
+  pub kept_last : KeepsZeros (language_in Lsd d) → (q : ℕ) → q < states_of d → IgnoresZero d q
   kept_last keeps q within =
       sym (accepts_from-run_to d 0 q u (0 ∷ []) lead)
       ∙ ap (accepts_of d) (sym (reverse-cons 0 (reverse u) ∙ ap (λ (x : List ℕ). x ++ 0 ∷ []) (reverse-reverse u)))

@@ -19,5 +19,5 @@ Lifted does old (Ok a) new = does old (Ok a) new
 Lifted does old (Err fault) new = (f : StepFault) × does old (Err f) new × (fault ≡ fault_of f)
 
 -- whether the two have one language, which is no step
-abbrev pub TellsSame : Automaton → Automaton → StepLog → Result Bool StepFault → StepLog → Type 0
-TellsSame one other old result new = MatchResult result (λ are. (IsTrue are ↔ SameLanguage one other) × (new ≡ old)) (λ _. ⊥)
+abbrev pub DecidesSame : Automaton → Automaton → StepLog → Result Bool StepFault → StepLog → Type 0
+DecidesSame one other old result new = MatchResult result (λ are. (IsTrue are ↔ SameLanguage one other) × (new ≡ old)) (λ _. ⊥)

@@ -3,8 +3,8 @@ use Rattle.std.specs.Prelude.{◌≡◌, ℕ, suc, ◌<◌, Bool, true, [], ◌�
 use Rattle.digit_tuple.specs.Deterministic.{Automaton, states_of, step_of, accepting_of, accepts_from}
 
 -- the word of one zero is accepted from the state if and only if the empty word is
-abbrev pub TellsZero : Automaton → ℕ → Type 0
-TellsZero d q = accepts_from d q (0 ∷ []) ≡ accepting_of d q
+abbrev pub IgnoresZero : Automaton → ℕ → Type 0
+IgnoresZero d q = accepts_from d q (0 ∷ []) ≡ accepting_of d q
 
 -- the letter leads from p to q, and is not the zero of the state z
 abbrev pub IsLink : Automaton → ℕ → ℕ → ℕ → ℕ → Type 0

@@ -9,7 +9,7 @@ use Rattle.minimise.specs.Tracked.{NamedAutomaton}
 use Rattle.num_system.specs.SuccessorSteps.{name_x, name_y, order_on}
 use Rattle.adder_check.specs.AdderRelation.{name_z}
 use Rattle.adder_check.specs.BothForSome.{DoesBothForSome}
-use Rattle.adder_check.specs.Faults.{TellsSame}
+use Rattle.adder_check.specs.Faults.{DecidesSame}
 
 -- the names of tracks, v and w
 abbrev pub name_v : List ℕ
@@ -28,7 +28,7 @@ abbrev pub DoesNextSums : Direction → Automaton → Automaton → StepLog → 
 DoesNextSums direction adder next =
     Then (DoesBothForSome direction name_v (order_on next name_y name_v) (sum_on adder name_x name_v name_z)) (λ with_next.
     Then (DoesBothForSome direction name_w (sum_on adder name_x name_y name_w) (order_on next name_w name_z)) (λ of_sums.
-    TellsSame with_next.automaton of_sums.automaton))
+    DecidesSame with_next.automaton of_sums.automaton))
 
 -- the third number is a sum of the first with one more than the second
 abbrev pub IsSumWithNext : (List ℕ → Bool) → List ℕ → Type 0

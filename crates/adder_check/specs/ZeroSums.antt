@@ -12,7 +12,7 @@ use Rattle.numeration.specs.Relations.{IsZeroOf, IsEqualityOf}
 use Rattle.numeration.specs.Systems.{System}
 use Rattle.num_system.specs.SuccessorSteps.{name_y}
 use Rattle.adder_check.specs.BothForSome.{DoesBothForSome}
-use Rattle.adder_check.specs.Faults.{TellsSame}
+use Rattle.adder_check.specs.Faults.{DecidesSame}
 use Rattle.adder_check.specs.LanguageLaws.{system_of}
 
 -- the automaton on the one track y
@@ -31,7 +31,7 @@ abbrev pub DoesZeroLaw : Direction → Automaton → NamedAutomaton → StepLog 
 DoesZeroLaw direction d adder old result new =
     ((result ≡ Err steps.Memory) × (new ≡ old))
     ⊎ ((zero : Automaton) × (equal : Automaton) × AreZeroAndEquality direction (system_of direction d) zero equal
-    × Then (DoesBothForSome direction name_y adder (on_y zero)) (λ sums. TellsSame sums.automaton equal) old result new)
+    × Then (DoesBothForSome direction name_y adder (on_y zero)) (λ sums. DecidesSame sums.automaton equal) old result new)
 
 -- the second number is a sum of the first with 0
 abbrev pub IsZeroSum : (List ℕ → Bool) → List ℕ → Type 0

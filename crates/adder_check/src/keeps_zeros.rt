@@ -4,7 +4,7 @@ ghost use Rattle.std.specs.Prelude.{◌≡◌, ◌<◌, ◌↔◌, IsTrue};
 ghost use Rattle.digit_tuple.specs.Deterministic.{states_of};
 ghost use Rattle.minimise.specs.Canonical.{IsCanonical};
 ghost use Rattle.adder_check.specs.LanguageLaws.{KeepsZeros, language_in};
-ghost use Rattle.adder_check.specs.Links.{TellsZero};
+ghost use Rattle.adder_check.specs.Links.{IgnoresZero};
 
 use digit_tuple::dfa::Dfa;
 use digit_tuple::direction::Direction;
@@ -39,7 +39,7 @@ fn keeps_last_zeros(language: &Dfa) -> bool
         return false;
     }
     for state in 0..language.states() {
-        if !tells_zero(language, state) {
+        if !ignores_zero(language, state) {
             return false;
         }
     }
@@ -47,9 +47,9 @@ fn keeps_last_zeros(language: &Dfa) -> bool
 }
 
 // Whether the word of one zero is accepted from the state if and only if the empty word is.
-fn tells_zero(language: &Dfa, state: u32) -> bool
+fn ignores_zero(language: &Dfa, state: u32) -> bool
     requires within { state < states_of language.now }
-    ensures { IsTrue result ↔ TellsZero language.now state }
+    ensures { IsTrue result ↔ IgnoresZero language.now state }
 {
     let zero = match language.step(state, 0) {
         Some(next) => language.accepting(next),

@@ -9,7 +9,7 @@ use Rattle.fib_system.specs.Fibonacci.{is_sparse, begins_with_1, fibonacci}
 use Rattle.fib_system.proofs.SparseLemmas.{sparse_in_order}
 
 -- an automaton of two states, which are distinguished by the last digit
-pub record TellsLast (d : Automaton) : Type 0 where
+pub record KnowsLastDigit (d : Automaton) : Type 0 where
   pub accepting : (q : ℕ) → q < 2 → accepting_of d q ≡ true
   pub zero_stays : step_of d 0 0 ≡ Some 0
   pub one_leads : step_of d 0 1 ≡ Some 1
@@ -18,7 +18,7 @@ pub record TellsLast (d : Automaton) : Type 0 where
   pub others_stop : (q a : ℕ) → q < 2 → step_of d q (suc (suc a)) ≡ None
 
 -- it accepts the words without 11
-sparse_accepted : (d : Automaton) (w : List ℕ) → TellsLast d → (accepts_from d 0 w ≡ is_sparse w) × (accepts_from d 1 w ≡ is_sparse (1 ∷ w))
+sparse_accepted : (d : Automaton) (w : List ℕ) → KnowsLastDigit d → (accepts_from d 0 w ≡ is_sparse w) × (accepts_from d 1 w ≡ is_sparse (1 ∷ w))
 sparse_accepted d [] tells = (tells.accepting 0 (omega arith), tells.accepting 1 (omega arith))
 sparse_accepted d (a ∷ w) tells = by a (sparse_accepted d w tells)
   where
@@ -33,7 +33,7 @@ sparse_accepted d (a ∷ w) tells = by a (sparse_accepted d w tells)
       ap to (tells.others_stop 1 b (omega arith)) ∙ sym (and_right (not (begins_with_1 (suc (suc b) ∷ w))) false refl),
     )
 
-pub language_holds : (direction : Direction) (d : Automaton) → d.sizes ≡ 2 ∷ [] → TellsLast d → IsLanguageOf direction fibonacci d
+pub language_holds : (direction : Direction) (d : Automaton) → d.sizes ≡ 2 ∷ [] → KnowsLastDigit d → IsLanguageOf direction fibonacci d
 language_holds direction d sizes tells = record {
   sizes = sizes;
   accepts = λ w. (sparse_accepted d w tells).0 ∙ sym (sparse_in_order direction w);
@@ -54,7 +54,7 @@ accept sizes (suc zero) small = refl
 accept sizes (suc (suc q)) small = absurd (omega (arith, small))
 
 -- what two states become that are given three transitions
-pub set_transitions : (sizes : List ℕ) (one two made : Automaton) → IsSet (two_states sizes) one 0 0 0 → IsSet one two 0 1 1 → IsSet two made 1 0 0 → TellsLast made × (made.sizes ≡ sizes)
+pub set_transitions : (sizes : List ℕ) (one two made : Automaton) → IsSet (two_states sizes) one 0 0 0 → IsSet one two 0 1 1 → IsSet two made 1 0 0 → KnowsLastDigit made × (made.sizes ≡ sizes)
 set_transitions sizes one two made first second third = (
   record {
     accepting = λ q small. third.accepting q ∙ second.accepting q ∙ first.accepting q ∙ accept sizes q small;
@@ -78,7 +78,7 @@ set_transitions sizes one two made first second third = (
 -- the same, of what the code has made
 pub built : (sizes : List ℕ) (empty one two first second made : Automaton) (zero_state one_state : ℕ) → empty ≡ record { sizes = sizes; states = [] }
     → zero_state ≡ states_of empty → one ≡ with_state empty true → one_state ≡ states_of one → two ≡ with_state one true
-    → IsSet two first zero_state 0 zero_state → IsSet first second zero_state 1 one_state → IsSet second made one_state 0 zero_state → TellsLast made × (made.sizes ≡ sizes)
+    → IsSet two first zero_state 0 zero_state → IsSet first second zero_state 1 one_state → IsSet second made one_state 0 zero_state → KnowsLastDigit made × (made.sizes ≡ sizes)
 built sizes empty one two first second made zero_state one_state empty_is zero_is one_is one_state_is two_is set_first set_second set_third =
     let start : zero_state ≡ 0 = zero_is ∙ ap (λ (d : Automaton). states_of d) empty_is in
     let with_one : one ≡ with_state (record { sizes = sizes; states = [] }) true = one_is ∙ ap (λ (d : Automaton). with_state d true) empty_is in

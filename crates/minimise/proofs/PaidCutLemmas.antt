@@ -37,9 +37,9 @@ traded a b k w lead false true here there apart =
     commuted m n = omega arith
 traded a b k w lead false false here there apart = omega (arith, ap (λ (n : ℕ). w ^ lead * n) (pow-zero k), ap (λ (n : ℕ). w ^ lead * (n * b ^ 0)) (pow-zero a), ap (λ (n : ℕ). w ^ lead * (1 * n)) (pow-zero b))
 
-module _ (states : ℕ) (leading : ℕ → ℕ) (edges largest : ℕ) (new old pending waiting : List ℕ) (class count next looks : ℕ) (made : class < count)
+module _ (states : ℕ) (leading : ℕ → ℕ) (transitions largest : ℕ) (new old pending waiting : List ℕ) (class count next looks : ℕ) (made : class < count)
     (fresh : (q : ℕ) → q < states → class_of old q < count) (given : (q : ℕ) → q < states → ((class_of new q ≡ count) × (class_of old q ≡ class)) ⊎ (class_of new q ≡ class_of old q))
-    (none : Contains pending count → ⊥) (pushed : waiting ≡ pending ++ next ∷ []) (one_of : (next ≡ count) ⊎ (next ≡ class)) (before : IsPaid states leading edges largest old pending looks) where
+    (none : Contains pending count → ⊥) (pushed : waiting ≡ pending ++ next ∷ []) (one_of : (next ≡ count) ⊎ (next ≡ class)) (before : IsPaid states leading transitions largest old pending looks) where
   abbrev worth_cut : ℕ → ℕ → ℕ → ℕ
   worth_cut a b q = if class_of new q == count then a else (if class_of new q == class then b else before.worth q)
 
@@ -115,7 +115,7 @@ module _ (states : ℕ) (leading : ℕ → ℕ) (edges largest : ℕ) (new old p
       before.waiting q small (omega (arith, above, stayed q small older)) (subst (Contains pending) (stayed q small older) (waits_other (class_of new q) older other there)),
     )
 
-    IsPaid-worth : IsPaid states leading edges largest new waiting looks
+    IsPaid-worth : IsPaid states leading transitions largest new waiting looks
     IsPaid-worth = record {
       worth = worth_cut a b;
       off = λ q small is. off q small is (cases_eq (class_of new q) class);
@@ -148,7 +148,7 @@ module _ (states : ℕ) (leading : ℕ → ℕ) (edges largest : ℕ) (new old p
       held : (q : ℕ) → q < states → class_of old q ≡ class → class_size states old class ≤ before.worth q
       held q small is = omega (arith, before.live q small (omega (arith, is, above)), ap (class_size states old) is)
 
-  pub IsPaid-cut : (0 < class → (q : ℕ) × (q < states) × (class_of old q ≡ class)) → Choice pending count class next (class_size states new count) largest (class_sum states leading new count) (class_sum states leading new class) → IsPaid states leading edges largest new waiting looks
+  pub IsPaid-cut : (0 < class → (q : ℕ) × (q < states) × (class_of old q ≡ class)) → Choice pending count class next (class_size states new count) largest (class_sum states leading new count) (class_sum states leading new class) → IsPaid states leading transitions largest new waiting looks
   IsPaid-cut has (off_sink sink is fits) = IsPaid-worth (4 * class_size states new count) (4 * largest) (λ at. omega arith) (omega arith) (λ at. omega arith) (λ above. absurd (omega (arith, above, sink))) (λ above. absurd (omega (arith, above, sink)))
       (no_more (4 * class_size states new count) (4 * largest) (λ q small at. (omega (arith, before.off q small (at ∙ sink), fits), before.off q small (at ∙ sink))))
   IsPaid-cut has (both_wait above there is) = IsPaid-worth (4 * class_size states new count) (4 * class_size states new class) (λ at. absurd (omega (arith, at, above))) (omega arith) (λ at. omega arith) (λ at. omega arith) (λ at cases. omega arith)

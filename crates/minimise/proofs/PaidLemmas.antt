@@ -37,19 +37,19 @@ exponents_le a b le = by (cases_lt b a)
     by (inr fine) = fine
     by (inl less) = absurd (omega (arith, le, pow_below b a less))
 
-module _ (states : ℕ) (leading : ℕ → ℕ) (edges largest : ℕ) where
+module _ (states : ℕ) (leading : ℕ → ℕ) (transitions largest : ℕ) where
   -- nothing is looked at yet, and all states are in the sink's class
-  pub IsPaid-none : (classes : List ℕ) → 0 < largest → sum_below states leading ≤ edges → ((q : ℕ) → q < states → class_of classes q ≡ 0) → IsPaid states leading edges largest classes [] 0
+  pub IsPaid-none : (classes : List ℕ) → 0 < largest → sum_below states leading ≤ transitions → ((q : ℕ) → q < states → class_of classes q ≡ 0) → IsPaid states leading transitions largest classes [] 0
   IsPaid-none classes some few sink = record {
     worth = λ q. 4 * largest;
     off = λ q small is. omega arith;
     live = λ q small above. absurd (omega (arith, above, sink q small));
     waiting = λ q small above there. absurd (omega (arith, above, sink q small));
-    paid = omega (arith, ap (λ (k : ℕ). 4 ^ 0 * k) (product_below-power (4 * largest) leading states), pow-zero 4, exponent_le (4 * largest) (sum_below states leading) edges (omega (arith, some)) few);
+    paid = omega (arith, ap (λ (k : ℕ). 4 ^ 0 * k) (product_below-power (4 * largest) leading states), pow-zero 4, exponent_le (4 * largest) (sum_below states leading) transitions (omega (arith, some)) few);
   }
 
   -- a pending class is taken, and all transitions to it are looked at
-  module _ (classes pending rest : List ℕ) (class looks : ℕ) (last : pending ≡ rest ++ class ∷ []) (once : Contains rest class → ⊥) (above : 0 < class) (before : IsPaid states leading edges largest classes pending looks) where
+  module _ (classes pending rest : List ℕ) (class looks : ℕ) (last : pending ≡ rest ++ class ∷ []) (once : Contains rest class → ⊥) (above : 0 < class) (before : IsPaid states leading transitions largest classes pending looks) where
     abbrev worth_taken : ℕ → ℕ
     worth_taken q = if class_of classes q == class then class_size states classes class else before.worth q
 
@@ -100,7 +100,7 @@ module _ (states : ℕ) (leading : ℕ → ℕ) (edges largest : ℕ) where
       product_below-le (λ q. 4 ^ weight q * worth_taken q ^ leading q) (λ q. before.worth q ^ leading q) states pointwise,
     )
 
-    pub IsPaid-taken : IsPaid states leading edges largest classes rest (looks + class_sum states leading classes class)
+    pub IsPaid-taken : IsPaid states leading transitions largest classes rest (looks + class_sum states leading classes class)
     IsPaid-taken = record {
       worth = worth_taken;
       off = λ q small is. omega (arith, before.off q small is, worth_off q (λ at. omega (arith, at, is, above)));
@@ -119,14 +119,14 @@ module _ (states : ℕ) (leading : ℕ → ℕ) (edges largest : ℕ) where
         assoc a b c = omega arith
 
   -- looks that are paid for are few
-  pub few_looks : (classes pending : List ℕ) (looks digits : ℕ) → 0 < largest → largest ≤ 2 ^ digits → IsPaid states leading edges largest classes pending looks → 2 * looks ≤ (2 + digits) * edges
-  few_looks classes pending looks digits some below before = exponents_le (2 * looks) ((2 + digits) * edges) (omega (arith, power_twice 2 looks, worthy, bounded, power_twice (2 + digits) edges))
+  pub few_looks : (classes pending : List ℕ) (looks digits : ℕ) → 0 < largest → largest ≤ 2 ^ digits → IsPaid states leading transitions largest classes pending looks → 2 * looks ≤ (2 + digits) * transitions
+  few_looks classes pending looks digits some below before = exponents_le (2 * looks) ((2 + digits) * transitions) (omega (arith, power_twice 2 looks, worthy, bounded, power_twice (2 + digits) transitions))
     where
       something : (q : ℕ) → q < states → (0 < class_of classes q) ⊎ (class_of classes q ≤ 0) → 0 < before.worth q ^ leading q
       something q small (inl above) = omega (arith, one-le-pow (leading q) (before.worth q) (omega (arith, before.live q small above, class_sum-has states (λ p. 1) classes q small)))
       something q small (inr none) = omega (arith, one-le-pow (leading q) (before.worth q) (omega (arith, some, before.off q small (omega (arith, none)))))
 
-      worthy : 4 ^ looks ≤ (4 * largest) ^ edges
+      worthy : 4 ^ looks ≤ (4 * largest) ^ transitions
       worthy = omega (
         arith,
         before.paid,
@@ -134,5 +134,5 @@ module _ (states : ℕ) (leading : ℕ → ℕ) (edges largest : ℕ) where
             (omega (arith, product_below-pos (λ q. before.worth q ^ leading q) states (λ q small. something q small (cases_lt 0 (class_of classes q))))),
       )
 
-      bounded : (4 * largest) ^ edges ≤ (2 ^ (2 + digits)) ^ edges
-      bounded = base_le (4 * largest) (2 ^ (2 + digits)) edges (omega (arith, below, pow-add 2 2 digits))
+      bounded : (4 * largest) ^ transitions ≤ (2 ^ (2 + digits)) ^ transitions
+      bounded = base_le (4 * largest) (2 ^ (2 + digits)) transitions (omega (arith, below, pow-add 2 2 digits))

@@ -98,7 +98,7 @@ module _ (m : Machine) (p : Partition) (was states places set : List ℕ) (class
       (omega (arith, at, found.1), omega (arith, at, found.2)))
       (λ place low high. given.there (get_or states place 0) (Contains-slice states middle last place fits low high))
 
-  module _ (edges largest looks : ℕ) (before : IsPaidFor m edges largest looks p) (few : class ≡ 0 → AreFew m largest p.classes.items set) where
+  module _ (total largest looks : ℕ) (before : IsPaidFor m total largest looks p) (few : class ≡ 0 → AreFew m largest p.classes.items set) where
     abbrev degree : ℕ → ℕ
     degree = in_degree p.reversed
 
@@ -147,6 +147,6 @@ module _ (m : Machine) (p : Partition) (was states places set : List ℕ) (class
             parted.spanned.inside class first made (omega arith) filled,
           )
 
-      pub paid_cut : IsPaid n (in_degree p.reversed) edges largest classes waiting looks
-      paid_cut = IsPaid-cut n degree edges largest classes p.classes.items p.pending waiting class count next looks made fresh moves
+      pub paid_cut : IsPaid n (in_degree p.reversed) total largest classes waiting looks
+      paid_cut = IsPaid-cut n degree total largest classes p.classes.items p.pending waiting class count next looks made fresh moves
           (λ there. omega (arith, All-contains (λ (k : ℕ). k < count) p.pending count parted.made there)) pushed (one_of decision) before.paid has (choice decision)

@@ -18,11 +18,11 @@ pub record IsCountCut (old new : List ClassSpan) (class transitions rest : ℕ) 
   pub gone : (span_of new (length old)).transitions ≡ transitions
 
 -- the transitions that lead to each class but the sink's are counted, and so many looks are paid for
-pub record IsPaidFor (m : Machine) (edges largest looks : ℕ) (p : Partition) : Type 0 where
-  pub few : sum_below (states_of m.dfa.now) (in_degree p.reversed) ≤ edges
-  pub small : edges < 2 ^ 32
+pub record IsPaidFor (m : Machine) (transitions largest looks : ℕ) (p : Partition) : Type 0 where
+  pub few : sum_below (states_of m.dfa.now) (in_degree p.reversed) ≤ transitions
+  pub small : transitions < 2 ^ 32
   pub counted : (class : ℕ) → 0 < class → class < length p.spans.items → (span_of p.spans.items class).transitions ≡ class_sum (states_of m.dfa.now) (in_degree p.reversed) p.classes.items class
-  pub paid : IsPaid (states_of m.dfa.now) (in_degree p.reversed) edges largest p.classes.items p.pending looks
+  pub paid : IsPaid (states_of m.dfa.now) (in_degree p.reversed) transitions largest p.classes.items p.pending looks
 
 -- no class of states that are all in the set and in the sink's class is larger
 abbrev pub AreFew : Machine → ℕ → List ℕ → List ℕ → Type 0

@@ -143,8 +143,8 @@ impl Partition {
         requires one { length self.old.spans.items ≡ 1 }
         ensures partition { OnOk result (IsPartition machine.now self.new) }
         ensures pending { OnOk result (AreAllPending (length self.new.spans.items) self.new.pending) }
-        ensures paid { OnOk result ((edges largest looks : ℕ) → IsPaidFor machine.now edges largest looks self.old → ((place : ℕ) → place < length parts.now → AreFew machine.now largest self.old.classes.items (transition_at parts.now place).key)
-            → IsPaidFor machine.now edges largest looks self.new) }
+        ensures paid { OnOk result ((transitions largest looks : ℕ) → IsPaidFor machine.now transitions largest looks self.old → ((place : ℕ) → place < length parts.now → AreFew machine.now largest self.old.classes.items (transition_at parts.now place).key)
+            → IsPaidFor machine.now transitions largest looks self.new) }
         ensures parted { OnOk result ((classes : List ℕ) → AreLiveParts machine.now.dfa.now classes parts.now → (p q : ℕ) → p ≤ states_of machine.now.dfa.now → q ≤ states_of machine.now.dfa.now
             → class_of self.new.classes.items p ≡ class_of self.new.classes.items q → class_of classes p ≡ class_of classes q) }
     {
@@ -171,7 +171,7 @@ impl Partition {
         ensures grown { OnOk result (HasGrown self.old self.new) }
         ensures settled { OnOk result (IsSettled machine.now.dfa.now machine.now.outputs.now self.new.classes.items self.new.pending) }
         ensures looks { looks.new ≤ looks.old + class_sum (states_of machine.now.dfa.now) (in_degree self.old.reversed) self.old.classes.items class }
-        ensures paid { OnOk result ((edges largest paid : ℕ) → IsPaidFor machine.now edges largest paid self.old → class_size (states_of machine.now.dfa.now) self.old.classes.items 0 ≤ largest → IsPaidFor machine.now edges largest paid self.new) }
+        ensures paid { OnOk result ((transitions largest paid : ℕ) → IsPaidFor machine.now transitions largest paid self.old → class_size (states_of machine.now.dfa.now) self.old.classes.items 0 ≤ largest → IsPaidFor machine.now transitions largest paid self.new) }
     {
         let Buffers {
             transitions,
@@ -200,7 +200,7 @@ impl Partition {
         ensures partition { OnOk result (IsPartition machine.now self.new) }
         ensures grown { OnOk result (HasGrown self.old self.new) }
         ensures apart { OnOk result (AreApart self.new.classes.items set.now) }
-        ensures paid { OnOk result ((edges largest looks : ℕ) → IsPaidFor machine.now edges largest looks self.old → class_size (states_of machine.now.dfa.now) self.old.classes.items 0 ≤ largest → IsPaidFor machine.now edges largest looks self.new) }
+        ensures paid { OnOk result ((transitions largest looks : ℕ) → IsPaidFor machine.now transitions largest looks self.old → class_size (states_of machine.now.dfa.now) self.old.classes.items 0 ≤ largest → IsPaidFor machine.now transitions largest looks self.new) }
     {
         states_by_class(&self.classes, set, transitions, parts)?;
         for place in 0..parts.len() {
@@ -217,7 +217,7 @@ impl Partition {
         ensures partition { OnOk result (IsPartition machine.now self.new) }
         ensures grown { OnOk result (HasGrown self.old self.new) }
         ensures split { OnOk result (IsSplit self.old self.new class states.now) }
-        ensures paid { OnOk result ((edges largest looks : ℕ) → IsPaidFor machine.now edges largest looks self.old → (class ≡ 0 → AreFew machine.now largest self.old.classes.items states.now) → IsPaidFor machine.now edges largest looks self.new) }
+        ensures paid { OnOk result ((transitions largest looks : ℕ) → IsPaidFor machine.now transitions largest looks self.old → (class ≡ 0 → AreFew machine.now largest self.old.classes.items states.now) → IsPaidFor machine.now transitions largest looks self.new) }
     {
         // That states, and so classes, are numbered by 32 bits.
         let _states = machine.dfa.states();

@@ -22,7 +22,7 @@ use Rattle.automaton_steps.specs.ValiditySteps.{valid_step}
 use Rattle.adder_check.specs.AdderRelation.{DoesAdder, adder_names, name_z}
 use Rattle.adder_check.specs.Admission.{DoesAdmission, DoesLanguage, DoesLaws, IsThrough, KeepsLanguage, Where}
 use Rattle.adder_check.specs.BothForSome.{DoesBothForSome}
-use Rattle.adder_check.specs.Faults.{Lifted, TellsSame}
+use Rattle.adder_check.specs.Faults.{Lifted, DecidesSame}
 use Rattle.adder_check.specs.LanguageSteps.{DoesFile, DoesReversal}
 use Rattle.adder_check.specs.NextSums.{DoesNextSums, sum_on, name_v, name_w}
 use Rattle.adder_check.specs.SuccessorPlan.{DoesSuccessor, chain_step, next_step}
@@ -67,9 +67,9 @@ lifted_adds : {A : Type 0} (does : StepLog → Result A StepFault → StepLog �
 lifted_adds does one old new (Ok a) done = one old new (Ok a) done
 lifted_adds does one old new (Err fault) (f, done, is) = one old new (Err f) done
 
-tells_adds : (a b : Automaton) → AddsSteps (TellsSame a b)
-tells_adds a b old new (Ok is) known = same_adds old new known.1
-tells_adds a b old new (Err f) known = absurd known
+decides_adds : (a b : Automaton) → AddsSteps (DecidesSame a b)
+decides_adds a b old new (Ok is) known = same_adds old new known.1
+decides_adds a b old new (Err f) known = absurd known
 
 reversal_adds : (reversed : Bool) (read : Automaton) → AddsSteps (DoesReversal reversed read)
 reversal_adds true read = step_adds (reverse_step read)
@@ -95,12 +95,12 @@ next_sums_adds : (direction : Direction) (adder next : Automaton) → AddsSteps 
 next_sums_adds direction adder next =
     then_adds (DoesBothForSome direction name_v (order_on next name_y name_v) (sum_on adder name_x name_v name_z)) _ (both_adds direction name_v (order_on next name_y name_v) (sum_on adder name_x name_v name_z))
     (λ with_next. then_adds (DoesBothForSome direction name_w (sum_on adder name_x name_y name_w) (order_on next name_w name_z)) _
-    (both_adds direction name_w (sum_on adder name_x name_y name_w) (order_on next name_w name_z)) (λ of_sums. tells_adds with_next.automaton of_sums.automaton))
+    (both_adds direction name_w (sum_on adder name_x name_y name_w) (order_on next name_w name_z)) (λ of_sums. decides_adds with_next.automaton of_sums.automaton))
 
 zero_law_adds : (direction : Direction) (d : Automaton) (adder : NamedAutomaton) → AddsSteps (DoesZeroLaw direction d adder)
 zero_law_adds direction d adder old new r (inl ran_out) = same_adds old new ran_out.1
 zero_law_adds direction d adder old new r (inr (zero, equal, are, does)) =
-    then_adds (DoesBothForSome direction name_y adder (on_y zero)) (λ sums. TellsSame sums.automaton equal) (both_adds direction name_y adder (on_y zero)) (λ sums. tells_adds sums.automaton equal) old new r does
+    then_adds (DoesBothForSome direction name_y adder (on_y zero)) (λ sums. DecidesSame sums.automaton equal) (both_adds direction name_y adder (on_y zero)) (λ sums. decides_adds sums.automaton equal) old new r does
 
 where_adds : {B : Type 0} (holds : Bool) (law : Law) (next : StepLog → Result B AdmitFault → StepLog → Type 0) → AddsSteps next → AddsSteps (Where holds law next)
 where_adds true law next one old new r does = one old new r does

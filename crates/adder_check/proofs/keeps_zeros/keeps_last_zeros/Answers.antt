@@ -3,10 +3,10 @@ use Rattle.std.proofs.lemmas.Bool.{false≢true}
 use Rattle.adder_check.proofs.ZeroLemmas.{keeps_last, kept_last}
 use Rattle.adder_check.proofs.keeps_zeros.keeps_last_zeros.Goals as goal
 
-pub returns-then-not-tells_zero : goal.returns-then-not-tells_zero
-returns-then-not-tells_zero c = (
+pub returns-then-not-ignores_zero : goal.returns-then-not-ignores_zero
+returns-then-not-ignores_zero c = (
   (λ t. absurd (false≢true t)),
-  (λ keeps. absurd (false≢true (sym c.if-not-tells_zero.true ∙ c.tells_zero.ensures.1 (kept_last c.args.language.now c.requires.canonical keeps c.loop-state.state (omega (arith, c.loop-state-test.true, c.states-state-end.ensures.value)))))),
+  (λ keeps. absurd (false≢true (sym c.if-not-ignores_zero.true ∙ c.ignores_zero.ensures.1 (kept_last c.args.language.now c.requires.canonical keeps c.loop-state.state (omega (arith, c.loop-state-test.true, c.states-state-end.ensures.value)))))),
 )
 
 pub returns : goal.returns

@@ -1,6 +1,6 @@
 use Rattle.std.proofs.Common.{ℕ, ◌<◌}
-use Rattle.adder_check.specs.Links.{TellsZero}
+use Rattle.adder_check.specs.Links.{IgnoresZero}
 use Rattle.adder_check.proofs.keeps_zeros.keeps_last_zeros.Given as goal
 
 abbrev pub invariant-loop-state : goal.invariant-loop-state
-invariant-loop-state l = (q : ℕ) → q < l.state → TellsZero l.language q
+invariant-loop-state l = (q : ℕ) → q < l.state → IgnoresZero l.language q

@@ -35,7 +35,7 @@ loop-place-init c = record {
   partition = c.requires.partition;
   grown = HasGrown-none c.args.self.now;
   parted = ArePartedTo-none c.args.self.now.classes.items c.args.set.now c.states_by_class.new.out;
-  paid = λ edges largest looks before low. before;
+  paid = λ transitions largest looks before low. before;
 }
 
 pub loop-place-preserved : goal.loop-place-preserved
@@ -55,7 +55,7 @@ loop-place-preserved c =
       partition = c.in_ok-split.ensures.partition;
       grown = HasGrown-more old mid new c.loop-place.invariant.grown c.in_ok-split.ensures.grown;
       parted = ArePartedTo-more m.dfa.now m.outputs.now old.classes.items c.requires.partition.parted.coarse set c.requires.set parts mid new place gathers c.in_ok-split.ensures.grown split c.loop-place.invariant.parted;
-      paid = λ edges largest looks before low. c.in_ok-split.ensures.paid edges largest looks (c.loop-place.invariant.paid edges largest looks before low)
+      paid = λ transitions largest looks before low. c.in_ok-split.ensures.paid transitions largest looks (c.loop-place.invariant.paid transitions largest looks before low)
           (λ sink. AreFew-grown m old mid c.key.result.now largest c.loop-place.invariant.grown c.requires.partition.parted.sink c.loop-place.invariant.partition.parted.sink low);
     }
 

@@ -11,5 +11,5 @@ invariant-loop-place l = record {
   partition : IsPartition l.machine l.self;
   grown : HasGrown l.fn.self l.self;
   parted : ArePartedTo l.fn.self.classes.items l.self.classes.items l.set l.parts l.place;
-  paid : (edges largest looks : ℕ) → IsPaidFor l.machine edges largest looks l.fn.self → class_size (states_of l.machine.dfa.now) l.fn.self.classes.items 0 ≤ largest → IsPaidFor l.machine edges largest looks l.self;
+  paid : (transitions largest looks : ℕ) → IsPaidFor l.machine transitions largest looks l.fn.self → class_size (states_of l.machine.dfa.now) l.fn.self.classes.items 0 ≤ largest → IsPaidFor l.machine transitions largest looks l.self;
 }

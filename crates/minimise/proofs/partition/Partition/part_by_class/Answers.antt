@@ -16,7 +16,7 @@ loop-place-init c =
       partition = c.requires.partition;
       pending = λ class live small. absurd (omega (arith, live, small, c.requires.one));
       taken = AreTakenOut-none m.dfa.now p.classes.items c.args.parts.now (λ q. omega (arith, made q, c.requires.one));
-      paid = λ edges largest looks before few. before;
+      paid = λ transitions largest looks before few. before;
     }
 
 pub split-requires-clause-states : goal.split-requires-clause-states
@@ -39,7 +39,7 @@ loop-place-preserved c =
       partition = c.in_ok-split.ensures.partition;
       pending = split.waiting refl c.loop-place.invariant.pending;
       taken = AreTakenOut-more d parts mid new place (omega (arith, c.loop-place-test.true, c.len-place-end.ensures)) c.in_ok-split.ensures.grown split c.loop-place.invariant.taken;
-      paid = λ edges largest looks before few. c.in_ok-split.ensures.paid edges largest looks (c.loop-place.invariant.paid edges largest looks before few)
+      paid = λ transitions largest looks before few. c.in_ok-split.ensures.paid transitions largest looks (c.loop-place.invariant.paid transitions largest looks before few)
           (λ sink. subst (AreFew m largest mid.classes.items) (sym c.key.ensures)
           (AreFew-all m old.classes.items mid.classes.items (transition_at parts place).key largest (λ q. omega (arith, made q, c.requires.one)) (few place (omega (arith, c.loop-place-test.true, c.len-place-end.ensures)))));
     }

@@ -11,5 +11,5 @@ invariant-loop-place l = record {
   partition : IsPartition l.machine l.self;
   pending : AreAllPending (length l.self.spans.items) l.self.pending;
   taken : AreTakenOut l.machine.dfa.now l.self.classes.items l.parts l.place;
-  paid : (edges largest looks : ℕ) → IsPaidFor l.machine edges largest looks l.fn.self → ((place : ℕ) → place < length l.parts → AreFew l.machine largest l.fn.self.classes.items (transition_at l.parts place).key) → IsPaidFor l.machine edges largest looks l.self;
+  paid : (transitions largest looks : ℕ) → IsPaidFor l.machine transitions largest looks l.fn.self → ((place : ℕ) → place < length l.parts → AreFew l.machine largest l.fn.self.classes.items (transition_at l.parts place).key) → IsPaidFor l.machine transitions largest looks l.self;
 }

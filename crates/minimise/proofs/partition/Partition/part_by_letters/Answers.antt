@@ -41,7 +41,7 @@ loop-place-init g c = record {
   partition = c.requires.partition;
   grown = HasGrown-none c.args.self.now;
   apart = λ place less. absurd (omega arith);
-  paid = λ edges largest looks before low. before;
+  paid = λ transitions largest looks before low. before;
 }
 
 -- the sets for the letters up to one stay apart
@@ -64,7 +64,7 @@ loop-place-preserved g c =
       partition = c.in_ok-part.ensures.partition;
       grown = HasGrown-more c.args.self.now mid new c.loop-place.invariant.grown c.in_ok-part.ensures.grown;
       apart = apart_more mid new sources c.loop-place.place c.in_ok-part.ensures.grown c.loop-place.invariant.apart (subst (AreApart new.classes.items) c.key.ensures c.in_ok-part.ensures.apart);
-      paid = λ edges largest looks before low. c.in_ok-part.ensures.paid edges largest looks (c.loop-place.invariant.paid edges largest looks before low)
+      paid = λ transitions largest looks before low. c.in_ok-part.ensures.paid transitions largest looks (c.loop-place.invariant.paid transitions largest looks before low)
           (sink_size c.args.machine.now c.args.self.now mid largest c.loop-place.invariant.grown c.requires.partition.parted.sink c.loop-place.invariant.partition.parted.sink low);
     }
 

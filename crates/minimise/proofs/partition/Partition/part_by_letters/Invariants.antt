@@ -12,5 +12,5 @@ invariant-loop-place g l = record {
   partition : IsPartition l.machine l.self;
   grown : HasGrown l.fn.self l.self;
   apart : (place : ℕ) → place < l.place → AreApart l.self.classes.items (transition_at l.sources place).key;
-  paid : (edges largest looks : ℕ) → IsPaidFor l.machine edges largest looks l.fn.self → class_size (states_of l.machine.dfa.now) l.fn.self.classes.items 0 ≤ largest → IsPaidFor l.machine edges largest looks l.self;
+  paid : (transitions largest looks : ℕ) → IsPaidFor l.machine transitions largest looks l.fn.self → class_size (states_of l.machine.dfa.now) l.fn.self.classes.items 0 ≤ largest → IsPaidFor l.machine transitions largest looks l.self;
 }

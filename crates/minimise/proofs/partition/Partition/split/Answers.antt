@@ -310,14 +310,14 @@ returns-clause-paid c =
     let leaving = part_is m p c.args.class c.args.states.now c.index.result.now new.states.items new.places.items middle v c.deref.result.now c.deref.ensures.value in
     let count = subst (λ (xs : List ℕ). sum_by (in_degree p.reversed) xs < 2 ^ 32 → c.transitions_to-transitions.result ≡ sum_by (in_degree p.reversed) xs) leaving c.transitions_to-transitions.ensures in
     on_ok_weaker c.push.result
-    (λ pushed edges largest looks before few.
-    let exact = leaving_count m p p.states.items new.states.items new.places.items c.args.states.now c.args.class middle c.requires.class after at_end c.give.new.classes.items (given c) edges largest looks before few c.transitions_to-transitions.result count in
+    (λ pushed transitions largest looks before few.
+    let exact = leaving_count m p p.states.items new.states.items new.places.items c.args.states.now c.args.class middle c.requires.class after at_end c.give.new.classes.items (given c) transitions largest looks before few c.transitions_to-transitions.result count in
     record {
       few = before.few;
       small = before.small;
-      counted = counted_cut m p p.states.items new.states.items new.places.items c.args.states.now c.args.class middle c.requires.class after at_end c.give.new.classes.items (given c) edges largest looks before few
+      counted = counted_cut m p p.states.items new.states.items new.places.items c.args.states.now c.args.class middle c.requires.class after at_end c.give.new.classes.items (given c) transitions largest looks before few
           c.cut.new.spans.items c.push.new.self c.transitions_to-transitions.result c.in_ok-rest.rest c.if-leave.push c.in_ok-rest.ensures.cut c.in_ok-rest.ensures.counted exact pushed (decision c);
-      paid = paid_cut m p p.states.items new.states.items new.places.items c.args.states.now c.args.class middle c.requires.class after at_end c.give.new.classes.items (given c) edges largest looks before few
+      paid = paid_cut m p p.states.items new.states.items new.places.items c.args.states.now c.args.class middle c.requires.class after at_end c.give.new.classes.items (given c) transitions largest looks before few
           c.cut.new.spans.items c.push.new.self c.transitions_to-transitions.result c.in_ok-rest.rest c.if-leave.push c.in_ok-rest.ensures.cut c.in_ok-rest.ensures.counted exact pushed (decision c);
     })
     c.push.ensures
