@@ -14,7 +14,7 @@ use Rattle.text_grammar.specs.Spots as cut
 use Rattle.formula_parse.specs.Trees as trees
 use Rattle.formula_parse.specs.Trees.{Names, no_names, names}
 use Rattle.formula_parse.specs.Building.{multiplied, summed, chained, under_marks}
-use Rattle.formula_parse.specs.Formulas.{Factor, variable, numeral, in_parens, Prod, factor, times, Term, prod, signed, Index, word, further, Terms, term, comma, Atom, compare, words, word_letter, letter_word, call_none, call, Variables, variable_one, variable_more, Formula, imp, iff, Imp, chain, implies, Chain, operand, joined, Operand, marked, Core, negated, quantified, grouped, atom, factor_then, prod_then, term_then, index_then, terms_then, minus_then, letter_then, atom_then, variables_then, marks_then, formula_then, imp_then, chain_then, operand_then, core_then, derived_tokens}
+use Rattle.formula_parse.specs.Formulas.{Factor, variable, numeral, in_parens, Prod, factor, times, Term, prod, signed, Index, word, further, Terms, term, comma, Atom, compare, words, word_letter, letter_word, call_none, call, Variables, variable_one, variable_more, WrittenFormula, imp, iff, Imp, chain, implies, Chain, operand, joined, Operand, marked, Core, negated, quantified, grouped, atom, factor_then, prod_then, term_then, index_then, terms_then, minus_then, letter_then, atom_then, variables_then, marks_then, formula_then, imp_then, chain_then, operand_then, core_then, derived_tokens}
 use Rattle.formula_parse.specs.FormulaTrees.{factor_tree, before_factor, last_factor, before_prod, last_prod, term_tree, index_places, terms_tree, fact, marks_system, formula_system, imp_system, chain_system, before_imp, last_imp, before_chain, last_chain, before_operand, last_operand, operand_tree, core_tree, default_system}
 use Rattle.formula_parse.specs.Grammar.{Reads}
 use Rattle.formula_plan.proofs.TrackLemmas.{or_left}
@@ -194,7 +194,7 @@ marks_named no_names d r all = all
 marks_named (names ms n) d r all = (marks_named ms d (tokens.here tokens.mark d ∷ tokens.here (tokens.system n) d ∷ r) all).1.1
 
 mutual
-  formula_parts : (f : Formula) (y : Name) (d : ℕ) (r : List Placed) → AreNamedPlaced (formula_then f d r) → AreNamedAmong (before_imp y f) × AreNamedIn (last_imp y f) × AreNamedPlaced r
+  formula_parts : (f : WrittenFormula) (y : Name) (d : ℕ) (r : List Placed) → AreNamedPlaced (formula_then f d r) → AreNamedAmong (before_imp y f) × AreNamedIn (last_imp y f) × AreNamedPlaced r
   formula_parts (imp i) y d r all =
       let parts = imp_parts i y d r all in
       (tt, chained_named (before_chain y i) (last_chain y i) parts.0 parts.1, parts.2)

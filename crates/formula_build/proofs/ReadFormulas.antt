@@ -10,7 +10,7 @@ use Rattle.formula_parse.specs.Spots.{spots}
 use Rattle.formula_parse.specs.Trees as trees
 use Rattle.formula_parse.specs.Trees.{Names, no_names, names}
 use Rattle.formula_parse.specs.Building.{chained, under_marks}
-use Rattle.formula_parse.specs.Formulas.{Atom, compare, words, word_letter, letter_word, call_none, call, Formula, imp, iff, Imp, chain, implies, Chain, operand, joined, Operand, marked, Core, negated, quantified, grouped, atom}
+use Rattle.formula_parse.specs.Formulas.{Atom, compare, words, word_letter, letter_word, call_none, call, WrittenFormula, imp, iff, Imp, chain, implies, Chain, operand, joined, Operand, marked, Core, negated, quantified, grouped, atom}
 use Rattle.formula_parse.specs.FormulaTrees.{fact, marks_system, formula_system, imp_system, chain_system, operand_system, core_system, before_imp, last_imp, before_chain, last_chain, before_operand, last_operand, operand_tree, core_tree, default_system}
 use Rattle.formula_parse.specs.Grammar.{Reads}
 use Rattle.formula_plan.proofs.LinearLemmas.{trees_are_linear}
@@ -120,7 +120,7 @@ module _ (l : LibraryValue) where
 
   -- if the system in force before a part is known, so is the one after it
   mutual
-    formula_known : (f : Formula) (y : Name) → HasSystem l y → AreMet (mentions_among (before_imp y f)) → AreMet (mentions (last_imp y f))
+    formula_known : (f : WrittenFormula) (y : Name) → HasSystem l y → AreMet (mentions_among (before_imp y f)) → AreMet (mentions (last_imp y f))
         → AreKnownAmong l (before_imp y f) × AreKnownIn l (last_imp y f) × HasSystem l (formula_system y f)
     formula_known (imp i) y is first second =
         let met = chained_met (before_chain y i) (last_chain y i) second in

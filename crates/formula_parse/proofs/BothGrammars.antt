@@ -4,7 +4,7 @@ use Rattle.std.specs.List.{AllByRecursion}
 use Rattle.formula_parse.specs.Tokens.{Token, Placed, here, token_of, end}
 use Rattle.formula_parse.specs.Trees as shapes
 use Rattle.formula_parse.specs.Limits.{IsAllowed}
-use Rattle.formula_parse.specs.Formulas.{Formula, derived_tokens}
+use Rattle.formula_parse.specs.Formulas.{WrittenFormula, derived_tokens}
 use Rattle.formula_parse.specs.FormulaTrees.{default_system, tree_of}
 use Rattle.formula_parse.specs.FormulaFlaws.{formula_flaw}
 use Rattle.formula_parse.specs.Flaws.{Flaw}
@@ -16,17 +16,17 @@ use Rattle.formula_parse.proofs.SameFormulas.{Alike}
 use Rattle.formula_parse.proofs.ToDerivations.{OfText, derived_of}
 use Rattle.formula_parse.proofs.FromDerivations.{formula_of}
 
-derived_same : (g : derivations.Formula) (f : Formula) → Alike g f → derivations.derived_tokens g ≡ derived_tokens f
+derived_same : (g : derivations.Formula) (f : WrittenFormula) → Alike g f → derivations.derived_tokens g ≡ derived_tokens f
 derived_same g f s = s.derived_is 0 (here end 0 ∷ [])
 
-same_tokens : (g : derivations.Formula) (f : Formula) → Alike g f → map token_of (derivations.derived_tokens g) ≡ map token_of (derived_tokens f)
+same_tokens : (g : derivations.Formula) (f : WrittenFormula) → Alike g f → map token_of (derivations.derived_tokens g) ≡ map token_of (derived_tokens f)
 same_tokens g f s = ap (map token_of) (derived_same g f s)
 
 -- a derivation of a text
-to_derivation : (text : Formula) (read more : List Placed) → GoesOn text read more → OfText text
+to_derivation : (text : WrittenFormula) (read more : List Placed) → GoesOn text read more → OfText text
 to_derivation text read more g = derived_of text g.takes_all
 
-goes_derived : (text : Formula) (read more : List Placed) (g : GoesOn text read more) → derived.GoesOn (to_derivation text read more g).to read more
+goes_derived : (text : WrittenFormula) (read more : List Placed) (g : GoesOn text read more) → derived.GoesOn (to_derivation text read more g).to read more
 goes_derived text read more g =
     let u = to_derivation text read more g in
     record { derived_is = derived_same u.to text u.same ∙ g.derived_is }
@@ -93,7 +93,7 @@ reaches prefix token p r = record {
 
 -- a whole text, what it is derived by, and what this says
 pub record Whole (ts : List Token) (tree : shapes.Formula) (flaw : Option Flaw) : Type 0 where
-  pub text : Formula
+  pub text : WrittenFormula
   pub derives : Derives ts text
   pub tree_is : tree_of text ≡ tree
   pub flaw_is : formula_flaw None text ≡ flaw

@@ -9,7 +9,7 @@ use Rattle.formula_parse.specs.FormulaTrees.{marks_system}
 use Rattle.formula_parse.proofs.Systems.{tildes_system, core_system, operands_system, chains_system, implications_system, factor_of, factors_of, addends_of, terms_of, core_of, operands_of, chains_of, implications_of, last_of, formula_of}
 use Rattle.formula_parse.specs.Flaws.{Flaw, Product, product_start, noted_factor, none_came, Came}
 use Rattle.formula_parse.proofs.DerivedFlaws.{product_of, is_lone, is_numeral, factor_flaw, factors_flaw, addends_flaw, term_flaw, terms_flaw, came_of, is_implied, core_flaw, operands_flaw, chains_flaw, implications_flaw, last_flaw, formula_flaw}
-use Rattle.formula_parse.specs.Machine.{Prefix, Body, Frame, Outer, Side, Where, Position, State, left_index, left_letter, first, second, left_side, right_of, place_in, argument, at_operand, at_variable, after_operand, at_factor, after_factor, after_index, at_word, after_letter, at_argument, done, paren, fresh, close, place, start}
+use Rattle.formula_parse.specs.Machine.{Prefix, Body, Frame, Outer, Side, Role, Position, State, left_index, left_letter, first, second, left_side, right_of, place_in, argument, at_operand, at_variable, after_operand, at_factor, after_factor, after_index, at_word, after_letter, at_argument, done, paren, fresh, close, operand_nesting, start}
 use Rattle.formula_parse.specs.Runs.{after, run}
 
 -- a token after a factor of a term that began where an operand may
@@ -81,18 +81,18 @@ module _ {K : Kinds} (A : Making K) where
 
   -- a term inside of brackets, parentheses or after a relation
   mutual
-    factor_read : (f : Factor) (d : ℕ) (r : List Placed) (gs : List (Frame K)) (g : Body K) (y : Name) (w : Option Flaw) (h : Where K) (o : List (Outer K)) (ss : K.Addends) (ps : K.Factors) (p : Product) → run A (factor_then f d r) (st gs g y w (at_factor h o ss ps p)) ≡ run A r (st gs g y (noted_factor p (is_numeral f) (factor_flaw w f)) (after_factor h o ss ps p (factor_of A f) (is_numeral f)))
+    factor_read : (f : Factor) (d : ℕ) (r : List Placed) (gs : List (Frame K)) (g : Body K) (y : Name) (w : Option Flaw) (h : Role K) (o : List (Outer K)) (ss : K.Addends) (ps : K.Factors) (p : Product) → run A (factor_then f d r) (st gs g y w (at_factor h o ss ps p)) ≡ run A r (st gs g y (noted_factor p (is_numeral f) (factor_flaw w f)) (after_factor h o ss ps p (factor_of A f) (is_numeral f)))
     factor_read (variable n) d r gs g y w h o ss ps p = refl
     factor_read (numeral n) d r gs g y w h o ss ps p = refl
     factor_read (in_parens (term ts qs f)) d r gs g y w h o ss ps p =
         addends_read ts _ _ gs g y w h _ ∙ (factors_read qs _ _ gs g y _ h _ _ _ ∙ factor_read f _ _ gs g y _ h _ _ _ _)
 
-    addends_read : (ss : Addends) (d : ℕ) (r : List Placed) (gs : List (Frame K)) (g : Body K) (y : Name) (w : Option Flaw) (h : Where K) (o : List (Outer K)) → run A (addends_then ss d r) (st gs g y w (at_factor h o A.no_addends A.no_factors (product_start true))) ≡ run A r (st gs g y (addends_flaw w ss) (at_factor h o (addends_of A ss) A.no_factors (product_start (is_lone ss))))
+    addends_read : (ss : Addends) (d : ℕ) (r : List Placed) (gs : List (Frame K)) (g : Body K) (y : Name) (w : Option Flaw) (h : Role K) (o : List (Outer K)) → run A (addends_then ss d r) (st gs g y w (at_factor h o A.no_addends A.no_factors (product_start true))) ≡ run A r (st gs g y (addends_flaw w ss) (at_factor h o (addends_of A ss) A.no_factors (product_start (is_lone ss))))
     addends_read no_addends d r gs g y w h o = refl
     addends_read (addends ss ps f s) d r gs g y w h o =
         addends_read ss _ _ gs g y w h o ∙ (factors_read ps _ _ gs g y _ h o _ _ ∙ factor_read f _ _ gs g y _ h o _ _ _)
 
-    factors_read : (ps : Factors) (d : ℕ) (r : List Placed) (gs : List (Frame K)) (g : Body K) (y : Name) (w : Option Flaw) (h : Where K) (o : List (Outer K)) (ss : K.Addends) (l : Bool) → run A (factors_then ps d r) (st gs g y w (at_factor h o ss A.no_factors (product_start l))) ≡ run A r (st gs g y (factors_flaw w l ps) (at_factor h o ss (factors_of A ps) (product_of l ps)))
+    factors_read : (ps : Factors) (d : ℕ) (r : List Placed) (gs : List (Frame K)) (g : Body K) (y : Name) (w : Option Flaw) (h : Role K) (o : List (Outer K)) (ss : K.Addends) (l : Bool) → run A (factors_then ps d r) (st gs g y w (at_factor h o ss A.no_factors (product_start l))) ≡ run A r (st gs g y (factors_flaw w l ps) (at_factor h o ss (factors_of A ps) (product_of l ps)))
     factors_read no_factors d r gs g y w h o ss l = refl
     factors_read (factors ps f b) d r gs g y w h o ss l = factors_read ps _ _ gs g y w h o ss l ∙ factor_read f _ _ gs g y _ h o ss _ _
 
@@ -118,7 +118,7 @@ module _ {K : Kinds} (A : Making K) where
   name_leads n next_closing d e r gs g y w = refl
 
   parens_lead : (t : Term) → TermLeads t → FactorLeads (in_parens t)
-  parens_lead (term ss ps f) lead x d e r gs g y w = lead next_closing (suc d) d _ (paren g y ∷ gs) (fresh A (suc (place g))) y w
+  parens_lead (term ss ps f) lead x d e r gs g y w = lead next_closing (suc d) d _ (paren g y ∷ gs) (fresh A (suc (operand_nesting g))) y w
 
   term_step : (ss : Addends) (ps : Factors) (f : Factor) → AddendsLead ss → FactorsLead ps → FactorLeads f → TermLeads (term ss ps f)
   term_step no_addends no_factors f as_lead ps_lead f_lead x d e r gs g y w = f_lead x d e r gs g y w
@@ -272,7 +272,7 @@ module _ {K : Kinds} (A : Making K) where
     core_reads (not_closed (marked ms c)) x d e r gs g y w =
         marks_read ms _ _ gs g.base g.prefix (g.marks ∷ g.tildes) true y w
         ∙ (core_reads c x _ e r gs _ _ w ∙ tilde_stops e r gs g _ _ x (touched_by_marks true ms) ms _)
-    core_reads (grouped f) x d e r gs g y w = formula_reads f by_closing (suc d) d _ (paren g y ∷ gs) (suc (place g)) y w
+    core_reads (grouped f) x d e r gs g y w = formula_reads f by_closing (suc d) d _ (paren g y ∷ gs) (suc (operand_nesting g)) y w
 
     operands_read : (os : Operands) (d : ℕ) (r : List Placed) (gs : List (Frame K)) (b : ℕ) (is : K.Implications) (hs : K.Chains) (i : Bool) (e : Bool) (y : Name) (w : Option Flaw) → run A (operands_then os d r) (st gs (group b (prefix is hs A.no_operands none_came i) [] no_names e) y w at_operand) ≡ run A r (st gs (group b (prefix is hs (operands_of A y os) (came_of os) i) [] no_names (touched_by_operands e os)) (operands_system y os) (operands_flaw w os) at_operand)
     operands_read no_operands d r gs b is hs i e y w = refl

@@ -3,7 +3,7 @@ use Rattle.std.proofs.Common.{◌≡◌, refl, ◌∙◌, ap, ℕ, suc, true, fa
 use Rattle.formula_parse.specs.Tokens.{Name, equal, Letter, Placed, here, value_of, name, system, called, opening, closing, bracket, unbracket, letter_sign, relation, end}
 use Rattle.formula_parse.specs.Trees.{names}
 use Rattle.formula_parse.proofs.Derivations.{Factor, variable, in_parens, Factors, no_factors, Addends, no_addends, Term, term, Terms, no_terms, index, Core, compare, words, word_letter, letter_word, call_none, call, grouped, marked, Formula, ends, quantified, formula_then, derived_tokens, parts, derivations}
-use Rattle.formula_parse.specs.Machine.{within, Body, Frame, Outer, Aim, Side, Where, Representation, Position, State, left_index, left_letter, first, second, left_side, right_of, place_in, argument, on_left, on_right, at_operand, at_system, at_variable, after_operand, after_first, at_factor, after_factor, after_index, at_word, at_bracket, at_letter, at_value, after_letter, at_called, at_call, at_argument, done, paren, scope, fresh, whole, closed, within_where, within_outer}
+use Rattle.formula_parse.specs.Machine.{within, Body, Frame, Outer, Aim, Side, Role, Representation, Position, State, left_index, left_letter, first, second, left_side, right_of, place_in, argument, on_left, on_right, at_operand, at_system, at_variable, after_operand, after_first, at_factor, after_factor, after_index, at_word, at_bracket, at_letter, at_value, after_letter, at_called, at_call, at_argument, done, paren, scope, fresh, whole, closed, within_role, within_outer}
 use Rattle.formula_parse.specs.Flaws.{Product, product_start}
 use Rattle.formula_parse.proofs.Sound.{nesting, prefix_then, body_then, frames_then, state_then, at, wrapped_then}
 
@@ -109,7 +109,7 @@ index_ends s (second (left_letter l k)) n ts t =
     record { more = c.more; text = c.text; derived_is = c.derived_is }
 
 -- a whole term, by where it is
-whole_ends : (s : State parts) (h : Where parts) (ss : Addends) (ps : Factors) (p : Product) (f : Factor) (q : _) → Completed (at s (after_factor h [] ss ps p f q))
+whole_ends : (s : State parts) (h : Role parts) (ss : Addends) (ps : Factors) (p : Product) (f : Factor) (q : _) → Completed (at s (after_factor h [] ss ps p f q))
 whole_ends s left_side ss ps p f q =
     let c = operand s (compare (term ss ps f) equal x_term) in
     record { more = here (relation equal) (level s) ∷ here (name x_name) (level s) ∷ c.more; text = c.text; derived_is = c.derived_is }
@@ -119,17 +119,17 @@ whole_ends s (right_of l k) ss ps p f q =
 whole_ends s (place_in a n ts) ss ps p f q = then_token (here unbracket (level s)) (λ r. refl) (index_ends s a n ts (term ss ps f))
 whole_ends s (argument n ts) ss ps p f q = then_token (here closing (level s)) (λ r. refl) (operand s (call n ts (term ss ps f)))
 
-factor_ends : (s : State parts) (h : Where parts) (o : List (Outer parts)) (ss : Addends) (ps : Factors) (p : Product) (f : Factor) (q : _) → Completed (at s (after_factor h o ss ps p f q))
+factor_ends : (s : State parts) (h : Role parts) (o : List (Outer parts)) (ss : Addends) (ps : Factors) (p : Product) (f : Factor) (q : _) → Completed (at s (after_factor h o ss ps p f q))
 factor_ends s h [] ss ps p f q = whole_ends s h ss ps p f q
 factor_ends s h (x ∷ o) ss ps p f q =
     then_token
-    (here closing (within_outer o (within_where h (level s))))
+    (here closing (within_outer o (within_role h (level s))))
     (λ r. refl)
     (factor_ends s h o x.addends x.factors x.product (in_parens (term ss ps f)) true)
 
-factor_begins : (s : State parts) (h : Where parts) (o : List (Outer parts)) (ss : Addends) (ps : Factors) (p : Product) → Completed (at s (at_factor h o ss ps p))
+factor_begins : (s : State parts) (h : Role parts) (o : List (Outer parts)) (ss : Addends) (ps : Factors) (p : Product) → Completed (at s (at_factor h o ss ps p))
 factor_begins s h o ss ps p =
-    then_token (here (name x_name) (within_outer o (within_where h (level s)))) (λ r. refl) (factor_ends s h o ss ps p (variable x_name) true)
+    then_token (here (name x_name) (within_outer o (within_role h (level s)))) (λ r. refl) (factor_ends s h o ss ps p (variable x_name) true)
 
 bracket_begins : (s : State parts) (a : Aim parts) (n : Name) → Completed (at s (at_bracket a n))
 bracket_begins s a n =

@@ -46,39 +46,39 @@ all_prefix P [] qs a = tt
 all_prefix P (p ∷ ps) qs a = (a.0, all_prefix P ps qs a.1)
 
 -- the token that is reached has been read
-record Through (prefix : List Token) (token : Token) (place : Placed) (r : Reaches prefix token place) : Type 0 where
-  goes_on : GoesOn r.text (r.read ++ place ∷ []) r.more
-  tokens_are : map token_of (r.read ++ place ∷ []) ≡ prefix ++ token ∷ []
+record Through (prefix : List Token) (token : Token) (reached : Placed) (r : Reaches prefix token reached) : Type 0 where
+  goes_on : GoesOn r.text (r.read ++ reached ∷ []) r.more
+  tokens_are : map token_of (r.read ++ reached ∷ []) ≡ prefix ++ token ∷ []
 
-through : (prefix : List Token) (token : Token) (place : Placed) (r : Reaches prefix token place) → Through prefix token place r
-through prefix token place r = record {
-  goes_on = record { derived_is = r.goes_on.derived_is ∙ sym (append_assoc r.read (place ∷ []) r.more) };
+through : (prefix : List Token) (token : Token) (reached : Placed) (r : Reaches prefix token reached) → Through prefix token reached r
+through prefix token reached r = record {
+  goes_on = record { derived_is = r.goes_on.derived_is ∙ sym (append_assoc r.read (reached ∷ []) r.more) };
   tokens_are =
-      map-append token_of r.read (place ∷ []) ∙ (ap (λ ts. ts ++ token_of place ∷ []) r.tokens_are ∙ ap (λ t. prefix ++ t ∷ []) r.token_is);
+      map-append token_of r.read (reached ∷ []) ∙ (ap (λ ts. ts ++ token_of reached ∷ []) r.tokens_are ∙ ap (λ t. prefix ++ t ∷ []) r.token_is);
 }
 
-reaches_begins : (prefix : List Token) (token : Token) (place : Placed) → Reaches prefix token place → Begins prefix
-reaches_begins prefix token place r = record { text = r.text; read = r.read; more = place ∷ r.more; goes_on = r.goes_on; tokens_are = r.tokens_are; allowed = r.allowed }
+reaches_begins : (prefix : List Token) (token : Token) (reached : Placed) → Reaches prefix token reached → Begins prefix
+reaches_begins prefix token reached r = record { text = r.text; read = r.read; more = reached ∷ r.more; goes_on = r.goes_on; tokens_are = r.tokens_are; allowed = r.allowed }
 
 pub breaks_stop : (prefix : List Token) (token : Token) → Breaks prefix token → Stops prefix token
 breaks_stop prefix token b = record { before = b.before; there = λ text read more g e a. b.there text read more g e }
 
-pub reaches_stop : (prefix : List Token) (token : Token) (place : Placed) → Reaches prefix token place → (IsAllowed place → ⊥) → Stops prefix token
-reaches_stop prefix token place r h =
-    let t = through prefix token place r in
+pub reaches_stop : (prefix : List Token) (token : Token) (reached : Placed) → Reaches prefix token reached → (IsAllowed reached → ⊥) → Stops prefix token
+reaches_stop prefix token reached r h =
+    let t = through prefix token reached r in
     record {
-      before = reaches_begins prefix token place r;
+      before = reaches_begins prefix token reached r;
       there = λ text read more g e a.
-          let same : r.read ++ place ∷ [] ≡ read =
-          one_place r.text text (r.read ++ place ∷ []) r.more read more t.goes_on g (t.tokens_are ∙ sym e) in
-          h (all_last IsAllowed r.read place (subst (AllByRecursion IsAllowed) (sym same) a));
+          let same : r.read ++ reached ∷ [] ≡ read =
+          one_place r.text text (r.read ++ reached ∷ []) r.more read more t.goes_on g (t.tokens_are ∙ sym e) in
+          h (all_last IsAllowed r.read reached (subst (AllByRecursion IsAllowed) (sym same) a));
     }
 
 -- a token that breaks is not reached
-pub breaks_reaches : (prefix : List Token) (token : Token) (place : Placed) → Breaks prefix token → Reaches prefix token place → ⊥
-breaks_reaches prefix token place b r =
-    let t = through prefix token place r in
-    b.there r.text (r.read ++ place ∷ []) r.more t.goes_on t.tokens_are
+pub breaks_reaches : (prefix : List Token) (token : Token) (reached : Placed) → Breaks prefix token → Reaches prefix token reached → ⊥
+breaks_reaches prefix token reached b r =
+    let t = through prefix token reached r in
+    b.there r.text (r.read ++ reached ∷ []) r.more t.goes_on t.tokens_are
 
 -- a token is reached in one place
 pub one_reached : (prefix : List Token) (token : Token) (p q : Placed) → Reaches prefix token p → Reaches prefix token q → p ≡ q

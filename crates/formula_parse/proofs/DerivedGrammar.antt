@@ -37,11 +37,11 @@ pub record Breaks (prefix : List Token) (token : Token) : Type 0 where
   pub there : (text : derivations.Formula) (read more : List Placed) → GoesOn text read more → map token_of read ≡ prefix ++ token ∷ [] → ⊥
 
 -- a text goes on at a token, placed so, and all before it keep the limits
-pub record Reaches (prefix : List Token) (token : Token) (place : Placed) : Type 0 where
+pub record Reaches (prefix : List Token) (token : Token) (reached : Placed) : Type 0 where
   pub text : derivations.Formula
   pub read : List Placed
   pub more : List Placed
-  pub goes_on : GoesOn text read (place ∷ more)
+  pub goes_on : GoesOn text read (reached ∷ more)
   pub tokens_are : map token_of read ≡ prefix
-  pub token_is : token_of place ≡ token
+  pub token_is : token_of reached ≡ token
   pub allowed : AllByRecursion IsAllowed read

@@ -5,7 +5,7 @@ use Rattle.formula_parse.specs.Tokens.{end}
 use Rattle.formula_parse.specs.Making.{Kinds, Making}
 use Rattle.formula_parse.specs.Advances.{IsDone}
 use Rattle.formula_parse.specs.Flaws.{Flaw}
-use Rattle.formula_parse.specs.Machine.{Frame, Outer, Where, Position, State, left_index, left_letter, first, second, left_side, right_of, place_in, argument, at_operand, at_system, at_variable, after_operand, after_first, at_factor, after_factor, after_index, at_word, at_bracket, at_letter, at_value, after_letter, at_called, at_call, at_argument, done, paren, scope, close, step_at, step, leave_product, leave_whole}
+use Rattle.formula_parse.specs.Machine.{Frame, Outer, Role, Position, State, left_index, left_letter, first, second, left_side, right_of, place_in, argument, at_operand, at_system, at_variable, after_operand, after_first, at_factor, after_factor, after_index, at_word, at_bracket, at_letter, at_value, after_letter, at_called, at_call, at_argument, done, paren, scope, close, step_at, step, leave_product, leave_whole}
 
 abbrev pub EndsDone : {K : Kinds} → Option (State K) → Type 0
 EndsDone None = ⊤
@@ -17,13 +17,13 @@ module _ {K : Kinds} (A : Making K) where
   close_done w (paren h y ∷ hs) f = tt
   close_done w (scope k ns n h ∷ hs) f = close_done w hs _
 
-  whole_done : (s : State K) (h : Where K) (t : K.Term) (q : Bool) → EndsDone (leave_whole A s h t q end)
+  whole_done : (s : State K) (h : Role K) (t : K.Term) (q : Bool) → EndsDone (leave_whole A s h t q end)
   whole_done s left_side t q = tt
   whole_done s (right_of l k) t q = close_done s.flaw s.around _
   whole_done s (place_in a n ts) t q = tt
   whole_done s (argument n ts) t q = tt
 
-  product_done : (s : State K) (h : Where K) (o : List (Outer K)) (t : K.Term) (q : Bool) → EndsDone (leave_product A s h o t q end)
+  product_done : (s : State K) (h : Role K) (o : List (Outer K)) (t : K.Term) (q : Bool) → EndsDone (leave_product A s h o t q end)
   product_done s h [] t q = whole_done s h t q
   product_done s h (x ∷ o) t q = tt
 

@@ -5,7 +5,7 @@ use Rattle.formula_parse.specs.Tokens as tokens
 use Rattle.formula_parse.specs.Tokens.{Name, Relation, Quantifier, Letter, Token}
 use Rattle.formula_parse.specs.Trees.{Names, no_names, names}
 use Rattle.formula_parse.proofs.Derivations as derived
-use Rattle.formula_parse.specs.Formulas.{Factor, variable, numeral, in_parens, Prod, factor, times, Term, prod, signed, Index, word, further, Terms, term, comma, Atom, compare, words, word_letter, letter_word, call_none, call, Variables, variable_one, variable_more, Formula, imp, iff, Imp, chain, implies, Chain, operand, joined, Operand, marked, negated, quantified, grouped, atom, IsEnding, FormulaTakes, ImpTakes, ChainTakes, OperandTakes}
+use Rattle.formula_parse.specs.Formulas.{Factor, variable, numeral, in_parens, Prod, factor, times, Term, prod, signed, Index, word, further, Terms, term, comma, Atom, compare, words, word_letter, letter_word, call_none, call, Variables, variable_one, variable_more, WrittenFormula, imp, iff, Imp, chain, implies, Chain, operand, joined, Operand, marked, negated, quantified, grouped, atom, IsEnding, FormulaTakes, ImpTakes, ChainTakes, OperandTakes}
 use Rattle.formula_parse.proofs.SameTerms.{SameFactor, SameProd, SameTerm, same_variable, same_numeral, same_parens, same_factor, same_times, same_prod, same_signed, Alike, alike, SameTerms, same_one, same_comma, SameIndex, same_word, same_further, AlikeIndex, alike_index, SameAtom, same_compare, same_words, same_word_letter, same_letter_word, same_call_none, same_call}
 use Rattle.formula_parse.proofs.SameFormulas as formulas
 use Rattle.formula_parse.proofs.SameFormulas.{SameOperand, SameChain, SameImp, SameFormula, same_operand, same_joined, same_chain, same_implies, same_imp, same_iff, same_atom, same_grouped, same_not, SameVariables, same_variable_one, same_variable_more, same_quantified, same_tilde}
@@ -149,12 +149,12 @@ record OfImp (hs : derived.Chains) (os : derived.Operands) (l : derived.Last) (o
   takes : (t : Token) → OperandTakes o t → ImpTakes to t
 
 record OfFormula (is : derived.Implications) (hs : derived.Chains) (os : derived.Operands) (l : derived.Last) (o : Operand) : Type 0 where
-  to : Formula
+  to : WrittenFormula
   same : SameFormula is hs os l to
   takes : (t : Token) → OperandTakes o t → FormulaTakes to t
 
 pub record OfText (g : derived.Formula) : Type 0 where
-  pub to : Formula
+  pub to : WrittenFormula
   pub same : formulas.Alike g to
   pub takes : (t : Token) → IsEnding t → FormulaTakes to t
 

@@ -3,7 +3,7 @@ use Rattle.std.proofs.Common.{◌≡◌, refl, ℕ, Bool, true, false, List, [],
 use Rattle.formula_parse.specs.Tokens.{number}
 use Rattle.formula_parse.specs.Making.{Kinds, Making}
 use Rattle.formula_parse.specs.Flaws.{Flaw}
-use Rattle.formula_parse.specs.Machine.{Frame, Outer, Where, Position, State, left_index, left_letter, first, second, left_side, right_of, place_in, argument, at_operand, at_system, at_variable, after_operand, after_first, at_factor, after_factor, after_index, at_word, at_bracket, at_letter, at_value, after_letter, at_called, at_call, at_argument, done, paren, scope, close, step_at, leave_product, leave_whole}
+use Rattle.formula_parse.specs.Machine.{Frame, Outer, Role, Position, State, left_index, left_letter, first, second, left_side, right_of, place_in, argument, at_operand, at_system, at_variable, after_operand, after_first, at_factor, after_factor, after_index, at_word, at_bracket, at_letter, at_value, after_letter, at_called, at_call, at_argument, done, paren, scope, close, step_at, leave_product, leave_whole}
 
 -- positions at which no numeral goes on
 abbrev pub refuses : {K : Kinds} → Position K → Bool
@@ -20,13 +20,13 @@ module _ {K : Kinds} (A : Making K) (v : ℕ) where
   close_number w (paren h y ∷ hs) f = refl
   close_number w (scope k ns n h ∷ hs) f = close_number w hs _
 
-  whole_number : (s : State K) (h : Where K) (t : K.Term) (q : Bool) → leave_whole A s h t q (number v) ≡ None
+  whole_number : (s : State K) (h : Role K) (t : K.Term) (q : Bool) → leave_whole A s h t q (number v) ≡ None
   whole_number s left_side t q = refl
   whole_number s (right_of l k) t q = close_number s.flaw s.around _
   whole_number s (place_in a n ts) t q = refl
   whole_number s (argument n ts) t q = refl
 
-  product_number : (s : State K) (h : Where K) (o : List (Outer K)) (t : K.Term) (q : Bool) → leave_product A s h o t q (number v) ≡ None
+  product_number : (s : State K) (h : Role K) (o : List (Outer K)) (t : K.Term) (q : Bool) → leave_product A s h o t q (number v) ≡ None
   product_number s h [] t q = whole_number s h t q
   product_number s h (x ∷ o) t q = refl
 

@@ -50,15 +50,15 @@ tells text (Err (faults.Syntax at)) i p =
 tells text (Err (faults.Number at)) i p =
     at_number
     p.cut
-    p.passes.place
-    (reaches_derived (tokens p.cut.prefix) p.cut.spot.token p.passes.place p.passes.reaches)
+    p.passes.reached
+    (reaches_derived (tokens p.cut.prefix) p.cut.spot.token p.passes.reached p.passes.reaches)
     p.passes.out
     (ap (λ b. Err (faults.Number b)) p.passes.byte_is)
 tells text (Err (faults.Depth at)) i p =
     at_depth
     p.cut
-    p.passes.place
-    (reaches_derived (tokens p.cut.prefix) p.cut.spot.token p.passes.place p.passes.reaches)
+    p.passes.reached
+    (reaches_derived (tokens p.cut.prefix) p.cut.spot.token p.passes.reached p.passes.reaches)
     p.passes.deep
     (ap (λ b. Err (faults.Depth b)) p.at_is)
 tells text (Err (faults.MixedChain at)) i p =

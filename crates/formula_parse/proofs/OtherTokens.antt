@@ -5,7 +5,7 @@ use Rattle.formula_parse.specs.Tokens.{Name}
 use Rattle.formula_parse.specs.Trees as trees
 use Rattle.formula_parse.specs.Flaws.{Product, product_start}
 use Rattle.formula_parse.specs.Made.{made, trees as making}
-use Rattle.formula_parse.specs.Machine.{Prefix, Outer, Where, left_side, argument, close, whole, leave_closed, leave_product, leave_factor, leave_first, enter_factor, enter_argument}
+use Rattle.formula_parse.specs.Machine.{Prefix, Outer, Role, left_side, argument, close, whole, leave_closed, leave_product, leave_factor, leave_first, enter_factor, enter_argument}
 use Rattle.formula_parse.specs.StateViews.{Machine, token_view}
 use Rattle.formula_parse.specs.declared.tree.Sign.{Sign}
 use Rattle.formula_parse.specs.declared.token.ChainSign.{ChainSign}
@@ -18,7 +18,7 @@ leave_closed_other s r c (token.Implies b) f g h = absurd (g b refl)
 leave_closed_other s r c token.Iff f g h = absurd (h refl)
 leave_closed_other s r c t f g h = refl
 
-pub leave_factor_other : (s : Machine) (h : Where made) (o : List (Outer made)) (ss : trees.Addends) (ps : trees.Factors) (p : Product) (f : trees.Term) (q : Bool) (t : Token) → ((b : ℕ) → t ≡ token.Times b → ⊥) → ((e : Sign) → t ≡ token.Sign e → ⊥) → leave_factor making s h o ss ps p f q (token_view t) ≡ leave_product making s h o (making.term ss ps f) (p.lone && q) (token_view t)
+pub leave_factor_other : (s : Machine) (h : Role made) (o : List (Outer made)) (ss : trees.Addends) (ps : trees.Factors) (p : Product) (f : trees.Term) (q : Bool) (t : Token) → ((b : ℕ) → t ≡ token.Times b → ⊥) → ((e : Sign) → t ≡ token.Sign e → ⊥) → leave_factor making s h o ss ps p f q (token_view t) ≡ leave_product making s h o (making.term ss ps f) (p.lone && q) (token_view t)
 leave_factor_other s h o ss ps p f q (token.Times b) u v = absurd (u b refl)
 leave_factor_other s h o ss ps p f q (token.Sign e) u v = absurd (v e refl)
 leave_factor_other s h o ss ps p f q t u v = refl

@@ -78,7 +78,7 @@ number_from text s b c None e w h = absurd h
 number_from text s b c (Some n) e w h = record {
   cut = c;
   passes = record {
-    place = placed s.position c.spot.token (depth n);
+    reached = placed s.position c.spot.token (depth n);
     reaches = walks_reach (tokens_of c.prefix) s c.spot.token n w e;
     out = h.0;
     byte_is = h.1;
@@ -97,7 +97,7 @@ depth_from text s b c (Some n) e w h k =
     record {
       cut = c;
       passes = record {
-        place = placed s.position c.spot.token (depth n);
+        reached = placed s.position c.spot.token (depth n);
         reaches = walks_reach (tokens_of c.prefix) s c.spot.token n w e;
         deep = omega (arith, nest, h);
       };

@@ -4,7 +4,7 @@ use Rattle.formula_parse.specs.Tokens.{Name, Quantifier, Token, name, number, sy
 use Rattle.formula_parse.specs.Trees.{Names}
 use Rattle.formula_parse.specs.Making.{Kinds, Making}
 use Rattle.formula_parse.specs.Flaws.{Flaw, Product, product_start}
-use Rattle.formula_parse.specs.Machine.{Prefix, Body, Frame, Outer, Aim, Side, Where, Representation, Position, State, left_index, left_letter, first, second, left_side, right_of, place_in, argument, on_left, on_right, at_operand, at_system, at_variable, after_operand, after_first, at_factor, after_factor, after_index, at_word, at_bracket, at_letter, at_value, after_letter, at_called, at_call, at_argument, done, paren, scope, close, whole, closed, leave_closed, leave, close_term, leave_whole, leave_product, leave_factor, leave_first, leave_side, leave_index, enter_word, enter_bracket, enter_letter, enter_value, leave_letter, enter_called, enter_call, enter_factor, enter_argument, next_variable, enter, enter_system, enter_variable, step, step_at, place, within_where, within_outer, within_position, depth}
+use Rattle.formula_parse.specs.Machine.{Prefix, Body, Frame, Outer, Aim, Side, Role, Representation, Position, State, left_index, left_letter, first, second, left_side, right_of, place_in, argument, on_left, on_right, at_operand, at_system, at_variable, after_operand, after_first, at_factor, after_factor, after_index, at_word, at_bracket, at_letter, at_value, after_letter, at_called, at_call, at_argument, done, paren, scope, close, whole, closed, leave_closed, leave, close_term, leave_whole, leave_product, leave_factor, leave_first, leave_side, leave_index, enter_word, enter_bracket, enter_letter, enter_value, leave_letter, enter_called, enter_call, enter_factor, enter_argument, next_variable, enter, enter_system, enter_variable, step, step_at, operand_nesting, within_role, within_outer, within_position, depth}
 use Rattle.formula_parse.specs.Runs.{placed}
 
 -- nothing is made
@@ -84,11 +84,11 @@ module _ {K : Kinds} where
   bare_side first = first
   bare_side (second a) = second (bare_aim a)
 
-  abbrev pub bare_where : Where K → Where nothing
-  bare_where left_side = left_side
-  bare_where (right_of t e) = right_of tt e
-  bare_where (place_in a n ts) = place_in (bare_side a) n tt
-  bare_where (argument n ts) = argument n tt
+  abbrev pub bare_role : Role K → Role nothing
+  bare_role left_side = left_side
+  bare_role (right_of t e) = right_of tt e
+  bare_role (place_in a n ts) = place_in (bare_side a) n tt
+  bare_role (argument n ts) = argument n tt
 
   abbrev pub bare_representation : Representation K → Representation nothing
   bare_representation on_left = on_left
@@ -100,8 +100,8 @@ module _ {K : Kinds} where
   bare_position (at_variable q ns) = at_variable q ns
   bare_position (after_operand c) = after_operand tt
   bare_position (after_first n) = after_first n
-  bare_position (at_factor h o ss ps p) = at_factor (bare_where h) (bare_outer o) tt tt p
-  bare_position (after_factor h o ss ps p f q) = after_factor (bare_where h) (bare_outer o) tt tt p tt q
+  bare_position (at_factor h o ss ps p) = at_factor (bare_role h) (bare_outer o) tt tt p
+  bare_position (after_factor h o ss ps p f q) = after_factor (bare_role h) (bare_outer o) tt tt p tt q
   bare_position (after_index a n ts t) = after_index (bare_side a) n tt tt
   bare_position (at_word a) = at_word (bare_aim a)
   bare_position (at_bracket a n) = at_bracket (bare_aim a) n
@@ -143,7 +143,7 @@ module _ {K : Kinds} (A : Making K) where
   close_term_same s (scope k ns n h ∷ hs) b t q = refl
   close_term_same s [] b t q = refl
 
-  whole_same : (s : State K) (h : Where K) (t : K.Term) (q : Bool) (u : Token) → leave_whole none (bare s) (bare_where h) tt q u ≡ bared (leave_whole A s h t q u)
+  whole_same : (s : State K) (h : Role K) (t : K.Term) (q : Bool) (u : Token) → leave_whole none (bare s) (bare_role h) tt q u ≡ bared (leave_whole A s h t q u)
   whole_same s left_side t q (relation k) = refl
   whole_same s left_side t q closing = close_term_same s s.around s.body.touched t q
   whole_same s left_side t q _ = refl
@@ -154,12 +154,12 @@ module _ {K : Kinds} (A : Making K) where
   whole_same s (argument n ts) t q closing = refl
   whole_same s (argument n ts) t q _ = refl
 
-  product_same : (s : State K) (h : Where K) (o : List (Outer K)) (t : K.Term) (q : Bool) (u : Token) → leave_product none (bare s) (bare_where h) (bare_outer o) tt q u ≡ bared (leave_product A s h o t q u)
+  product_same : (s : State K) (h : Role K) (o : List (Outer K)) (t : K.Term) (q : Bool) (u : Token) → leave_product none (bare s) (bare_role h) (bare_outer o) tt q u ≡ bared (leave_product A s h o t q u)
   product_same s h [] t q u = whole_same s h t q u
   product_same s h (x ∷ o) t q closing = refl
   product_same s h (x ∷ o) t q _ = refl
 
-  leave_factor_same : (s : State K) (h : Where K) (o : List (Outer K)) (ss : K.Addends) (ps : K.Factors) (p : Product) (f : K.Factor) (q : Bool) (u : Token) → leave_factor none (bare s) (bare_where h) (bare_outer o) tt tt p tt q u ≡ bared (leave_factor A s h o ss ps p f q u)
+  leave_factor_same : (s : State K) (h : Role K) (o : List (Outer K)) (ss : K.Addends) (ps : K.Factors) (p : Product) (f : K.Factor) (q : Bool) (u : Token) → leave_factor none (bare s) (bare_role h) (bare_outer o) tt tt p tt q u ≡ bared (leave_factor A s h o ss ps p f q u)
   leave_factor_same s h o ss ps p f q (times b) = refl
   leave_factor_same s h o ss ps p f q (sign k) = refl
   leave_factor_same s h o ss ps p f q t = product_same s h o (A.term ss ps f) _ t
@@ -211,7 +211,7 @@ module _ {K : Kinds} (A : Making K) where
   call_same s n opening = refl
   call_same s n _ = refl
 
-  factor_same : (s : State K) (h : Where K) (o : List (Outer K)) (ss : K.Addends) (ps : K.Factors) (p : Product) (u : Token) → enter_factor none (bare s) (bare_where h) (bare_outer o) tt tt p u ≡ bared (enter_factor A s h o ss ps p u)
+  factor_same : (s : State K) (h : Role K) (o : List (Outer K)) (ss : K.Addends) (ps : K.Factors) (p : Product) (u : Token) → enter_factor none (bare s) (bare_role h) (bare_outer o) tt tt p u ≡ bared (enter_factor A s h o ss ps p u)
   factor_same s h o ss ps p opening = refl
   factor_same s h o ss ps p (name n) = refl
   factor_same s h o ss ps p (number n) = refl
@@ -274,15 +274,15 @@ module _ {K : Kinds} (A : Making K) where
   outer_same [] d = refl
   outer_same (x ∷ o) d = ap suc (outer_same o d)
 
-  where_same : (h : Where K) (d : ℕ) → within_where (bare_where h) d ≡ within_where h d
-  where_same left_side d = refl
-  where_same (right_of t k) d = refl
-  where_same (place_in a n ts) d = refl
-  where_same (argument n ts) d = refl
+  role_same : (h : Role K) (d : ℕ) → within_role (bare_role h) d ≡ within_role h d
+  role_same left_side d = refl
+  role_same (right_of t k) d = refl
+  role_same (place_in a n ts) d = refl
+  role_same (argument n ts) d = refl
 
   within_same : (p : Position K) (d : ℕ) → within_position (bare_position p) d ≡ within_position p d
-  within_same (at_factor h o ss ps p) d = ap (within_outer (bare_outer o)) (where_same h d) ∙ outer_same o _
-  within_same (after_factor h o ss ps p f q) d = ap (within_outer (bare_outer o)) (where_same h d) ∙ outer_same o _
+  within_same (at_factor h o ss ps p) d = ap (within_outer (bare_outer o)) (role_same h d) ∙ outer_same o _
+  within_same (after_factor h o ss ps p f q) d = ap (within_outer (bare_outer o)) (role_same h d) ∙ outer_same o _
   within_same at_operand d = refl
   within_same at_system d = refl
   within_same (at_variable q ns) d = refl
@@ -300,7 +300,7 @@ module _ {K : Kinds} (A : Making K) where
   within_same (done f) d = refl
 
   pub depth_same : (s : State K) → depth (bare s) ≡ depth s
-  depth_same s = within_same s.position (place s.body)
+  depth_same s = within_same s.position (operand_nesting s.body)
 
   pub placed_same : (p : Position K) (t : Token) (d : ℕ) → placed (bare_position p) t d ≡ placed p t d
   placed_same (at_letter c b) (number v) d = refl

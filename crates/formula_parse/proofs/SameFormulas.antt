@@ -5,7 +5,7 @@ use Rattle.formula_parse.specs.Tokens.{Name, Quantifier, Connective, Token, Plac
 use Rattle.formula_parse.specs.Trees as shapes
 use Rattle.formula_parse.specs.Trees.{Names, no_names, names}
 use Rattle.formula_parse.proofs.Derivations as derived
-use Rattle.formula_parse.specs.Formulas.{marks_then, Atom, Variables, variable_one, variable_more, Formula, imp, iff, Imp, chain, implies, Chain, operand, joined, Operand, marked, negated, quantified, grouped, atom, variables_then, formula_then, imp_then, chain_then, operand_then}
+use Rattle.formula_parse.specs.Formulas.{marks_then, Atom, Variables, variable_one, variable_more, WrittenFormula, imp, iff, Imp, chain, implies, Chain, operand, joined, Operand, marked, negated, quantified, grouped, atom, variables_then, formula_then, imp_then, chain_then, operand_then}
 use Rattle.formula_parse.specs.Machine.{within}
 use Rattle.formula_parse.proofs.Derivations.{tildes_then}
 use Rattle.formula_parse.proofs.Systems as systems
@@ -57,7 +57,7 @@ last_tree z hs os l =
     (chained (systems.operands_of trees (systems.chains_system z hs) os) (systems.last_of trees (systems.operands_system (systems.chains_system z hs) os) l))
 
 -- the implications before the last, and the last
-pub record SameFormula (is : derived.Implications) (hs : derived.Chains) (os : derived.Operands) (l : derived.Last) (f : Formula) : Type 0 where
+pub record SameFormula (is : derived.Implications) (hs : derived.Chains) (os : derived.Operands) (l : derived.Last) (f : WrittenFormula) : Type 0 where
   pub derived_is : (d : ℕ) (r : List Placed) → derived.implications_then is d (derived.chains_then hs d (derived.operands_then os d (derived.last_then l d r))) ≡ formula_then f d r
   pub before_is : (y : Name) → systems.implications_of trees y is ≡ before_imp y f
   pub last_is : (y : Name) → last_tree (systems.implications_system y is) hs os l ≡ last_imp y f
@@ -128,7 +128,7 @@ same_imp hs os l i s = record {
   flaw_is = s.flaw_is;
 }
 
-pub same_iff : (is : derived.Implications) (hs gs : derived.Chains) (os qs : derived.Operands) (e : derived.Closed) (l : derived.Last) (f : Formula) (i : Imp) → SameFormula is hs os (derived.ends e) f → SameImp gs qs l i → SameFormula (derived.implications is hs os e) gs qs l (iff f i)
+pub same_iff : (is : derived.Implications) (hs gs : derived.Chains) (os qs : derived.Operands) (e : derived.Closed) (l : derived.Last) (f : WrittenFormula) (i : Imp) → SameFormula is hs os (derived.ends e) f → SameImp gs qs l i → SameFormula (derived.implications is hs os e) gs qs l (iff f i)
 same_iff is hs gs os qs e l f i s t = record {
   derived_is = λ d r.
       s.derived_is d (here tokens.iff d ∷ derived.chains_then gs d (derived.operands_then qs d (derived.last_then l d r)))
@@ -148,12 +148,12 @@ same_iff is hs gs os qs e l f i s t = record {
 }
 
 -- a whole formula
-pub record Alike (g : derived.Formula) (f : Formula) : Type 0 where
+pub record Alike (g : derived.Formula) (f : WrittenFormula) : Type 0 where
   pub derived_is : (d : ℕ) (r : List Placed) → derived.formula_then g d r ≡ formula_then f d r
   pub tree_is : (y : Name) → systems.formula_of trees y g ≡ chained (before_imp y f) (last_imp y f)
   pub flaw_is : (w : Option Flaw) → flaws.formula_flaw w g ≡ formula_flaw w f
 
-pub alike : (is : derived.Implications) (hs : derived.Chains) (os : derived.Operands) (l : derived.Last) (f : Formula) → SameFormula is hs os l f → Alike (derived.formula is hs os l) f
+pub alike : (is : derived.Implications) (hs : derived.Chains) (os : derived.Operands) (l : derived.Last) (f : WrittenFormula) → SameFormula is hs os l f → Alike (derived.formula is hs os l) f
 alike is hs os l f s = record { derived_is = s.derived_is; tree_is = λ y. both chained (s.before_is y) (s.last_is y); flaw_is = s.flaw_is }
 
 -- operands, by their core
@@ -165,7 +165,7 @@ same_atom ms g a s = record {
   flaw_is = s.flaw_is;
 }
 
-pub same_grouped : (ms : Names) (g : derived.Formula) (f : Formula) → Alike g f → SameOperand (derived.ends (derived.marked ms (derived.grouped g))) (marked ms (grouped f))
+pub same_grouped : (ms : Names) (g : derived.Formula) (f : WrittenFormula) → Alike g f → SameOperand (derived.ends (derived.marked ms (derived.grouped g))) (marked ms (grouped f))
 same_grouped ms g f s = record {
   derived_is = λ d r. ap (λ z. marks_then ms d (here tokens.opening (suc d) ∷ z)) (s.derived_is (suc d) (here tokens.closing d ∷ r));
   tree_is = λ y. ap (under_marks ms) (s.tree_is (marks_system y ms));
@@ -195,7 +195,7 @@ same_variable_more ns m n vs s = record {
   names_are = cc (s.names_are);
 }
 
-pub same_quantified : (ms : Names) (q : Quantifier) (ns : Names) (n : Name) (vs : Variables) (g : derived.Formula) (f : Formula) → SameVariables ns n vs → Alike g f → SameOperand (derived.quantified [] ms q ns n g) (marked ms (quantified q vs f))
+pub same_quantified : (ms : Names) (q : Quantifier) (ns : Names) (n : Name) (vs : Variables) (g : derived.Formula) (f : WrittenFormula) → SameVariables ns n vs → Alike g f → SameOperand (derived.quantified [] ms q ns n g) (marked ms (quantified q vs f))
 same_quantified ms q ns n vs g f v s = record {
   derived_is = λ d r.
       ap

@@ -4,7 +4,7 @@ use Rattle.formula_parse.specs.Tokens.{Name, Quantifier, Letter, Token, Placed, 
 use Rattle.formula_parse.specs.Trees.{Names}
 use Rattle.formula_parse.proofs.Derivations.{Factor, variable, Factors, no_factors, Addends, no_addends, Term, term, Terms, no_terms, index, Core, compare, words, letter_word, not_closed, Closed, marked, ends, quantified, Formula, factor_then, factors_then, addends_then, term_then, arguments_then, places_then, index_then, variables_then, tildes_then, core_then, closed_then, operands_then, chains_then, implications_then, formula_then, parts, derivations}
 use Rattle.formula_parse.specs.Formulas.{letter_then, marks_then}
-use Rattle.formula_parse.specs.Machine.{within, Prefix, Body, Frame, Outer, Aim, Side, Where, Representation, Position, State, left_index, left_letter, first, second, left_side, right_of, place_in, argument, on_left, on_right, at_operand, at_system, at_variable, after_operand, after_first, at_factor, after_factor, after_index, at_word, at_bracket, at_letter, at_value, after_letter, at_called, at_call, at_argument, done, paren, scope, fresh, close, whole, wrapped, closed, leave_closed, leave, close_term, leave_whole, leave_product, leave_factor, leave_first, leave_side, leave_index, enter_word, enter_bracket, enter_letter, enter_value, leave_letter, enter_called, enter_call, enter_factor, enter_argument, next_variable, enter, enter_system, enter_variable, step, step_at, within_where, within_outer, within_position}
+use Rattle.formula_parse.specs.Machine.{within, Prefix, Body, Frame, Outer, Aim, Side, Role, Representation, Position, State, left_index, left_letter, first, second, left_side, right_of, place_in, argument, on_left, on_right, at_operand, at_system, at_variable, after_operand, after_first, at_factor, after_factor, after_index, at_word, at_bracket, at_letter, at_value, after_letter, at_called, at_call, at_argument, done, paren, scope, fresh, close, whole, wrapped, closed, leave_closed, leave, close_term, leave_whole, leave_product, leave_factor, leave_first, leave_side, leave_index, enter_word, enter_bracket, enter_letter, enter_value, leave_letter, enter_called, enter_call, enter_factor, enter_argument, next_variable, enter, enter_system, enter_variable, step, step_at, within_role, within_outer, within_position}
 use Rattle.formula_parse.specs.Flaws.{Flaw, Product, product_start}
 use Rattle.formula_parse.specs.Runs.{placed}
 
@@ -35,11 +35,11 @@ abbrev pub side_then : Side parts → ℕ → List Placed → List Placed
 side_then first d q = q
 side_then (second a) d q = aim_then a d q
 
-abbrev pub where_then : Where parts → ℕ → List Placed → List Placed
-where_then left_side d q = q
-where_then (right_of t k) d q = term_then t d (here (relation k) d ∷ q)
-where_then (place_in s n ts) d q = side_then s d (here (name n) d ∷ here bracket (suc d) ∷ places_then ts d q)
-where_then (argument n ts) d q = here call_sign d ∷ here (called n) d ∷ here opening (suc d) ∷ arguments_then ts (suc d) q
+abbrev pub role_then : Role parts → ℕ → List Placed → List Placed
+role_then left_side d q = q
+role_then (right_of t k) d q = term_then t d (here (relation k) d ∷ q)
+role_then (place_in s n ts) d q = side_then s d (here (name n) d ∷ here bracket (suc d) ∷ places_then ts d q)
+role_then (argument n ts) d q = here call_sign d ∷ here (called n) d ∷ here opening (suc d) ∷ arguments_then ts (suc d) q
 
 abbrev pub outer_then : List (Outer parts) → ℕ → List Placed → List Placed
 outer_then [] d q = q
@@ -57,12 +57,12 @@ position_then (at_variable k ns) d q = here (quantifier k) (suc d) ∷ variables
 position_then (after_operand c) d q = core_then c d q
 position_then (after_first n) d q = here (name n) d ∷ q
 position_then (at_factor h o ss ps p) d q =
-    let e = within_where h d in
-    where_then h d (outer_then o e (addends_then ss (within_outer o e) (factors_then ps (within_outer o e) q)))
+    let e = within_role h d in
+    role_then h d (outer_then o e (addends_then ss (within_outer o e) (factors_then ps (within_outer o e) q)))
 position_then (after_factor h o ss ps p f b) d q =
-    let e = within_where h d in
-    where_then h d (outer_then o e (addends_then ss (within_outer o e) (factors_then ps (within_outer o e) (factor_then f (within_outer o e) q))))
-position_then (after_index s n ts t) d q = where_then (place_in s n ts) d (term_then t (suc d) (here unbracket d ∷ q))
+    let e = within_role h d in
+    role_then h d (outer_then o e (addends_then ss (within_outer o e) (factors_then ps (within_outer o e) (factor_then f (within_outer o e) q))))
+position_then (after_index s n ts t) d q = role_then (place_in s n ts) d (term_then t (suc d) (here unbracket d ∷ q))
 position_then (at_word a) d q = aim_then a d q
 position_then (at_bracket a n) d q = aim_then a d (here (name n) d ∷ q)
 position_then (at_letter c b) d q = representation_then c d (here (letter_sign b) d ∷ q)
@@ -170,7 +170,7 @@ close_term_goes s (paren h y ∷ hs) g true t q e a b = tt
 close_term_goes s (scope k ns n h ∷ hs) g c t q e a b = tt
 close_term_goes s [] g c t q e a b = tt
 
-whole_goes : (s : State parts) (h : Where parts) (t : Term) (q : Bool) (u : Token) → Sane s → GoesOn (leave_whole derivations s h t q u) (λ r. frames_then s.around (body_then s.body (nesting s.around) (where_then h (within s.body.tildes (nesting s.around)) (term_then t (within_where h (within s.body.tildes (nesting s.around))) r)))) (here u)
+whole_goes : (s : State parts) (h : Role parts) (t : Term) (q : Bool) (u : Token) → Sane s → GoesOn (leave_whole derivations s h t q u) (λ r. frames_then s.around (body_then s.body (nesting s.around) (role_then h (within s.body.tildes (nesting s.around)) (term_then t (within_role h (within s.body.tildes (nesting s.around))) r)))) (here u)
 whole_goes s left_side t q (relation k) a = goes (stays _ a) (λ r. refl)
 whole_goes s left_side t q closing a = close_term_goes s s.around s.body s.body.touched t q refl a.body a.frames
 whole_goes s left_side t q _ a = tt
@@ -181,12 +181,12 @@ whole_goes s (argument n ts) t q comma a = goes (stays _ a) (λ r. refl)
 whole_goes s (argument n ts) t q closing a = goes (stays _ a) (λ r. refl)
 whole_goes s (argument n ts) t q _ a = tt
 
-product_goes : (s : State parts) (h : Where parts) (o : List (Outer parts)) (ss : Addends) (ps : Factors) (f : Factor) (q : Bool) (u : Token) → Sane s → GoesOn (leave_product derivations s h o (term ss ps f) q u) (state_then (at s (after_factor h o ss ps (product_start true) f q))) (here u)
+product_goes : (s : State parts) (h : Role parts) (o : List (Outer parts)) (ss : Addends) (ps : Factors) (f : Factor) (q : Bool) (u : Token) → Sane s → GoesOn (leave_product derivations s h o (term ss ps f) q u) (state_then (at s (after_factor h o ss ps (product_start true) f q))) (here u)
 product_goes s h [] ss ps f q u a = whole_goes s h (term ss ps f) q u a
 product_goes s h (x ∷ o) ss ps f q closing a = goes (record { body = a.body; frames = a.frames }) (λ r. refl)
 product_goes s h (x ∷ o) ss ps f q _ a = tt
 
-leave_factor_goes : (s : State parts) (h : Where parts) (o : List (Outer parts)) (ss : Addends) (ps : Factors) (p : Product) (f : Factor) (q : Bool) (u : Token) → Sane s → GoesOn (leave_factor derivations s h o ss ps p f q u) (state_then (at s (after_factor h o ss ps p f q))) (here u)
+leave_factor_goes : (s : State parts) (h : Role parts) (o : List (Outer parts)) (ss : Addends) (ps : Factors) (p : Product) (f : Factor) (q : Bool) (u : Token) → Sane s → GoesOn (leave_factor derivations s h o ss ps p f q u) (state_then (at s (after_factor h o ss ps p f q))) (here u)
 leave_factor_goes s h o ss ps p f q (times b) a = goes (stays _ a) (λ r. refl)
 leave_factor_goes s h o ss ps p f q (sign k) a = goes (stays _ a) (λ r. refl)
 leave_factor_goes s h o ss ps p f q t a = product_goes s h o ss ps f _ t a
@@ -237,7 +237,7 @@ call_goes : (s : State parts) (n : Name) (u : Token) → Sane s → GoesOn (ente
 call_goes s n opening a = goes (stays _ a) (λ r. refl)
 call_goes s n _ a = tt
 
-factor_goes : (s : State parts) (h : Where parts) (o : List (Outer parts)) (ss : Addends) (ps : Factors) (p : Product) (u : Token) → Sane s → GoesOn (enter_factor derivations s h o ss ps p u) (state_then (at s (at_factor h o ss ps p))) (here u)
+factor_goes : (s : State parts) (h : Role parts) (o : List (Outer parts)) (ss : Addends) (ps : Factors) (p : Product) (u : Token) → Sane s → GoesOn (enter_factor derivations s h o ss ps p u) (state_then (at s (at_factor h o ss ps p))) (here u)
 factor_goes s h o ss ps p opening a = goes (stays _ a) (λ r. refl)
 factor_goes s h o ss ps p (name n) a = goes (record { body = a.body; frames = a.frames }) (λ r. refl)
 factor_goes s h o ss ps p (number n) a = goes (record { body = a.body; frames = a.frames }) (λ r. refl)

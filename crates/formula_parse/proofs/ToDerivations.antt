@@ -4,7 +4,7 @@ use Rattle.formula_parse.specs.Tokens as tokens
 use Rattle.formula_parse.specs.Tokens.{Name, Quantifier, Connective, Token}
 use Rattle.formula_parse.specs.Trees.{Names, no_names, names}
 use Rattle.formula_parse.proofs.Derivations as derived
-use Rattle.formula_parse.specs.Formulas.{Factor, variable, numeral, in_parens, Prod, factor, times, Term, prod, signed, Index, word, further, Terms, term, comma, Atom, compare, words, word_letter, letter_word, call_none, call, Variables, variable_one, variable_more, Formula, imp, iff, Imp, chain, implies, Chain, operand, joined, Operand, marked, Core, negated, quantified, grouped, atom, IsEnding, FormulaTakes, ImpTakes, ChainTakes, OperandTakes, CoreTakes}
+use Rattle.formula_parse.specs.Formulas.{Factor, variable, numeral, in_parens, Prod, factor, times, Term, prod, signed, Index, word, further, Terms, term, comma, Atom, compare, words, word_letter, letter_word, call_none, call, Variables, variable_one, variable_more, WrittenFormula, imp, iff, Imp, chain, implies, Chain, operand, joined, Operand, marked, Core, negated, quantified, grouped, atom, IsEnding, FormulaTakes, ImpTakes, ChainTakes, OperandTakes, CoreTakes}
 use Rattle.formula_parse.proofs.SameTerms.{SameFactor, SameProd, SameTerm, same_variable, same_numeral, same_parens, same_factor, same_times, same_prod, same_signed, Alike, alike, SameTerms, same_one, same_comma, SameIndex, same_word, same_further, AlikeIndex, alike_index, SameAtom, same_compare, same_words, same_word_letter, same_letter_word, same_call_none, same_call}
 use Rattle.formula_parse.proofs.SameFormulas as formulas
 use Rattle.formula_parse.proofs.SameFormulas.{SameOperand, SameChain, SameImp, SameFormula, same_operand, same_joined, same_chain, same_implies, same_imp, same_iff, same_atom, same_grouped, same_not, SameVariables, same_variable_one, same_variable_more, same_quantified, same_tilde}
@@ -165,7 +165,7 @@ record OfImp (i : Imp) (t : Token) : Type 0 where
   same : SameImp chains operands last i
   closed : (IsEnding t → ⊥) → IsClosed last
 
-record OfFormula (f : Formula) (t : Token) : Type 0 where
+record OfFormula (f : WrittenFormula) (t : Token) : Type 0 where
   implications : derived.Implications
   chains : derived.Chains
   operands : derived.Operands
@@ -173,11 +173,11 @@ record OfFormula (f : Formula) (t : Token) : Type 0 where
   same : SameFormula implications chains operands last f
   closed : (IsEnding t → ⊥) → IsClosed last
 
-pub record OfText (f : Formula) : Type 0 where
+pub record OfText (f : WrittenFormula) : Type 0 where
   pub to : derived.Formula
   pub same : formulas.Alike to f
 
-text_of : (f : Formula) (t : Token) → OfFormula f t → OfText f
+text_of : (f : WrittenFormula) (t : Token) → OfFormula f t → OfText f
 text_of f t u = record {
   to = derived.formula u.implications u.chains u.operands u.last;
   same = formulas.alike u.implications u.chains u.operands u.last f u.same;
@@ -187,7 +187,7 @@ not_of : (ms : Names) (o : Operand) (t : Token) (l : derived.Last) → SameOpera
 not_of ms o t (derived.ends e) s h = record { last = derived.ends (derived.marked ms (derived.not_closed e)); same = same_not ms e o s; closed = λ n. tt }
 not_of ms o t (derived.quantified st ks q ns n g) s h = record { last = derived.quantified (st ++ ms ∷ []) ks q ns n g; same = same_tilde ms st ks q ns n g o s; closed = h }
 
-quantified_of : (ms : Names) (q : Quantifier) (vs : Variables) (f : Formula) (t : Token) → IsEnding t → OfText f → OfOperand (marked ms (quantified q vs f)) t
+quantified_of : (ms : Names) (q : Quantifier) (vs : Variables) (f : WrittenFormula) (t : Token) → IsEnding t → OfText f → OfOperand (marked ms (quantified q vs f)) t
 quantified_of ms q vs f t e u =
     let v = variables_of vs in
     record {
@@ -196,7 +196,7 @@ quantified_of ms q vs f t e u =
       closed = λ n. n e;
     }
 
-grouped_of : (ms : Names) (f : Formula) (t : Token) → OfText f → OfOperand (marked ms (grouped f)) t
+grouped_of : (ms : Names) (f : WrittenFormula) (t : Token) → OfText f → OfOperand (marked ms (grouped f)) t
 grouped_of ms f t u = record { last = derived.ends (derived.marked ms (derived.grouped u.to)); same = same_grouped ms u.to f u.same; closed = λ n. tt }
 
 plain_of : (ms : Names) (a : Atom) (t : Token) → OfAtom a → OfOperand (marked ms (atom a)) t
@@ -223,7 +223,7 @@ implies_of i b c t u v =
       closed = v.closed;
     }
 
-iff_of : (f : Formula) (i : Imp) (t : Token) → OfFormula f tokens.iff → OfImp i t → OfFormula (iff f i) t
+iff_of : (f : WrittenFormula) (i : Imp) (t : Token) → OfFormula f tokens.iff → OfImp i t → OfFormula (iff f i) t
 iff_of f i t u v =
     let e = closed_part u.last (u.closed (λ n. n)) in
     record {
@@ -264,7 +264,7 @@ imp_alone i t u = record {
 }
 
 mutual
-  formula_of : (f : Formula) (t : Token) → FormulaTakes f t → OfFormula f t
+  formula_of : (f : WrittenFormula) (t : Token) → FormulaTakes f t → OfFormula f t
   formula_of (imp i) t h = imp_alone i t (imp_of i t h)
   formula_of (iff f i) t h = iff_of f i t (formula_of f tokens.iff h.0) (imp_of i t h.1)
 
@@ -287,5 +287,5 @@ mutual
   core_of (grouped f) ms t h = grouped_of ms f t (text_of f tokens.closing (formula_of f tokens.closing h))
   core_of (atom a) ms t h = plain_of ms a t (atom_of a)
 
-pub derived_of : (f : Formula) → FormulaTakes f tokens.end → OfText f
+pub derived_of : (f : WrittenFormula) → FormulaTakes f tokens.end → OfText f
 derived_of f h = text_of f tokens.end (formula_of f tokens.end h)

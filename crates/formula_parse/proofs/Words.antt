@@ -5,7 +5,7 @@ use Rattle.std.specs.List.{fold}
 use Rattle.std.specs.declared.alloc.Global.{Global}
 use Rattle.formula_parse.specs.Trees as trees
 use Rattle.formula_parse.specs.Trees.{Names}
-use Rattle.formula_parse.specs.Machine.{within, Prefix, State, place, fresh, wrapped, leave_closed}
+use Rattle.formula_parse.specs.Machine.{within, Prefix, State, operand_nesting, fresh, wrapped, leave_closed}
 use Rattle.formula_parse.specs.Tokens.{Name, Token, connective, implies, iff}
 use Rattle.formula_parse.specs.Making.{Kinds, Making}
 use Rattle.formula_parse.specs.Made.{trees as making}
@@ -38,6 +38,6 @@ pub length-tildes_view : (ts : List (Vec Name Global)) → length (tildes_view t
 length-tildes_view ts = stack_length ts [] ∙ omega arith
 
 -- the nesting of the operand that comes
-pub inside : (b : Body') → place (body_view b) ≡ b.prefix.base + length b.before.tildes.items
+pub inside : (b : Body') → operand_nesting (body_view b) ≡ b.prefix.base + length b.before.tildes.items
 inside b =
     within-length (tildes_view b.before.tildes.items) b.prefix.base ∙ ap (λ n. b.prefix.base + n) (length-tildes_view b.before.tildes.items)

@@ -1,7 +1,7 @@
 -- The faults of the second pass in a formula of the grammar. The one at the least byte is kept.
 use Rattle.std.specs.Prelude.{Bool, true, false, not, ◌&&◌, ◌||◌, Option}
 use Rattle.formula_parse.specs.Flaws.{Flaw, mixed_chain, not_linear, noted_if, Came, none_came, came_next, mixes}
-use Rattle.formula_parse.specs.Formulas.{Factor, variable, numeral, in_parens, Prod, factor, times, Term, prod, signed, Index, word, further, Terms, term, comma, Atom, compare, words, word_letter, letter_word, call_none, call, Formula, imp, iff, Imp, chain, implies, Chain, operand, joined, Operand, marked, Core, negated, quantified, grouped, atom}
+use Rattle.formula_parse.specs.Formulas.{Factor, variable, numeral, in_parens, Prod, factor, times, Term, prod, signed, Index, word, further, Terms, term, comma, Atom, compare, words, word_letter, letter_word, call_none, call, WrittenFormula, imp, iff, Imp, chain, implies, Chain, operand, joined, Operand, marked, Core, negated, quantified, grouped, atom}
 
 -- a numeral, or one in parentheses
 abbrev mutual
@@ -66,7 +66,7 @@ is_implied (implies i b c) = true
 
 -- A connective that its chain does not mix with those before it is a flaw, and so is a second `=>`.
 abbrev mutual
-  pub formula_flaw : Option Flaw → Formula → Option Flaw
+  pub formula_flaw : Option Flaw → WrittenFormula → Option Flaw
   formula_flaw w (imp i) = imp_flaw w i
   formula_flaw w (iff f i) = imp_flaw (formula_flaw w f) i
 

@@ -3,7 +3,7 @@ use Rattle.std.specs.Prelude.{[], ◌∷◌}
 use Rattle.formula_parse.specs.Tokens.{Name}
 use Rattle.formula_parse.specs.Trees as trees
 use Rattle.formula_parse.specs.Trees.{Names, no_names, names}
-use Rattle.formula_parse.specs.Formulas.{Factor, variable, numeral, in_parens, Prod, factor, times, Term, prod, signed, Index, word, further, Terms, term, comma, Atom, compare, words, word_letter, letter_word, call_none, call, Variables, variable_one, variable_more, Formula, imp, iff, Imp, chain, implies, Chain, operand, joined, Operand, marked, Core, negated, quantified, grouped, atom}
+use Rattle.formula_parse.specs.Formulas.{Factor, variable, numeral, in_parens, Prod, factor, times, Term, prod, signed, Index, word, further, Terms, term, comma, Atom, compare, words, word_letter, letter_word, call_none, call, Variables, variable_one, variable_more, WrittenFormula, imp, iff, Imp, chain, implies, Chain, operand, joined, Operand, marked, Core, negated, quantified, grouped, atom}
 use Rattle.formula_parse.specs.Building.{multiplied, summed, chained, under_marks, letter_of, joint, in_system}
 
 -- Of what repeats: the tree of the last item, and those of the items before it. A list of one is its item, and parentheses leave no mark.
@@ -66,7 +66,7 @@ marks_system y (names ms n) = n
 
 -- The system in force after each, where one is in force before it: that of the last `?` mark. A mark holds up to the closing parenthesis.
 abbrev mutual
-  pub formula_system : Name → Formula → Name
+  pub formula_system : Name → WrittenFormula → Name
   formula_system y (imp i) = imp_system y i
   formula_system y (iff f i) = imp_system (formula_system y f) i
 
@@ -89,11 +89,11 @@ abbrev mutual
 
 -- the trees, where a system is in force
 abbrev mutual
-  pub before_imp : Name → Formula → trees.Operands
+  pub before_imp : Name → WrittenFormula → trees.Operands
   before_imp y (imp i) = trees.no_operands
   before_imp y (iff f i) = trees.operands (before_imp y f) (last_imp y f) trees.iff
 
-  pub last_imp : Name → Formula → trees.Formula
+  pub last_imp : Name → WrittenFormula → trees.Formula
   last_imp y (imp i) = chained (before_chain y i) (last_chain y i)
   last_imp y (iff f i) = chained (before_chain (formula_system y f) i) (last_chain (formula_system y f) i)
 
@@ -122,7 +122,7 @@ abbrev mutual
   core_tree y (grouped f) = chained (before_imp y f) (last_imp y f)
   core_tree y (atom a) = in_system y (fact a)
 
-abbrev pub formula_tree : Name → Formula → trees.Formula
+abbrev pub formula_tree : Name → WrittenFormula → trees.Formula
 formula_tree y f = chained (before_imp y f) (last_imp y f)
 
 -- the system where no mark is: `msd_2`
@@ -130,5 +130,5 @@ abbrev pub default_system : Name
 default_system = 109 ∷ 115 ∷ 100 ∷ 95 ∷ 50 ∷ []
 
 -- the tree of a text
-abbrev pub tree_of : Formula → trees.Formula
+abbrev pub tree_of : WrittenFormula → trees.Formula
 tree_of f = formula_tree default_system f

@@ -49,9 +49,9 @@ pub data Variables : Type 0 where
 
 mutual
   -- formula := imp { "<=>" imp }
-  pub data Formula : Type 0 where
-    imp : Imp → Formula
-    iff : Formula → Imp → Formula
+  pub data WrittenFormula : Type 0 where
+    imp : Imp → WrittenFormula
+    iff : WrittenFormula → Imp → WrittenFormula
 
   -- imp := chain { "=>" chain }, each `=>` with its byte
   pub data Imp : Type 0 where
@@ -70,8 +70,8 @@ mutual
   -- core := "~" operand | ("E" | "A") VAR { "," VAR } formula | "(" formula ")" | atom
   pub data Core : Type 0 where
     negated : Operand → Core
-    quantified : Quantifier → Variables → Formula → Core
-    grouped : Formula → Core
+    quantified : Quantifier → Variables → WrittenFormula → Core
+    grouped : WrittenFormula → Core
     atom : Atom → Core
 
 -- A quantifier's formula takes all that follows, up to the closing parenthesis or the end: the token after it is one of these.
@@ -82,7 +82,7 @@ IsEnding _ = ⊥
 
 -- each quantifier in it does, where a token is the next
 abbrev mutual
-  pub FormulaTakes : Formula → Token → Type 0
+  pub FormulaTakes : WrittenFormula → Token → Type 0
   FormulaTakes (imp i) t = ImpTakes i t
   FormulaTakes (iff f i) t = FormulaTakes f tokens.iff × ImpTakes i t
 
@@ -151,7 +151,7 @@ marks_then no_names d r = r
 marks_then (names ms n) d r = marks_then ms d (here tokens.mark d ∷ here (tokens.system n) d ∷ r)
 
 abbrev mutual
-  pub formula_then : Formula → ℕ → List Placed → List Placed
+  pub formula_then : WrittenFormula → ℕ → List Placed → List Placed
   formula_then (imp i) d r = imp_then i d r
   formula_then (iff f i) d r = formula_then f d (here tokens.iff d ∷ imp_then i d r)
 
@@ -173,5 +173,5 @@ abbrev mutual
   core_then (atom a) d r = atom_then a d r
 
 -- the tokens of a text: those of a formula, and its end
-abbrev pub derived_tokens : Formula → List Placed
+abbrev pub derived_tokens : WrittenFormula → List Placed
 derived_tokens f = formula_then f 0 (here tokens.end 0 ∷ [])

@@ -43,12 +43,12 @@ pub data Side (K : Kinds) : Type 0 where
   first : Side K
   second : Aim K → Side K
 
--- where a term is
-pub data Where (K : Kinds) : Type 0 where
-  left_side : Where K
-  right_of : K.Term → Relation → Where K
-  place_in : Side K → Name → K.Terms → Where K
-  argument : Name → K.Terms → Where K
+-- what a term is in its atom
+pub data Role (K : Kinds) : Type 0 where
+  left_side : Role K
+  right_of : K.Term → Relation → Role K
+  place_in : Side K → Name → K.Terms → Role K
+  argument : Name → K.Terms → Role K
 
 -- where a letter is
 pub data Representation (K : Kinds) : Type 0 where
@@ -63,9 +63,9 @@ pub data Position (K : Kinds) : Type 0 where
   -- a name that begins an operand: a variable or a word
   after_first : Name → Position K
   -- where the term is, the terms around, the products and the factors before, what they are
-  at_factor : Where K → List (Outer K) → K.Addends → K.Factors → Product → Position K
+  at_factor : Role K → List (Outer K) → K.Addends → K.Factors → Product → Position K
   -- and a factor, and whether it is a numeral
-  after_factor : Where K → List (Outer K) → K.Addends → K.Factors → Product → K.Factor → Bool → Position K
+  after_factor : Role K → List (Outer K) → K.Addends → K.Factors → Product → K.Factor → Bool → Position K
   after_index : Side K → Name → K.Terms → K.Term → Position K
   at_word : Aim K → Position K
   at_bracket : Aim K → Name → Position K
@@ -90,14 +90,14 @@ within [] d = d
 within (ms ∷ st) d = suc (within st d)
 
 -- the nesting of the operand that comes
-abbrev pub place : {K : Kinds} → Body K → ℕ
-place g = within g.tildes g.base
+abbrev pub operand_nesting : {K : Kinds} → Body K → ℕ
+operand_nesting g = within g.tildes g.base
 
-abbrev pub within_where : {K : Kinds} → Where K → ℕ → ℕ
-within_where left_side d = d
-within_where (right_of t e) d = d
-within_where (place_in s n ts) d = suc d
-within_where (argument n ts) d = suc d
+abbrev pub within_role : {K : Kinds} → Role K → ℕ → ℕ
+within_role left_side d = d
+within_role (right_of t e) d = d
+within_role (place_in s n ts) d = suc d
+within_role (argument n ts) d = suc d
 
 abbrev pub within_outer : {K : Kinds} → List (Outer K) → ℕ → ℕ
 within_outer [] d = d
@@ -105,8 +105,8 @@ within_outer (x ∷ o) d = suc (within_outer o d)
 
 abbrev pub within_position : {K : Kinds} → Position K → ℕ → ℕ
 within_position (at_variable q ns) d = suc d
-within_position (at_factor h o ss ps p) d = within_outer o (within_where h d)
-within_position (after_factor h o ss ps p f q) d = within_outer o (within_where h d)
+within_position (at_factor h o ss ps p) d = within_outer o (within_role h d)
+within_position (after_factor h o ss ps p f q) d = within_outer o (within_role h d)
 within_position (at_argument n) d = suc d
 within_position at_operand d = d
 within_position at_system d = d
@@ -124,7 +124,7 @@ within_position (done f) d = d
 
 -- the nesting of a state
 abbrev pub depth : {K : Kinds} → State K → ℕ
-depth s = within_position s.position (place s.body)
+depth s = within_position s.position (operand_nesting s.body)
 
 module _ {K : Kinds} (A : Making K) where
   abbrev pub empty_prefix : Prefix K
@@ -191,7 +191,7 @@ module _ {K : Kinds} (A : Making K) where
   leave s c t = leave_closed s s.body.prefix (closed s.body c) t
 
   -- a factor was read
-  abbrev pub with_factor : State K → Where K → List (Outer K) → K.Addends → K.Factors → Product → K.Factor → Bool → State K
+  abbrev pub with_factor : State K → Role K → List (Outer K) → K.Addends → K.Factors → Product → K.Factor → Bool → State K
   with_factor s h o ss ps p f q = record s { flaw = noted_factor p q s.flaw; position = after_factor h o ss ps p f q }
 
   -- a `)` after a term that is no side of a relation: its parenthesis was a term's
@@ -211,11 +211,11 @@ module _ {K : Kinds} (A : Making K) where
   close_term s [] b t q = None
 
   -- a term begins
-  abbrev pub at_term : State K → Where K → Option (State K)
+  abbrev pub at_term : State K → Role K → Option (State K)
   at_term s h = moved s (at_factor h [] A.no_addends A.no_factors (product_start true))
 
   -- a token after a whole term
-  abbrev pub leave_whole : State K → Where K → K.Term → Bool → Token → Option (State K)
+  abbrev pub leave_whole : State K → Role K → K.Term → Bool → Token → Option (State K)
   leave_whole s left_side t q (relation e) = at_term s (right_of t e)
   leave_whole s left_side t q closing = close_term s s.around s.body.touched t q
   leave_whole s left_side t q _ = None
@@ -227,13 +227,13 @@ module _ {K : Kinds} (A : Making K) where
   leave_whole s (argument n ts) t q _ = None
 
   -- a token after a product
-  abbrev pub leave_product : State K → Where K → List (Outer K) → K.Term → Bool → Token → Option (State K)
+  abbrev pub leave_product : State K → Role K → List (Outer K) → K.Term → Bool → Token → Option (State K)
   leave_product s h [] t q u = leave_whole s h t q u
   leave_product s h (x ∷ o) t q closing = Some (with_factor s h o x.addends x.factors x.product (A.in_parens t) q)
   leave_product s h (x ∷ o) t q _ = None
 
   -- a token after a factor
-  abbrev pub leave_factor : State K → Where K → List (Outer K) → K.Addends → K.Factors → Product → K.Factor → Bool → Token → Option (State K)
+  abbrev pub leave_factor : State K → Role K → List (Outer K) → K.Addends → K.Factors → Product → K.Factor → Bool → Token → Option (State K)
   leave_factor s h o ss ps p f q (times b) = moved s (at_factor h o ss (A.factors ps f b) (product_next p q b))
   leave_factor s h o ss ps p f q (sign e) = moved s (at_factor h o (A.addends ss ps f e) A.no_factors (product_start false))
   leave_factor s h o ss ps p f q t = leave_product s h o (A.term ss ps f) (p.lone && q) t
@@ -286,7 +286,7 @@ module _ {K : Kinds} (A : Making K) where
   enter_call s n opening = moved s (at_argument n)
   enter_call s n _ = None
 
-  abbrev pub enter_factor : State K → Where K → List (Outer K) → K.Addends → K.Factors → Product → Token → Option (State K)
+  abbrev pub enter_factor : State K → Role K → List (Outer K) → K.Addends → K.Factors → Product → Token → Option (State K)
   enter_factor s h o ss ps p opening =
       moved s (at_factor h (record { addends = ss; factors = ps; product = p } ∷ o) A.no_addends A.no_factors (product_start true))
   enter_factor s h o ss ps p (name n) = Some (with_factor s h o ss ps p (A.variable n) false)
@@ -320,7 +320,7 @@ module _ {K : Kinds} (A : Making K) where
       Some (
       record s {
         around = paren s.body s.system ∷ s.around;
-        body = fresh (suc (place s.body));
+        body = fresh (suc (operand_nesting s.body));
         position = at_operand;
       }
       )
@@ -341,7 +341,7 @@ module _ {K : Kinds} (A : Making K) where
       Some (
       record s {
         around = scope q ns n s.body ∷ s.around;
-        body = fresh (suc (place s.body));
+        body = fresh (suc (operand_nesting s.body));
         position = at_operand;
       }
       )

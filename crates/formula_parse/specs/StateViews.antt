@@ -25,8 +25,8 @@ use Rattle.formula_parse.specs.declared.state.Aim.{Aim}
 use Rattle.formula_parse.specs.declared.state.Aim.TheVariants as aims
 use Rattle.formula_parse.specs.declared.state.Side.{Side}
 use Rattle.formula_parse.specs.declared.state.Side.TheVariants as sides
-use Rattle.formula_parse.specs.declared.state.Place.{Place}
-use Rattle.formula_parse.specs.declared.state.Place.TheVariants as places
+use Rattle.formula_parse.specs.declared.state.Role.{Role}
+use Rattle.formula_parse.specs.declared.state.Role.TheVariants as roles
 use Rattle.formula_parse.specs.declared.state.Representation.{Representation}
 use Rattle.formula_parse.specs.declared.state.Representation.TheVariants as representations
 use Rattle.formula_parse.specs.declared.state.Position.{Position}
@@ -121,11 +121,11 @@ abbrev pub side_view : Side → machine.Side made
 side_view sides.First = machine.first
 side_view (sides.Second a) = machine.second (aim_view a)
 
-abbrev pub place_view : Place → machine.Where made
-place_view places.LeftSide = machine.left_side
-place_view (places.RightOf t r) = machine.right_of (term_view t) (relation_view r)
-place_view (places.PlaceIn p) = machine.place_in (side_view p.side) p.word (terms_view p.places.items)
-place_view (places.Argument a) = machine.argument a.name (terms_view a.terms.items)
+abbrev pub role_view : Role → machine.Role made
+role_view roles.LeftSide = machine.left_side
+role_view (roles.RightOf t r) = machine.right_of (term_view t) (relation_view r)
+role_view (roles.PlaceIn p) = machine.place_in (side_view p.side) p.word (terms_view p.places.items)
+role_view (roles.Argument a) = machine.argument a.name (terms_view a.terms.items)
 
 abbrev pub representation_view : Representation → machine.Representation made
 representation_view representations.OnLeft = machine.on_left
@@ -137,8 +137,8 @@ position_view positions.AtSystem = machine.at_system
 position_view (positions.AtVariable q ns) = machine.at_variable (quantifier_view q) (names_view ns.items)
 position_view (positions.AfterOperand f) = machine.after_operand (formula_view f)
 position_view (positions.AfterFirst n) = machine.after_first n
-position_view (positions.AtFactor r) = machine.at_factor (place_view r.nest.place) (outers_view r.nest.outer.items) (addends_view r.sum.addends.items) (factors_view r.sum.factors.items) (product_view r.sum.product)
-position_view (positions.AfterFactor r p) = machine.after_factor (place_view r.nest.place) (outers_view r.nest.outer.items) (addends_view r.sum.addends.items) (factors_view r.sum.factors.items) (product_view r.sum.product) (term_view p.term) p.numeral
+position_view (positions.AtFactor r) = machine.at_factor (role_view r.nest.role) (outers_view r.nest.outer.items) (addends_view r.sum.addends.items) (factors_view r.sum.factors.items) (product_view r.sum.product)
+position_view (positions.AfterFactor r p) = machine.after_factor (role_view r.nest.role) (outers_view r.nest.outer.items) (addends_view r.sum.addends.items) (factors_view r.sum.factors.items) (product_view r.sum.product) (term_view p.term) p.numeral
 position_view (positions.AfterIndex p t) = machine.after_index (side_view p.side) p.word (terms_view p.places.items) (term_view t)
 position_view (positions.AtWord a) = machine.at_word (aim_view a)
 position_view (positions.AtBracket a n) = machine.at_bracket (aim_view a) n

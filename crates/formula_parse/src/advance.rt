@@ -4,26 +4,26 @@ ghost use Rattle.std.specs.Prelude.{◌≡◌, ℕ, ◌^◌, min, Ok, Err};
 ghost use Rattle.formula_parse.specs.Tokens as tokens;
 ghost use Rattle.formula_parse.specs.Made.{trees};
 ghost use Rattle.formula_parse.specs.Machine as machine;
-ghost use Rattle.formula_parse.specs.StateViews.{Machine, outers_view, place_view, position_view, state_view, token_view};
+ghost use Rattle.formula_parse.specs.StateViews.{Machine, outers_view, role_view, position_view, state_view, token_view};
 ghost use Rattle.formula_parse.specs.Limits.{IsInRange};
 ghost use Rattle.formula_parse.specs.Stops.{Steps};
 ghost use Rattle.formula_parse.specs.Advances.{Advances};
 
 use crate::fault::{ParseFault, Stop};
-use crate::state::{LIMIT, Nest, Place, Position, State};
+use crate::state::{LIMIT, Nest, Position, Role, State};
 use crate::step::step;
 use crate::token::Token;
 use std::alloc::Global;
 
 /// The nesting of a term in one at a nesting, or `usize::MAX`.
 #[tactic(auto, using(crate::proofs::Depths::term_depth))]
-fn term_depth(nest: &Nest, place: usize) -> usize
-    ensures { (d : ℕ) → place ≡ min d usize.MAX →
-        result ≡ min (machine.within_outer (outers_view nest.now.outer.items) (machine.within_where (place_view nest.now.place) d)) usize.MAX }
+fn term_depth(nest: &Nest, nesting: usize) -> usize
+    ensures { (d : ℕ) → nesting ≡ min d usize.MAX →
+        result ≡ min (machine.within_outer (outers_view nest.now.outer.items) (machine.within_role (role_view nest.now.role) d)) usize.MAX }
 {
-    let inner = match &nest.place {
-        Place::LeftSide | Place::RightOf(_, _) => place,
-        Place::PlaceIn(_) | Place::Argument(_) => place.saturating_add(1),
+    let inner = match &nest.role {
+        Role::LeftSide | Role::RightOf(_, _) => nesting,
+        Role::PlaceIn(_) | Role::Argument(_) => nesting.saturating_add(1),
     };
     inner.saturating_add(nest.outer.len())
 }
@@ -32,14 +32,14 @@ fn term_depth(nest: &Nest, place: usize) -> usize
 fn depth(state: &State) -> usize
     ensures { result ≡ min (machine.depth (state_view state.now)) usize.MAX }
 {
-    let place = state.context.body.place();
+    let nesting = state.context.body.nesting();
     match &state.position {
-        Position::AtVariable(_, _) | Position::AtArgument(_) => place.saturating_add(1),
+        Position::AtVariable(_, _) | Position::AtArgument(_) => nesting.saturating_add(1),
         Position::AtFactor(reading) | Position::AfterFactor(reading, _) => term_depth(
             &reading.nest,
-            place,
+            nesting,
         ),
-        _ => place,
+        _ => nesting,
     }
 }
 

@@ -10,7 +10,7 @@ ghost use Rattle.formula_parse.specs.Stops.{Gives};
 
 use crate::fault::Stop;
 use crate::state::{
-    Around, Before, Body, Context, Frame, Place, Position, Reading, Representation, Scope, State,
+    Around, Before, Body, Context, Frame, Position, Reading, Representation, Role, Scope, State,
 };
 use crate::terms::{after_factor, numeral};
 use crate::token::Token;
@@ -122,7 +122,7 @@ fn next_variable(context: Context) -> Result<State, Stop>
 fn enter_numeral(alloc: Global, context: Context, value: u64) -> State
     ensures { machine.enter trees (context_view context) (token_view (Token.Number value)) ≡ Some (state_view result) }
 {
-    let reading = Reading::start(alloc, Place::LeftSide);
+    let reading = Reading::start(alloc, Role::LeftSide);
     after_factor(context, reading, numeral(value))
 }
 

@@ -9,7 +9,7 @@ ghost use Rattle.formula_parse.specs.Stops.{Gives};
 
 use crate::fault::Stop;
 use crate::operands::after_atom;
-use crate::state::{Arguments, Context, Place, Position, Reading, State};
+use crate::state::{Arguments, Context, Position, Reading, Role, State};
 use crate::terms::enter_factor;
 use crate::token::Token;
 use crate::tree::Fact;
@@ -73,6 +73,6 @@ fn first_argument(alloc: Global, context: Context, name: Name, token: Token) -> 
         name,
         terms: Vec::new(alloc),
     };
-    let reading = Reading::start(alloc, Place::Argument(arguments));
+    let reading = Reading::start(alloc, Role::Argument(arguments));
     enter_factor(alloc, context, reading, token)
 }

@@ -10,9 +10,7 @@ ghost use Rattle.formula_parse.specs.Stops.{Gives};
 use crate::fault::Stop;
 use crate::flaw::Flaw;
 use crate::making::quantified;
-use crate::state::{
-    Around, Body, Context, Frame, Place, Position, ReadTerm, Reading, Scope, State,
-};
+use crate::state::{Around, Body, Context, Frame, Position, ReadTerm, Reading, Role, Scope, State};
 use crate::token::Token;
 use crate::tree::Formula;
 use digit_tuple::faults::OutOfMemory;
@@ -142,7 +140,7 @@ fn close_term_paren(
     if touched {
         return Err(Stop::Syntax);
     }
-    let reading = Reading::start(alloc, Place::LeftSide);
+    let reading = Reading::start(alloc, Role::LeftSide);
     Ok(State {
         context,
         position: Position::AfterFactor(reading, read),

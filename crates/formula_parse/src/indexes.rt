@@ -10,7 +10,7 @@ ghost use Rattle.formula_parse.specs.Stops.{Gives};
 use crate::fault::Stop;
 use crate::making::index;
 use crate::operands::leave_atom;
-use crate::state::{Aim, Context, Place, Places, Position, Representation, Side, State};
+use crate::state::{Aim, Context, Places, Position, Representation, Role, Side, State};
 use crate::terms::at_term;
 use crate::token::Token;
 use crate::tree::{Fact, Index, Term};
@@ -64,7 +64,7 @@ pub(crate) fn enter_bracket(
                 word: name,
                 places: Vec::new(alloc),
             };
-            Ok(at_term(alloc, context, Place::PlaceIn(places)))
+            Ok(at_term(alloc, context, Role::PlaceIn(places)))
         }
         _ => {
             drop(context);
@@ -95,7 +95,7 @@ pub(crate) fn leave_index(
     match token {
         Token::Bracket => {
             let places = Places { side, word, places };
-            Ok(at_term(alloc, context, Place::PlaceIn(places)))
+            Ok(at_term(alloc, context, Role::PlaceIn(places)))
         }
         _ => leave_side(alloc, context, side, Index { word, places }, token),
     }

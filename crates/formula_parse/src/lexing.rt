@@ -70,11 +70,15 @@ impl Lexeme {
     }
 }
 
-/// The byte at a place, or 0.
-fn byte_at(bytes: &[u8], place: usize) -> u8
-    ensures { result ≡ slice_index bytes.now place }
+/// The byte at a position, or 0.
+fn byte_at(bytes: &[u8], position: usize) -> u8
+    ensures { result ≡ slice_index bytes.now position }
 {
-    if place < bytes.len() { bytes[place] } else { 0 }
+    if position < bytes.len() {
+        bytes[position]
+    } else {
+        0
+    }
 }
 
 /// A name of ASCII bytes.

@@ -7,13 +7,13 @@ ghost use Rattle.formula_parse.specs.Made.{trees};
 ghost use Rattle.formula_parse.specs.Trees.{no_addends, no_factors};
 ghost use Rattle.formula_parse.specs.Machine as machine;
 ghost use Rattle.formula_parse.specs.Views.{formula_view, factors_view, addends_view};
-ghost use Rattle.formula_parse.specs.StateViews.{chain_sign_view, prefix_view, body_view, outers_view, place_view, product_view};
+ghost use Rattle.formula_parse.specs.StateViews.{chain_sign_view, prefix_view, body_view, outers_view, role_view, product_view};
 ghost use Rattle.formula_parse.specs.Stops.{IsInside};
 
 use crate::fault::Stop;
 use crate::flaw::{Came, Product};
 use crate::making::{chained, with_operand};
-use crate::state::{Before, Body, LIMIT, Nest, Place, Prefix, Reading, Sum};
+use crate::state::{Before, Body, LIMIT, Nest, Prefix, Reading, Role, Sum};
 use crate::token::ChainSign;
 use crate::tree::{Connective, Formula};
 use digit_tuple::faults::OutOfMemory;
@@ -150,21 +150,21 @@ impl Body {
 
     /// The nesting of the operand that comes, or `usize::MAX`.
     #[tactic(auto, using(crate::proofs::Words::inside))]
-    pub fn place(&self) -> usize
-        ensures { result ≡ min (machine.place (body_view self.now)) usize.MAX }
+    pub fn nesting(&self) -> usize
+        ensures { result ≡ min (machine.operand_nesting (body_view self.now)) usize.MAX }
     {
         usize::from(self.prefix.base).saturating_add(self.before.tildes.len())
     }
 
     /// The nesting inside of the operand that comes, or `Depth` past the greatest.
     pub fn inside(&self) -> Result<u8, Stop>
-        ensures { IsInside (machine.place (body_view self.now)) result }
+        ensures { IsInside (machine.operand_nesting (body_view self.now)) result }
     {
-        let place = self.place();
-        if place >= LIMIT {
+        let nesting = self.nesting();
+        if nesting >= LIMIT {
             return Err(Stop::Depth);
         }
-        Ok((place + 1) as u8)
+        Ok((nesting + 1) as u8)
     }
 }
 
@@ -185,8 +185,8 @@ impl Sum {
 
 impl Reading {
     /// A term of which nothing has come.
-    pub fn start(alloc: Global, place: Place) -> Reading
-        ensures place { place_view result.nest.place ≡ place_view place }
+    pub fn start(alloc: Global, role: Role) -> Reading
+        ensures role { role_view result.nest.role ≡ role_view role }
         ensures outer { outers_view result.nest.outer.items ≡ [] }
         ensures addends { addends_view result.sum.addends.items ≡ no_addends }
         ensures factors { factors_view result.sum.factors.items ≡ no_factors }
@@ -194,7 +194,7 @@ impl Reading {
     {
         Reading {
             nest: Nest {
-                place,
+                role,
                 outer: Vec::new(alloc),
             },
             sum: Sum::empty(alloc, true),

@@ -87,23 +87,23 @@ pub(crate) struct Arguments {
     pub terms: Vec<Term>,
 }
 
-/// Where a term is.
+/// What a term is in its atom.
 #[derive(Drop)]
-pub(crate) enum Place {
+pub(crate) enum Role {
     LeftSide,
     RightOf(Term, Relation),
     PlaceIn(Places),
     Argument(Arguments),
 }
 
-/// Where a term is, and the terms around it, each with a parenthesis open.
+/// The role of a term, and the terms around it, each with a parenthesis open.
 #[derive(Drop)]
 pub(crate) struct Nest {
-    pub place: Place,
+    pub role: Role,
     pub outer: Vec<Sum>,
 }
 
-/// A term that is being read: where it is, and what of it comes before the factor that comes.
+/// A term that is being read: its role, and what of it comes before the factor that comes.
 #[derive(Drop)]
 pub(crate) struct Reading {
     pub nest: Nest,

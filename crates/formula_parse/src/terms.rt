@@ -6,7 +6,7 @@ ghost use Rattle.formula_parse.specs.Trees.{no_addends, no_factors};
 ghost use Rattle.formula_parse.specs.Made.{trees};
 ghost use Rattle.formula_parse.specs.Machine as machine;
 ghost use Rattle.formula_parse.specs.Views.{term_view, terms_view, factors_view, addends_view, sign_view};
-ghost use Rattle.formula_parse.specs.StateViews.{token_view, outer_view, outers_view, place_view, product_view, context_view, state_view};
+ghost use Rattle.formula_parse.specs.StateViews.{token_view, outer_view, outers_view, role_view, product_view, context_view, state_view};
 ghost use Rattle.formula_parse.specs.Stops.{Gives};
 
 use crate::closings::close_term;
@@ -15,7 +15,7 @@ use crate::flaw::Product;
 use crate::making::{multiplied, summed, with_addend, with_factor};
 use crate::operands::{after_atom, leave_atom};
 use crate::state::{
-    Arguments, Context, Nest, Place, Places, Position, ReadTerm, Reading, Side, State, Sum,
+    Arguments, Context, Nest, Places, Position, ReadTerm, Reading, Role, Side, State, Sum,
 };
 use crate::token::Token;
 use crate::tree::{Fact, Sign, Term};
@@ -24,10 +24,10 @@ use digit_tuple::name::Name;
 use std::alloc::Global;
 
 /// A term begins.
-pub(crate) fn at_term(alloc: Global, context: Context, place: Place) -> State
-    ensures { machine.at_term trees (context_view context) (place_view place) ≡ Some (state_view result) }
+pub(crate) fn at_term(alloc: Global, context: Context, role: Role) -> State
+    ensures { machine.at_term trees (context_view context) (role_view role) ≡ Some (state_view result) }
 {
-    let reading = Reading::start(alloc, place);
+    let reading = Reading::start(alloc, role);
     State {
         context,
         position: Position::AtFactor(reading),
@@ -36,7 +36,7 @@ pub(crate) fn at_term(alloc: Global, context: Context, place: Place) -> State
 
 /// A factor was read.
 pub(crate) fn after_factor(mut context: Context, reading: Reading, read: ReadTerm) -> State
-    ensures { state_view result ≡ machine.with_factor trees (context_view context) (place_view reading.nest.place) (outers_view reading.nest.outer.items)
+    ensures { state_view result ≡ machine.with_factor trees (context_view context) (role_view reading.nest.role) (outers_view reading.nest.outer.items)
         (addends_view reading.sum.addends.items) (factors_view reading.sum.factors.items) (product_view reading.sum.product) (term_view read.term) read.numeral }
 {
     context.around.flaw = reading.sum.product.noted(read.numeral, context.around.flaw);
@@ -49,7 +49,7 @@ pub(crate) fn after_factor(mut context: Context, reading: Reading, read: ReadTer
 impl Reading {
     /// The term that comes after a parenthesis, where a factor may be.
     fn opened(self, alloc: Global) -> Result<Reading, OutOfMemory>
-        ensures place { IfOk result (λ r. r.nest.place ≡ self.nest.place) }
+        ensures role { IfOk result (λ r. r.nest.role ≡ self.nest.role) }
         ensures outer { IfOk result (λ r. outers_view r.nest.outer.items ≡ outer_view self.sum ∷ outers_view self.nest.outer.items) }
         ensures addends { IfOk result (λ r. addends_view r.sum.addends.items ≡ no_addends) }
         ensures factors { IfOk result (λ r. factors_view r.sum.factors.items ≡ no_factors) }
@@ -69,7 +69,7 @@ impl Reading {
 
 /// A term in parentheses begins where a factor may.
 fn open_term(alloc: Global, context: Context, reading: Reading) -> Result<State, Stop>
-    ensures { Gives result (machine.enter_factor trees (context_view context) (place_view reading.nest.place) (outers_view reading.nest.outer.items)
+    ensures { Gives result (machine.enter_factor trees (context_view context) (role_view reading.nest.role) (outers_view reading.nest.outer.items)
         (addends_view reading.sum.addends.items) (factors_view reading.sum.factors.items) (product_view reading.sum.product) (token_view Token.Opening)) }
 {
     let Ok(reading) = reading.opened(alloc) else {
@@ -113,7 +113,7 @@ pub(crate) fn enter_factor(
     reading: Reading,
     token: Token,
 ) -> Result<State, Stop>
-    ensures { Gives result (machine.enter_factor trees (context_view context) (place_view reading.nest.place) (outers_view reading.nest.outer.items)
+    ensures { Gives result (machine.enter_factor trees (context_view context) (role_view reading.nest.role) (outers_view reading.nest.outer.items)
         (addends_view reading.sum.addends.items) (factors_view reading.sum.factors.items) (product_view reading.sum.product) (token_view token)) }
 {
     match token {
@@ -135,8 +135,8 @@ fn leave_left(alloc: Global, context: Context, read: ReadTerm, token: Token) -> 
 {
     match token {
         Token::Relation(relation) => {
-            let place = Place::RightOf(read.term, relation);
-            Ok(at_term(alloc, context, place))
+            let role = Role::RightOf(read.term, relation);
+            Ok(at_term(alloc, context, role))
         }
         Token::Closing => close_term(alloc, context, read),
         _ => {
@@ -175,7 +175,7 @@ fn next_argument(
         drop(context);
         return Err(Stop::Memory);
     };
-    Ok(at_term(alloc, context, Place::Argument(arguments)))
+    Ok(at_term(alloc, context, Role::Argument(arguments)))
 }
 
 /// A `)` after the last argument of a call.
@@ -204,7 +204,7 @@ fn leave_argument(
     read: ReadTerm,
     token: Token,
 ) -> Result<State, Stop>
-    ensures { Gives result (machine.leave_whole trees (context_view context) (place_view (Place.Argument arguments)) (term_view read.term) read.numeral (token_view token)) }
+    ensures { Gives result (machine.leave_whole trees (context_view context) (role_view (Role.Argument arguments)) (term_view read.term) read.numeral (token_view token)) }
 {
     match token {
         Token::Comma => next_argument(alloc, context, arguments, read.term),
@@ -220,7 +220,7 @@ fn leave_argument(
 
 /// A token after a place of a word.
 fn leave_place(context: Context, places: Places, term: Term, token: Token) -> Result<State, Stop>
-    ensures { Gives result (machine.leave_whole trees (context_view context) (place_view (Place.PlaceIn places)) (term_view term) false (token_view token)) }
+    ensures { Gives result (machine.leave_whole trees (context_view context) (role_view (Role.PlaceIn places)) (term_view term) false (token_view token)) }
 {
     match token {
         Token::Unbracket => Ok(State {
@@ -240,20 +240,20 @@ fn leave_place(context: Context, places: Places, term: Term, token: Token) -> Re
 fn leave_whole(
     alloc: Global,
     context: Context,
-    place: Place,
+    role: Role,
     read: ReadTerm,
     token: Token,
 ) -> Result<State, Stop>
-    ensures { Gives result (machine.leave_whole trees (context_view context) (place_view place) (term_view read.term) read.numeral (token_view token)) }
+    ensures { Gives result (machine.leave_whole trees (context_view context) (role_view role) (term_view read.term) read.numeral (token_view token)) }
 {
-    match place {
-        Place::LeftSide => leave_left(alloc, context, read, token),
-        Place::RightOf(left, relation) => {
+    match role {
+        Role::LeftSide => leave_left(alloc, context, read, token),
+        Role::RightOf(left, relation) => {
             let fact = Fact::Compare(left, relation, read.term);
             leave_atom(alloc, context, fact, token)
         }
-        Place::PlaceIn(places) => leave_place(context, places, read.term, token),
-        Place::Argument(arguments) => leave_argument(alloc, context, arguments, read, token),
+        Role::PlaceIn(places) => leave_place(context, places, read.term, token),
+        Role::Argument(arguments) => leave_argument(alloc, context, arguments, read, token),
     }
 }
 
@@ -264,7 +264,7 @@ fn leave_parens(
     read: ReadTerm,
     token: Token,
 ) -> Result<State, Stop>
-    ensures { Gives result (machine.leave_product trees (context_view context) (place_view reading.nest.place)
+    ensures { Gives result (machine.leave_product trees (context_view context) (role_view reading.nest.role)
         (outer_view reading.sum ∷ outers_view reading.nest.outer.items) (term_view read.term) read.numeral (token_view token)) }
 {
     match token {
@@ -286,10 +286,10 @@ fn leave_term(
     read: ReadTerm,
     token: Token,
 ) -> Result<State, Stop>
-    ensures { Gives result (machine.leave_product trees (context_view context) (place_view nest.place) (outers_view nest.outer.items) (term_view read.term) read.numeral (token_view token)) }
+    ensures { Gives result (machine.leave_product trees (context_view context) (role_view nest.role) (outers_view nest.outer.items) (term_view read.term) read.numeral (token_view token)) }
 {
     match nest.outer.pop() {
-        None => leave_whole(alloc, context, nest.place, read, token),
+        None => leave_whole(alloc, context, nest.role, read, token),
         Some(sum) => leave_parens(context, Reading { nest, sum }, read, token),
     }
 }
@@ -339,7 +339,7 @@ impl Sum {
 
 /// A `*` after a factor.
 fn times(context: Context, reading: Reading, read: ReadTerm, at: usize) -> Result<State, Stop>
-    ensures { Gives result (machine.leave_factor trees (context_view context) (place_view reading.nest.place) (outers_view reading.nest.outer.items)
+    ensures { Gives result (machine.leave_factor trees (context_view context) (role_view reading.nest.role) (outers_view reading.nest.outer.items)
         (addends_view reading.sum.addends.items) (factors_view reading.sum.factors.items) (product_view reading.sum.product) (term_view read.term) read.numeral (token_view (Token.Times at))) }
 {
     let Reading { nest, sum } = reading;
@@ -362,7 +362,7 @@ fn signed(
     read: ReadTerm,
     sign: Sign,
 ) -> Result<State, Stop>
-    ensures { Gives result (machine.leave_factor trees (context_view context) (place_view reading.nest.place) (outers_view reading.nest.outer.items)
+    ensures { Gives result (machine.leave_factor trees (context_view context) (role_view reading.nest.role) (outers_view reading.nest.outer.items)
         (addends_view reading.sum.addends.items) (factors_view reading.sum.factors.items) (product_view reading.sum.product) (term_view read.term) read.numeral (token_view (Token.Sign sign))) }
 {
     let Reading { nest, sum } = reading;
@@ -385,7 +385,7 @@ fn leave_sum(
     read: ReadTerm,
     token: Token,
 ) -> Result<State, Stop>
-    ensures { Gives result (machine.leave_product trees (context_view context) (place_view reading.nest.place) (outers_view reading.nest.outer.items)
+    ensures { Gives result (machine.leave_product trees (context_view context) (role_view reading.nest.role) (outers_view reading.nest.outer.items)
         (trees.term (addends_view reading.sum.addends.items) (factors_view reading.sum.factors.items) (term_view read.term)) (reading.sum.product.lone && read.numeral) (token_view token)) }
 {
     let Reading { nest, sum } = reading;
@@ -406,7 +406,7 @@ pub(crate) fn leave_factor(
     read: ReadTerm,
     token: Token,
 ) -> Result<State, Stop>
-    ensures { Gives result (machine.leave_factor trees (context_view context) (place_view reading.nest.place) (outers_view reading.nest.outer.items)
+    ensures { Gives result (machine.leave_factor trees (context_view context) (role_view reading.nest.role) (outers_view reading.nest.outer.items)
         (addends_view reading.sum.addends.items) (factors_view reading.sum.factors.items) (product_view reading.sum.product) (term_view read.term) read.numeral (token_view token)) }
 {
     match token {
@@ -421,7 +421,7 @@ fn leave_variable(alloc: Global, context: Context, name: Name, token: Token) -> 
     ensures { Gives result (machine.leave_factor trees (context_view context) machine.left_side [] no_addends no_factors
         (flaws.product_start true) (trees.variable name) false (token_view token)) }
 {
-    let reading = Reading::start(alloc, Place::LeftSide);
+    let reading = Reading::start(alloc, Role::LeftSide);
     leave_factor(alloc, context, reading, variable(name), token)
 }
 
@@ -441,7 +441,7 @@ pub(crate) fn leave_first(
                 word: name,
                 places: Vec::new(alloc),
             };
-            Ok(at_term(alloc, context, Place::PlaceIn(places)))
+            Ok(at_term(alloc, context, Role::PlaceIn(places)))
         }
         _ => leave_variable(alloc, context, name, token),
     }

@@ -4,7 +4,7 @@ use Rattle.std.proofs.lemmas.Bool.{false≢true}
 use Rattle.std.proofs.lemmas.Option.{none-some}
 use Rattle.formula_parse.specs.Tokens.{Name}
 use Rattle.formula_parse.specs.Trees as trees
-use Rattle.formula_parse.specs.Formulas.{Factor, variable, numeral, in_parens, Prod, factor, times, Term, prod, signed, Index, word, further, Terms, term, comma, Atom, compare, words, word_letter, letter_word, call_none, call, Formula, imp, iff, Imp, chain, implies, Chain, operand, joined, Operand, marked, Core, negated, quantified, grouped, atom}
+use Rattle.formula_parse.specs.Formulas.{Factor, variable, numeral, in_parens, Prod, factor, times, Term, prod, signed, Index, word, further, Terms, term, comma, Atom, compare, words, word_letter, letter_word, call_none, call, WrittenFormula, imp, iff, Imp, chain, implies, Chain, operand, joined, Operand, marked, Core, negated, quantified, grouped, atom}
 use Rattle.formula_parse.specs.Building.{multiplied, summed, chained, under_marks}
 use Rattle.formula_parse.specs.FormulaTrees.{factor_tree, before_factor, last_factor, before_prod, last_prod, index_places, terms_tree, fact, marks_system, formula_system, imp_system, chain_system, before_imp, last_imp, before_chain, last_chain, before_operand, last_operand, operand_tree, core_tree, default_system}
 use Rattle.formula_parse.specs.Flaws.{Flaw, mixed_chain, not_linear, earlier, byte_of, noted, noted_if, mixes}
@@ -163,7 +163,7 @@ marks_linear trees.no_names f one = one
 marks_linear (trees.names ms n) f one = one
 
 mutual
-  formula_linear : (f : Formula) (y : Name) (w : Option Flaw) → formula_flaw w f ≡ None → (w ≡ None) × AreLinearOperands (before_imp y f) × IsLinearFormula (last_imp y f)
+  formula_linear : (f : WrittenFormula) (y : Name) (w : Option Flaw) → formula_flaw w f ≡ None → (w ≡ None) × AreLinearOperands (before_imp y f) × IsLinearFormula (last_imp y f)
   formula_linear (imp i) y w none =
       let is = imp_linear i y w none in
       (is.0, tt, chained_linear (before_chain y i) (last_chain y i) is.1 is.2)

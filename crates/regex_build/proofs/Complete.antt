@@ -5,7 +5,7 @@ use Rattle.std.proofs.lemmas.List.{length-append}
 use Rattle.std.proofs.lemmas.Bool.Decides.{nat_tests}
 use Rattle.regex_build.specs.declared.postfix_symbol.PostfixSymbol.{PostfixSymbol}
 use Rattle.regex_build.specs.declared.reading.Group.{Group}
-use Rattle.regex_build.specs.declared.reading.Place.TheVariants.{AtPost, After, AtNumber, AfterNumber}
+use Rattle.regex_build.specs.declared.reading.Stage.TheVariants.{AtPost, After, AtNumber, AfterNumber}
 use Rattle.regex_build.specs.Tokens as tokens
 use Rattle.regex_build.specs.Tokens.{Token}
 use Rattle.regex_build.specs.Grammar.{Numbers, one, more, Prim, Post, Cat, Alt, digit, any, empty, group, letter, bare, star, plus, optional, first, follow, only, either, list_of, numbers_then, prim_then, post_then, cat_then, alt_then, PrimFits, PostFits, CatFits, AltFits}
@@ -39,14 +39,14 @@ alt_open (either a c) ss = cat_open c (alt_on a ss)
 
 module _ (tracks : ℕ) where
   -- a post that begins after another one
-  prim_begins : (p : Prim) (r : List Token) (os : List Group) (g : Group) (ss : List PostfixSymbol) → run tracks (prim_then p r) (st os g After [] ss) ≡ run tracks (prim_then p r) (record (followed (st os g After [] ss)) { place = AtPost })
+  prim_begins : (p : Prim) (r : List Token) (os : List Group) (g : Group) (ss : List PostfixSymbol) → run tracks (prim_then p r) (st os g After [] ss) ≡ run tracks (prim_then p r) (record (followed (st os g After [] ss)) { stage = AtPost })
   prim_begins (digit d) r os g ss = refl
   prim_begins any r os g ss = refl
   prim_begins empty r os g ss = refl
   prim_begins (group a) r os g ss = refl
   prim_begins (letter ns) r os g ss = refl
 
-  post_begins : (p : Post) (r : List Token) (os : List Group) (g : Group) (ss : List PostfixSymbol) → run tracks (post_then p r) (st os g After [] ss) ≡ run tracks (post_then p r) (record (followed (st os g After [] ss)) { place = AtPost })
+  post_begins : (p : Post) (r : List Token) (os : List Group) (g : Group) (ss : List PostfixSymbol) → run tracks (post_then p r) (st os g After [] ss) ≡ run tracks (post_then p r) (record (followed (st os g After [] ss)) { stage = AtPost })
   post_begins (bare p) r os g ss = prim_begins p r os g ss
   post_begins (star p) r os g ss = post_begins p (tokens.star ∷ r) os g ss
   post_begins (plus p) r os g ss = post_begins p (tokens.plus ∷ r) os g ss
@@ -89,7 +89,7 @@ module _ (tracks : ℕ) where
   goes_on (either a (first p)) r os ss = refl
   goes_on (either a (follow c p)) r os ss = refl
 
-  followed_cat : (c : Cat) (os : List Group) (b : Bool) (ss : List PostfixSymbol) → record (followed (st os (grouped b (is_follow c)) After [] (cat_open c ss))) { place = AtPost } ≡ st os (grouped b true) AtPost [] (cat_on c ss)
+  followed_cat : (c : Cat) (os : List Group) (b : Bool) (ss : List PostfixSymbol) → record (followed (st os (grouped b (is_follow c)) After [] (cat_open c ss))) { stage = AtPost } ≡ st os (grouped b true) AtPost [] (cat_on c ss)
   followed_cat (first p) os b ss = refl
   followed_cat (follow c p) os b ss = refl
 

@@ -8,8 +8,8 @@ use Rattle.digit_tuple.proofs.AllLemmas.{all_append}
 use Rattle.regex_build.specs.declared.postfix_symbol.PostfixSymbol.{PostfixSymbol}
 use Rattle.regex_build.specs.declared.postfix_symbol.PostfixSymbol.TheVariants as kinds
 use Rattle.regex_build.specs.declared.reading.Group.{Group}
-use Rattle.regex_build.specs.declared.reading.Place.{Place}
-use Rattle.regex_build.specs.declared.reading.Place.TheVariants.{AtPost, After, AtNumber, AfterNumber}
+use Rattle.regex_build.specs.declared.reading.Stage.{Stage}
+use Rattle.regex_build.specs.declared.reading.Stage.TheVariants.{AtPost, After, AtNumber, AfterNumber}
 use Rattle.regex_build.specs.Tokens.{Token, bar, star, plus, optional, dot, opening, closing, bracket, comma, unbracket, digit, number, other}
 use Rattle.regex_build.specs.Spots.{inside_after}
 use Rattle.regex_build.specs.Patterns.{AreMembers, IsOver}
@@ -44,7 +44,7 @@ pub record IsKept (sets : List (List ℤ)) (s : State) : Type 0 where
 
 pub record Keeps (sets : List (List ℤ)) (s : State) (inside : Bool) (t : Token) (n : State) : Type 0 where
   pub around_is : after_token (around s) t ≡ around n
-  pub inside_is : inside_after inside t ≡ in_bracket n.place
+  pub inside_is : inside_after inside t ≡ in_bracket n.stage
   pub kept : IsAllowed sets (around s) t → IsKept sets s → IsKept sets n
 
 abbrev pub KeepsIf : List (List ℤ) → State → Bool → Token → Option State → Type 0
@@ -66,10 +66,10 @@ pub joined_over : (sets : List (List ℤ)) (s : State) → AllByRecursion (IsOve
 joined_over sets s k = if_over sets s.group.alternatives (followed s).symbols kinds.Either tt (if_over sets s.group.sequence s.symbols kinds.Follow tt k)
 
 module _ (sets : List (List ℤ)) where
-  pushes : (os : List Group) (g : Group) (p : Place) (l : List ℤ) (ss : List PostfixSymbol) (t : Token) (x : PostfixSymbol) → after_token (around (st os g p l ss)) t ≡ around (st os g p l ss) → inside_after false t ≡ false → (IsAllowed sets (around (st os g p l ss)) t → IsOver sets x) → Keeps sets (st os g p l ss) false t (pushed (st os g p l ss) x)
+  pushes : (os : List Group) (g : Group) (p : Stage) (l : List ℤ) (ss : List PostfixSymbol) (t : Token) (x : PostfixSymbol) → after_token (around (st os g p l ss)) t ≡ around (st os g p l ss) → inside_after false t ≡ false → (IsAllowed sets (around (st os g p l ss)) t → IsOver sets x) → Keeps sets (st os g p l ss) false t (pushed (st os g p l ss) x)
   pushes os g p l ss t x e f o = record { around_is = e; inside_is = f; kept = λ a k. record { symbols = pushed_over sets ss x (o a) k.symbols; letter = k.letter } }
 
-  enters : (os : List Group) (g : Group) (p : Place) (l : List ℤ) (ss : List PostfixSymbol) (t : Token) → KeepsIf sets (st os g p l ss) false t (enter (length sets) (st os g p l ss) t)
+  enters : (os : List Group) (g : Group) (p : Stage) (l : List ℤ) (ss : List PostfixSymbol) (t : Token) → KeepsIf sets (st os g p l ss) false t (enter (length sets) (st os g p l ss) t)
   enters os g p l ss (digit d) =
       gated sets (st os g p l ss) false (digit d) (length sets == 1) _
       (λ e. gated sets (st os g p l ss) false (digit d) (nat_lt d 10) _
@@ -89,7 +89,7 @@ module _ (sets : List (List ℤ)) where
   enters os g p l ss (number z) = tt
   enters os g p l ss other = tt
 
-  closes : (os : List Group) (g : Group) (p : Place) (l : List ℤ) (ss us : List PostfixSymbol) (h : Group) (q : Place) → (AllByRecursion (IsOver sets) ss → AllByRecursion (IsOver sets) us) → KeepsIf sets (st os g p l ss) false closing (close os (st os h q l us))
+  closes : (os : List Group) (g : Group) (p : Stage) (l : List ℤ) (ss us : List PostfixSymbol) (h : Group) (q : Stage) → (AllByRecursion (IsOver sets) ss → AllByRecursion (IsOver sets) us) → KeepsIf sets (st os g p l ss) false closing (close os (st os h q l us))
   closes [] g p l ss us h q o = tt
   closes (f ∷ os) g p l ss us h q o = record { around_is = refl; inside_is = refl; kept = λ a k. record { symbols = o k.symbols; letter = k.letter } }
 
@@ -105,7 +105,7 @@ module _ (sets : List (List ℤ)) where
   new_post : (os : List Group) (g : Group) (l : List ℤ) (ss : List PostfixSymbol) (t : Token) → KeepsIf sets (st os g After l ss) false t (enter (length sets) (followed (st os g After l ss)) t)
   new_post os g l ss t = from_followed os g l ss t _ (enters os (record g { sequence = true }) After l (symbol_if g.sequence kinds.Follow ss) t)
 
-  keeps_at : (os : List Group) (g : Group) (p : Place) (l : List ℤ) (ss : List PostfixSymbol) (t : Token) → KeepsIf sets (st os g p l ss) (in_bracket p) t (step (length sets) (st os g p l ss) t)
+  keeps_at : (os : List Group) (g : Group) (p : Stage) (l : List ℤ) (ss : List PostfixSymbol) (t : Token) → KeepsIf sets (st os g p l ss) (in_bracket p) t (step (length sets) (st os g p l ss) t)
   keeps_at os g AtPost l ss closing =
       gated sets (st os g AtPost l ss) false closing (is_fresh g) _ (λ e. closes os g AtPost l ss (ss ++ kinds.Empty ∷ []) g After (λ k. pushed_over sets ss kinds.Empty tt k))
   keeps_at os g AtPost l ss (digit d) = enters os g AtPost l ss (digit d)
@@ -154,5 +154,5 @@ module _ (sets : List (List ℤ)) where
   keeps_at os g AfterNumber l ss _ = tt
 
 -- after a token that is read
-pub keeps : (sets : List (List ℤ)) (s n : State) (t : Token) → step (length sets) s t ≡ Some n → Keeps sets s (in_bracket s.place) t n
-keeps sets s n t e = subst (λ (o : Option State). KeepsIf sets s (in_bracket s.place) t o) e (keeps_at sets s.outer s.group s.place s.letter s.symbols t)
+pub keeps : (sets : List (List ℤ)) (s n : State) (t : Token) → step (length sets) s t ≡ Some n → Keeps sets s (in_bracket s.stage) t n
+keeps sets s n t e = subst (λ (o : Option State). KeepsIf sets s (in_bracket s.stage) t o) e (keeps_at sets s.outer s.group s.stage s.letter s.symbols t)

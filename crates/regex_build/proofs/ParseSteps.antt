@@ -7,8 +7,8 @@ use Rattle.std.proofs.lemmas.List.Elements.{All-from_recursion}
 use Rattle.text_grammar.specs.Faults.{Begins}
 use Rattle.regex_build.specs.declared.postfix_symbol.PostfixSymbol.{PostfixSymbol}
 use Rattle.regex_build.specs.declared.reading.Group.{Group}
-use Rattle.regex_build.specs.declared.reading.Place.{Place}
-use Rattle.regex_build.specs.declared.reading.Place.TheVariants.{AtPost, After, AtNumber, AfterNumber}
+use Rattle.regex_build.specs.declared.reading.Stage.{Stage}
+use Rattle.regex_build.specs.declared.reading.Stage.TheVariants.{AtPost, After, AtNumber, AfterNumber}
 use Rattle.regex_build.specs.declared.lexing.Spot.{Spot as Spot'}
 use Rattle.regex_build.specs.declared.fault.Refusal.{Refusal}
 use Rattle.regex_build.specs.declared.fault.Refusal.TheVariants as refusals
@@ -61,7 +61,7 @@ read_more sets ts s n t h e a =
 -- the tokens before a byte were read
 pub record AtByte (sets : List (List ℤ)) (text : List ℕ) (at : ℕ) (s : State) : Type 0 where
   pub prefix : List (Spot Token)
-  pub split : spots text ≡ prefix ++ spots_from lexing (in_bracket s.place) at 0 (drop at text)
+  pub split : spots text ≡ prefix ++ spots_from lexing (in_bracket s.stage) at 0 (drop at text)
   pub has_read : HasRead sets (cut.tokens prefix) s
   pub within : at ≤ length text
 
@@ -71,11 +71,11 @@ byte_start sets text s e = subst (λ (n : State). AtByte sets text 0 n) (sym e) 
 abbrev spot_of : Spot' → Spot Token
 spot_of r = record { token = token_view r.token; at = r.at; after = r.end }
 
-pub byte_next : (sets : List (List ℤ)) (text : List ℕ) (at : ℕ) (s n : State) (r : Spot') → AtByte sets text at s → IsNext (in_bracket s.place) text at r → Gives sets s (token_view r.token) n (Ok tt) → AtByte sets text r.end n
+pub byte_next : (sets : List (List ℤ)) (text : List ℕ) (at : ℕ) (s n : State) (r : Spot') → AtByte sets text at s → IsNext (in_bracket s.stage) text at r → Gives sets s (token_view r.token) n (Ok tt) → AtByte sets text r.end n
 byte_next sets text at s n r p x g =
     let t = token_view r.token in
     let k = keeps sets s n t g.0 in
-    let rest = spots_from lexing (inside_after (in_bracket s.place) t) r.end 0 (drop r.end text) in
+    let rest = spots_from lexing (inside_after (in_bracket s.stage) t) r.end 0 (drop r.end text) in
     record {
       prefix = p.prefix ++ spot_of r ∷ [];
       split =
@@ -110,12 +110,12 @@ length-map f (x ∷ xs) = ap suc (length-map f xs)
 
 -- a token after a prefix
 record IsAt (text : List ℕ) (prefix : List (Spot Token)) (spot : Spot Token) : Type 0 where
-  place : ℕ
-  within : place < length (tokens text)
-  prefix_is : take place (tokens text) ≡ cut.tokens prefix
-  more_is : take (place + 1) (tokens text) ≡ cut.tokens prefix ++ spot.token ∷ []
-  token_is : token_at (tokens text) place ≡ spot.token
-  byte_is : byte_of text place ≡ spot.at
+  index : ℕ
+  within : index < length (tokens text)
+  prefix_is : take index (tokens text) ≡ cut.tokens prefix
+  more_is : take (index + 1) (tokens text) ≡ cut.tokens prefix ++ spot.token ∷ []
+  token_is : token_at (tokens text) index ≡ spot.token
+  byte_is : byte_of text index ≡ spot.at
 
 is_at : (text : List ℕ) (prefix rest : List (Spot Token)) (spot : Spot Token) → spots text ≡ prefix ++ spot ∷ rest → IsAt text prefix spot
 is_at text prefix rest spot e =
@@ -124,7 +124,7 @@ is_at text prefix rest spot e =
     let n : length (tokens text) ≡ length (cut.tokens prefix) + length (spot.token ∷ cut.tokens rest) = ap length ts ∙ length-append (cut.tokens prefix) (spot.token ∷ cut.tokens rest) in
     let m : length (cut.tokens prefix) ≡ length (map (λ (y : Spot Token). y.at) prefix) = length-map (λ (y : Spot Token). y.token) prefix ∙ sym (length-map (λ (y : Spot Token). y.at) prefix) in
     record {
-      place = length (cut.tokens prefix);
+      index = length (cut.tokens prefix);
       within = omega (arith, n);
       prefix_is = ap (take (length (cut.tokens prefix))) ts ∙ take_prefix (cut.tokens prefix) (spot.token ∷ cut.tokens rest);
       more_is = ap (take (length (cut.tokens prefix) + 1)) ts ∙ take_more (cut.tokens prefix) spot.token (cut.tokens rest);
@@ -135,7 +135,7 @@ is_at text prefix rest spot e =
           ∙ get_prefix (map (λ (y : Spot Token). y.at) prefix) spot.at (map (λ (y : Spot Token). y.at) rest) (length text));
     }
 
-stuck : (sets : List (List ℤ)) (text : List ℕ) (s : State) (prefix : List (Spot Token)) (spot : Spot Token) (i : IsAt text prefix spot) → HasRead sets (cut.tokens prefix) s → step (length sets) s spot.token ≡ None → IsStuckAt sets (tokens text) i.place
+stuck : (sets : List (List ℤ)) (text : List ℕ) (s : State) (prefix : List (Spot Token)) (spot : Spot Token) (i : IsAt text prefix spot) → HasRead sets (cut.tokens prefix) s → step (length sets) s spot.token ≡ None → IsStuckAt sets (tokens text) i.index
 stuck sets text s prefix spot i h none =
     let within = i.within in
     record {
@@ -148,7 +148,7 @@ stuck sets text s prefix spot i h none =
       before = subst (AreAllowed sets nothing) (sym i.prefix_is) h.allowed;
     }
 
-refused : (sets : List (List ℤ)) (text : List ℕ) (s : State) (prefix : List (Spot Token)) (spot : Spot Token) (i : IsAt text prefix spot) (o : Option State) → HasRead sets (cut.tokens prefix) s → step (length sets) s spot.token ≡ o → IsSome o → (IsAllowed sets (around s) spot.token → ⊥) → IsRefusedAt sets (tokens text) i.place
+refused : (sets : List (List ℤ)) (text : List ℕ) (s : State) (prefix : List (Spot Token)) (spot : Spot Token) (i : IsAt text prefix spot) (o : Option State) → HasRead sets (cut.tokens prefix) s → step (length sets) s spot.token ≡ o → IsSome o → (IsAllowed sets (around s) spot.token → ⊥) → IsRefusedAt sets (tokens text) i.index
 refused sets text s prefix spot i None h e k never = absurd cc
 refused sets text s prefix spot i (Some n) h e k never = record {
   within = i.within;
@@ -156,27 +156,27 @@ refused sets text s prefix spot i (Some n) h e k never = record {
   before = subst (AreAllowed sets nothing) (sym i.prefix_is) h.allowed;
   refused = λ a. never (
       subst (λ (x : Around). IsAllowed sets x spot.token) (ap (after_all nothing) i.prefix_is ∙ h.around_is)
-      (subst (λ (t : Token). IsAllowed sets (after_all nothing (take i.place (tokens text))) t) i.token_is a));
+      (subst (λ (t : Token). IsAllowed sets (after_all nothing (take i.index (tokens text))) t) i.token_is a));
 }
 
 -- a token is not read
-pub byte_fault : (sets : List (List ℤ)) (text : List ℕ) (at : ℕ) (s n : State) (r : Spot') (refusal : Refusal) → AtByte sets text at s → IsNext (in_bracket s.place) text at r → Gives sets s (token_view r.token) n (Err refusal) → Parses sets text (Err (fault_at refusal r.at))
+pub byte_fault : (sets : List (List ℤ)) (text : List ℕ) (at : ℕ) (s n : State) (r : Spot') (refusal : Refusal) → AtByte sets text at s → IsNext (in_bracket s.stage) text at r → Gives sets s (token_view r.token) n (Err refusal) → Parses sets text (Err (fault_at refusal r.at))
 byte_fault sets text at s n r refusal p x g = by_refusal refusal g (is_at text p.prefix _ (spot_of r) (p.split ∙ ap (λ ss. p.prefix ++ ss) x.spots_are))
   where
     by_refusal : (f : Refusal) → Gives sets s (token_view r.token) n (Err f) → IsAt text p.prefix (spot_of r) → Parses sets text (Err (fault_at f r.at))
-    by_refusal refusals.Syntax g i = (i.place, sym i.byte_is, stuck sets text s p.prefix (spot_of r) i p.has_read g)
+    by_refusal refusals.Syntax g i = (i.index, sym i.byte_is, stuck sets text s p.prefix (spot_of r) i p.has_read g)
     by_refusal refusals.Number g i =
-        (i.place, sym i.byte_is, refused sets text s p.prefix (spot_of r) i _ p.has_read refl g.0 g.2, subst IsNumber (sym i.token_is) g.1)
+        (i.index, sym i.byte_is, refused sets text s p.prefix (spot_of r) i _ p.has_read refl g.0 g.2, subst IsNumber (sym i.token_is) g.1)
     by_refusal refusals.Depth g i =
-        (i.place, sym i.byte_is, refused sets text s p.prefix (spot_of r) i _ p.has_read refl g.0 g.2, subst IsOpening (sym i.token_is) g.1)
+        (i.index, sym i.byte_is, refused sets text s p.prefix (spot_of r) i _ p.has_read refl g.0 g.2, subst IsOpening (sym i.token_is) g.1)
     by_refusal refusals.Memory g i = tt
 
 -- the whole text was read
-whole : (sets : List (List ℤ)) (text : List ℕ) (at : ℕ) (s : State) (p : AtByte sets text at s) → spots_from lexing (in_bracket s.place) at 0 (drop at text) ≡ [] → tokens text ≡ cut.tokens p.prefix
+whole : (sets : List (List ℤ)) (text : List ℕ) (at : ℕ) (s : State) (p : AtByte sets text at s) → spots_from lexing (in_bracket s.stage) at 0 (drop at text) ≡ [] → tokens text ≡ cut.tokens p.prefix
 whole sets text at s p e = ap cut.tokens (p.split ∙ (ap (λ ss. p.prefix ++ ss) e ∙ append-nil p.prefix))
 
 -- the text ends too early
-pub byte_early : (sets : List (List ℤ)) (text : List ℕ) (at : ℕ) (s : State) → AtByte sets text at s → spots_from lexing (in_bracket s.place) at 0 (drop at text) ≡ [] → ended s ≡ None → Parses sets text (Err (faults.Syntax (length text)))
+pub byte_early : (sets : List (List ℤ)) (text : List ℕ) (at : ℕ) (s : State) → AtByte sets text at s → spots_from lexing (in_bracket s.stage) at 0 (drop at text) ≡ [] → ended s ≡ None → Parses sets text (Err (faults.Syntax (length text)))
 byte_early sets text at s p e none =
     let w = whole sets text at s p e in
     let h = p.has_read in
@@ -196,16 +196,16 @@ byte_early sets text at s p e none =
     )
 
 symbols_over : (sets : List (List ℤ)) (s : State) (symbols : List PostfixSymbol) → IsKept sets s → ended s ≡ Some symbols → AllByRecursion (IsOver sets) symbols
-symbols_over sets s symbols k e = at_end s.outer s.place e
+symbols_over sets s symbols k e = at_end s.outer s.stage e
   where
-    at_end : (os : List Group) (p : Place) → ended_at os p s ≡ Some symbols → AllByRecursion (IsOver sets) symbols
+    at_end : (os : List Group) (p : Stage) → ended_at os p s ≡ Some symbols → AllByRecursion (IsOver sets) symbols
     at_end [] After e = let f : (joined s).symbols ≡ symbols = cc in subst (AllByRecursion (IsOver sets)) f (joined_over sets s k.symbols)
     at_end [] AtPost e = absurd cc
     at_end [] AtNumber e = absurd cc
     at_end [] AfterNumber e = absurd cc
     at_end (g ∷ os) p e = absurd cc
 
-pub byte_end : (sets : List (List ℤ)) (text : List ℕ) (at : ℕ) (s : State) (symbols : List PostfixSymbol) → AtByte sets text at s → spots_from lexing (in_bracket s.place) at 0 (drop at text) ≡ [] → ended s ≡ Some symbols → AreSymbolsOf sets text symbols
+pub byte_end : (sets : List (List ℤ)) (text : List ℕ) (at : ℕ) (s : State) (symbols : List PostfixSymbol) → AtByte sets text at s → spots_from lexing (in_bracket s.stage) at 0 (drop at text) ≡ [] → ended s ≡ Some symbols → AreSymbolsOf sets text symbols
 byte_end sets text at s symbols p e done =
     let w = whole sets text at s p e in
     let h = p.has_read in

@@ -7,8 +7,8 @@ use Rattle.std.specs.List.{fold}
 use Rattle.regex_build.specs.declared.postfix_symbol.PostfixSymbol.TheVariants as kinds
 use Rattle.regex_build.specs.declared.fault.Refusal.{Refusal}
 use Rattle.regex_build.specs.declared.reading.Group.{Group}
-use Rattle.regex_build.specs.declared.reading.Place.{Place}
-use Rattle.regex_build.specs.declared.reading.Place.TheVariants.{AtPost, After, AtNumber, AfterNumber}
+use Rattle.regex_build.specs.declared.reading.Stage.{Stage}
+use Rattle.regex_build.specs.declared.reading.Stage.TheVariants.{AtPost, After, AtNumber, AfterNumber}
 use Rattle.regex_build.specs.declared.reading.Reading.{Reading}
 use Rattle.regex_build.specs.Tokens.{opening, closing}
 use Rattle.regex_build.specs.Machine.{State, fresh, pushed, joined, close, is_fresh, ended, ended_at}
@@ -22,15 +22,15 @@ length-onto ys (x ∷ xs) = let e = length-onto (x ∷ ys) xs in omega (arith, e
 pub length_reversed : {X : Type 0} (xs : List X) → length (fold (λ gs g. g ∷ gs) [] xs) ≡ length xs
 length_reversed {X} xs = let e = length-onto {X = X} [] xs in omega (arith, e)
 
-unclosed_at : (gs : List Group) (p : Place) (s : State) → (length gs ≡ 0 → ⊥) → ended_at gs p s ≡ None
+unclosed_at : (gs : List Group) (p : Stage) (s : State) → (length gs ≡ 0 → ⊥) → ended_at gs p s ≡ None
 unclosed_at [] p s h = absurd (h refl)
 unclosed_at (g ∷ gs) p s h = refl
 
 -- a text that ends within parentheses
 pub unclosed : (r : Reading) → (length r.outer.items ≡ 0 → ⊥) → ended (state_view r) ≡ None
-unclosed r h = unclosed_at (fold (λ gs g. g ∷ gs) [] r.outer.items) r.place (state_view r) (λ e. let l = length_reversed r.outer.items in h (omega (arith, l, e)))
+unclosed r h = unclosed_at (fold (λ gs g. g ∷ gs) [] r.outer.items) r.stage (state_view r) (λ e. let l = length_reversed r.outer.items in h (omega (arith, l, e)))
 
-unended_at : (gs : List Group) (p : Place) (s : State) → (p ≡ After → ⊥) → ended_at gs p s ≡ None
+unended_at : (gs : List Group) (p : Stage) (s : State) → (p ≡ After → ⊥) → ended_at gs p s ≡ None
 unended_at [] AtPost s h = refl
 unended_at [] After s h = absurd (h refl)
 unended_at [] AtNumber s h = refl
@@ -38,8 +38,8 @@ unended_at [] AfterNumber s h = refl
 unended_at (g ∷ gs) p s h = refl
 
 -- a text that ends where a post or a number must come
-pub unended : (r : Reading) → (r.place ≡ After → ⊥) → ended (state_view r) ≡ None
-unended r h = unended_at (fold (λ gs g. g ∷ gs) [] r.outer.items) r.place (state_view r) h
+pub unended : (r : Reading) → (r.stage ≡ After → ⊥) → ended (state_view r) ≡ None
+unended r h = unended_at (fold (λ gs g. g ∷ gs) [] r.outer.items) r.stage (state_view r) h
 
 -- a `)` where nothing has come in its parentheses
 pub closes_empty : (sets : List (List ℤ)) (s m n : State) (result : Result (Unit {0}) Refusal) → is_fresh s.group ≡ true → m ≡ pushed s kinds.Empty → Answers (close m.outer m) ⊤ closing n result → GivesAt AtPost sets s closing n result
@@ -52,7 +52,7 @@ closes_group sets s m n result e h = subst (λ o. Answers o ⊤ closing n result
 
 -- a group is opened
 pub opens : (sets : List (List ℤ)) (r : Reading) (outer : Vec Group Global) (g : Group) → outer.items ≡ r.outer.items ++ r.group ∷ [] → g ≡ fresh → length r.outer.items < 128
-    → Enters sets (state_view r) opening (state_view (record { outer = outer; group = g; place = AtPost; letter = r.letter; symbols = r.symbols })) (Ok tt)
+    → Enters sets (state_view r) opening (state_view (record { outer = outer; group = g; stage = AtPost; letter = r.letter; symbols = r.symbols })) (Ok tt)
 opens sets r outer g e f l =
     let n = length_reversed r.outer.items in
     let os : r.group ∷ fold (λ gs h. h ∷ gs) [] r.outer.items ≡ fold (λ gs h. h ∷ gs) [] outer.items =

@@ -3,7 +3,7 @@ use Rattle.std.proofs.Common.{◌≡◌, refl, ◌∙◌, ap, ℕ, Bool, true, f
 use Rattle.std.specs.Prelude.{ℤ}
 use Rattle.regex_build.specs.declared.postfix_symbol.PostfixSymbol.{PostfixSymbol}
 use Rattle.regex_build.specs.declared.reading.Group.{Group}
-use Rattle.regex_build.specs.declared.reading.Place.{Place}
+use Rattle.regex_build.specs.declared.reading.Stage.{Stage}
 use Rattle.regex_build.specs.Tokens.{Token}
 use Rattle.regex_build.specs.Machine.{State, gate, step}
 
@@ -16,8 +16,8 @@ run tracks [] s = Some s
 run tracks (t ∷ ts) s = after (step tracks s t) (λ n. run tracks ts n)
 
 -- a state, by its parts
-abbrev pub st : List Group → Group → Place → List ℤ → List PostfixSymbol → State
-st os g p l ss = record { outer = os; group = g; place = p; letter = l; symbols = ss }
+abbrev pub st : List Group → Group → Stage → List ℤ → List PostfixSymbol → State
+st os g p l ss = record { outer = os; group = g; stage = p; letter = l; symbols = ss }
 
 pub run-append : (tracks : ℕ) (ts us : List Token) (s n : State) → run tracks ts s ≡ Some n → run tracks (ts ++ us) s ≡ run tracks us n
 run-append tracks [] us s n e = ap (λ o. after o (λ m. run tracks us m)) e

@@ -3,7 +3,7 @@ use Rattle.std.proofs.Common.{◌≡◌, refl, sym, ◌∙◌, subst, ℕ, Bool,
 use Rattle.std.specs.Prelude.{ℤ, nat_lt, ◌==◌, ⊤}
 use Rattle.std.proofs.lemmas.List.{length-append}
 use Rattle.std.proofs.lemmas.Bool.Decides.{nat_tests}
-use Rattle.regex_build.specs.declared.reading.Place.TheVariants.{AtPost, After}
+use Rattle.regex_build.specs.declared.reading.Stage.TheVariants.{AtPost, After}
 use Rattle.regex_build.specs.Tokens.{Token, bar, star, plus, optional, dot, opening, closing, bracket, comma, unbracket, digit, number, other}
 use Rattle.regex_build.specs.Grammar as grammar
 use Rattle.regex_build.specs.Grammar.{Numbers, one, more, Post, Cat, Alt, bare, list_of}
@@ -125,7 +125,7 @@ module _ (tracks : ℕ) where
     fits = λ h. record { outer = h.outer; prefix = (alt_fits a (cat_with c p) h.prefix.0 (cat_fits c p h.prefix.1 h.position), tt); position = tt };
   }
     where
-      state_joined : (a : Option Alt) (c : Option Cat) → state_of (zip fs (pair (Some (alt_with a (cat_with c p))) None) at_post) ≡ record (joined (state_of (zip fs (pair a c) (after_token p)))) { place = AtPost }
+      state_joined : (a : Option Alt) (c : Option Cat) → state_of (zip fs (pair (Some (alt_with a (cat_with c p))) None) at_post) ≡ record (joined (state_of (zip fs (pair a c) (after_token p)))) { stage = AtPost }
       state_joined None None = refl
       state_joined None (Some c) = refl
       state_joined (Some a) None = refl
@@ -146,7 +146,7 @@ module _ (tracks : ℕ) where
     fits = λ h. record { outer = h.outer.1; prefix = h.outer.0; position = alt_fits a (cat_with c p) h.prefix.0 (cat_fits c p h.prefix.1 h.position) };
   }
     where
-      state_closed : (a : Option Alt) (c : Option Cat) → state_of (zip fs g (after_token (bare (grammar.group (alt_with a (cat_with c p)))))) ≡ record (joined (state_of (zip (g ∷ fs) (pair a c) (after_token p)))) { outer = map group_of fs; group = group_of g; place = After }
+      state_closed : (a : Option Alt) (c : Option Cat) → state_of (zip fs g (after_token (bare (grammar.group (alt_with a (cat_with c p)))))) ≡ record (joined (state_of (zip (g ∷ fs) (pair a c) (after_token p)))) { outer = map group_of fs; group = group_of g; stage = After }
       state_closed None None = refl
       state_closed None (Some c) = refl
       state_closed (Some a) None = refl

@@ -4,8 +4,8 @@ use Rattle.std.specs.Prelude.{ℤ, ⊤}
 use Rattle.std.specs.List.{AllByRecursion}
 use Rattle.regex_build.specs.declared.postfix_symbol.PostfixSymbol.{PostfixSymbol}
 use Rattle.regex_build.specs.declared.reading.Group.{Group}
-use Rattle.regex_build.specs.declared.reading.Place.{Place}
-use Rattle.regex_build.specs.declared.reading.Place.TheVariants.{AtPost, After, AtNumber, AfterNumber}
+use Rattle.regex_build.specs.declared.reading.Stage.{Stage}
+use Rattle.regex_build.specs.declared.reading.Stage.TheVariants.{AtPost, After, AtNumber, AfterNumber}
 use Rattle.regex_build.specs.Tokens as tokens
 use Rattle.regex_build.specs.Tokens.{Token}
 use Rattle.regex_build.specs.Grammar.{Numbers, one, more, Post, Cat, Alt, first, follow, only, either, list_of, numbers_then, post_then, cat_then, alt_then, PostFits, CatFits, AltFits}
@@ -55,11 +55,11 @@ is_there (Some x) = true
 abbrev pub group_of : Prefix → Group
 group_of f = record { alternatives = is_there f.alternatives; sequence = is_there f.sequence }
 
-abbrev pub place_of : Position → Place
-place_of at_post = AtPost
-place_of (after_token p) = After
-place_of (at_number o) = AtNumber
-place_of (after_number ns) = AfterNumber
+abbrev pub stage_of : Position → Stage
+stage_of at_post = AtPost
+stage_of (after_token p) = After
+stage_of (at_number o) = AtNumber
+stage_of (after_number ns) = AfterNumber
 
 abbrev pub letter_of : Position → List ℤ
 letter_of at_post = []
@@ -93,7 +93,7 @@ abbrev pub state_of : Zipper → State
 state_of z = record {
   outer = map group_of z.outer;
   group = group_of z.prefix;
-  place = place_of z.position;
+  stage = stage_of z.position;
   letter = letter_of z.position;
   symbols = position_on z.position (prefix_on z.prefix (outer_on z.outer));
 }

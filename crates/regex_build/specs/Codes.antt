@@ -7,14 +7,14 @@ use Rattle.regex_build.specs.declared.postfix_symbol.PostfixSymbol.{PostfixSymbo
 use Rattle.regex_build.specs.declared.postfix_symbol.PostfixSymbol.TheVariants.{Letter, Any}
 use Rattle.regex_build.specs.Positions.{IsOf}
 
--- the members are at these places of the sets
-abbrev pub ArePlaces : List (List ℤ) → List ℤ → List ℕ → Type 0
-ArePlaces [] [] [] = ⊤
-ArePlaces [] [] (place ∷ places) = ⊥
-ArePlaces [] (member ∷ members) places = ⊥
-ArePlaces (set ∷ sets) [] places = ⊥
-ArePlaces (set ∷ sets) (member ∷ members) [] = ⊥
-ArePlaces (set ∷ sets) (member ∷ members) (place ∷ places) = (place < length set) × (slice_index_or set place (pos 0) ≡ member) × ArePlaces sets members places
+-- the members are at these indices of the sets
+abbrev pub AreIndices : List (List ℤ) → List ℤ → List ℕ → Type 0
+AreIndices [] [] [] = ⊤
+AreIndices [] [] (index ∷ indices) = ⊥
+AreIndices [] (member ∷ members) indices = ⊥
+AreIndices (set ∷ sets) [] indices = ⊥
+AreIndices (set ∷ sets) (member ∷ members) [] = ⊥
+AreIndices (set ∷ sets) (member ∷ members) (index ∷ indices) = (index < length set) × (slice_index_or set index (pos 0) ≡ member) × AreIndices sets members indices
 
 -- the letter is in the range
 abbrev pub IsInRange : LetterRange → ℕ → Type 0

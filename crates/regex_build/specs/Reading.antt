@@ -11,7 +11,7 @@ use Rattle.regex_build.specs.declared.fault.Refusal.{Refusal}
 use Rattle.regex_build.specs.declared.fault.Refusal.TheVariants as refusals
 use Rattle.regex_build.specs.declared.fault.RegexFault.{RegexFault}
 use Rattle.regex_build.specs.declared.fault.RegexFault.TheVariants as faults
-use Rattle.regex_build.specs.declared.reading.Place.{Place}
+use Rattle.regex_build.specs.declared.reading.Stage.{Stage}
 use Rattle.regex_build.specs.declared.reading.Reading.{Reading}
 use Rattle.regex_build.specs.Tokens as tokens
 use Rattle.regex_build.specs.Tokens.{Token}
@@ -61,7 +61,7 @@ abbrev pub state_view : Reading → State
 state_view r = record {
   outer = fold (λ gs g. g ∷ gs) [] r.outer.items;
   group = r.group;
-  place = r.place;
+  stage = r.stage;
   letter = r.letter;
   symbols = r.symbols.items;
 }
@@ -81,13 +81,13 @@ Answers o Allowed t new (Err refusals.Memory) = ⊤
 abbrev pub Enters : List (List ℤ) → State → Token → State → Result (Unit {0}) Refusal → Type 0
 Enters sets old t new result = Answers (enter (length sets) old t) (IsAllowed sets (around old) t) t new result
 
--- what reading a token at a place gives
-abbrev pub GivesAt : Place → List (List ℤ) → State → Token → State → Result (Unit {0}) Refusal → Type 0
-GivesAt place sets old t new result = Answers (step_at (length sets) old place t) (IsAllowed sets (around old) t) t new result
+-- what reading a token at a stage gives
+abbrev pub GivesAt : Stage → List (List ℤ) → State → Token → State → Result (Unit {0}) Refusal → Type 0
+GivesAt stage sets old t new result = Answers (step_at (length sets) old stage t) (IsAllowed sets (around old) t) t new result
 
 -- what reading a token gives
 abbrev pub Gives : List (List ℤ) → State → Token → State → Result (Unit {0}) Refusal → Type 0
-Gives sets old t new result = GivesAt old.place sets old t new result
+Gives sets old t new result = GivesAt old.stage sets old t new result
 
 -- the fault of a text whose token at this byte is not read
 abbrev pub fault_at : Refusal → ℕ → RegexFault

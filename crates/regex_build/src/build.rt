@@ -23,7 +23,7 @@ use minimise::canonical::canonical;
 use std::alloc::Global;
 
 /// The canonical automaton of the words that the expression matches, over a track for each set, on
-/// which each member of the set has its place in the set as its digit.
+/// which each member of the set has its index in the set as its digit.
 ///
 /// The width is the number of sets of last marks. Mark each letter of the expression with its place: a word's last marks
 /// are the last places of those prefixes of matches that are the word. The empty word counts as one of

@@ -6,7 +6,7 @@ ghost use Rattle.std.specs.Option.{option_to_list};
 ghost use Rattle.digit_tuple.specs.Letters.{product, IsAlphabet};
 ghost use Rattle.digit_tuple.specs.Sets.{sizes_of, IsLetterSet};
 ghost use Rattle.digit_tuple.specs.Tuples.{IsLetterOf};
-ghost use Rattle.regex_build.specs.Codes.{ArePlaces, IsRangeOf, occurrence_in, occurrences_of};
+ghost use Rattle.regex_build.specs.Codes.{AreIndices, IsRangeOf, occurrence_in, occurrences_of};
 ghost use Rattle.regex_build.specs.Patterns.{AreMembers, IsOver};
 
 use crate::letter_tuple::LetterTuple;
@@ -24,21 +24,21 @@ pub struct LetterRange {
     pub end: u32,
 }
 
-// The places of the members in their sets.
-fn places_in(
+// The indices of the members in their sets.
+fn indices_in(
     alloc: Global,
     sets: &[LetterSet],
     members: &[i32],
 ) -> Result<SmallVec<u32, 4>, OutOfMemory>
     requires { AreMembers sets.now members.now }
-    ensures { IfOk result (λ places. ArePlaces sets.now members.now places.items) }
+    ensures { IfOk result (λ indices. AreIndices sets.now members.now indices.items) }
 {
-    let mut places = SmallVec::new(alloc);
+    let mut indices = SmallVec::new(alloc);
     for (track, set) in sets.iter().enumerate() {
         let member = members[track];
-        places.push(set.place_of(member).unwrap())?;
+        indices.push(set.place_of(member).unwrap())?;
     }
-    Ok(places)
+    Ok(indices)
 }
 
 // The number of a letter of an alphabet whose tracks have these sets as their digits.
@@ -53,8 +53,8 @@ fn number_of(
     ensures letter { IfOk result (λ number. IsLetterOf sets.now letter.now number) }
     ensures in_range { IfOk result (λ number. number < product alphabet.now) }
 {
-    let places = places_in(alloc, sets, letter.members())?;
-    Ok(alphabet.letter_of(places.as_slice()))
+    let indices = indices_in(alloc, sets, letter.members())?;
+    Ok(alphabet.letter_of(indices.as_slice()))
 }
 
 // The letters that may be at the occurrence that the symbol is, if it is one.

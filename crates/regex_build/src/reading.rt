@@ -30,9 +30,9 @@ pub(crate) struct Group {
     pub sequence: bool,
 }
 
-/// Where a reading is.
+/// How far the reading of a group is.
 #[derive(Clone, Copy, Debug, PartialEq, Eq)]
-pub(crate) enum Place {
+pub(crate) enum Stage {
     /// A post begins here.
     AtPost,
     /// After a post, which more signs may follow.
@@ -44,12 +44,12 @@ pub(crate) enum Place {
 }
 
 /// An expression that is being read: the groups around, the innermost last, the group that is
-/// read, the place in it, the numbers of an open bracket, and the symbols so far.
+/// read, the stage of reading it, the numbers of an open bracket, and the symbols so far.
 #[derive(Drop)]
 pub(crate) struct Reading {
     pub outer: Vec<Group>,
     pub group: Group,
-    pub place: Place,
+    pub stage: Stage,
     pub letter: LetterTuple,
     pub symbols: Vec<PostfixSymbol>,
 }
@@ -96,7 +96,7 @@ impl Reading {
         Reading {
             outer: Vec::new(alloc),
             group: Group::fresh(),
-            place: Place::AtPost,
+            stage: Stage::AtPost,
             letter: LetterTuple::new(alloc),
             symbols: Vec::new(alloc),
         }
@@ -104,9 +104,9 @@ impl Reading {
 
     /// Whether a bracket is open.
     pub fn in_bracket(&self) -> bool
-        ensures { result ≡ machine.in_bracket self.now.place }
+        ensures { result ≡ machine.in_bracket self.now.stage }
     {
-        matches!(self.place, Place::AtNumber | Place::AfterNumber)
+        matches!(self.stage, Stage::AtNumber | Stage::AfterNumber)
     }
 
     /// Adds a symbol, after which the reading then is.
@@ -114,7 +114,7 @@ impl Reading {
         ensures { OnOk result (state_view self.new ≡ machine.pushed (state_view self.old) symbol) }
     {
         self.symbols.push(symbol)?;
-        self.place = Place::After;
+        self.stage = Stage::After;
         Ok(())
     }
 
@@ -151,7 +151,7 @@ impl Reading {
         match self.outer.pop() {
             Some(group) => {
                 self.group = group;
-                self.place = Place::After;
+                self.stage = Stage::After;
                 Ok(())
             }
             None => Err(Refusal::Syntax),
@@ -168,7 +168,7 @@ impl Reading {
         }
         self.outer.push(self.group)?;
         self.group = Group::fresh();
-        self.place = Place::AtPost;
+        self.stage = Stage::AtPost;
         Ok(())
     }
 
@@ -202,7 +202,7 @@ impl Reading {
                 if sets.is_empty() {
                     return Err(Refusal::Syntax);
                 }
-                self.place = Place::AtNumber;
+                self.stage = Stage::AtNumber;
                 Ok(())
             }
             _ => Err(Refusal::Syntax),
@@ -212,7 +212,7 @@ impl Reading {
     /// Reads a token where a post begins.
     fn at_post(&mut self, alloc: Global, sets: &Sets, token: Token) -> Result<(), Refusal>
         requires { IsWritten (token_view token) }
-        ensures { GivesAt Place.AtPost sets.now (state_view self.old) (token_view token) (state_view self.new) result }
+        ensures { GivesAt Stage.AtPost sets.now (state_view self.old) (token_view token) (state_view self.new) result }
     {
         match token {
             Token::Closing => {
@@ -229,7 +229,7 @@ impl Reading {
     /// Reads a token after a post.
     fn after_token(&mut self, alloc: Global, sets: &Sets, token: Token) -> Result<(), Refusal>
         requires { IsWritten (token_view token) }
-        ensures { GivesAt Place.After sets.now (state_view self.old) (token_view token) (state_view self.new) result }
+        ensures { GivesAt Stage.After sets.now (state_view self.old) (token_view token) (state_view self.new) result }
     {
         match token {
             Token::Star => Ok(self.push(PostfixSymbol::Star)?),
@@ -237,7 +237,7 @@ impl Reading {
             Token::Optional => Ok(self.push(PostfixSymbol::Optional)?),
             Token::Bar => {
                 self.join()?;
-                self.place = Place::AtPost;
+                self.stage = Stage::AtPost;
                 Ok(())
             }
             Token::Closing => {
@@ -253,7 +253,7 @@ impl Reading {
 
     /// Reads a token before a number of a bracket.
     fn at_number(&mut self, sets: &Sets, token: Token) -> Result<(), Refusal>
-        ensures { GivesAt Place.AtNumber sets.now (state_view self.old) (token_view token) (state_view self.new) result }
+        ensures { GivesAt Stage.AtNumber sets.now (state_view self.old) (token_view token) (state_view self.new) result }
     {
         let Token::Number(number) = token else {
             return Err(Refusal::Syntax);
@@ -262,17 +262,17 @@ impl Reading {
             return Err(Refusal::Number);
         };
         self.letter.push(member)?;
-        self.place = Place::AfterNumber;
+        self.stage = Stage::AfterNumber;
         Ok(())
     }
 
     /// Reads a token after a number of a bracket.
     fn after_number(&mut self, alloc: Global, sets: &Sets, token: Token) -> Result<(), Refusal>
-        ensures { GivesAt Place.AfterNumber sets.now (state_view self.old) (token_view token) (state_view self.new) result }
+        ensures { GivesAt Stage.AfterNumber sets.now (state_view self.old) (token_view token) (state_view self.new) result }
     {
         match token {
             Token::Comma if self.letter.len() < sets.len() => {
-                self.place = Place::AtNumber;
+                self.stage = Stage::AtNumber;
                 Ok(())
             }
             Token::Unbracket if self.letter.len() == sets.len() => {
@@ -289,11 +289,11 @@ impl Reading {
         requires { IsWritten (token_view token) }
         ensures { Gives sets.now (state_view self.old) (token_view token) (state_view self.new) result }
     {
-        match self.place {
-            Place::AtPost => self.at_post(alloc, sets, token),
-            Place::After => self.after_token(alloc, sets, token),
-            Place::AtNumber => self.at_number(sets, token),
-            Place::AfterNumber => self.after_number(alloc, sets, token),
+        match self.stage {
+            Stage::AtPost => self.at_post(alloc, sets, token),
+            Stage::After => self.after_token(alloc, sets, token),
+            Stage::AtNumber => self.at_number(sets, token),
+            Stage::AfterNumber => self.after_number(alloc, sets, token),
         }
     }
 
@@ -305,7 +305,7 @@ impl Reading {
         if !self.outer.is_empty() {
             return Ok(None);
         }
-        if self.place != Place::After {
+        if self.stage != Stage::After {
             return Ok(None);
         }
         self.join()?;

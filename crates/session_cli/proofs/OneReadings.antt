@@ -57,9 +57,9 @@ module _ (text : List ℕ) (formula : trees.Formula) (reads : Reads (tokens (spo
   not_refused : (fault : ParseFault) → IsReadAs text (Err fault) → ⊥
   not_refused (parses.Syntax at) (not_memory, is) = not_stopped is.cut (breaks_stop (tokens is.cut.prefix) is.cut.spot.token (breaks_derived (tokens is.cut.prefix) is.cut.spot.token is.breaks))
   not_refused (parses.Number at) (not_memory, is) =
-      not_stopped is.cut (reaches_stop (tokens is.cut.prefix) is.cut.spot.token is.passes.place (reaches_derived (tokens is.cut.prefix) is.cut.spot.token is.passes.place is.passes.reaches) (λ allowed. is.passes.out allowed.1))
+      not_stopped is.cut (reaches_stop (tokens is.cut.prefix) is.cut.spot.token is.passes.reached (reaches_derived (tokens is.cut.prefix) is.cut.spot.token is.passes.reached is.passes.reaches) (λ allowed. is.passes.out allowed.1))
   not_refused (parses.Depth at) (not_memory, is) =
-      not_stopped is.cut (reaches_stop (tokens is.cut.prefix) is.cut.spot.token is.passes.place (reaches_derived (tokens is.cut.prefix) is.cut.spot.token is.passes.place is.passes.reaches) (λ allowed. let low = allowed.0 in let deep = is.passes.deep in omega arith))
+      not_stopped is.cut (reaches_stop (tokens is.cut.prefix) is.cut.spot.token is.passes.reached (reaches_derived (tokens is.cut.prefix) is.cut.spot.token is.passes.reached is.passes.reaches) (λ allowed. let low = allowed.0 in let deep = is.passes.deep in omega arith))
   not_refused (parses.MixedChain at) (not_memory, is) = not_flawed (mixed_chain at) is
   not_refused (parses.NotLinear at) (not_memory, is) = not_flawed (not_linear at) is
   not_refused parses.Memory (not_memory, is) = not_memory refl

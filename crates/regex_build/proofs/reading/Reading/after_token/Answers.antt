@@ -1,7 +1,7 @@
 -- A group is closed after a post.
 use Rattle.std.proofs.Common.{subst, sym}
 use Rattle.regex_build.specs.declared.token.Token.{Token}
-use Rattle.regex_build.specs.declared.reading.Place.TheVariants.{After}
+use Rattle.regex_build.specs.declared.reading.Stage.TheVariants.{After}
 use Rattle.regex_build.specs.Tokens.{closing}
 use Rattle.regex_build.specs.Reading.{state_view, token_view, GivesAt}
 use Rattle.regex_build.proofs.ReadingSteps.{closes_group}

@@ -1,7 +1,7 @@
 -- A group in which nothing has come is closed.
 use Rattle.std.proofs.Common.{subst, sym, ◌∙◌}
 use Rattle.regex_build.specs.declared.token.Token.{Token}
-use Rattle.regex_build.specs.declared.reading.Place.TheVariants.{AtPost}
+use Rattle.regex_build.specs.declared.reading.Stage.TheVariants.{AtPost}
 use Rattle.regex_build.specs.Tokens.{closing}
 use Rattle.regex_build.specs.Reading.{state_view, token_view, GivesAt}
 use Rattle.regex_build.proofs.ReadingSteps.{closes_empty}
