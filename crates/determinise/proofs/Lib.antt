@@ -9,3 +9,4 @@ pub mod ViewedKeyLemmas
 pub mod BitMemberLemmas
 pub mod PlaceLemmas
 pub mod LinkLemmas
+pub mod TransitionNumberLemmas

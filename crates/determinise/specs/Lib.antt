@@ -8,3 +8,4 @@ pub mod BitRows
 pub mod BitSubsets
 pub mod NumberSets
 pub mod Links
+pub mod TransitionNumbers

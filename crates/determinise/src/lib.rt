@@ -16,6 +16,9 @@ pub mod bit_members;
 /// Numbers put in order by their bits.
 pub mod number_set;
 
+/// Transitions put in order by their numbers.
+pub mod transition_numbers;
+
 /// Transitions put in order by their letters and targets.
 pub mod transition_order;
 

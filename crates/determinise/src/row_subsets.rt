@@ -15,7 +15,7 @@ use digit_tuple::nfa::Nfa;
 use std::alloc::Global;
 
 // For so many words of bits that have to be looked at, a transition may as well be gathered by its letter.
-const WORDS_FOR_AN_TRANSITION: usize = 8;
+const WORDS_FOR_A_TRANSITION: usize = 8;
 
 /// The sets of states that words lead to from the states of a first set, each as the list of its states in order. The
 /// transitions from a set are gathered as bits of all letters together, unless they are few. The empty set is no key.
@@ -55,7 +55,7 @@ impl KeyGraph for RowSubsets<'_> {
     ) -> Result<(), OutOfMemory> {
         let rows = self.rows;
         let room = rows.letters as usize * rows.width as usize;
-        if room / WORDS_FOR_AN_TRANSITION > row_words(&rows.rows, key) {
+        if room / WORDS_FOR_A_TRANSITION > row_words(&rows.rows, key) {
             let subsets = Subsets {
                 nfa: self.nfa,
                 first: self.first,

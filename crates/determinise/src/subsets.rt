@@ -77,7 +77,7 @@ fn transitions_from(
     ensures ascending { IfOk result (λ transitions. AllPairs IsBefore transitions.items) }
     ensures members { IfOk result (λ transitions. (transition : Transition) → Contains transitions.items transition ↔ ((p : ℕ) × Contains set.now p × Contains (transitions_of nfa.now p) transition)) }
 {
-    let mut transitions = Vec::new(alloc);
+    let mut transitions = Vec::with_capacity(alloc, transition_count(nfa, set))?;
     for state in set {
         transitions.extend_from_slice(nfa.transitions(*state))?;
     }
@@ -88,4 +88,15 @@ fn transitions_from(
         nfa.states(),
         blanks,
     )
+}
+
+// How many transitions the states have together.
+fn transition_count(nfa: &Nfa, set: &[u32]) -> usize
+    requires { All (λ q. q < states_of nfa.now) set.now }
+{
+    let mut count: usize = 0;
+    for state in set {
+        count = count.saturating_add(nfa.transitions(*state).len());
+    }
+    count
 }
