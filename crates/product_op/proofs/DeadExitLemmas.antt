@@ -1,6 +1,6 @@
 -- Letters by which pairs of states lead to dead ones.
-use Rattle.std.proofs.Common.{◌≡◌, ◌≢◌, ℕ, zero, suc, ◌+◌, ◌<◌, ◌≤◌, true, List, [], ◌∷◌, ◌++◌, length, get_or, unwrap_or, ◌⊎◌, inl, inr, refl, sym, ap, ◌∙◌, arith}
-use Rattle.std.specs.List.{All, Contains}
+use Rattle.std.proofs.Common.{◌≡◌, ◌≢◌, ℕ, zero, suc, ◌+◌, ◌<◌, ◌≤◌, true, List, [], ◌∷◌, ◌++◌, length, get_or, unwrap_or, ◌⊎◌, inl, inr, refl, sym, ap, ◌∙◌, subst, arith}
+use Rattle.std.specs.List.{All, Contains, range_with_len}
 use Rattle.std.proofs.lemmas.Bool.{cases_eq, cases_lt}
 use Rattle.std.proofs.lemmas.Bool.Decides.{Decides-eqb}
 use Rattle.std.proofs.lemmas.List.{get_or_append_left, get_or_push, length_push}
@@ -10,7 +10,7 @@ use Rattle.digit_tuple.specs.declared.transitions.Transition.{Transition}
 use Rattle.digit_tuple.specs.Deterministic.{states_of, transitions_of, target_by}
 use Rattle.digit_tuple.proofs.DfaLemmas.{target_by-none}
 use Rattle.digit_tuple.proofs.MemberLemmas.{Contains-head}
-use Rattle.digit_tuple.proofs.RangeLemmas.{map-range-same}
+use Rattle.digit_tuple.proofs.RangeLemmas.{All-range, Contains-range, map-range-same}
 use Rattle.minimise.specs.Classes.{next_of}
 use Rattle.product_op.specs.declared.op.Op.{Op}
 use Rattle.product_op.specs.DeadExits.{AreExits, AreExitsBeside, HasExit, LeadsOut}
@@ -73,6 +73,13 @@ module _ (letters : ℕ) (r other : Reading) (beside : ℕ) (row : List Transiti
       by : (a : ℕ) → a < letters → ¬ LeadsOut r state a → LeadsOut other beside a → ((i : ℕ) × (i < length row) × ((z : Transition) → (get_or row i z).letter ≡ part_read r a)) ⊎ All (λ e. e.letter ≢ part_read r a) row → HasExit r other beside exits a
       by a small on out (inl found) = are.whole found.0 (record { letter = 0; target = 0 }) (omega (arith, found.1, all)) a small (sym (found.2 (record { letter = 0; target = 0 }))) out
       by a small on out (inr none) = absurd (on (ap (λ (es : List Transition). unwrap_or (target_by es (part_read r a)) (states_of r.automaton)) (sym row_is) ∙ ap (λ o. unwrap_or o (states_of r.automaton)) (target_by-none row (part_read r a) none)))
+
+-- all letters are exits
+pub AreExits-every : (letters : ℕ) (op : Op) (rs : List Reading) (key exits : List ℕ) → exits ≡ range_with_len 0 letters → AreExits letters op rs key exits
+AreExits-every letters op rs key exits all = record {
+  in_range = subst (All (λ a. a < letters)) (sym all) (All-range letters);
+  whole = λ a small dead. (a, subst (λ ls. Contains ls a) (sym all) (Contains-range letters a small), refl);
+}
 
 two : (P : ℕ → Type 0) → P 0 → P 1 → (i : ℕ) → i < 2 → P i
 two P zeroth first zero less = zeroth

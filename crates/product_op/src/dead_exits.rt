@@ -8,14 +8,33 @@ ghost use Rattle.product_op.specs.DeadPairs.{ArePair};
 ghost use Rattle.product_op.specs.Readings.{AreStates, IsReading, reading_at, reading_in, readings_in, state_at};
 
 use crate::live_pairs::LivePairs;
+use crate::numbers_below::numbers_below;
 use crate::reader::Reader;
 use digit_tuple::faults::OutOfMemory;
 use digit_tuple::transitions::Transition;
 
-/// Letters such that wherever a letter leads from a pair to a dead one, one of them leads there: for each transition of
-/// the one automaton at most one by which the other leads to its sink, and at most one by which both do. The row is
-/// written over.
+/// Letters such that wherever a letter leads from a pair to a dead one, one of them leads there: all letters where they
+/// are few, since to search takes longer than to try them, and else those that a search finds. The row is written over.
 pub fn dead_exits(
+    graph: &LivePairs<'_>,
+    key: &[u32],
+    row: &mut Vec<Transition>,
+) -> Result<Vec<u32>, OutOfMemory>
+    requires pair { ArePair graph.now.letters graph.now.op (readings_in graph.now.readers.now) }
+    requires key { AreStates (readings_in graph.now.readers.now) key.now }
+    ensures { IfOk result (λ exits. AreExits graph.now.letters graph.now.op (readings_in graph.now.readers.now) key.now exits.items) }
+{
+    if graph.few.is_empty() {
+        found_exits(graph, key, row)
+    } else {
+        numbers_below(*row.allocator(), graph.letters)
+    }
+}
+
+// Such letters, found by the transitions: for each of the one automaton at most one by which the other leads to its
+// sink, and at most one by which both do. Time follows the letters with the parts of both rows, and to find one by which
+// both lead to their sinks the letters before it. The row is written over.
+fn found_exits(
     graph: &LivePairs<'_>,
     key: &[u32],
     row: &mut Vec<Transition>,

@@ -6,12 +6,12 @@ ghost use Rattle.std.specs.Result.{IsErrOf};
 ghost use Rattle.digit_tuple.specs.Width.{HasApart, HasWidth};
 ghost use Rattle.product_op.specs.DeadPairs.{ArePair, is_dead_pair};
 ghost use Rattle.product_op.specs.PairLists.{BeginsWith, HoldAfter, HoldLive, IsAfter};
-ghost use Rattle.product_op.specs.Readings.{readings_in};
+ghost use Rattle.product_op.specs.Readings.{automata_in, readings_in};
 ghost use Rattle.product_op.specs.Tuples.{LeadToOne};
 
 use crate::dead_exits::dead_exits;
 use crate::live_pairs::LivePairs;
-use crate::reader_states::next_states;
+use crate::next_row::{next_rows, next_states_by};
 use digit_tuple::faults::OpFault;
 use digit_tuple::numbering::Numbering;
 use digit_tuple::transitions::Transition;
@@ -26,6 +26,7 @@ pub fn add_dead_pairs(
     limit: u32,
 ) -> Result<(), OpFault>
     requires pair { ArePair graph.now.letters graph.now.op (readings_in graph.now.readers.now) }
+    requires tables { graph.now.tables.now ≡ automata_in (readings_in graph.now.readers.now) }
     requires live { HoldLive graph.now.letters graph.now.op (readings_in graph.now.readers.now) keys.old }
     requires few { length keys.old ≤ limit }
     ensures width { OnOk result (HasWidth (LeadToOne (readings_in graph.now.readers.now)) graph.now.letters (length keys.new)) }
@@ -54,6 +55,7 @@ fn add_dead_after(
     limit: u32,
 ) -> Result<(), OpFault>
     requires pair { ArePair graph.now.letters graph.now.op (readings_in graph.now.readers.now) }
+    requires tables { graph.now.tables.now ≡ automata_in (readings_in graph.now.readers.now) }
     requires live { HoldLive graph.now.letters graph.now.op (readings_in graph.now.readers.now) keys.old }
     requires few { length keys.old ≤ limit }
     requires key { Contains keys.old key.now }
@@ -64,11 +66,13 @@ fn add_dead_after(
     ensures states { IsErrOf result OpFault.States → HasApart (LeadToOne (readings_in graph.now.readers.now)) graph.now.letters (limit + 1) }
     ensures no_letters { ¬ IsErrOf result OpFault.Letters }
 {
+    let alloc = *row.allocator();
     let exits = dead_exits(graph, key, row)?;
-    let mut states = vec![in *row.allocator(); 0; 2]?;
+    let rows = next_rows(alloc, graph.tables, key, exits.len(), row)?;
+    let mut states = vec![in alloc; 0; 2]?;
     let next = states.as_mut_slice();
     for letter in &exits {
-        next_states(graph.readers, key, *letter, next);
+        next_states_by(graph.readers, key, &rows, *letter, next);
         add_if_dead(graph, next, keys, limit)?;
     }
     Ok(())

@@ -24,9 +24,10 @@ use std::alloc::Global;
 
 /// The canonical automaton of the words of which the connective says that they are in it, by whether each of two
 /// readers accepts its part. The width is the number of pairs of states that words lead to, sinks counted too. `States`
-/// comes if and only if it passes the limit, and `Letters` never. Time and memory follow the pairs from which the
-/// connective may accept, with the letters by which the first leads on from them, and the transitions of each reader's
-/// automaton.
+/// comes if and only if it passes the limit, and `Letters` never. Memory follows the pairs and the transitions of each
+/// reader's automaton. Time follows the pairs with all letters where they are few, and else those from which the
+/// connective may accept, with the letters by which the first leads on, and all pairs with the letters by which either
+/// leads on and those that are tried until one leads both to their sinks.
 pub fn pairs_needing_first(
     alloc: Global,
     graph: &LivePairs<'_>,

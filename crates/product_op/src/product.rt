@@ -41,7 +41,8 @@ use std::rc::Rc;
 /// Memory may also run out where 2^32 - 1 states are not enough. Time and memory follow the width and the letters by
 /// which some residual leads to one that is not empty, or all letters where they are at most 32, but under `And` and
 /// `AndNot` the letters by which the first does, from pairs without an empty residual that is needed; and the residuals
-/// of the arguments with their transitions.
+/// of the arguments with their transitions. Where only the two arguments count under these, to find the pairs with an
+/// empty residual takes time by the letters by which either does, and by those that are tried until one leads both to it.
 pub fn product(
     alloc: Global,
     a: &Tracked,

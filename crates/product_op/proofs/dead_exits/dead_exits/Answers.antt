@@ -1,34 +1,10 @@
-use Rattle.std.proofs.Common.{◌≡◌, ◌++◌, ◌∷◌, [], ℕ, List, Vec, Global, length, get_or, sym, ap, ◌∙◌, subst, arith}
-use Rattle.std.proofs.lemmas.List.{get_or_default}
-use Rattle.product_op.specs.DeadExits.{AreExits, AreExitsBeside}
-use Rattle.product_op.specs.Readings.{Reading, no_reading, reading_at, reading_in, readings_in, state_at}
-use Rattle.product_op.proofs.DeadExitLemmas.{AreExits-none, AreExits-some}
-use Rattle.product_op.proofs.ReaderLemmas.{length-readings, reading_at-reader}
+use Rattle.std.proofs.Common.{Vec, ℕ, Global}
+use Rattle.std.proofs.lemmas.Result.{IfOk-weaker}
+use Rattle.product_op.specs.Readings.{readings_in}
+use Rattle.product_op.proofs.DeadExitLemmas.{AreExits-every}
 use Rattle.product_op.proofs.dead_exits.dead_exits.Goals as goal
-use Rattle.product_op.proofs.dead_exits.dead_exits.Goals.{in-Some+in_ok-push, in_default}
 
-pub returns : goal.returns
-returns c =
+pub returns-else-is_empty : goal.returns-else-is_empty
+returns-else-is_empty c =
     let g = c.args.graph.now in
-    let rs = readings_in g.readers.now in
-    let key = c.args.key.now in
-    let f = get_or g.readers.now 0 c.index-graph-0.result in
-    let s = get_or g.readers.now 1 c.index-graph-1.result in
-    let two : length g.readers.now ≡ 2 = sym (length-readings g.readers.now) ∙ c.requires.pair.count in
-    let first_is : reading_at rs 0 ≡ reading_in f = reading_at-reader g.readers.now 0 f (omega (arith, two)) (get_or_default g.readers.now 0 c.index-graph-0.result f (omega (arith, two))) in
-    let second_is : reading_at rs 1 ≡ reading_in s = reading_at-reader g.readers.now 1 s (omega (arith, two)) (get_or_default g.readers.now 1 c.index-graph-1.result s (omega (arith, two))) in
-    let first_long : length f.parts ≡ g.letters = subst (λ (r : Reading). length r.parts ≡ g.letters) first_is (c.requires.pair.readings_are 0 no_reading (omega (arith, c.requires.pair.count))).count in
-    let second_long : length s.parts ≡ g.letters = subst (λ (r : Reading). length r.parts ≡ g.letters) second_is (c.requires.pair.readings_are 1 no_reading (omega (arith, c.requires.pair.count))).count in
-    let xs = c.in_ok-exits.exits.items in
-    let ys = c.in_ok-others.others.items in
-    let first : AreExitsBeside g.letters (reading_in f) (reading_in s) (state_at key 0) (state_at key 1) xs = subst (λ n. AreExitsBeside n (reading_in f) (reading_in s) (state_at key 0) (state_at key 1) xs) first_long c.in_ok-exits.ensures in
-    let second : AreExitsBeside g.letters (reading_in s) (reading_in f) (state_at key 1) (state_at key 0) ys = subst (λ n. AreExitsBeside n (reading_in s) (reading_in f) (state_at key 1) (state_at key 0) ys) second_long c.in_ok-others.ensures in
-    let joined : c.extend_from_slice.new.self.items ≡ xs ++ ys = c.in_ok-extend_from_slice.ensures.items ∙ ap (λ zs. xs ++ zs) c.deref.ensures.value in
-    elim c.match-common_exit.branch [
-      | in-Some+in_ok-push w ↦
-          subst (AreExits g.letters g.op rs key) (sym (ap (λ (v : Vec ℕ Global). v.items) w.exits-is ∙ w.in_ok-push.ensures.items ∙ ap (λ (zs : List ℕ). zs ++ w.in-Some.letter ∷ []) joined))
-          (AreExits-some g.letters g.op rs c.requires.pair.count (reading_in f) (reading_in s) first_is second_is key xs ys w.in-Some.letter first second w.in-Some.ensures.0 w.in-Some.ensures.1 w.in-Some.ensures.2)
-      | in_default w ↦
-          subst (AreExits g.letters g.op rs key) (sym (ap (λ (v : Vec ℕ Global). v.items) w.exits-is ∙ joined))
-          (AreExits-none g.letters g.op rs c.requires.pair.count (reading_in f) (reading_in s) first_is second_is key xs ys first second w.in_default.ensures)
-    ]
+    IfOk-weaker c.numbers_below.result _ _ (λ (exits : Vec ℕ Global) all. AreExits-every g.letters g.op (readings_in g.readers.now) c.args.key.now exits.items all) c.numbers_below.ensures

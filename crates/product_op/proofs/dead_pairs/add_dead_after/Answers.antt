@@ -6,8 +6,8 @@ use Rattle.product_op.specs.Readings.{next_key, readings_in}
 use Rattle.product_op.proofs.PairListLemmas.{BeginsWith-trans, Contains-begins, HoldAfter-tried}
 use Rattle.product_op.proofs.dead_pairs.add_dead_after.Goals as goal
 
-pub next_states-requires-clause-readers : goal.next_states-requires-clause-readers
-next_states-requires-clause-readers c =
+pub next_states_by-requires-clause-readers : goal.next_states_by-requires-clause-readers
+next_states_by-requires-clause-readers c =
     let g = c.args.graph.now in
     (g.letters, c.requires.pair.readings_are, subst (All (λ a. a < g.letters)) (sym c.deref-letter-items.ensures.value) c.in_ok-exits.ensures.in_range c.loop-letter.letter-index 0 c.loop-letter-test.true)
 
@@ -16,7 +16,7 @@ add_if_dead-requires-clause-after c =
     let g = c.args.graph.now in
     let place = c.loop-letter.letter-index in
     let small = subst (All (λ a. a < g.letters)) (sym c.deref-letter-items.ensures.value) c.in_ok-exits.ensures.in_range place 0 c.loop-letter-test.true in
-    (c.args.key.now, Contains-begins c.args.keys.now c.loop-letter.keys c.args.key.now c.loop-letter.invariant.begins c.requires.key, (get_or c.deref-letter-items.result.now place 0, small, sym c.next_states.ensures))
+    (c.args.key.now, Contains-begins c.args.keys.now c.loop-letter.keys c.args.key.now c.loop-letter.invariant.begins c.requires.key, (get_or c.deref-letter-items.result.now place 0, small, sym c.next_states_by.ensures))
 
 pub loop-letter-preserved : goal.loop-letter-preserved
 loop-letter-preserved c =
@@ -33,7 +33,8 @@ loop-letter-preserved c =
       few = added.few;
       tried = below_more (λ i. is_dead_pair g.op rs (next_key rs key (get_or letters i 0)) ≡ true → Contains after (next_key rs key (get_or letters i 0))) c.loop-letter.letter-index
           (λ i less dead. Contains-begins before after (next_key rs key (get_or letters i 0)) added.begins (c.loop-letter.invariant.tried i less dead))
-          (λ dead. subst (Contains after) c.next_states.ensures (added.there (ap (is_dead_pair g.op rs) c.next_states.ensures ∙ dead)));
+          (λ dead. subst (Contains after) c.next_states_by.ensures (added.there (ap (is_dead_pair g.op rs) c.next_states_by.ensures ∙ dead)));
+      rows = c.loop-letter.invariant.rows;
     }
 
 pub returns-clause-after : goal.returns-clause-after
