@@ -22,7 +22,8 @@ use Rattle.dfa_text.specs.Lists as lists
 use Rattle.dfa_text.specs.Lists.{IsSystemTrack, AreTrackSystems}
 use Rattle.definitions.specs.Tracks.{NamedSystem, names_of, track_of, header_tracks}
 use Rattle.system_files.specs.SystemFiles.{Custom}
-use Rattle.definitions.specs.Named.{built_in_system, IsSystemNamed, AreNamed}
+use Rattle.definitions.specs.Named.{IsSystemNamed, AreNamed}
+use Rattle.named_systems.specs.BuiltIn.{built_in_system}
 use Rattle.definitions.proofs.UserDigits.{user_digits}
 
 -- a test of all bytes of a text that is put together

@@ -13,7 +13,8 @@ use Rattle.system_names.proofs.UserSystems.{none_is_built_in}
 use Rattle.system_files.proofs.OneSystem.{names_mean_one_system}
 use Rattle.definitions.specs.Tracks.{NamedSystem, names_of, systems_of}
 use Rattle.system_files.specs.SystemFiles.{Custom}
-use Rattle.definitions.specs.Named.{built_in_system, IsSystemNamed, IsOf, IsFirstWithout, AreNamed}
+use Rattle.definitions.specs.Named.{IsSystemNamed, IsOf, IsFirstWithout, AreNamed}
+use Rattle.named_systems.specs.BuiltIn.{built_in_system}
 
 -- what a name means: one direction and one system
 pub one_meaning : (custom : Custom) (name : List ℕ) (direction other : Direction) (s r : System) → IsSystemNamed custom name direction s → IsSystemNamed custom name other r → (direction ≡ other) × (s ≡ r)

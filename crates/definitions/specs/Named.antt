@@ -3,23 +3,10 @@ use Rattle.std.specs.Prelude.{◌≡◌, ◌⊎◌, ℕ, List, [], ◌∷◌}
 use Rattle.std.specs.List.{AllByRecursion}
 use Rattle.digit_tuple.specs.declared.direction.Direction.{Direction}
 use Rattle.numeration.specs.Systems.{System}
-use Rattle.base_k.specs.Positional.{base}
-use Rattle.fib_system.specs.Fibonacci.{fibonacci}
-use Rattle.system_names.specs.declared.system_kind.SystemKind.{SystemKind}
-use Rattle.system_names.specs.declared.system_kind.SystemKind.TheVariants.{Base, Fibonacci}
-use Rattle.system_names.specs.Names.{IsBuiltIn}
+use Rattle.named_systems.specs.BuiltIn.{IsBuiltInSystem}
 use Rattle.system_files.specs.SystemFiles.{Custom}
 use Rattle.system_files.specs.UserSystems.{IsUserSystem}
 use Rattle.definitions.specs.Tracks.{NamedSystem}
-
--- the systems that are built in: base k, and the Fibonacci system
-abbrev pub built_in_system : SystemKind → System
-built_in_system (Base k) = base k
-built_in_system Fibonacci = fibonacci
-
--- the name is that of a system that is built in
-abbrev pub IsBuiltInSystem : List ℕ → Direction → System → Type 0
-IsBuiltInSystem name direction s = (kind : SystemKind) × IsBuiltIn direction kind name × (s ≡ built_in_system kind)
 
 -- The name means this system, read in this direction: one that is built in, or the one that the files of a user define.
 abbrev pub IsSystemNamed : Custom → List ℕ → Direction → System → Type 0

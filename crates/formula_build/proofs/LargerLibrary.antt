@@ -1,14 +1,15 @@
 -- What is built with a library is built with a larger one.
 use Rattle.std.proofs.Common.{◌≡◌, ℕ, Bool, true, false, List, [], ◌∷◌, ◌++◌, Some, Result, Ok, Err, inl, inr, refl, sym, ap, subst, if◌then◌else◌}
 use Rattle.std.specs.Str.{bytes_eq}
-use Rattle.std.proofs.lemmas.Option.{none-some}
 use Rattle.digit_tuple.specs.Steps.{StepLog}
 use Rattle.digit_tuple.specs.declared.step_fault.StepFault.{StepFault}
 use Rattle.num_system.specs.Sealed.{SystemValue}
 use Rattle.number_relations.specs.Relations.{RelationValue}
 use Rattle.word_output.specs.Words.{WordValue}
 use Rattle.formula_plan.specs.Plans.{Plan, Made, compared, added, number, called, lettered, renamed, constant, joined, paired, complement, projected}
-use Rattle.formula_build.specs.Libraries.{LibraryValue, NamedSystem, NamedRelation, NamedWord, IsLibrary, AreSealed, IsSystemIn, IsRelationIn, IsWordIn, system_named, relation_named, word_named}
+use Rattle.named_systems.proofs.NamedLemmas.{named_first}
+use Rattle.formula_build.specs.Libraries.{LibraryValue, NamedRelation, NamedWord, IsLibrary, IsSystemIn, IsRelationIn, IsWordIn, relation_named, word_named}
+use Rattle.named_systems.specs.NamedSystems.{NamedSystem, AreSealed, system_named}
 use Rattle.formula_build.specs.Makings.{Makes}
 use Rattle.formula_build.specs.Building.{Builds, DoesLastStep, DoesSteps}
 use Rattle.formula_build.specs.Solutions.{BuildsFormula}
@@ -30,16 +31,6 @@ sealed_both (s ∷ ss) ts first second = (first.0, sealed_both ss ts first.1 sec
 
 pub both_library : (l m : LibraryValue) → IsLibrary l → IsLibrary m → IsLibrary (both l m)
 both_library l m first second = record { relations = first.relations; words = first.words; systems = sealed_both l.systems m.systems first.systems second.systems }
-
--- the first of a name stays so where more come after
-pub named_first : (ss ts : List NamedSystem) (name : List ℕ) (s : SystemValue) → system_named ss name ≡ Some s → system_named (ss ++ ts) name ≡ Some s
-named_first [] ts name s is = absurd (none-some s is)
-named_first (n ∷ ss) ts name s is = by (bytes_eq n.name name) (named_first ss ts name s) is
-  where
-    by : (b : Bool) → (system_named ss name ≡ Some s → system_named (ss ++ ts) name ≡ Some s) → (if b then Some n.system else system_named ss name) ≡ Some s
-        → (if b then Some n.system else system_named (ss ++ ts) name) ≡ Some s
-    by true rest is = is
-    by false rest is = rest is
 
 named_second : (ss ts : List NamedSystem) (name : List ℕ) (s : SystemValue) → ((t : SystemValue) → system_named ss name ≡ Some t → t ≡ s) → system_named ts name ≡ Some s → system_named (ss ++ ts) name ≡ Some s
 named_second [] ts name s same is = is

@@ -23,7 +23,8 @@ use Rattle.word_output.specs.LetterSets.{IsLetterSet}
 use Rattle.word_output.specs.Words.{WordValue, IsWordValue}
 use Rattle.formula_plan.specs.Plans.{Plan, compared, added, number, called, lettered, renamed, constant, joined, paired, complement, projected}
 use Rattle.formula_build.specs.TrackNames.{track_name}
-use Rattle.formula_build.specs.Libraries.{LibraryValue, NamedSystem, NamedWord, IsLibrary, IsSystemIn, IsWordIn, system_named, word_named}
+use Rattle.formula_build.specs.Libraries.{LibraryValue, NamedWord, IsLibrary, IsSystemIn, IsWordIn, word_named}
+use Rattle.named_systems.specs.NamedSystems.{NamedSystem, system_named}
 use Rattle.formula_build.specs.Makings.{Makes, comparison_of, op_of, placed_on}
 use Rattle.formula_build.specs.PairRelations.{IsRelationPair}
 use Rattle.formula_build.specs.Laws.{OneMade}

@@ -3,17 +3,14 @@ use Rattle.std.specs.Prelude.{◌≡◌, ℕ, List, [], ◌∷◌, ◌++◌, Opt
 use Rattle.std.specs.List.{AllByRecursion}
 use Rattle.std.specs.Str.{bytes_eq}
 use Rattle.formula_truth.specs.Truth.{Meanings}
-use Rattle.num_system.specs.Sealed.{SystemValue, IsSealed}
+use Rattle.num_system.specs.Sealed.{SystemValue}
+use Rattle.named_systems.specs.NamedSystems.{NamedSystem, system_named, AreSealed}
 use Rattle.number_relations.specs.Relations.{RelationValue, IsRelation, RelationHolds}
 use Rattle.word_output.specs.Words.{WordValue, IsWordValue, HasLetter}
 
 pub record NamedRelation : Type 0 where
   pub name : List ℕ
   pub relation : RelationValue
-
-pub record NamedSystem : Type 0 where
-  pub name : List ℕ
-  pub system : SystemValue
 
 pub record NamedWord : Type 0 where
   pub name : List ℕ
@@ -36,9 +33,6 @@ with_relation rs name r = rs ++ record { name = name; relation = r } ∷ []
 abbrev pub with_word : List NamedWord → List ℕ → WordValue → List NamedWord
 with_word ws name w = ws ++ record { name = name; word = w } ∷ []
 
-abbrev pub with_system : List NamedSystem → List ℕ → SystemValue → List NamedSystem
-with_system ss name s = ss ++ record { name = name; system = s } ∷ []
-
 -- the first of a name
 abbrev pub relation_named : List NamedRelation → List ℕ → Option RelationValue
 relation_named [] name = None
@@ -47,10 +41,6 @@ relation_named (r ∷ rs) name = if bytes_eq r.name name then Some r.relation el
 abbrev pub word_named : List NamedWord → List ℕ → Option WordValue
 word_named [] name = None
 word_named (w ∷ ws) name = if bytes_eq w.name name then Some w.word else word_named ws name
-
-abbrev pub system_named : List NamedSystem → List ℕ → Option SystemValue
-system_named [] name = None
-system_named (s ∷ ss) name = if bytes_eq s.name name then Some s.system else system_named ss name
 
 abbrev pub IsRelationIn : LibraryValue → List ℕ → RelationValue → Type 0
 IsRelationIn library name r = relation_named library.relations name ≡ Some r
@@ -66,9 +56,6 @@ AreRelations rs = AllByRecursion (λ (r : NamedRelation). IsRelation r.relation)
 
 abbrev pub AreWords : List NamedWord → Type 0
 AreWords ws = AllByRecursion (λ (w : NamedWord). IsWordValue w.word) ws
-
-abbrev pub AreSealed : List NamedSystem → Type 0
-AreSealed ss = AllByRecursion (λ (s : NamedSystem). IsSealed s.system) ss
 
 -- all relations are relations, and all words are words
 pub record IsRead (read : ReadValue) : Type 0 where

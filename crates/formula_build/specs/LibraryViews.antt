@@ -1,10 +1,9 @@
 -- How a library is seen. Nobody has to believe this: it serves the type's model.
 use Rattle.std.specs.Prelude.{List, map}
 use Rattle.std.specs.Rc.{rc_value}
-use Rattle.formula_build.specs.Libraries.{NamedRelation, NamedWord, NamedSystem, ReadValue}
+use Rattle.formula_build.specs.Libraries.{NamedRelation, NamedWord, ReadValue}
 use Rattle.formula_build.specs.declared.library.RelationEntry.{RelationEntry}
 use Rattle.formula_build.specs.declared.library.WordEntry.{WordEntry}
-use Rattle.formula_build.specs.declared.systems.SystemEntry.{SystemEntry}
 
 abbrev pub relation_entry : RelationEntry → NamedRelation
 relation_entry e = record { name = e.name; relation = rc_value e.relation }
@@ -20,9 +19,3 @@ word_entries es = map word_entry es
 
 abbrev pub read_entries : List RelationEntry → List WordEntry → ReadValue
 read_entries relations words = record { relations = relation_entries relations; words = word_entries words }
-
-abbrev pub system_entry : SystemEntry → NamedSystem
-system_entry e = record { name = e.name; system = rc_value e.system }
-
-abbrev pub system_entries : List SystemEntry → List NamedSystem
-system_entries es = map system_entry es

@@ -1,7 +1,7 @@
 //! What names mean while a formula is decided.
 
 use crate::library::Library;
-use crate::systems::NamedSystems;
+use named_systems::NamedSystems;
 
 /// The systems that names mean, and the relations and words.
 #[derive(Clone, Copy)]

@@ -1,9 +1,6 @@
 //! Formulas decided: the relation of a formula, made by the steps of its plan.
 #![tactic(auto)]
 
-/// Sealed systems by their names.
-mod systems;
-
 /// Relations and words by their names.
 mod library;
 
@@ -45,4 +42,3 @@ pub use laws::{formulas_hold, one_building, one_made, plans_hold};
 pub use library::Library;
 pub use names::Names;
 pub use resolving::{Resolved, resolve};
-pub use systems::NamedSystems;

@@ -1,7 +1,7 @@
 //! What the names of a formula are over.
 
-use crate::systems::NamedSystems;
 use formula_resolve::Headers;
+use named_systems::NamedSystems;
 
 /// The headers of automata and words, and the sealed systems that these headers, the marks of a formula
 /// and the default `msd_2` name.

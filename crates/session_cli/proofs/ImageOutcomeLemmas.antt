@@ -30,7 +30,8 @@ use Rattle.word_output.proofs.OptionLemmas.{same_option}
 use Rattle.word_output.proofs.PlaceLaws.{letter_of_place, place_of_letter}
 use Rattle.number_relations.specs.Relations.{RelationValue}
 use Rattle.formula_parse.specs.Tokens.{Name}
-use Rattle.formula_build.specs.Libraries.{AreSealed, AreWords, IsLibrary, LibraryValue, NamedWord, with_word as with_named}
+use Rattle.formula_build.specs.Libraries.{AreWords, IsLibrary, LibraryValue, NamedWord, with_word as with_named}
+use Rattle.named_systems.specs.NamedSystems.{AreSealed}
 use Rattle.formula_build.specs.OneBuilding.{Agree}
 use Rattle.formula_build.specs.Solutions.{BuildsFormula}
 use Rattle.formula_build.proofs.OneBuildingLemmas.{one_building}

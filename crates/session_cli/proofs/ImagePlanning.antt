@@ -10,7 +10,7 @@ use Rattle.digit_tuple.specs.Steps.{StepLog}
 use Rattle.digit_tuple.specs.declared.steps.StepLine.{StepLine}
 use Rattle.dfa_loading.specs.Headers.{headers_of}
 use Rattle.dfa_loading.specs.Loading.{AreListedBy}
-use Rattle.formula_build.specs.Libraries.{NamedSystem}
+use Rattle.named_systems.specs.NamedSystems.{NamedSystem, HasSystemIn}
 use Rattle.formula_resolve.specs.FirstMentions.{first_files, first_systems, mentioned_systems}
 use Rattle.formula_resolve.specs.Headers.{Headers, word_tracks}
 use Rattle.morph_words.specs.Uniform.{HasLength, IsImageLength}
@@ -31,7 +31,6 @@ use Rattle.session_cli.specs.ImageMakes.{AreTablesOf, IsImaged, IsReadBy, MakesA
 use Rattle.session_cli.specs.ImageOutcomes.{WordTrack, ImagedAnswers, old_mentions, after_image_head, after_old_systems, after_old_table}
 use Rattle.session_cli.specs.Lines.{shown_steps}
 use Rattle.session_cli.specs.Plans.{Makes}
-use Rattle.session_cli.specs.SealedSystems.{HasSystemIn}
 use Rattle.session_cli.specs.WordPrinting.{IsWordTextOf, HasNoWordText, named_text}
 use Rattle.session_cli.proofs.CheckNames.{TrackAnswers}
 use Rattle.session_cli.proofs.ImageChains.{image_loaded, image_tracked, image_stopped, image_done}

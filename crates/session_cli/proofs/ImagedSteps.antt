@@ -4,7 +4,8 @@ use Rattle.digit_tuple.specs.Steps.{StepLog}
 use Rattle.digit_tuple.specs.declared.step_fault.StepFault.{StepFault}
 use Rattle.digit_tuple.specs.declared.step_fault.StepFault.TheVariants as step_faults
 use Rattle.dfa_loading.specs.declared.loaded.Loaded.{Loaded}
-use Rattle.formula_build.specs.Libraries.{NamedSystem, AreSealed, word_named}
+use Rattle.formula_build.specs.Libraries.{word_named}
+use Rattle.named_systems.specs.NamedSystems.{NamedSystem, AreSealed}
 use Rattle.morph_words.specs.Rules.{Rules}
 use Rattle.morph_words.specs.Uniform.{HasLength, IsImageLength, IsLengthRefused}
 use Rattle.morph_words.specs.declared.morphism_kind.MorphismKind.{MorphismKind}

@@ -9,7 +9,8 @@ use Rattle.num_system.specs.Sealed.{SystemValue}
 use Rattle.word_output.specs.Words.{HasLetter, IsWordValue, WordValue}
 use Rattle.number_relations.specs.Relations.{IsRelation, RelationHolds, RelationValue}
 use Rattle.formula_parse.specs.Tokens.{Name}
-use Rattle.formula_build.specs.Libraries.{NamedSystem, meanings_of, word_named}
+use Rattle.formula_build.specs.Libraries.{meanings_of, word_named}
+use Rattle.named_systems.specs.NamedSystems.{NamedSystem}
 use Rattle.combinations.specs.Parts.{PartValue, systems_at}
 use Rattle.combinations.specs.Combined.{IsCombination, IsCombined}
 use Rattle.combinations.specs.Shapes.{HaveSameTracks, IsShapeFault}

@@ -33,7 +33,7 @@ pub mod BoundFiles
 pub mod TableMeanings
 pub mod TableFits
 pub mod TableReads
-pub mod KnownSteps
+pub mod TrackSystemSteps
 pub mod RegexPlans
 pub mod RegSteps
 pub mod HeadSteps
@@ -42,8 +42,7 @@ pub mod TextSteps
 pub mod LoadedMorphisms
 pub mod BaseTexts
 pub mod PromoteSteps
-pub mod SealedLemmas
-pub mod UserSteps
+pub mod UserFaults
 pub mod TrackLists
 pub mod NamedTracks
 pub mod FormulaSolutions
@@ -73,9 +72,6 @@ pub mod ImagedSteps
 pub mod ImageTexts
 pub mod ImageChains
 pub mod ImagePlanning
-pub mod OneLimits
-pub mod ClapTurns
-pub mod ClapWalks
 pub mod OneSealed
 pub mod OneHeads
 pub mod OneTexts

@@ -6,7 +6,8 @@ use Rattle.combinations.specs.Shapes as shapes
 use Rattle.combinations.specs.Shapes.{HaveSameTracks}
 use Rattle.command_head.specs.Heads.{ValuedName}
 use Rattle.command_head.specs.declared.head.ValuedName as valued
-use Rattle.formula_build.specs.Libraries.{NamedRelation, NamedSystem, relation_named}
+use Rattle.formula_build.specs.Libraries.{NamedRelation, relation_named}
+use Rattle.named_systems.specs.NamedSystems.{NamedSystem}
 use Rattle.formula_resolve.specs.Headers.{Headers, automaton_tracks}
 use Rattle.num_system.specs.Sealed.{SystemValue}
 use Rattle.number_relations.specs.Relations.{RelationValue}

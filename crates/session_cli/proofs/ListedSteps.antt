@@ -9,7 +9,7 @@ use Rattle.digit_tuple.specs.Steps.{StepLog}
 use Rattle.digit_tuple.specs.declared.step_fault.StepFault.{StepFault}
 use Rattle.digit_tuple.specs.declared.step_fault.StepFault.TheVariants as step_faults
 use Rattle.dfa_loading.specs.declared.loaded.Loaded.{Loaded}
-use Rattle.formula_build.specs.Libraries.{NamedSystem, AreSealed}
+use Rattle.named_systems.specs.NamedSystems.{NamedSystem, AreSealed}
 use Rattle.system_files.specs.SystemFiles.{Custom}
 use Rattle.word_output.specs.Words.{WordValue}
 use Rattle.session_cli.specs.declared.combine.ListedAutomata.{ListedAutomata}

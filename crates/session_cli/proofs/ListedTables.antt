@@ -16,7 +16,8 @@ use Rattle.formula_resolve.specs.declared.file.File.{File}
 use Rattle.formula_resolve.specs.declared.file.File.TheVariants.{Automaton, Word}
 use Rattle.formula_resolve.proofs.FirstLemmas.{first_once}
 use Rattle.formula_build.specs.KnownNames.{IsFileIn}
-use Rattle.formula_build.specs.Libraries.{NamedRelation, NamedSystem, AreSealed, AreRelations, relation_named, system_named}
+use Rattle.formula_build.specs.Libraries.{NamedRelation, AreRelations, relation_named}
+use Rattle.named_systems.specs.NamedSystems.{NamedSystem, AreSealed, system_named}
 use Rattle.formula_build.specs.Resolved.{plan_headers}
 use Rattle.formula_build.specs.Solutions.{direction_named}
 use Rattle.formula_build.specs.TrackSystems.{IsOverSystems, Fits}

@@ -1,5 +1,5 @@
 -- Systems under the names that mean them: each has the direction that its name says, and no more digits than a track may have.
-use Rattle.std.proofs.Common.{◌≡◌, ℕ, Bool, true, false, List, [], ◌∷◌, Some, if◌then◌else◌, refl, sym, ap, ◌∙◌, subst, inl, inr, arith}
+use Rattle.std.proofs.Common.{◌≡◌, ℕ, Bool, true, false, List, [], ◌∷◌, ◌++◌, Some, if◌then◌else◌, refl, sym, ap, ◌∙◌, subst, inl, inr, arith}
 use Rattle.std.specs.Str.{bytes_eq}
 use Rattle.std.proofs.lemmas.Option.{none-some}
 use Rattle.std.proofs.lemmas.Slice.Eq.{bytes_eq-Decides}
@@ -12,11 +12,14 @@ use Rattle.system_names.specs.UserNames.{user_name}
 use Rattle.system_names.specs.declared.system_kind.SystemKind.{SystemKind}
 use Rattle.system_names.specs.declared.system_kind.SystemKind.TheVariants.{Base, Fibonacci}
 use Rattle.num_system.specs.Sealed.{SystemValue, system_of}
-use Rattle.formula_build.specs.Libraries.{NamedSystem, system_named}
+use Rattle.named_systems.specs.NamedSystems.{NamedSystem, system_named}
 use Rattle.formula_build.specs.Solutions.{direction_named}
 use Rattle.system_files.specs.SystemFiles.{Custom}
-use Rattle.definitions.specs.Named.{built_in_system, IsSystemNamed}
+use Rattle.definitions.specs.Named.{IsSystemNamed}
+use Rattle.named_systems.specs.BuiltIn.{built_in_system}
 use Rattle.definitions.proofs.UserDigits.{user_digits}
+use Rattle.named_systems.specs.SealedSystems.{AreBuiltIn, Extends}
+use Rattle.system_admission.specs.UserSystems.{AreUsers}
 use Rattle.session_cli.specs.FormulaSteps.{AreMeant}
 
 -- a system that is found is what its name means
@@ -30,6 +33,24 @@ found_meant custom (x ∷ systems) name s are found = by (bytes_eq x.name name) 
         let systems_same : x.system ≡ s = cc in
         subst (λ (t : SystemValue). IsSystemNamed custom name t.direction (system_of t)) systems_same (subst (λ (n : List ℕ). IsSystemNamed custom n x.system.direction (system_of x.system)) names are.0)
     by false apart rest is = rest is
+
+-- systems of users are what their names mean
+pub users_meant : (custom : Custom) (systems : List NamedSystem) → AreUsers custom systems → AreMeant custom systems
+users_meant custom [] users = tt
+users_meant custom (s ∷ systems) users = (inr users.0, users_meant custom systems users.1)
+
+-- and so are those that are built in
+built_in_meant : (custom : Custom) (systems : List NamedSystem) → AreBuiltIn systems → AreMeant custom systems
+built_in_meant custom [] built = tt
+built_in_meant custom (s ∷ systems) built = (inl built.0, built_in_meant custom systems built.1)
+
+both_meant : (custom : Custom) (systems more : List NamedSystem) → AreMeant custom systems → AreMeant custom more → AreMeant custom (systems ++ more)
+both_meant custom [] more one two = two
+both_meant custom (s ∷ systems) more one two = (one.0, both_meant custom systems more one.1 two)
+
+-- where built-in systems are added to those of users, all are what their names mean
+pub extended_meant : (custom : Custom) (systems more : List NamedSystem) → Extends systems more → AreUsers custom systems → AreMeant custom more
+extended_meant custom systems more extends users = subst (AreMeant custom) (sym extends.after_is) (both_meant custom systems extends.more (users_meant custom systems users) (built_in_meant custom extends.more extends.built_in))
 
 direction_of_name : (direction : Direction) (kind : SystemKind) → direction_named (system_name direction kind) ≡ direction
 direction_of_name Msd kind = refl

@@ -11,7 +11,7 @@ use Rattle.dfa_loading.specs.Loading.{AreListedBy}
 use Rattle.dfa_loading.specs.declared.loaded.Loaded.{Loaded}
 use Rattle.formula_resolve.specs.Headers.{known}
 use Rattle.formula_resolve.specs.declared.file.File.{File}
-use Rattle.formula_build.specs.Libraries.{NamedSystem, AreSealed}
+use Rattle.named_systems.specs.NamedSystems.{NamedSystem, AreSealed}
 use Rattle.formula_build.specs.Resolved as resolved
 use Rattle.formula_build.specs.Solutions.{direction_named}
 use Rattle.num_system.specs.Sealed.{SystemValue}

@@ -20,9 +20,9 @@ use Rattle.wal_outside.specs.Views.{SourceView, SinkView, StoreView}
 use Rattle.session_cli.specs.Runs.{IsAnswer, IsAnswerOf, Changes, Run, first_ledger, of_fault, is_store_fault, is_memory_fault, is_refusal, some_of, status_by, status_of, printed}
 use Rattle.session_cli.specs.Whole.{stop_status, RanThrough, SourceFailed, WantedMemory, HasRun, HasCalled}
 use Rattle.session_cli.specs.Laws.{IsClean, EndAlike, store_faults}
-use Rattle.session_cli.specs.Words.{GivesLimit}
+use Rattle.command_line.specs.Words.{GivesLimit}
 use Rattle.session_cli.proofs.WholeSteps.{usage_or_memory}
-use Rattle.session_cli.proofs.OneLimits.{one_limit}
+use Rattle.command_line.proofs.OneLimits.{one_limit}
 use Rattle.definitions.proofs.OneTexts.{one_text_of}
 use Rattle.fixed_points.specs.Laws.{PromotionsHaveOneOutcome}
 use Rattle.session_cli.proofs.OneOutcomes.{one_answer}

@@ -4,7 +4,7 @@ use Rattle.std.specs.Str.{bytes_eq}
 use Rattle.std.proofs.lemmas.Slice.Eq.{bytes_eq-Decides}
 use Rattle.num_system.specs.Sealed.{SystemValue, system_of, IsSealed}
 use Rattle.num_system.proofs.OneSystem.{one_sealed}
-use Rattle.formula_build.specs.Libraries.{NamedSystem, system_named, AreSealed}
+use Rattle.named_systems.specs.NamedSystems.{NamedSystem, system_named, AreSealed}
 use Rattle.formula_build.specs.OneBuilding.{Agree}
 use Rattle.system_files.specs.SystemFiles.{Custom}
 use Rattle.definitions.specs.Named.{IsSystemNamed}

@@ -7,13 +7,13 @@ use Rattle.dfa_loading.specs.declared.fault.LoadFault.TheVariants as loads
 use Rattle.wal_outside.specs.declared.folder.Folder.TheVariants.{Bases}
 use Rattle.automaton_steps.proofs.AnswerCases.{one_result}
 use Rattle.system_files.specs.SystemFiles.{Custom}
-use Rattle.system_admission.specs.SystemSteps.{AdmitsNames}
+use Rattle.system_admission.specs.SystemSteps.{AdmitsNames, no_steps}
 use Rattle.system_admission.specs.declared.system_fault.SystemFault.{SystemFault}
 use Rattle.system_admission.specs.declared.system_fault.SystemFault.TheVariants as systems
 use Rattle.system_admission.proofs.OneNames.{names_one}
 use Rattle.session_cli.specs.declared.fault.Fault.{Fault}
 use Rattle.session_cli.specs.declared.fault.Fault.TheVariants as faults
-use Rattle.session_cli.specs.SystemChecks.{no_steps, SystemsAnswers, systems_known}
+use Rattle.session_cli.specs.SystemChecks.{SystemsAnswers, systems_known}
 use Rattle.session_cli.specs.SystemFaults.{fault_of_system}
 use Rattle.session_cli.proofs.CheckSteps.{IsSingle}
 

@@ -39,7 +39,7 @@ use Rattle.session_cli.specs.HeadAnswers.{HeadAnswers}
 use Rattle.session_cli.specs.MorphismChecks.{MorphismAnswers, morphism_loaded}
 use Rattle.session_cli.specs.MorphismFaults.{fault_of_promotion, fault_of_rules}
 use Rattle.session_cli.specs.PromoteOutcomes.{PromotedAnswers, after_morphism, promote_checks}
-use Rattle.session_cli.specs.SystemChecks.{no_steps}
+use Rattle.system_admission.specs.SystemSteps.{no_steps}
 use Rattle.session_cli.specs.TextOutcomes.{RulesAnswers, after_rules_head, macro_checks, morphism_checks}
 use Rattle.session_cli.proofs.CheckNames.{fixed_success, after_promote_head, text_success}
 use Rattle.session_cli.proofs.CheckSteps.{IsSingle, then_single}

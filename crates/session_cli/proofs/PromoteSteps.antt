@@ -31,7 +31,7 @@ use Rattle.session_cli.specs.MorphismChecks.{MorphismAnswers, morphism_loaded}
 use Rattle.session_cli.specs.MorphismFaults.{fault_of_promotion}
 use Rattle.session_cli.specs.Plans.{IsMade, Makes, Plans}
 use Rattle.session_cli.specs.PromoteOutcomes.{PromotedAnswers, after_morphism, promote_checks}
-use Rattle.session_cli.specs.SystemChecks.{no_steps}
+use Rattle.system_admission.specs.SystemSteps.{no_steps}
 use Rattle.session_cli.specs.WordPrinting.{IsWordTextOf, HasNoWordText, named_text}
 use Rattle.session_cli.proofs.CheckNames.{fixed_success, after_promote_head}
 use Rattle.session_cli.proofs.BaseTexts.{fixed_text}

@@ -17,7 +17,7 @@ use Rattle.formula_resolve.specs.Mentions.{mentions}
 use Rattle.formula_resolve.specs.Resolving.{fault_of}
 use Rattle.formula_resolve.specs.declared.file.File.{File}
 use Rattle.formula_resolve.specs.declared.mention.Mention.{Mention}
-use Rattle.formula_build.specs.Libraries.{NamedSystem, system_named}
+use Rattle.named_systems.specs.NamedSystems.{NamedSystem, system_named, HasSystemIn}
 use Rattle.formula_build.specs.Resolved as resolved
 use Rattle.formula_build.specs.Solutions.{direction_named}
 use Rattle.system_files.specs.SystemFiles.{Custom}
@@ -25,7 +25,6 @@ use Rattle.definitions.specs.TableLaws.{FilesAreTables}
 use Rattle.session_cli.specs.FormulaPlans.{HasSystems}
 use Rattle.session_cli.specs.FormulaSteps.{AreMeant}
 use Rattle.session_cli.specs.TableReads.{AreSystemsUnder}
-use Rattle.session_cli.specs.SealedSystems.{HasSystemIn}
 use Rattle.session_cli.specs.TableReading.{IsReadable, AreReadable}
 use Rattle.session_cli.proofs.MeantNames.{found_direction}
 use Rattle.session_cli.proofs.TableFiles.{IsListedTable, files_apart, tables_listed}

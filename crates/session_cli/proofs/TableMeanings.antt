@@ -15,7 +15,8 @@ use Rattle.formula_resolve.specs.FirstMentions.{IsOnce}
 use Rattle.formula_resolve.specs.declared.file.File.{File}
 use Rattle.formula_resolve.specs.declared.file.File.TheVariants.{Automaton, Word}
 use Rattle.formula_truth.proofs.MeaningLemmas.{MeanTheSame}
-use Rattle.formula_build.specs.Libraries.{NamedRelation, NamedWord, NamedSystem, AreSealed, relation_named, word_named, meanings_of}
+use Rattle.formula_build.specs.Libraries.{NamedRelation, NamedWord, relation_named, word_named, meanings_of}
+use Rattle.named_systems.specs.NamedSystems.{NamedSystem, AreSealed}
 use Rattle.definitions.specs.Laws.{TextsMeanTheirTrees, WordTextsMeanTheirTrees}
 use Rattle.definitions.specs.TableLaws.{TablesHold}
 use Rattle.definitions.specs.Texts.{HasTreeText, HasText, HasTextIn, HasTextAt, Stores}

@@ -8,6 +8,7 @@ use Rattle.wal_outside.specs.Views.{StoreView}
 use Rattle.wal_outside.specs.declared.folder.Folder.TheVariants.{Automata, Words, Bases, Macros, Morphisms, Transducers, Results, Commands}
 use Rattle.system_files.specs.SystemFiles.{Custom}
 use Rattle.system_files.specs.SystemTexts.{FoundText, Agrees}
+use Rattle.system_admission.proofs.UserSteps.{none_reported}
 use Rattle.session_cli.specs.declared.fault.Fault.{Fault}
 use Rattle.session_cli.specs.declared.fault.Fault.TheVariants as faults
 use Rattle.session_cli.specs.StoreReads.{IsReadFault, HasRead, FromFiles, FromTexts}
@@ -16,11 +17,6 @@ use Rattle.session_cli.proofs.StoreReads.{IsOwn, rises, found_in, found_reported
 -- no text of a user's system
 abbrev pub no_texts : Custom
 no_texts = λ name. None
-
--- no text was read
-pub none_reported : (reported : Option Files) → IfSome reported (λ (files : Files). Agrees (files Bases) [])
-none_reported None = tt
-none_reported (Some files) = tt
 
 pub texts_none : {X : Type 0} (Gives : Custom → Result X Fault → Type 0) (store : StoreView) (r : Result X Fault) → IsOwn r → ((custom : Custom) → Gives custom r) → FromTexts Gives store r store
 texts_none Gives store r own gives = record { found = []; stands = (no_texts, tt); reported = none_reported store.files; gives = λ custom all. gives custom; has_read = read_none store r own }

@@ -11,7 +11,7 @@ use Rattle.digit_tuple.specs.Systems.{IsDigitCount}
 use Rattle.digit_tuple.specs.declared.header.Header.TheVariants as headers
 use Rattle.digit_tuple.specs.declared.systems.SystemTrack.{SystemTrack}
 use Rattle.dfa_text.specs.RelationText.{relation_text}
-use Rattle.formula_build.specs.Libraries.{NamedSystem}
+use Rattle.named_systems.specs.NamedSystems.{NamedSystem, HasSystemIn}
 use Rattle.formula_parse.specs.FormulaTrees.{default_system}
 use Rattle.formula_resolve.specs.declared.file.File.{File}
 use Rattle.formula_resolve.specs.declared.variable.Variable.{Variable}
@@ -20,7 +20,6 @@ use Rattle.number_relations.specs.Relations.{RelationValue, RelationHolds}
 use Rattle.session_cli.specs.declared.fault.Fault.{Fault}
 use Rattle.session_cli.specs.declared.fault.Fault.TheVariants as faults
 use Rattle.definitions.specs.FormulaTexts.{truth_text}
-use Rattle.session_cli.specs.SealedSystems.{HasSystemIn}
 
 -- why the tables of some files are not there
 abbrev pub AreUnloaded : Files → List File → Fault → Type 0

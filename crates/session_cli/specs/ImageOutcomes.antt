@@ -11,7 +11,8 @@ use Rattle.command_head.specs.Grammar.{DerivesImage}
 use Rattle.command_head.specs.Heads.{ImageHead}
 use Rattle.dfa_loading.specs.Headers.{headers_of}
 use Rattle.dfa_loading.specs.declared.loaded.Loaded.{Loaded}
-use Rattle.formula_build.specs.Libraries.{NamedSystem, AreSealed, word_named}
+use Rattle.formula_build.specs.Libraries.{word_named}
+use Rattle.named_systems.specs.NamedSystems.{NamedSystem, AreSealed}
 use Rattle.formula_resolve.specs.Arity.{kept_count}
 use Rattle.formula_resolve.specs.FirstMentions.{first_files, first_systems}
 use Rattle.formula_resolve.specs.Headers.{Headers, word_tracks}

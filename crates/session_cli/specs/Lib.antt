@@ -1,6 +1,5 @@
 -- Definitions that the contracts cite, in reading order.
 pub mod Codes
-pub mod Words
 pub mod Checks
 pub mod SystemChecks
 pub mod HeadTracks
@@ -38,8 +37,6 @@ pub mod LetterParts
 pub mod OneImage
 pub mod Plans
 pub mod StoreReads
-pub mod KnownSystems
-pub mod SealedSystems
 pub mod UserSystems
 pub mod TrackSystems
 pub mod VariablesOver
@@ -56,4 +53,3 @@ pub mod Commands
 pub mod Tallies
 pub mod Handing
 pub mod Ending
-pub mod WordReading

@@ -19,7 +19,7 @@ use Rattle.session_cli.specs.Accepting.{Success, stored}
 use Rattle.session_cli.specs.Checks.{Check, Pure, Then}
 use Rattle.session_cli.specs.HeadAnswers.{HeadAnswers}
 use Rattle.session_cli.specs.MorphismChecks.{morphism_loaded}
-use Rattle.session_cli.specs.SystemChecks.{no_steps}
+use Rattle.system_admission.specs.SystemSteps.{no_steps}
 
 -- the line of the step; or why the morphism has no fixed point, or the number of the step where it passes a limit
 abbrev pub PromotedAnswers : ℕ → Rules → Result (List StepLine) Fault → Type 0

@@ -1,20 +1,16 @@
 -- The systems that a command mentions: those that are built in are there, and the files of users' systems are read and admitted, one system
 -- after another.
-use Rattle.std.specs.Prelude.{ℕ, List, [], Result, Ok, Err}
+use Rattle.std.specs.Prelude.{ℕ, List, Result, Ok, Err}
 use Rattle.digit_tuple.specs.Steps.{StepLog}
 use Rattle.digit_tuple.specs.declared.step_fault.StepFault.TheVariants as steps
 use Rattle.dfa_loading.specs.declared.fault.LoadFault.TheVariants as loads
 use Rattle.system_files.specs.SystemFiles.{Custom}
-use Rattle.system_admission.specs.SystemSteps.{AdmitsNames, ReadsFor}
+use Rattle.system_admission.specs.SystemSteps.{AdmitsNames, ReadsFor, no_steps}
 use Rattle.system_admission.specs.declared.system_fault.SystemFault.TheVariants as systems
 use Rattle.wal_outside.specs.declared.folder.Folder.TheVariants.{Bases}
 use Rattle.session_cli.specs.declared.fault.Fault.{Fault}
 use Rattle.session_cli.specs.declared.fault.Fault.TheVariants as faults
 use Rattle.session_cli.specs.Checks.{Check}
-
--- no step so far
-abbrev pub no_steps : ℕ → StepLog
-no_steps limit = record { limit = limit; lines = [] }
 
 -- the steps of the systems of these names, or why the first that is not there, or not admitted, is refused
 abbrev pub SystemsAnswers : ℕ → Custom → List (List ℕ) → Result StepLog Fault → Type 0

@@ -6,7 +6,8 @@ use Rattle.digit_tuple.specs.declared.step_fault.StepFault.TheVariants as faults
 use Rattle.dfa_loading.specs.declared.loaded.Loaded.{Loaded}
 use Rattle.dfa_reading.specs.WordFiles.{IsWordListed}
 use Rattle.formula_resolve.specs.declared.file.File.TheVariants.{Automaton, Word}
-use Rattle.formula_build.specs.Libraries.{NamedSystem, ReadValue, with_relation, with_word}
+use Rattle.formula_build.specs.Libraries.{ReadValue, with_relation, with_word}
+use Rattle.named_systems.specs.NamedSystems.{NamedSystem}
 use Rattle.num_system.specs.Sealed.{SystemValue}
 use Rattle.num_system.specs.Tracks.{ShareDirection}
 use Rattle.number_relations.specs.Relations.{RelationValue}

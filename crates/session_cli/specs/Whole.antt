@@ -9,7 +9,7 @@ use Rattle.wal_outside.specs.declared.sink.WriteFault.TheVariants as writes
 use Rattle.script_cut.specs.Cuts.{Item, Rest, start, CutsTo, IsAtEnd, HasNoCommand}
 use Rattle.session_cli.specs.declared.status.Status.{Status}
 use Rattle.session_cli.specs.declared.status.Status.TheVariants as status
-use Rattle.session_cli.specs.Words.{GivesLimit, GivesNone}
+use Rattle.command_line.specs.Words.{GivesLimit, GivesNone}
 use Rattle.definitions.specs.Texts.{Stores}
 use Rattle.definitions.specs.Trees.{Ledger}
 use Rattle.session_cli.specs.Accepting.{Answer}

@@ -23,11 +23,10 @@ ghost use Rattle.session_cli.specs.StoreReads.{FromFiles, FromTexts};
 use crate::fault::Fault;
 use crate::plan::{Made, Plan};
 use crate::printed::Printed;
-use crate::sealed_systems::SealedSystems;
 use crate::step_options::StepOptions;
 use crate::table_loading::load_mentioned;
 use crate::table_reading::read_tables;
-use crate::user_systems::UserSystems;
+use crate::user_systems::admitted;
 use crate::word_text::{letters_fit, word_text};
 use combinations::combine::combine;
 use combinations::combine_fault::CombineFault;
@@ -40,7 +39,9 @@ use digit_tuple::step_fault::StepFault;
 use digit_tuple::steps::Steps;
 use formula_build::{Library, Names};
 use formula_resolve::{Headers, Mention, first_systems};
+use named_systems::SealedSystems;
 use std::alloc::Global;
+use system_admission::UserSystems;
 use wal_outside::{Folder, Store};
 use word_output::word::Word;
 
@@ -127,7 +128,7 @@ fn made_of<T: Store>(
     let headers = headers_of(alloc, &read.tables)?;
     let mentions = mentions_of(alloc, &read.automata)?;
     let mentioned = first_systems(alloc, &mentions, &headers)?;
-    let users = UserSystems::admitted(alloc, options.limit, &mentioned, store)?;
+    let users = admitted(alloc, options.limit, &mentioned, store)?;
     let UserSystems {
         mut named,
         steps,

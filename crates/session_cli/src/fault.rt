@@ -1,6 +1,6 @@
 ghost use Rattle.std.specs.Prelude.{◌≡◌};
 ghost use Rattle.session_cli.specs.declared.fault.Fault.TheVariants.{Memory};
-ghost use Rattle.session_cli.specs.TrackSystems.{fault_of};
+ghost use Rattle.session_cli.specs.TrackSystems.{fault_of, fault_of_tracks};
 ghost use Rattle.session_cli.specs.FormulaFaults.{fault_of_loading, fault_of_resolution, fault_of_reading, fault_of_formula, fault_of_expansion};
 ghost use Rattle.session_cli.specs.HeadAnswers.{fault_of_head};
 ghost use Rattle.session_cli.specs.MorphismFaults.{fault_of_promotion, fault_of_rules};
@@ -20,6 +20,7 @@ use formula_parse::ParseFault;
 use formula_resolve::ResolveFault;
 use macro_loading::ExpansionFault;
 use morph_words::{MorphismKind, RulesFault};
+use named_systems::TracksFault;
 use std::alloc::{AllocError, AllocFailed};
 use system_admission::SystemFault;
 use wal_outside::Folder;
@@ -153,6 +154,17 @@ impl From<LoadFault> for Fault {
             LoadFault::File(folder, name, flaw) => Fault::File(folder, name, flaw),
             LoadFault::Store(folder, name) => Fault::Store(folder, name),
             LoadFault::Memory => Fault::Memory,
+        }
+    }
+}
+
+impl From<TracksFault> for Fault {
+    ghost from_gives = { λ f e. e ≡ fault_of_tracks f };
+
+    fn from(fault: TracksFault) -> Fault {
+        match fault {
+            TracksFault::Direction(first, other) => Fault::Direction(first, other),
+            TracksFault::Memory => Fault::Memory,
         }
     }
 }

@@ -22,11 +22,10 @@ use crate::fault::{Fault, Grammar};
 use crate::formula_text::formula_text;
 use crate::plan::{Made, Plan};
 use crate::printed::Printed;
-use crate::sealed_systems::SealedSystems;
 use crate::step_options::StepOptions;
 use crate::table_loading::load_mentioned;
 use crate::table_reading::read_tables;
-use crate::user_systems::UserSystems;
+use crate::user_systems::admitted;
 use command_head::{HeadFault, NamedParts, named_parts};
 use dfa_loading::{Loaded, headers_of};
 use digit_tuple::steps::Steps;
@@ -35,7 +34,9 @@ use formula_parse::parse;
 use formula_parse::tree::Formula;
 use formula_resolve::{first_systems, mentions};
 use macro_loading::expanded;
+use named_systems::SealedSystems;
 use std::alloc::Global;
+use system_admission::UserSystems;
 use wal_outside::{Folder, Store};
 
 /// A command that keeps a formula: its word, the folder of its texts, and how its steps are made.
@@ -155,7 +156,7 @@ fn made_of<T: Store>(
 {
     let headers = headers_of(alloc, &read.tables)?;
     let mentioned = first_systems(alloc, &mentions(alloc, &read.formula)?, &headers)?;
-    let users = UserSystems::admitted(alloc, options.limit, &mentioned, store)?;
+    let users = admitted(alloc, options.limit, &mentioned, store)?;
     let UserSystems {
         mut named,
         steps,

@@ -25,11 +25,10 @@ use crate::image_fault::ImageFault;
 use crate::imaging::image;
 use crate::plan::{Made, Plan};
 use crate::printed::Printed;
-use crate::sealed_systems::SealedSystems;
 use crate::step_options::StepOptions;
 use crate::table_loading::load_mentioned;
 use crate::table_reading::read_tables;
-use crate::user_systems::UserSystems;
+use crate::user_systems::admitted;
 use crate::word_text::{letters_fit, word_text};
 use command_head::{ImageParts, image_parts};
 use dfa_loading::{Loaded, headers_of};
@@ -40,7 +39,9 @@ use formula_build::{Library, Names};
 use formula_resolve::{Headers, Mention, first_systems};
 use morph_words::{Morphism, image_kind};
 use morphism_loading::load_morphism;
+use named_systems::SealedSystems;
 use std::alloc::Global;
+use system_admission::UserSystems;
 use wal_outside::{Folder, Store};
 use word_output::word::Word;
 
@@ -130,7 +131,7 @@ fn made_of<T: Store>(
 {
     let headers = headers_of(alloc, &read.tables)?;
     let mentioned = first_systems(alloc, &mentions_of(alloc, &read.old)?, &headers)?;
-    let users = UserSystems::admitted(alloc, options.limit, &mentioned, store)?;
+    let users = admitted(alloc, options.limit, &mentioned, store)?;
     let UserSystems {
         mut named,
         steps,

@@ -11,18 +11,12 @@ mod lines;
 mod printed;
 // what an accepted command leaves
 mod plan;
-// a system that is known
-mod known_system;
-// the system of a track, under its name
-mod track_system;
 // the systems of users that a command names
 mod user_systems;
-// the systems of tracks, by their names
+// the tracks and the languages of the systems that a command names
 mod track_systems;
 // the words with which commands begin
 mod command_word;
-// the built-in systems that formulas name, sealed
-mod sealed_systems;
 // how steps are made and shown
 mod step_options;
 // the command `reg`
@@ -65,8 +59,6 @@ mod tally;
 mod answering;
 // the commands of a script, one after another
 mod running;
-// the words of the command line
-mod words;
 // the whole call
 mod whole;
 // what holds of all runs

@@ -15,9 +15,9 @@ use crate::image::plan_image;
 use crate::plan::Plan;
 use crate::promote::plan_promote;
 use crate::reg::plan_reg;
-use crate::sealed_systems::SealedSystems;
 use crate::step_options::StepOptions;
 use crate::texts::{plan_macro, plan_morphism};
+use named_systems::SealedSystems;
 use std::alloc::Global;
 use wal_outside::{Folder, Store};
 

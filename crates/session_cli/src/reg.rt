@@ -11,17 +11,18 @@ ghost use Rattle.definitions.specs.Trees.{Ledger, custom_of};
 ghost use Rattle.definitions.specs.Tracks.{OverSystems, OverSets};
 ghost use Rattle.system_files.specs.SystemFiles.{Custom};
 ghost use Rattle.session_cli.specs.RegOutcomes.{reg_checks, after_head, after_tracks};
-ghost use Rattle.session_cli.specs.SystemChecks.{no_steps};
+ghost use Rattle.system_admission.specs.SystemSteps.{no_steps};
 ghost use Rattle.session_cli.specs.StoreReads.{FromTexts};
-ghost use Rattle.session_cli.specs.TrackSystems.{IsIn, named_in};
+ghost use Rattle.session_cli.specs.TrackSystems.{named_in};
+ghost use Rattle.named_systems.specs.TrackSystems.{IsIn};
 ghost use Rattle.session_cli.specs.Plans.{AreFormedAlphabets, Makes, ParsesTo, Plans, Prints};
 
 use crate::fault::{Fault, Grammar};
 use crate::plan::{Made, Plan};
 use crate::printed::Printed;
 use crate::step_options::StepOptions;
-use crate::track_systems::TrackSystems;
-use crate::user_systems::{UserSystems, names_once};
+use crate::track_systems::{languages, tracks};
+use crate::user_systems::admitted;
 use command_head::{Alphabets, HeadFault, RegParts, reg_parts};
 use dfa_text::print_within;
 use digit_tuple::dfa::Dfa;
@@ -29,12 +30,14 @@ use digit_tuple::header::Header;
 use digit_tuple::name::Name;
 use digit_tuple::sets::Sets;
 use digit_tuple::steps::Steps;
+use named_systems::TrackSystems;
 use reg_steps::regex_step::regex_step;
 use reg_steps::relation_steps::relation_steps;
 use regex_build::fault::RegexFault;
 use regex_build::parse;
 use regex_build::regex::Regex;
 use std::alloc::Global;
+use system_admission::names_once;
 use wal_outside::{Folder, Store, TEXT_LIMIT};
 
 /// What a `reg` stores and prints, or the first of its checks that refuses it: the shape of its head, its systems, their
@@ -111,7 +114,7 @@ fn regex_over_names<T: Store>(
     ensures { FromTexts (λ custom made. (name : List ℕ) → Makes custom (after_head options.limit custom (record { name = name; alphabets = Systems names.now; body = body.now })) options.shown made) (T.view store.old) result (T.view store.new) }
 {
     let once = names_once(alloc, names)?;
-    let mut users = UserSystems::admitted(alloc, options.limit, &once, store)?;
+    let mut users = admitted(alloc, options.limit, &once, store)?;
     let systems = TrackSystems::of_names(alloc, names, &users.named)?;
     regex_over_systems(alloc, &systems, body, options.shown, &mut users.steps)
 }
@@ -129,9 +132,9 @@ fn regex_over_systems(
     requires named { (custom : Custom) × AreNamed custom systems.now.direction (named_in systems.now.systems.items) }
     ensures { (custom : Custom) (name : List ℕ) → AreNamed custom systems.now.direction (named_in systems.now.systems.items) → Makes custom (after_tracks steps.old custom name body.now (OverSystems systems.now.direction (named_in systems.now.systems.items))) shown result }
 {
-    let header = Header::Systems(systems.tracks(alloc)?);
+    let header = Header::Systems(tracks(alloc, systems)?);
     let regex = parsed(alloc, body, &header)?;
-    let languages = systems.languages(alloc)?;
+    let languages = languages(alloc, systems)?;
     let relation = relation_steps(alloc, &regex, systems.direction, &languages, steps)?;
     made_of(alloc, &header, relation.dfa(), steps, shown)
 }

@@ -6,9 +6,10 @@ ghost use Rattle.session_cli.specs.LetterSettings.{IsSetting};
 
 use digit_tuple::faults::OutOfMemory;
 use digit_tuple::name::Name;
-use formula_build::{Library, NamedSystems, Names};
+use formula_build::{Library, Names};
 use formula_resolve::Headers;
 use morph_words::Morphism;
+use named_systems::NamedSystems;
 use std::alloc::Global;
 use std::rc::Rc;
 use word_images::image_formula::word_name;

@@ -1,84 +1,27 @@
 //! The systems of users that a command names.
 
-ghost use Rattle.std.specs.Prelude.{◌≡◌, IfOk};
-ghost use Rattle.std.specs.Str.{bytes_eq};
-ghost use Rattle.formula_resolve.specs.FirstMentions.{each_once};
-ghost use Rattle.system_names.specs.Names.{IsBuiltInName};
 ghost use Rattle.session_cli.specs.StoreReads.{FromTexts};
-ghost use Rattle.session_cli.specs.UserSystems.{AdmitsUsers, AdmitsUser};
+ghost use Rattle.session_cli.specs.UserSystems.{AdmitsUsers};
 
 use crate::fault::Fault;
-use digit_tuple::faults::OutOfMemory;
 use digit_tuple::name::Name;
-use digit_tuple::steps::Steps;
-use formula_build::NamedSystems;
-use formula_resolve::{Headers, Mention, first_systems};
 use std::alloc::Global;
-use std::rc::Rc;
-use system_admission::admit_system;
-use system_files::SystemTexts;
-use system_names::built_in;
+use system_admission::UserSystems;
 use wal_outside::Store;
 
-/// The systems of users that a command names, by the texts that were read of them, and the steps of the command so far.
-#[derive(Drop)]
-pub(crate) struct UserSystems {
-    /// The systems, each under its name.
-    pub(crate) named: NamedSystems,
-    /// The texts, each read once.
-    texts: SystemTexts,
-    /// The steps.
-    pub(crate) steps: Steps,
-}
-
-impl UserSystems {
-    /// Those of these names, each once, that are not built in: their files are read and admitted, one system after another, by
-    /// the first steps of a command.
-    ///
-    /// # Errors
-    /// Why the first one is not admitted: `SystemUnknown` with the name of the missing file, or the name itself where it is none
-    /// of a user's system; `File`, `NotAdmitted`, `Letters`, `States`, `Store` or `Memory`. No text is changed.
-    pub(crate) fn admitted<T: Store>(
-        alloc: Global,
-        limit: u32,
-        names: &[Name],
-        store: &mut T,
-    ) -> Result<Self, Fault>
-        ensures { FromTexts (AdmitsUsers limit names.now) (T.view store.old) result (T.view store.new) }
-    {
-        let mut users = UserSystems {
-            named: NamedSystems::new(alloc),
-            texts: SystemTexts::new(alloc),
-            steps: Steps::new(alloc, limit),
-        };
-        for name in names {
-            if built_in(name.as_bytes()).is_none() {
-                users.admit(alloc, name, store)?;
-            }
-        }
-        Ok(users)
-    }
-
-    /// Admits one more, whose name is none of a built-in system.
-    fn admit<T: Store>(&mut self, alloc: Global, name: &Name, store: &mut T) -> Result<(), Fault>
-        requires { ¬ IsBuiltInName name.now }
-        ensures { AdmitsUser name.now self.old (T.view store.old) result self.new (T.view store.new) }
-    {
-        let system = admit_system(alloc, name, &mut self.texts, store, &mut self.steps);
-        self.texts.can_stand();
-        let shared = Rc::new(alloc, system?)?;
-        self.named.add(alloc, name, shared)?;
-        Ok(())
-    }
-}
-
-/// Names in the order in which they come first, each once.
-pub(crate) fn names_once(alloc: Global, names: &[Name]) -> Result<Vec<Name>, OutOfMemory>
-    ensures { IfOk result (λ once. once.items ≡ each_once bytes_eq names.now) }
+/// Those of these names, each once, that are not built in: their files are read and admitted, one system after another, by the
+/// first steps of a command.
+///
+/// # Errors
+/// Why the first one is not admitted: `SystemUnknown` with the name of the missing file, or the name itself where it is none of a
+/// user's system; `File`, `NotAdmitted`, `Letters`, `States`, `Store` or `Memory`. No text is changed.
+pub(crate) fn admitted<T: Store>(
+    alloc: Global,
+    limit: u32,
+    names: &[Name],
+    store: &mut T,
+) -> Result<UserSystems, Fault>
+    ensures { FromTexts (AdmitsUsers limit names.now) (T.view store.old) result (T.view store.new) }
 {
-    let mut marks = Vec::new(alloc);
-    for name in names {
-        marks.push(Mention::Marked(name.copy(alloc)?))?;
-    }
-    first_systems(alloc, &marks, &Headers::new(alloc))
+    Ok(UserSystems::admitted(alloc, limit, names, store)?)
 }

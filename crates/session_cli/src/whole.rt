@@ -1,12 +1,12 @@
 ghost use Rattle.std.specs.Prelude.{◌≡◌, ◌⊎◌, map, string_bytes};
 ghost use Rattle.wal_outside.specs.Causes.{Rose};
-ghost use Rattle.session_cli.specs.Words.{GivesNone};
+ghost use Rattle.command_line.specs.Words.{GivesNone};
 ghost use Rattle.session_cli.specs.Whole.{HasCalled, PrintsUsage};
 
 use crate::running::answer_all;
 use crate::session::Session;
 use crate::status::Status;
-use crate::words::{WordsFault, limit_of};
+use command_line::{WordsFault, limit_of};
 use std::alloc::Global;
 use wal_outside::{Sink, Source, Store, WriteFault, send};
 

@@ -8,3 +8,4 @@ pub mod OneAdmissions
 pub mod OneNames
 pub mod AddedSteps
 pub mod NameAnswers
+pub mod UserSteps

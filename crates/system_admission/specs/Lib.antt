@@ -2,4 +2,5 @@
 pub mod Admissions
 pub mod SystemSteps
 pub mod NameAdmissions
+pub mod UserSystems
 pub mod AdmissionLaws

@@ -63,6 +63,10 @@ AdmitsOther custom name old (Err fault) new = RefusesName custom name old fault 
 abbrev pub AdmitsName : Custom → List ℕ → StepLog → Result ⊤ SystemFault → StepLog → Type 0
 AdmitsName custom name old result new = (IsBuiltInName name × (result ≡ Ok tt) × (new ≡ old)) ⊎ ((¬ IsBuiltInName name) × AdmitsOther custom name old result new)
 
+-- no step so far
+abbrev pub no_steps : ℕ → StepLog
+no_steps limit = record { limit = limit; lines = [] }
+
 -- the names one after another
 abbrev pub AdmitsNames : Custom → List (List ℕ) → StepLog → Result ⊤ SystemFault → StepLog → Type 0
 AdmitsNames custom [] old result new = (result ≡ Ok tt) × (new ≡ old)

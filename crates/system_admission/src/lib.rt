@@ -10,6 +10,9 @@ mod admission;
 /// The system of a name, read, admitted and sealed.
 mod named_system;
 
+/// The systems of users among some names.
+mod user_systems;
+
 /// Laws of the definitions.
 mod laws;
 
@@ -17,3 +20,4 @@ pub use admission::admit_files;
 pub use laws::{admissions_add_steps, admissions_have_one_outcome, admitted_systems_are_meant};
 pub use named_system::admit_system;
 pub use system_fault::SystemFault;
+pub use user_systems::{UserSystems, names_once};

@@ -9,6 +9,7 @@ use dfa_loading::LoadFault;
 use digit_tuple::faults::OutOfMemory;
 use digit_tuple::name::Name;
 use digit_tuple::step_fault::StepFault;
+use std::alloc::AllocFailed;
 
 /// Why there is no system of a name.
 #[derive(Drop)]
@@ -41,6 +42,14 @@ impl From<OutOfMemory> for SystemFault {
     ghost from_gives = { λ _ e. e ≡ faults.Step Memory };
 
     fn from(_error: OutOfMemory) -> SystemFault {
+        SystemFault::Step(StepFault::Memory)
+    }
+}
+
+impl<T: Drop> From<AllocFailed<T>> for SystemFault {
+    ghost from_gives = { λ _ e. e ≡ faults.Step Memory };
+
+    fn from(_error: AllocFailed<T>) -> SystemFault {
         SystemFault::Step(StepFault::Memory)
     }
 }

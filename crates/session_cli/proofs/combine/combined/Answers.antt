@@ -1,7 +1,7 @@
 use Rattle.std.proofs.Common.{◌≡◌, ◌∙◌, ℕ, List, None, Ok, Err, sym, subst}
 use Rattle.std.proofs.lemmas.Result.{err_from_is_err_and}
 use Rattle.dfa_loading.specs.Headers.{headers_of}
-use Rattle.formula_build.specs.Libraries.{NamedSystem}
+use Rattle.named_systems.specs.NamedSystems.{NamedSystem}
 use Rattle.formula_resolve.specs.Headers.{Headers}
 use Rattle.system_files.specs.SystemFiles.{Custom}
 use Rattle.definitions.specs.Trees.{custom_of}

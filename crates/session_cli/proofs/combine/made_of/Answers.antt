@@ -3,16 +3,17 @@ use Rattle.std.specs.List.{AllByRecursion}
 use Rattle.std.proofs.lemmas.Result.{err_from_is_err_and}
 use Rattle.dfa_loading.specs.Headers.{headers_of}
 use Rattle.formula_resolve.specs.FirstMentions.{first_systems}
-use Rattle.system_admission.specs.SystemSteps.{AdmitsNames}
+use Rattle.system_admission.specs.SystemSteps.{AdmitsNames, no_steps}
 use Rattle.system_files.specs.SystemFiles.{Custom}
 use Rattle.session_cli.specs.Checks.{Fails}
 use Rattle.session_cli.specs.CombineMakes.{automata_in, head_of, listed_systems_of}
 use Rattle.session_cli.specs.CombineOutcomes.{listed_mentions}
-use Rattle.session_cli.specs.SealedSystems.{HasBuiltIn}
-use Rattle.session_cli.specs.SystemChecks.{no_steps, systems_known}
-use Rattle.session_cli.specs.UserSystems.{AreAdmitted}
+use Rattle.named_systems.specs.SealedSystems.{HasBuiltIn}
+use Rattle.session_cli.specs.SystemChecks.{systems_known}
+use Rattle.system_admission.specs.UserSystems.{AreAdmitted}
 use Rattle.session_cli.proofs.CombineChains.{list_own, list_unknown, list_known}
-use Rattle.session_cli.proofs.SealedLemmas.{all_there}
+use Rattle.named_systems.proofs.SealedLemmas.{all_there}
+use Rattle.session_cli.proofs.MeantNames.{extended_meant}
 use Rattle.session_cli.proofs.TextReads.{texts_none, texts_refused, texts_read}
 use Rattle.session_cli.proofs.combine.made_of.Goals as goal
 
@@ -65,7 +66,7 @@ combined-requires-clause-systems g c =
 pub combined-requires-clause-meant : goal.combined-requires-clause-meant
 combined-requires-clause-meant g c =
     let first = c.in_ok-users.ensures in
-    (first.stands.0, c.in_ok-add_all.ensures.extends.meant first.stands.0 (first.gives first.stands.0 first.stands.1).meant)
+    (first.stands.0, extended_meant first.stands.0 _ _ c.in_ok-add_all.ensures.extends (first.gives first.stands.0 first.stands.1).meant)
 
 pub returns : goal.returns
 returns g c =
@@ -79,10 +80,10 @@ returns g c =
     let users = c.in_ok-users.users in
     let first = c.in_ok-users.ensures in
     let custom = first.stands.0 in
-    let meant = c.in_ok-add_all.ensures.extends.meant custom (first.gives custom first.stands.1).meant in
+    let meant = extended_meant custom _ _ c.in_ok-add_all.ensures.extends (first.gives custom first.stands.1).meant in
     let own = list_own users.steps shown read custom c.combined.result c.requires (c.combined.ensures custom meant) in
     texts_read _ _ _ _ users c.combined.result own first
     (λ k admitted ledger files word stores same listed.
     let admits = (subst (λ (ns : List (List ℕ)). AreAdmitted limit ns k users) names admitted).admits in
     list_known limit ledger (head_of word read) tables users.steps shown c.combined.result (subst (λ (j : Custom). AdmitsNames j (listed_systems_of read) (no_steps limit) (Ok tt) users.steps) (sym same) admits)
-    (c.combined.ensures k (c.in_ok-add_all.ensures.extends.meant k admitted.meant) ledger files word stores same listed))
+    (c.combined.ensures k (extended_meant k _ _ c.in_ok-add_all.ensures.extends admitted.meant) ledger files word stores same listed))

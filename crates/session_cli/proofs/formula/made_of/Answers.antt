@@ -3,16 +3,17 @@ use Rattle.std.specs.List.{AllByRecursion}
 use Rattle.std.proofs.lemmas.Result.{err_from_is_err_and}
 use Rattle.dfa_loading.specs.Headers.{headers_of}
 use Rattle.formula_resolve.specs.FirstMentions.{first_systems}
-use Rattle.system_admission.specs.SystemSteps.{AdmitsNames}
+use Rattle.system_admission.specs.SystemSteps.{AdmitsNames, no_steps}
 use Rattle.system_files.specs.SystemFiles.{Custom}
 use Rattle.session_cli.specs.Checks.{Fails}
 use Rattle.session_cli.specs.FormulaMakes.{tree_of, systems_of}
-use Rattle.session_cli.specs.SealedSystems.{HasBuiltIn}
-use Rattle.session_cli.specs.SystemChecks.{no_steps, systems_known}
-use Rattle.session_cli.specs.UserSystems.{AreAdmitted}
+use Rattle.named_systems.specs.SealedSystems.{HasBuiltIn}
+use Rattle.session_cli.specs.SystemChecks.{systems_known}
+use Rattle.system_admission.specs.UserSystems.{AreAdmitted}
 use Rattle.session_cli.proofs.FormulaChains.{tables_refused, tables_known}
 use Rattle.session_cli.proofs.FormulaMaking.{made_own}
-use Rattle.session_cli.proofs.SealedLemmas.{all_there}
+use Rattle.named_systems.proofs.SealedLemmas.{all_there}
+use Rattle.session_cli.proofs.MeantNames.{extended_meant}
 use Rattle.session_cli.proofs.TextReads.{texts_none, texts_refused, texts_read}
 use Rattle.session_cli.proofs.formula.made_of.Goals as goal
 
@@ -64,7 +65,7 @@ built-requires-clause-systems g c =
 pub built-requires-clause-meant : goal.built-requires-clause-meant
 built-requires-clause-meant g c =
     let first = c.in_ok-users.ensures in
-    (first.stands.0, c.in_ok-add_all.ensures.extends.meant first.stands.0 (first.gives first.stands.0 first.stands.1).meant)
+    (first.stands.0, extended_meant first.stands.0 _ _ c.in_ok-add_all.ensures.extends (first.gives first.stands.0 first.stands.1).meant)
 
 pub returns : goal.returns
 returns g c =
@@ -78,10 +79,10 @@ returns g c =
     let users = c.in_ok-users.users in
     let first = c.in_ok-users.ensures in
     let custom = first.stands.0 in
-    let meant = c.in_ok-add_all.ensures.extends.meant custom (first.gives custom first.stands.1).meant in
+    let meant = extended_meant custom _ _ c.in_ok-add_all.ensures.extends (first.gives custom first.stands.1).meant in
     let own = made_own users.steps shown c.args.read.now custom c.built.result c.requires (c.built.ensures custom meant) in
     texts_read _ _ _ _ users c.built.result own first
     (λ k admitted ledger files place stores same listed.
     let admits = (subst (λ (ns : List (List ℕ)). AreAdmitted limit ns k users) names admitted).admits in
     tables_known limit ledger place f tables users.steps shown c.built.result (subst (λ (j : Custom). AdmitsNames j (systems_of c.args.read.now) (no_steps limit) (Ok tt) users.steps) (sym same) admits)
-    (c.built.ensures k (c.in_ok-add_all.ensures.extends.meant k admitted.meant) ledger files place stores same listed))
+    (c.built.ensures k (extended_meant k _ _ c.in_ok-add_all.ensures.extends admitted.meant) ledger files place stores same listed))

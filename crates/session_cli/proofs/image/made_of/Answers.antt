@@ -3,15 +3,16 @@ use Rattle.std.specs.List.{AllByRecursion}
 use Rattle.std.proofs.lemmas.Result.{err_from_is_err_and}
 use Rattle.dfa_loading.specs.Headers.{headers_of}
 use Rattle.formula_resolve.specs.FirstMentions.{first_systems}
-use Rattle.system_admission.specs.SystemSteps.{AdmitsNames}
+use Rattle.system_admission.specs.SystemSteps.{AdmitsNames, no_steps}
 use Rattle.system_files.specs.SystemFiles.{Custom}
 use Rattle.session_cli.specs.Checks.{Fails}
 use Rattle.session_cli.specs.ImageMakes.{head_of, old_systems_of}
-use Rattle.session_cli.specs.SealedSystems.{HasBuiltIn}
-use Rattle.session_cli.specs.SystemChecks.{no_steps, systems_known}
-use Rattle.session_cli.specs.UserSystems.{AreAdmitted}
+use Rattle.named_systems.specs.SealedSystems.{HasBuiltIn}
+use Rattle.session_cli.specs.SystemChecks.{systems_known}
+use Rattle.system_admission.specs.UserSystems.{AreAdmitted}
 use Rattle.session_cli.proofs.ImageChains.{image_own, old_unknown, old_known}
-use Rattle.session_cli.proofs.SealedLemmas.{all_there}
+use Rattle.named_systems.proofs.SealedLemmas.{all_there}
+use Rattle.session_cli.proofs.MeantNames.{extended_meant}
 use Rattle.session_cli.proofs.TextReads.{texts_none, texts_refused, texts_read}
 use Rattle.session_cli.proofs.image.made_of.Goals as goal
 
@@ -64,7 +65,7 @@ mapped-requires-clause-systems g c =
 pub mapped-requires-clause-meant : goal.mapped-requires-clause-meant
 mapped-requires-clause-meant g c =
     let first = c.in_ok-users.ensures in
-    (first.stands.0, c.in_ok-add_all.ensures.extends.meant first.stands.0 (first.gives first.stands.0 first.stands.1).meant)
+    (first.stands.0, extended_meant first.stands.0 _ _ c.in_ok-add_all.ensures.extends (first.gives first.stands.0 first.stands.1).meant)
 
 pub returns : goal.returns
 returns g c =
@@ -78,10 +79,10 @@ returns g c =
     let users = c.in_ok-users.users in
     let first = c.in_ok-users.ensures in
     let custom = first.stands.0 in
-    let meant = c.in_ok-add_all.ensures.extends.meant custom (first.gives custom first.stands.1).meant in
+    let meant = extended_meant custom _ _ c.in_ok-add_all.ensures.extends (first.gives custom first.stands.1).meant in
     let own = image_own users.steps shown read custom c.mapped.result c.requires (c.mapped.ensures custom meant) in
     texts_read _ _ _ _ users c.mapped.result own first
     (λ k admitted ledger files word morphism stores same listed.
     let admits = (subst (λ (ns : List (List ℕ)). AreAdmitted limit ns k users) names admitted).admits in
     old_known limit ledger (head_of word morphism read) read.morphism tables users.steps shown c.mapped.result (subst (λ (j : Custom). AdmitsNames j (old_systems_of read) (no_steps limit) (Ok tt) users.steps) (sym same) admits)
-    (c.mapped.ensures k (c.in_ok-add_all.ensures.extends.meant k admitted.meant) ledger files word morphism stores same listed))
+    (c.mapped.ensures k (extended_meant k _ _ c.in_ok-add_all.ensures.extends admitted.meant) ledger files word morphism stores same listed))

@@ -3,7 +3,7 @@ use Rattle.std.proofs.lemmas.Result.{err_from_is_err_and}
 use Rattle.digit_tuple.specs.Steps.{StepLog}
 use Rattle.fixed_points.specs.Promotion.{DoesPromote}
 use Rattle.session_cli.specs.MorphismFaults.{fault_of_promotion}
-use Rattle.session_cli.specs.SystemChecks.{no_steps}
+use Rattle.system_admission.specs.SystemSteps.{no_steps}
 use Rattle.session_cli.proofs.BaseTexts.{over_base}
 use Rattle.session_cli.proofs.PromoteSteps.{not_promoted, promotion_refused, fixed_refused, fixed_made}
 use Rattle.session_cli.proofs.promote.fixed_point.Goals as goal

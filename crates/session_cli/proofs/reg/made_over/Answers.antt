@@ -5,7 +5,7 @@ use Rattle.command_head.specs.declared.head.Alphabets.{Alphabets}
 use Rattle.definitions.specs.Tracks.{OverSets}
 use Rattle.session_cli.specs.Plans.{Makes}
 use Rattle.session_cli.specs.RegOutcomes.{after_head, after_tracks}
-use Rattle.session_cli.specs.SystemChecks.{no_steps}
+use Rattle.system_admission.specs.SystemSteps.{no_steps}
 use Rattle.session_cli.proofs.ReadingChecks.{no_track_read}
 use Rattle.session_cli.proofs.RegSteps.{tracks_made}
 use Rattle.session_cli.proofs.StoreReads.{own_made}

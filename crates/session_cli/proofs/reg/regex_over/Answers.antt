@@ -1,5 +1,5 @@
 use Rattle.std.proofs.lemmas.Result.{err_from_is_err_and}
-use Rattle.session_cli.specs.SystemChecks.{no_steps}
+use Rattle.system_admission.specs.SystemSteps.{no_steps}
 use Rattle.session_cli.proofs.RegexPlans.{made_over_sets, refused_over_sets}
 use Rattle.session_cli.proofs.reg.regex_over.Goals as goal
 

@@ -7,9 +7,10 @@ use Rattle.formula_resolve.specs.FirstMentions.{each_once}
 use Rattle.session_cli.specs.Checks.{Pure, Fails}
 use Rattle.session_cli.specs.RegOutcomes.{TracksAnswers, after_tracks}
 use Rattle.session_cli.specs.SystemChecks.{systems_known}
-use Rattle.session_cli.specs.TrackSystems.{named_in}
-use Rattle.session_cli.specs.UserSystems.{IsThere, AreAdmitted}
-use Rattle.session_cli.proofs.KnownSteps.{tracks_so}
+use Rattle.session_cli.specs.TrackSystems.{fault_of_tracks, named_in}
+use Rattle.system_admission.specs.UserSystems.{AreAdmitted}
+use Rattle.named_systems.specs.NamedSystems.{IsThere}
+use Rattle.session_cli.proofs.TrackSystemSteps.{parted_so, tracks_so}
 use Rattle.session_cli.proofs.MentionedTables.{all_once}
 use Rattle.session_cli.proofs.ReadingChecks.{no_track_read}
 use Rattle.session_cli.proofs.RegSteps.{head_refused, tracks_made, tracks_fail}
@@ -41,17 +42,18 @@ of_names-requires-clause-there g c =
 pub returns-in_err-systems : goal.returns-in_err-systems
 returns-in_err-systems g c =
     let p = err_from_is_err_and c.from_residual-in_err-systems.result c.from_residual-in_err-systems.ensures.1 in
-    let fault = c.in_err-systems.field-0.0 in
+    let why = c.in_err-systems.field-0.0 in
+    let fault = fault_of_tracks why in
     let limit = c.args.options.limit in
     let users = c.in_ok-users.users in
     let names : c.deref.result.now ≡ each_once bytes_eq c.args.names.now = c.deref.ensures.value ∙ c.in_ok-once.ensures in
     let first = c.in_ok-users.ensures in
     let custom = first.stands.0 in
-    let own = own_fault (Pure (TracksAnswers custom (heads.Systems c.args.names.now))) (λ place read. read) fault (c.in_err-systems.ensures custom (first.gives custom first.stands.1).meant) in
+    let own = own_fault (Pure (TracksAnswers custom (heads.Systems c.args.names.now))) (λ place read. read) fault (parted_so custom users.named c.args.names.now why (first.gives custom first.stands.1).meant c.in_err-systems.ensures) in
     rw (p.1, p.2) (texts_read _ _ _ _ users (Err fault) own first
     (λ k admitted name.
     let admits = (subst (λ (ns : List (List ℕ)). AreAdmitted limit ns k users) names admitted).admits in
-    tracks_fail limit k (record { name = name; alphabets = heads.Systems c.args.names.now; body = c.args.body.now }) users.steps fault admits (c.in_err-systems.ensures k admitted.meant)))
+    tracks_fail limit k (record { name = name; alphabets = heads.Systems c.args.names.now; body = c.args.body.now }) users.steps fault admits (parted_so k users.named c.args.names.now why admitted.meant c.in_err-systems.ensures)))
 
 pub regex_over_systems-requires-clause-named : goal.regex_over_systems-requires-clause-named
 regex_over_systems-requires-clause-named g c =

@@ -1,0 +1,3 @@
+-- Definitions that the contracts cite, in reading order.
+pub mod Words
+pub mod WordReading

@@ -1,8 +1,0 @@
-use Rattle.std.proofs.Common.{◌≡◌, drop}
-use Rattle.formula_build.specs.Libraries.{system_named}
-use Rattle.formula_build.specs.LibraryViews.{system_entries}
-use Rattle.formula_build.proofs.systems.NamedSystems.get.Given as goal
-
--- the entries before have other names
-abbrev pub invariant-loop-entry : goal.invariant-loop-entry
-invariant-loop-entry l = system_named (system_entries (drop l.entry-index l.entry-items)) l.name ≡ system_named l.self l.name

@@ -1,0 +1,4 @@
+-- Lemmas, in reading order.
+pub mod KnownSteps
+pub mod NamedLemmas
+pub mod SealedLemmas
