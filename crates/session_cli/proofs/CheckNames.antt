@@ -1,10 +1,10 @@
 -- Names of parts of the checks of commands, by which proofs speak of them.
-use Rattle.std.specs.Prelude.{◌≡◌, ◌⊎◌, ℕ, ℤ, List, [], ◌++◌, Bool, Option, None, Some, Result, MatchResult}
+use Rattle.std.specs.Prelude.{◌≡◌, ℕ, ℤ, List, [], Bool, Option, None, Some, Result, MatchResult}
 use Rattle.std.specs.List.{AllZip}
+use Rattle.std.specs.Option.{is_some}
 use Rattle.digit_tuple.specs.Steps.{StepLog}
 use Rattle.digit_tuple.specs.declared.steps.StepLine.{StepLine}
 use Rattle.wal_outside.specs.Places.{Place}
-use Rattle.wal_outside.specs.Views.{SourceView, SinkView, StoreView}
 use Rattle.wal_outside.specs.declared.folder.Folder.{Folder}
 use Rattle.wal_outside.specs.declared.folder.Folder.TheVariants.{Automata, Words}
 use Rattle.command_head.specs.Heads.{CombineHead, ImageHead, PromoteHead, RegHead}
@@ -24,7 +24,6 @@ use Rattle.definitions.specs.Tracks.{Tracks}
 use Rattle.definitions.specs.Trees.{Bindings, Bytes, Combine, Defined, Entry, Fixed, Formula, Image, Ledger, Regex, Variable, custom_of, tree_of}
 use Rattle.system_files.specs.SystemFiles.{Custom}
 use Rattle.session_cli.specs.declared.fault.Fault.{Fault}
-use Rattle.session_cli.specs.declared.status.Status.{Status}
 use Rattle.session_cli.specs.Accepting.{Success, stored}
 use Rattle.session_cli.specs.Checks.{Check, Pure, Then}
 use Rattle.session_cli.specs.CombineOutcomes.{WordTracks, AreTracksOfFirst, CombinedAnswers, ShapeAnswers, listed_names, parts_from}
@@ -35,7 +34,7 @@ use Rattle.session_cli.specs.MorphismChecks.{morphism_loaded}
 use Rattle.session_cli.specs.Outcomes.{WordAnswers, checks_by}
 use Rattle.session_cli.specs.PromoteOutcomes.{after_morphism}
 use Rattle.session_cli.specs.RegOutcomes.{StepsAnswers, TracksAnswers, after_tracks}
-use Rattle.session_cli.specs.Whole.{RanThrough, RanToStop, RanToFault}
+use Rattle.session_cli.specs.SessionLanguage.{failed_at}
 
 -- the checks after the length
 abbrev pub after_length : ℕ → Ledger → List ℕ → Check Success
@@ -143,9 +142,6 @@ after_one_track ledger head rules tables admitted = Then (Pure (LengthsAnswers r
 abbrev pub after_image_morphism : ℕ → Ledger → ImageHead → Rules → Check Success
 after_image_morphism limit ledger head rules = Then (files_loaded ledger (first_files (old_mentions head.old))) (λ tables. after_old_table limit ledger head rules tables)
 
--- a run over the bytes that the source gave and those that it has left
-abbrev pub Ran : ℕ → List ℕ → List ℕ → SourceView → SourceView → StoreView → StoreView → SinkView → SinkView → Status → Type 0
-Ran limit gave more from to old new held now state =
-    RanThrough limit (gave ++ more) from to old new held now state
-    ⊎ (RanToStop limit (gave ++ more) from to old new held now state
-    ⊎ RanToFault limit gave more from to old new held now state)
+-- whether a fault is the store's
+abbrev pub is_store_fault : Fault → Bool
+is_store_fault fault = is_some (failed_at fault)

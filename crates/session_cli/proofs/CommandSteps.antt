@@ -1,5 +1,5 @@
 -- One command: from what its checks give and what the write did to its answer.
-use Rattle.std.proofs.Common.{◌≡◌, ℕ, Bool, false, List, [], Option, None, Some, IfSome, IsTrue, Result, Ok, Err, refl, sym, ap, ◌∙◌, subst, inl, inr, arith}
+use Rattle.std.proofs.Common.{◌≡◌, ℕ, Bool, List, [], Option, None, Some, IfSome, IsTrue, Result, Ok, Err, refl, sym, ap, ◌∙◌, subst, inl, inr, arith}
 use Rattle.std.specs.Option.{option_map}
 use Rattle.wal_outside.specs.Causes.{Rose}
 use Rattle.wal_outside.specs.Files.{Files, put}
@@ -14,50 +14,13 @@ use Rattle.definitions.specs.Texts.{HasTextAt, Stores}
 use Rattle.definitions.specs.Trees.{Bytes, Ledger, ledger_of, custom_of}
 use Rattle.system_files.specs.SystemFiles.{Custom}
 use Rattle.session_cli.specs.Outcomes.{checks_of}
-use Rattle.session_cli.specs.Runs.{IsAnswer, is_store_fault, failed_after}
+use Rattle.script_runs.specs.Runs.{failed_by}
+use Rattle.session_cli.specs.SessionLanguage.{IsAnswer, failed_at}
 use Rattle.session_cli.specs.Plans.{IsPlan}
-use Rattle.session_cli.specs.Commands.{Stored, Commands, WritesPlan}
+use Rattle.session_cli.specs.Commands.{Commands, WritesPlan}
 use Rattle.session_cli.specs.StoreReads.{IsReadFault, HasRead}
+use Rattle.session_cli.proofs.CheckNames.{is_store_fault}
 use Rattle.session_cli.proofs.StoreReads.{rises}
-
--- where the ledger is the one by which a command is answered, it is so whatever the store reports
-pub own_ledger : (reported : Option Files) (ledger : Ledger) → IfSome reported (λ files. ledger ≡ ledger)
-own_ledger None ledger = tt
-own_ledger (Some files) ledger = refl
-
--- a fault that is not the store's leaves the file of the last call that failed
-kept_failed : (old : Option (Option Place)) (fault : Fault) → is_store_fault fault ≡ false → old ≡ failed_after old (Err fault)
-kept_failed old faults.Command other = refl
-kept_failed old (faults.Syntax grammar at) other = refl
-kept_failed old (faults.Number grammar at) other = refl
-kept_failed old (faults.Depth grammar at) other = refl
-kept_failed old (faults.Long bytes) other = refl
-kept_failed old (faults.SystemUnknown name) other = refl
-kept_failed old (faults.NotAdmitted name law) other = refl
-kept_failed old (faults.Direction first second) other = refl
-kept_failed old (faults.Letters step) other = refl
-kept_failed old (faults.States step) other = refl
-kept_failed old (faults.Store folder name) other = cc
-kept_failed old faults.Memory other = refl
-kept_failed old faults.ScriptLimit other = refl
-kept_failed old (faults.MacroArgs of at given) other = refl
-kept_failed old (faults.MacroDepth of) other = refl
-kept_failed old faults.MacroLong other = refl
-kept_failed old (faults.Morphism kind) other = refl
-kept_failed old (faults.LetterMissing letter) other = refl
-kept_failed old (faults.CombineShape one two) other = refl
-kept_failed old (faults.MixedChain byte) other = refl
-kept_failed old (faults.NotLinear byte) other = refl
-kept_failed old (faults.Unknown of file) other = refl
-kept_failed old (faults.File of file flaw) other = refl
-kept_failed old (faults.Arity of tracks given) other = refl
-kept_failed old (faults.Clash of one two) other = refl
-kept_failed old (faults.WordGap of representation) other = refl
-kept_failed old (faults.Plain of) other = refl
-
--- and the store as it was
-pub kept_store : (custom : Custom) (store : StoreView) (fault : Fault) → is_store_fault fault ≡ false → Stored custom store (Err fault) store
-kept_store custom store fault other = record { files = refl; later = omega arith; cause = λ is. cc; failed = kept_failed store.failed fault other }
 
 -- a ledger by which a command over these files is answered: that of the files where they are reported, and else that of what was found
 pub record IsAnswering (reported : Option Files) (ledger : Ledger) (found : Files) : Type 0 where
@@ -147,7 +110,7 @@ refused_command limit ledger old new text shown fault found by refused read = re
     cause_of (faults.WordGap of representation) read is = cc
     cause_of (faults.Plain of) read is = cc
 
-    failed_of : (f : Fault) → IsReadFault f old new → new.failed ≡ failed_after old.failed (Err f)
+    failed_of : (f : Fault) → IsReadFault f old new → new.failed ≡ failed_by (failed_at f) old.failed
     failed_of (faults.Store folder name) read = read.1
     failed_of faults.Memory read = read
     failed_of faults.Command read = read

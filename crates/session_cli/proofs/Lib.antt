@@ -12,11 +12,6 @@ pub mod LoadedFiles
 pub mod FilesElsewhere
 pub mod MacroReads
 pub mod FilesAlike
-pub mod StoredEntries
-pub mod RunSteps
-pub mod Standing
-pub mod Coming
-pub mod Between
 pub mod WholeSteps
 pub mod OneExpression
 pub mod NameLemmas

@@ -15,7 +15,7 @@ use Rattle.session_cli.specs.declared.plan.Plan.{Plan}
 use Rattle.session_cli.specs.Checks.{Check, Fails}
 use Rattle.session_cli.specs.Accepting.{Success}
 use Rattle.session_cli.specs.Plans.{Makes, Plans}
-use Rattle.session_cli.specs.Runs.{is_store_fault}
+use Rattle.session_cli.proofs.CheckNames.{is_store_fault}
 use Rattle.session_cli.specs.StoreReads.{IsReadFault, HasRead, FromFiles}
 use Rattle.system_files.specs.SystemFiles.{Custom}
 

@@ -21,10 +21,9 @@ pub record Success : Type 0 where
 abbrev pub Answer : Type 0
 Answer = Result Success Fault
 
--- the ledger after an answer
-abbrev pub after : Ledger → Answer → Ledger
-after ledger (Ok success) = entered ledger success.folder success.name success.entry
-after ledger (Err fault) = ledger
+-- the ledger after an accepted command
+abbrev pub after : Ledger → Success → Ledger
+after ledger success = entered ledger success.folder success.name success.entry
 
 -- a stored text may have 16,777,216 bytes
 abbrev pub FitsFile : List ℕ → Type 0

@@ -1,41 +1,19 @@
 -- One command, and the store before and after it.
-use Rattle.std.specs.Prelude.{◌≡◌, ℕ, ◌≤◌, Bool, List, [], Option, Some, IfSome, Result, Ok, Err, IsTrue}
+use Rattle.std.specs.Prelude.{◌≡◌, ℕ, ◌≤◌, Bool, List, Option, Some, Result, Ok, Err}
 use Rattle.std.specs.Option.{option_map}
 use Rattle.wal_outside.specs.Causes.{Rose}
 use Rattle.wal_outside.specs.Files.{Files, put}
 use Rattle.wal_outside.specs.Places.{Place}
+use Rattle.wal_outside.specs.Views.{StoreView}
+use Rattle.script_runs.specs.Runs.{AnswersCommand}
 use Rattle.session_cli.specs.declared.fault.Fault.{Fault}
 use Rattle.session_cli.specs.declared.fault.Fault.TheVariants as faults
-use Rattle.definitions.specs.Trees.{Ledger, custom_of}
-use Rattle.system_files.specs.SystemFiles.{Custom}
-use Rattle.session_cli.specs.Accepting.{Answer}
-use Rattle.session_cli.specs.Outcomes.{checks_of}
-use Rattle.session_cli.specs.Lines.{success_text}
-use Rattle.session_cli.specs.Runs.{IsAnswer, Changes, of_fault, is_store_fault, failed_after}
-use Rattle.wal_outside.specs.Views.{StoreView}
-
--- A call's result and the text to print are the answer: accepted, with what it prints; or the same fault, and then the text is empty.
-abbrev pub Gives : Bool → Result (Unit {0}) Fault → List ℕ → Answer → Type 0
-Gives shown (Ok _) printed (Ok success) = printed ≡ success_text shown success
-Gives shown (Ok _) printed (Err fault) = ⊥
-Gives shown (Err fault) printed (Ok success) = ⊥
-Gives shown (Err fault) printed (Err refusal) = (fault ≡ refusal) × (printed ≡ [])
-
--- a store before and after an answer
-pub record Stored (custom : Custom) (old : StoreView) (answer : Answer) (new : StoreView) : Type 0 where
-  pub files : Changes custom old.files answer new.files
-  pub later : old.faults ≤ new.faults
-  pub cause : IsTrue (of_fault is_store_fault answer) → Rose old.faults new.faults
-  pub failed : new.failed ≡ failed_after old.failed answer
+use Rattle.definitions.specs.Trees.{Ledger}
+use Rattle.session_cli.specs.SessionLanguage.{session_language}
 
 -- a command has an answer that the call gives
-pub record Commands (limit : ℕ) (ledger : Ledger) (old : StoreView) (text : List ℕ) (shown : Bool) (result : Result (Unit {0}) Fault) (printed : List ℕ) (new : StoreView) : Type 0 where
-  pub answer : Answer
-  pub gives : Gives shown result printed answer
-  pub known : Ledger
-  pub known_is : IfSome old.files (λ files. known ≡ ledger)
-  pub answered : IsAnswer (checks_of limit known text) answer
-  pub stored : Stored (custom_of known) old answer new
+abbrev pub Commands : ℕ → Ledger → StoreView → List ℕ → Bool → Result (Unit {0}) Fault → List ℕ → StoreView → Type 0
+Commands limit ledger old text shown result printed new = AnswersCommand (session_language limit) ledger old text shown result printed new
 
 -- files after a write, where they are reported
 abbrev pub WritesFile : Option Files → Place → List ℕ → Result (Unit {0}) Fault → Option Files → Type 0

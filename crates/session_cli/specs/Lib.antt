@@ -1,5 +1,4 @@
 -- Definitions that the contracts cite, in reading order.
-pub mod Codes
 pub mod Checks
 pub mod SystemChecks
 pub mod HeadTracks
@@ -24,7 +23,7 @@ pub mod Outcomes
 pub mod RepresentationTexts
 pub mod Lines
 pub mod Views
-pub mod Runs
+pub mod SessionLanguage
 pub mod Whole
 pub mod Laws
 -- what functions inside the crate do
@@ -50,6 +49,5 @@ pub mod BaseWords
 pub mod TextPlans
 pub mod TableReading
 pub mod Commands
-pub mod Tallies
-pub mod Handing
-pub mod Ending
+pub mod StoredEntries
+pub mod SoundLanguage

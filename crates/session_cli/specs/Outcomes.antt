@@ -2,7 +2,6 @@
 use Rattle.std.specs.Prelude.{◌≡◌, ◌≢◌, ℕ, ◌<◌, ◌≤◌, List, length, Result, Ok, Err, codes}
 use Rattle.wal_outside.specs.declared.folder.Folder.TheVariants.{Automata, Results}
 use Rattle.command_head.specs.Parts.{first_word_of}
-use Rattle.session_cli.specs.declared.fault.Grammar.TheVariants as grammars
 use Rattle.session_cli.specs.declared.fault.Fault.{Fault}
 use Rattle.session_cli.specs.declared.fault.Fault.TheVariants as faults
 use Rattle.session_cli.specs.declared.command_word.CommandWord.{CommandWord}
@@ -64,9 +63,3 @@ checks_of limit ledger text =
 -- the proper outcome of a command that has its terminator
 abbrev pub Outcome : ℕ → Ledger → List ℕ → Answer → Type 0
 Outcome limit ledger text answer = (checks_of limit ledger text).answers answer
-
--- the proper outcome of a text without terminator
-abbrev pub OpenOutcome : List ℕ → Answer → Type 0
-OpenOutcome text (Err (faults.Long bytes)) = (bytes ≡ 65536) × (65536 < length text)
-OpenOutcome text (Err (faults.Syntax grammars.Command at)) = IsShort text × (at ≡ length text)
-OpenOutcome text _ = ⊥

@@ -1,8 +1,6 @@
 //! Sessions: the commands of a script are answered one after another as they come, and each accepted one stores its text.
 #![tactic(auto)]
 
-// how a run ended
-mod status;
 // why a command is refused
 mod fault;
 // the lines of refused commands
@@ -53,12 +51,8 @@ mod image;
 mod planning;
 // one command
 mod session;
-// what was counted of the answers
-mod tally;
-// an answer and its line
+// the commands of a script, answered by a session
 mod answering;
-// the commands of a script, one after another
-mod running;
 // the whole call
 mod whole;
 // what holds of all runs
@@ -69,6 +63,6 @@ pub use dfa_loading::FileFlaw;
 pub use fault::{Fault, Grammar};
 pub use laws::{one_outcome, one_run, store_faults_counted};
 pub use printed::Printed;
+pub use script_runs::Status;
 pub use session::Session;
-pub use status::Status;
 pub use whole::run;

@@ -36,6 +36,13 @@ impl Printed {
         &self.bytes
     }
 
+    /// The bytes, for a caller to keep.
+    pub(crate) fn into_bytes(self) -> Vec<u8>
+        ensures { result.items ≡ self }
+    {
+        self.bytes
+    }
+
     /// Takes all bytes out.
     pub(crate) fn clear(&mut self)
         ensures { self.new ≡ [] }

@@ -3,10 +3,9 @@ ghost use Rattle.wal_outside.specs.Causes.{Rose};
 ghost use Rattle.command_line.specs.Words.{GivesNone};
 ghost use Rattle.session_cli.specs.Whole.{HasCalled, PrintsUsage};
 
-use crate::running::answer_all;
 use crate::session::Session;
-use crate::status::Status;
 use command_line::{WordsFault, limit_of};
+use script_runs::{Status, run_script};
 use std::alloc::Global;
 use wal_outside::{Sink, Source, Store, WriteFault, send};
 
@@ -35,7 +34,7 @@ pub fn run<S: Source, K: Sink, T: Store>(
     ensures memory { result ≡ Status.Memory → ((S.view script.new).faults ≡ (S.view script.old).faults) × ((K.view out.new).faults ≡ (K.view out.old).faults) }
 {
     match limit_of(alloc, words) {
-        Ok(limit) => answer_all(alloc, &mut Session::new(alloc, limit), script, out, store),
+        Ok(limit) => run_script(alloc, &mut Session::new(alloc, limit), script, out, store),
         Err(WordsFault::Refused) => print_usage(out),
         Err(WordsFault::Memory) => Status::Memory,
     }

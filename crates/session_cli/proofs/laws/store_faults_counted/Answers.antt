@@ -1,5 +1,6 @@
-use Rattle.session_cli.proofs.OneRuns.{counted}
+use Rattle.script_runs.proofs.OneRuns.{store_faults_are_counted}
+use Rattle.session_cli.specs.SessionLanguage.{session_language}
 use Rattle.session_cli.proofs.laws.store_faults_counted.Goals as goal
 
 pub returns : goal.returns
-returns c = counted
+returns c = λ limit. store_faults_are_counted (session_language limit)

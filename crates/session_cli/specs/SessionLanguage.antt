@@ -1,0 +1,66 @@
+-- The command language of sessions.
+use Rattle.std.specs.Prelude.{◌≡◌, ◌⊎◌, ℕ, Bool, true, false, List, Option, None, Some, Ok, Err}
+use Rattle.std.specs.Option.{option_map}
+use Rattle.wal_outside.specs.Files.{Files, put}
+use Rattle.wal_outside.specs.Places.{Place}
+use Rattle.script_runs.specs.Languages.{CommandLanguage}
+use Rattle.script_runs.specs.declared.script_fault.ScriptFault.{ScriptFault}
+use Rattle.script_runs.specs.declared.script_fault.ScriptFault.TheVariants as script
+use Rattle.session_cli.specs.declared.fault.Grammar.TheVariants as grammars
+use Rattle.session_cli.specs.declared.fault.Fault.{Fault}
+use Rattle.session_cli.specs.declared.fault.Fault.TheVariants as faults
+use Rattle.definitions.specs.Trees.{Ledger, ledger_of, custom_of}
+use Rattle.definitions.specs.Texts.{HasText, Stores}
+use Rattle.system_files.specs.SystemFiles.{Custom}
+use Rattle.session_cli.specs.Checks.{Check, Fails}
+use Rattle.session_cli.specs.Accepting.{Success, Answer, after}
+use Rattle.session_cli.specs.Outcomes.{checks_of}
+use Rattle.session_cli.specs.Lines.{success_text, fault_line}
+
+-- A command's answer is what its checks answer. Or the store failed at a file that they read, or at the one of what the command makes; or
+-- memory ran out.
+abbrev pub IsAnswer : Check Success → Answer → Type 0
+IsAnswer checks (Ok success) = checks.answers (Ok success)
+IsAnswer checks (Err (faults.Store folder name)) = checks.reads (folder, name) ⊎ ((success : Success) × checks.answers (Ok success) × (folder ≡ success.folder) × (name ≡ success.name))
+IsAnswer checks (Err fault) = Fails checks fault
+
+-- an accepted command changes the file of its entry to that entry's text
+abbrev pub StoresEntry : Custom → Success → Option Files → Option Files → Type 0
+StoresEntry custom success old new = (stored : List ℕ) × HasText custom success.entry stored × (new ≡ option_map (λ files. put files success.folder success.name stored) old)
+
+-- the file of a store fault
+abbrev pub failed_at : Fault → Option Place
+failed_at (faults.Store folder name) = Some (folder, name)
+failed_at _ = None
+
+abbrev pub is_memory_fault : Fault → Bool
+is_memory_fault faults.Memory = true
+is_memory_fault _ = false
+
+-- how texts are refused that are no commands
+abbrev pub script_refusal : ScriptFault → Fault
+script_refusal script.Long = faults.Long 65536
+script_refusal (script.Unterminated at) = faults.Syntax grammars.Command at
+script_refusal script.PastLimit = faults.ScriptLimit
+
+-- the ledger at the beginning: the store's files, where these are reported
+abbrev pub first_ledger : Option Files → Ledger
+first_ledger None = λ folder name. None
+first_ledger (Some files) = ledger_of files
+
+-- the commands of a session, each step of which may have `limit` values
+abbrev pub session_language : ℕ → CommandLanguage Fault
+session_language limit = record {
+  Ledger = Ledger;
+  Success = Success;
+  first = first_ledger;
+  stores = Stores;
+  answers = λ ledger text answer. IsAnswer (checks_of limit ledger text) answer;
+  changes = λ ledger success old new. StoresEntry (custom_of ledger) success old new;
+  after = after;
+  failed_at = failed_at;
+  is_memory = is_memory_fault;
+  of_script = script_refusal;
+  success_text = success_text;
+  fault_line = fault_line;
+}
