@@ -30,6 +30,6 @@ folder_text Commands = codes "Command Files"
 abbrev pub may_name_file : List ℕ → Bool
 may_name_file name = not (list_any (λ b. b == 47) name) && not (list_any (λ b. b == 0) name)
 
--- the file of a name in a folder, from the folder in which the program runs
-abbrev pub path_text : Folder → List ℕ → List ℕ
-path_text folder name = folder_text folder ++ codes "/" ++ name ++ codes ".txt"
+-- the file of a name in a folder, with an ending, from the folder in which the program runs
+abbrev pub path_text : Folder → List ℕ → List ℕ → List ℕ
+path_text folder name ending = folder_text folder ++ codes "/" ++ name ++ ending

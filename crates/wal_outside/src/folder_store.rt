@@ -7,16 +7,23 @@ use crate::folder::Folder;
 use crate::sink::WriteFault;
 use crate::store::{Found, Store, TEXT_LIMIT};
 use std::alloc::{AllocError, Global};
-use std::fs::File;
+use std::fs::{File, OpenOptions};
 use std::io::{ErrorKind, Read, Write};
 use std::rt::Files;
 use std::{fs, io};
 
+// How the file of a text ends.
+const WHOLE: &str = ".txt";
+
+// How it ends while it is written.
+const UNFINISHED: &str = ".new";
+
 /// A store over the files of the current folder: a text is in the file `FOLDER/NAME.txt`.
 ///
 /// It opens no file outside the folders that `Folder` names: a name with a slash or a NUL is `Absent` to a read, and
-/// `Failed` to a write. A write makes a missing folder. A write that fails may leave a file that holds a prefix of its
-/// text.
+/// `Failed` to a write. A write makes a missing folder. It writes `FOLDER/NAME.new` and gives it the other name when it
+/// is whole, since a prefix of an automaton can be an automaton: a write that fails, or is cut off, leaves the text as
+/// it was. A file that may not be written is not replaced.
 #[derive(Debug)]
 pub struct FolderStore<'a, R: Files> {
     rt: &'a R,
@@ -53,23 +60,45 @@ impl<'a, R: Files> FolderStore<'a, R> {
 
     // Reads the file into an empty `into`, up to one byte past the limit.
     fn read_file(&self, folder: Folder, name: &str, into: &mut Vec<u8>) -> io::Result<()> {
-        let path = path_of(self.alloc, folder, name)?;
+        let path = path_of(self.alloc, folder, name, WHOLE)?;
         let file = File::open(self.rt, path.as_str())?;
         let _ = file.take(TEXT_LIMIT as u64 + 1).read_to_end(into)?;
         Ok(())
     }
 
-    // Writes the file, and makes its folder where there is none.
-    fn write_file(&self, folder: Folder, name: &str, text: &[u8]) -> io::Result<()> {
-        let path = path_of(self.alloc, folder, name)?;
-        let mut file = match File::create(self.rt, path.as_str()) {
+    // Whether a file may be written, or is not there.
+    fn see_writable(&self, path: &str) -> io::Result<()> {
+        match OpenOptions::new().write(true).open(self.rt, path) {
+            Err(error) if error.kind() != ErrorKind::NotFound => Err(error),
+            _ => Ok(()),
+        }
+    }
+
+    // Writes a new file, and makes its folder where there is none.
+    fn write_new(&self, folder: Folder, path: &str, text: &[u8]) -> io::Result<()> {
+        let mut file = match File::create(self.rt, path) {
             Err(error) if error.kind() == ErrorKind::NotFound => {
                 fs::create_dir(self.rt, folder.name())?;
-                File::create(self.rt, path.as_str())?
+                File::create(self.rt, path)?
             }
             answer => answer?,
         };
         file.write_all(text)
+    }
+
+    // Replaces the file, at once and as a whole.
+    fn write_file(&self, folder: Folder, name: &str, text: &[u8]) -> io::Result<()> {
+        let path = path_of(self.alloc, folder, name, WHOLE)?;
+        let unfinished = path_of(self.alloc, folder, name, UNFINISHED)?;
+        self.see_writable(path.as_str())?;
+        let answer = match self.write_new(folder, unfinished.as_str(), text) {
+            Ok(()) => fs::rename(self.rt, unfinished.as_str(), path.as_str()),
+            error => error,
+        };
+        if answer.is_err() {
+            let _ = fs::remove_file(self.rt, unfinished.as_str());
+        }
+        answer
     }
 }
 
@@ -121,13 +150,13 @@ fn is_file_name(name: &str) -> bool
     !bytes.contains(&b'/') && !bytes.contains(&0)
 }
 
-// The path of a file.
-fn path_of(alloc: Global, folder: Folder, name: &str) -> Result<String, AllocError>
-    ensures { IfOk result (λ path. string_bytes path ≡ path_text folder name.now) }
+// The path of a file with this ending.
+fn path_of(alloc: Global, folder: Folder, name: &str, ending: &str) -> Result<String, AllocError>
+    ensures { IfOk result (λ path. string_bytes path ≡ path_text folder name.now ending.now) }
 {
     let mut path = String::from_str(alloc, folder.name())?;
     path.push_str("/")?;
     path.push_str(name)?;
-    path.push_str(".txt")?;
+    path.push_str(ending)?;
     Ok(path)
 }
