@@ -21,7 +21,7 @@ use Rattle.adder_check.specs.declared.admit_fault.AdmitFault.TheVariants as faul
 use Rattle.adder_check.specs.declared.admit_fault.Law.TheVariants as laws
 use Rattle.adder_check.specs.AdderRelation.{three_of}
 use Rattle.adder_check.specs.Admission.{IsSystemOfFile, IsFirstFaultOfFiles}
-use Rattle.adder_check.specs.LanguageLaws.{KeepsZeros, IsEndless, language_in, system_of}
+use Rattle.endless.specs.LanguageLaws.{KeepsZeros, IsEndless, language_in, system_of}
 use Rattle.adder_check.specs.LanguageSteps.{IsOfFile, IsFirstLanguageFault, in_file}
 use Rattle.adder_check.specs.ZeroSums.{AreZeroAndEquality}
 use Rattle.adder_check.proofs.SystemLemmas.{laws_determine_system}

@@ -14,7 +14,7 @@ use Rattle.adder_check.specs.declared.admit_fault.Law.{Law}
 use Rattle.adder_check.specs.AdderLaws.{ZeroLaw, SuccessorLaw, IsAddition}
 use Rattle.adder_check.specs.AdderRelation.{HoldsInFile, adds_in_file, three_of}
 use Rattle.adder_check.specs.Admission.{Where, IsSystemOfFile, IsFirstAdderFault, IsFirstFault, IsFirstFaultOfFiles}
-use Rattle.adder_check.specs.LanguageLaws.{system_in, system_of}
+use Rattle.endless.specs.LanguageLaws.{system_in, system_of}
 use Rattle.adder_check.specs.LanguageSteps.{IsOfFile}
 use Rattle.adder_check.proofs.AdditionLemmas.{laws_tell}
 use Rattle.adder_check.proofs.FileAdders.{adder_found, adder_is, first_fault}

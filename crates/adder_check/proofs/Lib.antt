@@ -1,16 +1,5 @@
 pub mod AdditionLemmas
 pub mod SystemLemmas
-pub mod ZeroLemmas
-pub mod LiveLemmas
-pub mod RoundLemmas
-pub mod EndLemmas
-pub mod LastLemmas
-pub mod OrderLemmas
-pub mod TransitionCounts
-pub mod LinkCounts
-pub mod PathLemmas
-pub mod EndRows
-pub mod EndlessAnswers
 pub mod FileLemmas
 pub mod PlanLemmas
 pub mod AdderLemmas

@@ -19,7 +19,7 @@ use Rattle.adder_check.specs.declared.user_system.UserSystem.{UserSystem}
 use Rattle.adder_check.specs.AdderRelation.{DoesAdder}
 use Rattle.adder_check.specs.Admission.{KeepsLanguage, DoesLanguage, IsThrough, DoesLaws, IsMade}
 use Rattle.adder_check.specs.Faults.{Lifted}
-use Rattle.adder_check.specs.LanguageLaws.{KeepsZeros, IsEndless, language_in, system_in, system_of}
+use Rattle.endless.specs.LanguageLaws.{KeepsZeros, IsEndless, language_in, system_in, system_of}
 use Rattle.adder_check.specs.LanguageSteps.{DoesFile, DoesReversal, IsFirstLanguageFault}
 use Rattle.adder_check.specs.NextSums.{DoesNextSums}
 use Rattle.adder_check.specs.OneAnswer.{AdmissionHasOneAnswer}

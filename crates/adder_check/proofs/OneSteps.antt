@@ -28,7 +28,7 @@ use Rattle.automaton_steps.proofs.ThenAnswers.{then_one, gives_one}
 use Rattle.adder_check.specs.AdderRelation.{DoesAdder, adder_names, name_z}
 use Rattle.adder_check.specs.BothForSome.{DoesBothForSome}
 use Rattle.adder_check.specs.Faults.{DecidesSame}
-use Rattle.adder_check.specs.LanguageLaws.{system_of}
+use Rattle.endless.specs.LanguageLaws.{system_of}
 use Rattle.adder_check.specs.LanguageSteps.{DoesFile, DoesReversal}
 use Rattle.adder_check.specs.NextSums.{DoesNextSums, sum_on, name_v, name_w}
 use Rattle.adder_check.specs.SuccessorPlan.{DoesSuccessor, chain_step, next_step}

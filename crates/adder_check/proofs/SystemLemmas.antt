@@ -5,7 +5,7 @@ use Rattle.digit_tuple.specs.Letters.{IsWord, product}
 use Rattle.digit_tuple.specs.Paddings.{in_order}
 use Rattle.digit_tuple.proofs.AcceptedLemmas.{accepted_over}
 use Rattle.digit_tuple.proofs.PaddingLemmas.{in_order-twice, IsWord-in_order}
-use Rattle.adder_check.specs.LanguageLaws.{language_in, LawsDetermineSystems}
+use Rattle.endless.specs.LanguageLaws.{language_in, LawsDetermineSystems}
 
 pub laws_determine_system : LawsDetermineSystems
 laws_determine_system direction digits d sizes table = (

@@ -18,7 +18,7 @@ use Rattle.adder_check.specs.declared.user_system.UserSystem.{UserSystem}
 use Rattle.adder_check.specs.AdderLaws.{ZeroLaw, SuccessorLaw, IsAddition}
 use Rattle.adder_check.specs.AdderRelation.{DoesAdder, adds_in_file}
 use Rattle.adder_check.specs.Faults.{Lifted}
-use Rattle.adder_check.specs.LanguageLaws.{KeepsZeros, IsEndless, language_in, system_in}
+use Rattle.endless.specs.LanguageLaws.{KeepsZeros, IsEndless, language_in, system_in}
 use Rattle.adder_check.specs.LanguageSteps.{DoesFile, IsFirstLanguageFault, in_file}
 use Rattle.adder_check.specs.NextSums.{DoesNextSums}
 use Rattle.adder_check.specs.SuccessorPlan.{DoesSuccessor}

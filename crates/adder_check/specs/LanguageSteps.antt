@@ -14,7 +14,7 @@ use Rattle.automaton_steps.specs.ReverseSteps.{reverse_step}
 use Rattle.adder_check.specs.declared.admit_fault.AdmitFault.{AdmitFault}
 use Rattle.adder_check.specs.declared.admit_fault.AdmitFault.TheVariants as faults
 use Rattle.adder_check.specs.declared.admit_fault.Law.TheVariants as laws
-use Rattle.adder_check.specs.LanguageLaws.{KeepsZeros, IsEndless, language_in}
+use Rattle.endless.specs.LanguageLaws.{KeepsZeros, IsEndless, language_in}
 
 -- the word as the file has it, whose words may be of the other direction
 abbrev pub in_file : Bool → List ℕ → List ℕ

@@ -1,8 +1,5 @@
 -- Definitions that the contracts cite, in reading order.
-pub mod LanguageLaws
 pub mod AdderLaws
-pub mod Links
-pub mod Counts
 pub mod Faults
 pub mod BothForSome
 pub mod LanguageSteps

@@ -13,7 +13,7 @@ use Rattle.numeration.specs.Systems.{System}
 use Rattle.num_system.specs.SuccessorSteps.{name_y}
 use Rattle.adder_check.specs.BothForSome.{DoesBothForSome}
 use Rattle.adder_check.specs.Faults.{DecidesSame}
-use Rattle.adder_check.specs.LanguageLaws.{system_of}
+use Rattle.endless.specs.LanguageLaws.{system_of}
 
 -- the automaton on the one track y
 abbrev pub on_y : Automaton → NamedAutomaton

@@ -9,7 +9,7 @@ ghost use Rattle.num_system.specs.Links.{Passes};
 ghost use Rattle.num_system.specs.Successor.{IsSuccessorOf};
 ghost use Rattle.adder_check.specs.AdderLaws.{ZeroLaw, SuccessorLaw};
 ghost use Rattle.adder_check.specs.AdderRelation.{DoesAdder, HoldsInFile, adder_names, three_of};
-ghost use Rattle.adder_check.specs.LanguageLaws.{system_of};
+ghost use Rattle.endless.specs.LanguageLaws.{system_of};
 ghost use Rattle.adder_check.specs.LanguageSteps.{IsOfFile};
 ghost use Rattle.adder_check.specs.Admission.{DoesLanguage, DoesLaws, DoesAdmission, IsFirstAdderFault, IsFirstFaultOfFiles, IsAdmitted};
 

@@ -3,8 +3,8 @@
 ghost use Rattle.std.specs.Prelude.{◌≡◌, ◌<◌, ◌↔◌, IsTrue};
 ghost use Rattle.digit_tuple.specs.Deterministic.{states_of};
 ghost use Rattle.minimise.specs.Canonical.{IsCanonical};
-ghost use Rattle.adder_check.specs.LanguageLaws.{KeepsZeros, language_in};
-ghost use Rattle.adder_check.specs.Links.{IgnoresZero};
+ghost use Rattle.endless.specs.LanguageLaws.{KeepsZeros, language_in};
+ghost use Rattle.endless.specs.Links.{IgnoresZero};
 
 use digit_tuple::dfa::Dfa;
 use digit_tuple::direction::Direction;

@@ -5,7 +5,6 @@ ghost use Rattle.minimise.specs.Canonical.{IsCanonical};
 ghost use Rattle.adder_check.specs.LanguageSteps.{IsOfFile, DoesFile, ChecksLanguage};
 
 use crate::admit_fault::{AdmitFault, Law};
-use crate::endless::is_endless;
 use crate::keeps_zeros::keeps_zeros;
 use automaton_steps::read_step::read_step;
 use automaton_steps::reverse_step::reverse_step;
@@ -14,6 +13,7 @@ use digit_tuple::direction::Direction;
 use digit_tuple::nfa::Nfa;
 use digit_tuple::step_fault::StepFault;
 use digit_tuple::steps::Steps;
+use endless::endless::is_endless;
 use std::alloc::Global;
 
 /// The canonical automaton of the words that a file lists, each reversed where they are of the other

@@ -3,7 +3,7 @@
 ghost use Rattle.adder_check.specs.AdderLaws.{LawsDetermineAddition};
 ghost use Rattle.adder_check.specs.Admission.{FaultsExclude};
 ghost use Rattle.adder_check.specs.OneAnswer.{AdmissionHasOneAnswer};
-ghost use Rattle.adder_check.specs.LanguageLaws.{LawsDetermineSystems};
+ghost use Rattle.endless.specs.LanguageLaws.{LawsDetermineSystems};
 
 /// A relation of three numbers is addition if and only if it meets the laws of zero and of the successor.
 pub fn laws_determine_addition()

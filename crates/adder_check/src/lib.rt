@@ -12,12 +12,6 @@ pub mod admit_fault;
 /// Whether leading zeros keep the words of a language.
 pub mod keeps_zeros;
 
-/// States in order, and cycles.
-mod sorting;
-
-/// Whether a language has an end.
-pub mod endless;
-
 /// The automaton of a file, and the laws of a language.
 pub mod language_steps;
 

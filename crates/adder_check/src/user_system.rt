@@ -3,7 +3,7 @@
 ghost use Rattle.std.specs.Prelude.{◌≡◌, ◌∷◌, [], IfOk};
 ghost use Rattle.numeration.specs.Relations.{IsAdderOf};
 ghost use Rattle.numeration.specs.Systems.{IsSystem};
-ghost use Rattle.adder_check.specs.LanguageLaws.{system_in};
+ghost use Rattle.endless.specs.LanguageLaws.{system_in};
 
 use digit_tuple::dfa::Dfa;
 use digit_tuple::direction::Direction;

@@ -8,7 +8,7 @@ ghost use Rattle.number_order.specs.Orders.{pair_sizes};
 ghost use Rattle.num_system.specs.Links.{Passes};
 ghost use Rattle.adder_check.specs.AdderLaws.{ZeroLaw};
 ghost use Rattle.adder_check.specs.AdderRelation.{adder_names, three_of};
-ghost use Rattle.adder_check.specs.LanguageLaws.{system_of};
+ghost use Rattle.endless.specs.LanguageLaws.{system_of};
 ghost use Rattle.adder_check.specs.ZeroSums.{DoesZeroLaw};
 
 use crate::zero_sums::{keeps_zero_law, zero_sums};

@@ -14,7 +14,7 @@ use Rattle.automaton_steps.proofs.ThenAnswers.{equal_value, no_fault}
 use Rattle.adder_check.specs.AdderLaws.{IsAddition}
 use Rattle.adder_check.specs.AdderRelation.{DoesAdder, HoldsInFile, adds_in_file, three_of}
 use Rattle.adder_check.specs.Admission.{DoesAdmission, DoesLanguage, IsAdmitted, IsSystemOfFile, user_system}
-use Rattle.adder_check.specs.LanguageLaws.{system_in, system_of}
+use Rattle.endless.specs.LanguageLaws.{system_in, system_of}
 use Rattle.adder_check.specs.LanguageSteps.{DoesFile, DoesReversal, IsOfFile}
 use Rattle.adder_check.specs.SureSystems.{surely_system}
 use Rattle.adder_check.specs.declared.user_system.UserSystem.{UserSystem}

@@ -8,7 +8,7 @@ use Rattle.digit_tuple.specs.declared.step_fault.StepFault.{StepFault}
 use Rattle.automaton_steps.proofs.ThenAnswers.{equal_fault, no_fault}
 use Rattle.adder_check.specs.Admission.{DoesAdmission, DoesLanguage}
 use Rattle.adder_check.specs.Faults.{fault_of}
-use Rattle.adder_check.specs.LanguageLaws.{KeepsZeros, IsEndless, language_in}
+use Rattle.endless.specs.LanguageLaws.{KeepsZeros, IsEndless, language_in}
 use Rattle.adder_check.specs.LanguageSteps.{DoesFile, IsFirstLanguageFault}
 use Rattle.adder_check.specs.declared.admit_fault.AdmitFault.{AdmitFault}
 use Rattle.adder_check.specs.declared.user_system.UserSystem.{UserSystem}

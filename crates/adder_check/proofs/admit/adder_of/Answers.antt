@@ -4,7 +4,7 @@ use Rattle.std.specs.Rc.{rc_value}
 use Rattle.digit_tuple.specs.Deterministic.{Automaton}
 use Rattle.num_system.specs.Joined.{AreLanguagesOf}
 use Rattle.adder_check.specs.AdderRelation.{DoesAdder, three_of}
-use Rattle.adder_check.specs.LanguageLaws.{system_of}
+use Rattle.endless.specs.LanguageLaws.{system_of}
 use Rattle.adder_check.proofs.FileSystems.{three_sizes, three_languages, three_same}
 use Rattle.adder_check.proofs.admit.adder_of.Goals as goal
 

@@ -1,7 +1,7 @@
 use Rattle.std.proofs.Common.{inl, inr, rules, refl}
 use Rattle.adder_check.specs.Admission.{IsFirstFaultOfFiles}
 use Rattle.adder_check.specs.Faults.{fault_of}
-use Rattle.adder_check.specs.LanguageLaws.{system_of}
+use Rattle.endless.specs.LanguageLaws.{system_of}
 use Rattle.adder_check.proofs.FileSystems.{own_language, refused_by, sizes_of_one}
 use Rattle.adder_check.proofs.FileUsers.{AreParts, adder_fault, are_parts, letters_are}
 use Rattle.adder_check.proofs.admit.admit.Goals as goal

@@ -6,7 +6,7 @@ use Rattle.num_system.specs.Links.{Passes}
 use Rattle.adder_check.specs.declared.admit_fault.Law.TheVariants as laws
 use Rattle.adder_check.specs.AdderRelation.{three_of}
 use Rattle.adder_check.specs.Faults.{fault_of}
-use Rattle.adder_check.specs.LanguageLaws.{system_of}
+use Rattle.endless.specs.LanguageLaws.{system_of}
 use Rattle.adder_check.specs.NextSums.{DoesNextSums}
 use Rattle.adder_check.proofs.FileUsers.{where_holds, where_fails}
 use Rattle.adder_check.proofs.admit.check_adder.Goals as goal

@@ -2,7 +2,7 @@ use Rattle.std.proofs.Common.{◌≡◌, true, Option, None, Some, ◌∙◌, sy
 use Rattle.std.specs.Prelude.{eqb}
 use Rattle.std.specs.Option.{option_eq}
 use Rattle.std.proofs.lemmas.Bool.{false≢true, eqb-true}
-use Rattle.adder_check.proofs.ZeroLemmas.{keeps_first, kept_first}
+use Rattle.endless.proofs.ZeroLemmas.{keeps_first, kept_first}
 use Rattle.adder_check.proofs.keeps_zeros.keeps_first_zeros.Goals as goal
 
 some_zero : (o : Option _) → option_eq eqb o (Some 0) ≡ true → o ≡ Some 0

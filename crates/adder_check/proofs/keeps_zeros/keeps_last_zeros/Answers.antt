@@ -1,6 +1,6 @@
 use Rattle.std.proofs.Common.{◌∙◌, refl, sym, arith}
 use Rattle.std.proofs.lemmas.Bool.{false≢true}
-use Rattle.adder_check.proofs.ZeroLemmas.{keeps_last, kept_last}
+use Rattle.endless.proofs.ZeroLemmas.{keeps_last, kept_last}
 use Rattle.adder_check.proofs.keeps_zeros.keeps_last_zeros.Goals as goal
 
 pub returns-then-not-ignores_zero : goal.returns-then-not-ignores_zero

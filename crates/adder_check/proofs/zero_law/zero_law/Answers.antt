@@ -1,5 +1,5 @@
 use Rattle.std.proofs.Common.{inl, inr, rules, refl}
-use Rattle.adder_check.specs.LanguageLaws.{system_of}
+use Rattle.endless.specs.LanguageLaws.{system_of}
 use Rattle.adder_check.proofs.FileSystems.{zero_and_equality}
 use Rattle.adder_check.proofs.zero_law.zero_law.Goals as goal
 

@@ -2,7 +2,7 @@ use Rattle.std.proofs.Common.{sym, subst}
 use Rattle.std.proofs.lemmas.Result.{IfOk-weaker}
 use Rattle.digit_tuple.specs.Deterministic.{Automaton}
 use Rattle.numeration.specs.Relations.{IsAdderOf}
-use Rattle.adder_check.specs.LanguageLaws.{system_in}
+use Rattle.endless.specs.LanguageLaws.{system_in}
 use Rattle.adder_check.proofs.SureAdders.{surely_adder}
 use Rattle.adder_check.proofs.user_system.UserSystemNumSystem.adder.Goals as goal
 

@@ -1,6 +1,0 @@
-use Rattle.std.proofs.Common.{◌<◌, ℕ}
-use Rattle.adder_check.specs.Links.{IsEnd}
-use Rattle.adder_check.proofs.endless.end_state.Given as goal
-
-abbrev pub invariant-loop-state : goal.invariant-loop-state
-invariant-loop-state l = (q : ℕ) → q < l.state → ¬ IsEnd l.language q

@@ -1,5 +1,0 @@
-use Rattle.adder_check.specs.Counts.{AreIncoming}
-use Rattle.adder_check.proofs.sorting.incoming.Given as goal
-
-abbrev pub invariant-loop-state : goal.invariant-loop-state
-invariant-loop-state l = AreIncoming l.language l.without l.pending.items l.state

@@ -1,5 +1,0 @@
-use Rattle.adder_check.proofs.PathLemmas.{IsUnderWay}
-use Rattle.adder_check.proofs.sorting.sorted.Given as goal
-
-abbrev pub invariant-loop-place : goal.invariant-loop-place
-invariant-loop-place l = IsUnderWay l.language l.without l.pending.items l.order.items l.place

@@ -1,0 +1,11 @@
+pub mod ZeroLemmas
+pub mod LiveLemmas
+pub mod RoundLemmas
+pub mod EndLemmas
+pub mod LastLemmas
+pub mod OrderLemmas
+pub mod TransitionCounts
+pub mod LinkCounts
+pub mod PathLemmas
+pub mod EndRows
+pub mod EndlessAnswers

@@ -1,0 +1,38 @@
+-- What flags of states say of transitions.
+use Rattle.std.proofs.Common.{◌≡◌, ◌⊎◌, inl, inr, ℕ, suc, ◌<◌, ◌&&◌, Bool, true, false, cond, nat_le, ◌||◌, List, [], ◌∷◌, length, get_or, Some, refl, sym, ap, ◌∙◌, arith}
+use Rattle.std.proofs.lemmas.Bool.{cases_Bool, true≢false}
+use Rattle.std.proofs.lemmas.List.Folds.{list_any_at}
+use Rattle.std.specs.List.{All, find, list_any}
+use Rattle.digit_tuple.specs.Deterministic.{Automaton, IsTable, letters_of, states_of, transitions_of}
+use Rattle.digit_tuple.proofs.DfaLemmas.{row_at}
+use Rattle.digit_tuple.specs.declared.transitions.Transition.{Transition}
+use Rattle.word_walk.specs.Levels.{IsLevel, first_live, lives}
+
+find_same : (p r : Transition → Bool) (es : List Transition) → All (λ e. p e ≡ r e) es → find p es ≡ find r es
+find_same p r [] same = refl
+find_same p r (e ∷ es) same = ap (λ b. cond b (Some e) (find p es)) (same 0 e (omega arith)) ∙ ap (cond (r e) (Some e)) (find_same p r es (λ k z within. same (suc k) z (omega (arith, within))))
+
+pub list_any_same : (p r : Transition → Bool) (es : List Transition) → All (λ e. p e ≡ r e) es → list_any p es ≡ list_any r es
+list_any_same p r [] same = refl
+list_any_same p r (e ∷ es) same = ap (λ b. b || list_any p es) (same 0 e (omega arith)) ∙ ap (λ b. r e || b) (list_any_same p r es (λ k z within. same (suc k) z (omega (arith, within))))
+
+pub first_live-level : (d : Automaton) (m from : ℕ) (flags : List Bool) (es : List Transition) → IsLevel d m flags → All (λ e. e.target < states_of d) es
+    → find (λ e. nat_le from e.letter && get_or flags e.target false) es ≡ first_live d m from es
+first_live-level d m from flags es level targets = find_same _ _ es (λ k z within. ap (λ b. nat_le from (get_or es k z).letter && b) (level.tells (get_or es k z).target (targets k z within)))
+
+-- the level of one letter more
+pub IsLevel-next : (d : Automaton) (m : ℕ) (flags next : List Bool) → IsTable (letters_of d) d.states → IsLevel d m flags → length next ≡ states_of d
+    → ((q : ℕ) → q < states_of d → get_or next q false ≡ list_any (λ e. get_or flags e.target false) (transitions_of d q)) → IsLevel d (suc m) next
+IsLevel-next d m flags next table level width tells = record {
+  width = width;
+  tells = λ q within. tells q within ∙ list_any_same (λ e. get_or flags e.target false) (λ e. lives d m e.target) (transitions_of d q)
+      (λ k z inside. level.tells (get_or (transitions_of d q) k z).target ((row_at d q table within).in_range k z inside).1);
+}
+
+-- no state has the flag
+pub none_lives : (d : Automaton) (m : ℕ) (flags : List Bool) → IsLevel d m flags → list_any (λ live. live) flags ≡ false → (q : ℕ) → q < states_of d → lives d m q ≡ false
+none_lives d m flags level none q within = sym (level.tells q within) ∙ by (cases_Bool (get_or flags q false))
+  where
+    by : (get_or flags q false ≡ true) ⊎ (get_or flags q false ≡ false) → get_or flags q false ≡ false
+    by (inr is) = is
+    by (inl live) = absurd (true≢false (sym (list_any_at (λ b. b) flags q false (omega (arith, within, level.width)) live) ∙ none))

@@ -1,0 +1,15 @@
+pub mod FindLemmas
+pub mod LevelLemmas
+pub mod RaisingLemmas
+pub mod FollowingLemmas
+pub mod CutLemmas
+pub mod ListedKeyLemmas
+pub mod LengthLemmas
+pub mod WalkLemmas
+pub mod InfinityLemmas
+pub mod NearLemmas
+pub mod PathLemmas
+pub mod FlagLemmas
+pub mod LeastLemmas
+pub mod CodeLemmas
+pub mod ValueLemmas

@@ -1,0 +1,6 @@
+use Rattle.std.proofs.Common.{◌≡◌, None}
+use Rattle.word_walk.proofs.PathLemmas.{raised_behind}
+use Rattle.word_walk.proofs.listing.Listing.raised.Given as goal
+
+abbrev pub invariant-loop-at : goal.invariant-loop-at
+invariant-loop-at l = raised_behind l.self.dfa 0 l.at l.word ≡ None
