@@ -1,0 +1,13 @@
+pub mod RestLemmas
+pub mod LinkedPaths
+pub mod ShiftedPaths
+pub mod TableLeads
+pub mod WidthLaws
+pub mod ConcatLemmas
+pub mod StarLemmas
+pub mod StarTableLemmas
+pub mod LinkedRowLemmas
+pub mod ShiftedRowLemmas
+pub mod TableRows
+pub mod PairLemmas
+pub mod OneResults

@@ -1,0 +1,16 @@
+//! Whether canonical automata accept no word.
+
+ghost use Rattle.std.specs.Prelude.{◌↔◌, IsTrue};
+ghost use Rattle.minimise.specs.Canonical.{IsCanonical};
+ghost use Rattle.minimise.specs.Residuals.{IsDead};
+
+use digit_tuple::dfa::Dfa;
+use minimise::sink::initial_state;
+
+/// Whether the canonical automaton accepts no word.
+pub fn accepts_nothing(d: &Dfa) -> bool
+    requires { IsCanonical d.now }
+    ensures { IsTrue result ↔ IsDead d.now 0 }
+{
+    initial_state(d) == d.states()
+}
