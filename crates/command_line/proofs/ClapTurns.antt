@@ -1,30 +1,37 @@
--- One word of the command line, as clap reads it where the command has the one option `--states` with a value.
-use Rattle.std.proofs.Common.{◌≡◌, ◌+◌, ℕ, Bool, true, false, zero, suc, nat_lt, if◌then◌else◌, List, [], ◌∷◌, ◌++◌, length, take, drop, Option, None, Some, unwrap_or, refl, sym, ap, ◌∙◌, subst, arith, rules as all_rules, codes}
+-- One word of the command line, as clap reads it where the command has the options `--states` and `--make` with a value, and the flag `--stop`.
+use Rattle.std.proofs.Common.{◌≡◌, ◌+◌, ◌⊎◌, ℕ, Bool, true, false, zero, suc, nat_lt, if◌then◌else◌, List, [], ◌∷◌, ◌++◌, length, take, drop, Option, None, Some, unwrap_or, refl, sym, ap, ◌∙◌, subst, inl, inr, arith, rules as all_rules, codes}
 use Rattle.std.specs.Str.{bytes_eq, chars}
 use Rattle.std.specs.Prelude.{slice_get, option_and_then, ◌==◌}
 use Rattle.std.proofs.lemmas.Slice.Eq.{bytes_eq-Decides}
-use Rattle.clap.specs.declared.builder.action.ArgAction.TheVariants.{Set}
 use Rattle.clap.specs.Lexer.{has_byte, long_of, long_of_rest, name_and_value, short_of, strip_byte}
 use Rattle.clap.specs.Walk.{Held, plain, Row, Rule, Text, Waiting, Walk, idle, option, positional, walked, pending_count, pushed, reacted, settled, short_word, bundle_met}
-use Rattle.clap.specs.Simple.{App, Shape, built, new_app, new_rule, on_top, with_rule}
+use Rattle.clap.specs.Simple.{Shape, built}
 use Rattle.clap.specs.Faults.{bundle_fault, flags_fault, react_fault, settle_fault, step_fault, turn_fault}
 use Rattle.clap.specs.Kinds.{Kinds, or_else}
+use Rattle.command_line.specs.Program.{states_arg, stop_arg, make_arg, walnut_app}
 
--- the option, the command and what building makes of it
-abbrev pub states_rule : Rule
-states_rule = record (new_rule (codes "states")) { long = Some (codes "states"); action = Some Set }
-
-abbrev pub walnut_app : App
-walnut_app = with_rule (on_top (λ s. record s { disable_version_flag = true }) (on_top (λ s. record s { disable_help_flag = true }) (new_app (codes "walnut")))) states_rule
-
+-- what building makes of the command
 abbrev pub shape : Shape
 shape = (built walnut_app).top
 
 abbrev pub rules : List Rule
 rules = shape.rules
 
-abbrev pub option_rule : Rule
-option_rule = unwrap_or (slice_get rules 0) states_rule
+abbrev pub stop_rule : Rule
+stop_rule = unwrap_or (slice_get rules 1) stop_arg
+
+-- the options that have a value
+pub data Valued : Type 0 where
+  of_states : Valued
+  of_make : Valued
+
+abbrev pub id_of : Valued → Text
+id_of of_states = codes "states"
+id_of of_make = codes "make"
+
+abbrev pub rule_at : Valued → Rule
+rule_at of_states = unwrap_or (slice_get rules 0) states_arg
+rule_at of_make = unwrap_or (slice_get rules 2) make_arg
 
 -- what is held before a word, and the walk there
 abbrev pub holds : List Row → Option (Text × List Text) → Held
@@ -39,6 +46,9 @@ turn held waiting word = turn_fault shape [] (stand held waiting false) word
 pub or_else_nil : (a b : Kinds) → or_else a b ≡ [] → (a ≡ []) × (b ≡ [])
 or_else_nil [] b e = (refl, e)
 or_else_nil (k ∷ ks) b e = cc
+
+pub or_else_both : (a b : Kinds) → a ≡ [] → b ≡ [] → or_else a b ≡ []
+or_else_both a b none none' = ap (λ (ks : Kinds). or_else ks b) none ∙ none'
 
 -- what a word is: the mark of the end, a long flag, or another
 pub data Looks (word : Text) : Type 0 where
@@ -100,15 +110,15 @@ long_parts (a ∷ word) p e = by_first (a == 45) refl e
         (rest.0, (λ i. same i ∷ rest.1 i), rest.2)
     by_first false is e = let none : None ≡ Some p = rw is at e in cc
 
--- the option as a word
-abbrev pub IsOptionWord : Text → Option Text → Type 0
-IsOptionWord word None = word ≡ codes "--states"
-IsOptionWord word (Some value) = word ≡ codes "--states=" ++ value
+-- an option as a word
+abbrev pub IsOptionWord : Text → Text → Option Text → Type 0
+IsOptionWord id word None = word ≡ 45 ∷ 45 ∷ id
+IsOptionWord id word (Some value) = word ≡ 45 ∷ 45 ∷ (id ++ 61 ∷ value)
 
-pub option_word : (word : Text) (p : Text × Option Text) → long_of word ≡ Some p → p.0 ≡ codes "states" → IsOptionWord word p.1
-option_word word p is named = spelled p.1 (let parts = long_parts word p is in (parts.0, parts.1, (let P : Text → Type 0 = λ name. IsNamed parts.0 name p.1 in subst P named parts.2)))
+pub option_word : (id word : Text) (value : Option Text) → long_of word ≡ Some (id, value) → IsOptionWord id word value
+option_word id word value is = spelled value (long_parts word (id, value) is)
   where
-    spelled : (value : Option Text) → (rest : Text) × (word ≡ 45 ∷ 45 ∷ rest) × IsNamed rest (codes "states") value → IsOptionWord word value
+    spelled : (value : Option Text) → (rest : Text) × (word ≡ 45 ∷ 45 ∷ rest) × IsNamed rest id value → IsOptionWord id word value
     spelled None (rest, split, is) = split ∙ ap (λ (ys : Text). 45 ∷ 45 ∷ ys) is
     spelled (Some value) (rest, split, is) = split ∙ ap (λ (ys : Text). 45 ∷ 45 ∷ ys) is
 
@@ -123,42 +133,90 @@ turn_at_mark held idle = refl
 turn_at_mark held (option id) = refl
 turn_at_mark held positional = refl
 
--- a long flag where no fault comes is the option
-pub flag_named : (held : Held) (waiting : Waiting) (word : Text) (p : Text × Option Text) → bytes_eq word (45 ∷ 45 ∷ []) ≡ false → long_of word ≡ Some p → turn held waiting word ≡ [] → p.0 ≡ codes "states"
-flag_named held waiting word p unlike is e = sym ((bytes_eq-Decides (codes "states") p.0).0 (named waiting (bytes_eq (codes "states") p.0) refl e))
+-- a long flag where no fault comes is one of the three
+abbrev pub IsName : Text → Type 0
+IsName name = ((v : Valued) × (name ≡ id_of v)) ⊎ (name ≡ codes "stop")
+
+pub flag_named : (held : Held) (waiting : Waiting) (word : Text) (p : Text × Option Text) → bytes_eq word (45 ∷ 45 ∷ []) ≡ false → long_of word ≡ Some p → turn held waiting word ≡ [] → IsName p.0
+flag_named held waiting word p unlike is e = by_states (bytes_eq (codes "states") p.0) refl
   where
-    named : (w : Waiting) (v : Bool) → bytes_eq (codes "states") p.0 ≡ v → turn held w word ≡ [] → v ≡ true
-    named w true same e = refl
-    named idle false same e = cc (rw (unlike, is, same) at e)
-    named (option id) false same e = cc (rw (unlike, is, same) at e)
-    named positional false same e = cc (rw (unlike, is, same) at e)
+    same : (name : Text) → bytes_eq name p.0 ≡ true → p.0 ≡ name
+    same name alike = sym ((bytes_eq-Decides name p.0).0 alike)
 
--- the option with its value in the word is used at once
-pub fault_at_value : (held : Held) (waiting : Waiting) (word value : Text) → bytes_eq word (45 ∷ 45 ∷ []) ≡ false → long_of word ≡ Some (codes "states", Some value)
-    → turn held waiting word ≡ or_else (react_fault rules false option_rule (value ∷ []) held) []
-fault_at_value held idle word value unlike is = rw (unlike, is) refl
-fault_at_value held (option id) word value unlike is = rw (unlike, is) refl
-fault_at_value held positional word value unlike is = rw (unlike, is) refl
+    unknown : (w : Waiting) → bytes_eq (codes "states") p.0 ≡ false → bytes_eq (codes "stop") p.0 ≡ false → bytes_eq (codes "make") p.0 ≡ false → turn held w word ≡ [] → IsName p.0
+    unknown idle no_states no_stop no_make e = cc (rw (unlike, is, no_states, no_stop, no_make) at e)
+    unknown (option id) no_states no_stop no_make e = cc (rw (unlike, is, no_states, no_stop, no_make) at e)
+    unknown positional no_states no_stop no_make e = cc (rw (unlike, is, no_states, no_stop, no_make) at e)
 
-pub turn_at_value : (held : Held) (waiting : Waiting) (word value : Text) → bytes_eq word (45 ∷ 45 ∷ []) ≡ false → long_of word ≡ Some (codes "states", Some value)
-    → walked rules [] (stand held waiting false) word ≡ stand (reacted rules option_rule (value ∷ []) held) idle false
+    by_make : bytes_eq (codes "states") p.0 ≡ false → bytes_eq (codes "stop") p.0 ≡ false → (v : Bool) → bytes_eq (codes "make") p.0 ≡ v → IsName p.0
+    by_make no_states no_stop true alike = inl (of_make, same (codes "make") alike)
+    by_make no_states no_stop false unlike' = unknown waiting no_states no_stop unlike' e
+
+    by_stop : bytes_eq (codes "states") p.0 ≡ false → (v : Bool) → bytes_eq (codes "stop") p.0 ≡ v → IsName p.0
+    by_stop no_states true alike = inr (same (codes "stop") alike)
+    by_stop no_states false unlike' = by_make no_states unlike' (bytes_eq (codes "make") p.0) refl
+
+    by_states : (v : Bool) → bytes_eq (codes "states") p.0 ≡ v → IsName p.0
+    by_states true alike = inl (of_states, same (codes "states") alike)
+    by_states false unlike' = by_stop unlike' (bytes_eq (codes "stop") p.0) refl
+
+-- an option with its value in the word is used at once
+pub fault_at_value : (v : Valued) (held : Held) (waiting : Waiting) (word value : Text) → bytes_eq word (45 ∷ 45 ∷ []) ≡ false → long_of word ≡ Some (id_of v, Some value)
+    → turn held waiting word ≡ or_else (react_fault rules false (rule_at v) (value ∷ []) held) []
+fault_at_value of_states held idle word value unlike is = rw (unlike, is) refl
+fault_at_value of_states held (option id) word value unlike is = rw (unlike, is) refl
+fault_at_value of_states held positional word value unlike is = rw (unlike, is) refl
+fault_at_value of_make held idle word value unlike is = rw (unlike, is) refl
+fault_at_value of_make held (option id) word value unlike is = rw (unlike, is) refl
+fault_at_value of_make held positional word value unlike is = rw (unlike, is) refl
+
+pub turn_at_value : (v : Valued) (held : Held) (waiting : Waiting) (word value : Text) → bytes_eq word (45 ∷ 45 ∷ []) ≡ false → long_of word ≡ Some (id_of v, Some value)
+    → walked rules [] (stand held waiting false) word ≡ stand (reacted rules (rule_at v) (value ∷ []) held) idle false
 unfolding walked
-turn_at_value held idle word value unlike is = rw (unlike, is) refl
-turn_at_value held (option id) word value unlike is = rw (unlike, is) refl
-turn_at_value held positional word value unlike is = rw (unlike, is) refl
+turn_at_value of_states held idle word value unlike is = rw (unlike, is) refl
+turn_at_value of_states held (option id) word value unlike is = rw (unlike, is) refl
+turn_at_value of_states held positional word value unlike is = rw (unlike, is) refl
+turn_at_value of_make held idle word value unlike is = rw (unlike, is) refl
+turn_at_value of_make held (option id) word value unlike is = rw (unlike, is) refl
+turn_at_value of_make held positional word value unlike is = rw (unlike, is) refl
 
 -- and else it waits for one
-pub fault_at_name : (held : Held) (waiting : Waiting) (word : Text) → bytes_eq word (45 ∷ 45 ∷ []) ≡ false → long_of word ≡ Some (codes "states", None) → turn held waiting word ≡ or_else (settle_fault rules false held) []
-fault_at_name held idle word unlike is = rw (unlike, is) refl
-fault_at_name held (option id) word unlike is = rw (unlike, is) refl
-fault_at_name held positional word unlike is = rw (unlike, is) refl
+pub fault_at_name : (v : Valued) (held : Held) (waiting : Waiting) (word : Text) → bytes_eq word (45 ∷ 45 ∷ []) ≡ false → long_of word ≡ Some (id_of v, None) → turn held waiting word ≡ or_else (settle_fault rules false held) []
+fault_at_name of_states held idle word unlike is = rw (unlike, is) refl
+fault_at_name of_states held (option id) word unlike is = rw (unlike, is) refl
+fault_at_name of_states held positional word unlike is = rw (unlike, is) refl
+fault_at_name of_make held idle word unlike is = rw (unlike, is) refl
+fault_at_name of_make held (option id) word unlike is = rw (unlike, is) refl
+fault_at_name of_make held positional word unlike is = rw (unlike, is) refl
 
-pub turn_at_name : (held : Held) (waiting : Waiting) (word : Text) → bytes_eq word (45 ∷ 45 ∷ []) ≡ false → long_of word ≡ Some (codes "states", None)
-    → walked rules [] (stand held waiting false) word ≡ stand (record (settled rules held) { pending = Some (codes "states", []) }) (option (codes "states")) false
+pub turn_at_name : (v : Valued) (held : Held) (waiting : Waiting) (word : Text) → bytes_eq word (45 ∷ 45 ∷ []) ≡ false → long_of word ≡ Some (id_of v, None)
+    → walked rules [] (stand held waiting false) word ≡ stand (record (settled rules held) { pending = Some (id_of v, []) }) (option (id_of v)) false
 unfolding walked
-turn_at_name held idle word unlike is = rw (unlike, is) refl
-turn_at_name held (option id) word unlike is = rw (unlike, is) refl
-turn_at_name held positional word unlike is = rw (unlike, is) refl
+turn_at_name of_states held idle word unlike is = rw (unlike, is) refl
+turn_at_name of_states held (option id) word unlike is = rw (unlike, is) refl
+turn_at_name of_states held positional word unlike is = rw (unlike, is) refl
+turn_at_name of_make held idle word unlike is = rw (unlike, is) refl
+turn_at_name of_make held (option id) word unlike is = rw (unlike, is) refl
+turn_at_name of_make held positional word unlike is = rw (unlike, is) refl
+
+-- the flag is used at once, and takes no value
+pub fault_at_stop : (held : Held) (waiting : Waiting) (word : Text) → bytes_eq word (45 ∷ 45 ∷ []) ≡ false → long_of word ≡ Some (codes "stop", None)
+    → turn held waiting word ≡ or_else (react_fault rules false stop_rule [] held) []
+fault_at_stop held idle word unlike is = rw (unlike, is) refl
+fault_at_stop held (option id) word unlike is = rw (unlike, is) refl
+fault_at_stop held positional word unlike is = rw (unlike, is) refl
+
+pub turn_at_stop : (held : Held) (waiting : Waiting) (word : Text) → bytes_eq word (45 ∷ 45 ∷ []) ≡ false → long_of word ≡ Some (codes "stop", None)
+    → walked rules [] (stand held waiting false) word ≡ stand (reacted rules stop_rule [] held) idle false
+unfolding walked
+turn_at_stop held idle word unlike is = rw (unlike, is) refl
+turn_at_stop held (option id) word unlike is = rw (unlike, is) refl
+turn_at_stop held positional word unlike is = rw (unlike, is) refl
+
+pub no_value_at_stop : (held : Held) (waiting : Waiting) (word value : Text) → bytes_eq word (45 ∷ 45 ∷ []) ≡ false → long_of word ≡ Some (codes "stop", Some value) → turn held waiting word ≡ [] → ⊥
+no_value_at_stop held idle word value unlike is e = cc (rw (unlike, is) at e)
+no_value_at_stop held (option id) word value unlike is e = cc (rw (unlike, is) at e)
+no_value_at_stop held positional word value unlike is e = cc (rw (unlike, is) at e)
 
 -- the command has no short flags: what looks like some is a fault, or is read as any word
 no_flags : (n : ℕ) (flags : Text) (held : Held) → flags_fault rules false n flags 0 held ≡ [] → bundle_met rules n flags 0 plain held ≡ (held, plain)
@@ -182,19 +240,25 @@ stray_where_idle rows pending word unlike none e = by_short (short_of word) refl
         let parts = or_else_nil (bundle_fault rules false flags held) (step_fault shape 1 (short_word rules idle word flags held).0 (short_word rules idle word flags held).1) both in
         cc (rw (no_flags (length flags) flags held parts.0) at parts.1)
 
--- where the option waits, it is the option's value
-pub value_where_waiting : (rows : List Row) (pending : Option (Text × List Text)) (word : Text) → bytes_eq word (45 ∷ 45 ∷ []) ≡ false → long_of word ≡ None → turn (holds rows pending) (option (codes "states")) word ≡ []
-    → walked rules [] (stand (holds rows pending) (option (codes "states")) false) word
-    ≡ stand (pushed (codes "states") word (holds rows pending)) (if nat_lt (pending_count option_rule (pushed (codes "states") word (holds rows pending)).pending) 1 then option (codes "states") else idle) false
+-- where an option waits, it is the option's value
+abbrev pub after_push : Valued → List Row → Text → Walk
+after_push v rows word = stand (holds rows (Some (id_of v, word ∷ []))) idle false
+
+pub value_where_waiting : (v : Valued) (rows : List Row) (word : Text) → bytes_eq word (45 ∷ 45 ∷ []) ≡ false → long_of word ≡ None → turn (holds rows (Some (id_of v, []))) (option (id_of v)) word ≡ []
+    → walked rules [] (stand (holds rows (Some (id_of v, []))) (option (id_of v)) false) word ≡ after_push v rows word
 unfolding walked
-value_where_waiting rows pending word unlike none e = by_short (short_of word) refl
+value_where_waiting v rows word unlike none e = by_short v (short_of word) refl e
   where
-    by_short : (s : Option Text) → short_of word ≡ s → walked rules [] (stand (holds rows pending) (option (codes "states")) false) word
-        ≡ stand (pushed (codes "states") word (holds rows pending)) (if nat_lt (pending_count option_rule (pushed (codes "states") word (holds rows pending)).pending) 1 then option (codes "states") else idle) false
-    by_short None is = rw (unlike, none, is) refl
-    by_short (Some flags) is =
-        let held : Held = holds rows pending in
-        let waiting : Waiting = option (codes "states") in
+    kept : (v : Valued) (flags : Text) → short_of word ≡ Some flags → turn (holds rows (Some (id_of v, []))) (option (id_of v)) word ≡ [] → bundle_met rules (length flags) flags 0 plain (holds rows (Some (id_of v, []))) ≡ (holds rows (Some (id_of v, [])), plain)
+    kept v flags is e =
+        let held : Held = holds rows (Some (id_of v, [])) in
+        let waiting : Waiting = option (id_of v) in
         let both : or_else (bundle_fault rules false flags held) (step_fault shape 1 (short_word rules waiting word flags held).0 (short_word rules waiting word flags held).1) ≡ [] = rw (unlike, none, is) at e in
-        let parts = or_else_nil (bundle_fault rules false flags held) (step_fault shape 1 (short_word rules waiting word flags held).0 (short_word rules waiting word flags held).1) both in
-        rw (unlike, none, is, no_flags (length flags) flags held parts.0) refl
+        no_flags (length flags) flags held (or_else_nil (bundle_fault rules false flags held) (step_fault shape 1 (short_word rules waiting word flags held).0 (short_word rules waiting word flags held).1) both).0
+
+    by_short : (v : Valued) (s : Option Text) → short_of word ≡ s → turn (holds rows (Some (id_of v, []))) (option (id_of v)) word ≡ []
+        → walked rules [] (stand (holds rows (Some (id_of v, []))) (option (id_of v)) false) word ≡ after_push v rows word
+    by_short of_states None is e = rw (unlike, none, is) refl
+    by_short of_make None is e = rw (unlike, none, is) refl
+    by_short of_states (Some flags) is e = rw (unlike, none, is, kept of_states flags is e) refl
+    by_short of_make (Some flags) is e = rw (unlike, none, is, kept of_make flags is e) refl

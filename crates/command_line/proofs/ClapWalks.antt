@@ -1,33 +1,36 @@
--- All words of the command line, as clap reads them where the command has the one option `--states` with a value.
-use Rattle.std.proofs.Common.{◌≡◌, ◌≢◌, rules as all_rules, is_some, Err, ◌<◌, ℕ, Bool, true, false, nat_lt, if◌then◌else◌, List, [], ◌∷◌, ◌++◌, length, drop, get_or, Option, None, Some, refl, sym, ap, ◌∙◌, subst, inl, inr, arith, codes}
+-- All words of the command line, as clap reads them: where nothing fails they are options one behind another.
+use Rattle.std.proofs.Common.{◌≡◌, ◌⊎◌, ℕ, ◌≤◌, zero, suc, Bool, true, false, is_some, if◌then◌else◌, List, [], ◌∷◌, ◌++◌, length, drop, Option, None, Some, refl, sym, ap, ◌∙◌, subst, inl, inr, arith, codes}
 use Rattle.std.specs.List.{fold}
+use Rattle.std.specs.Prelude.{slice_get}
 use Rattle.std.specs.Str.{bytes_eq}
-use Rattle.std.specs.Prelude.{◌==◌}
-use Rattle.std.proofs.lemmas.Fmt.{first_decimal}
+use Rattle.std.proofs.lemmas.List.{append_assoc}
 use Rattle.clap.specs.Lexer.{long_of}
-use Rattle.clap.specs.Walk.{Held, Row, Text, Waiting, Walk, idle, option, first_of, finished, nothing_held, settled, used, walked}
+use Rattle.clap.specs.Walk.{Held, Row, Text, Waiting, Walk, idle, option, first_of, finished, one_of, settled, settled_rows, used, walked}
 use Rattle.clap.specs.Simple.{built, entered, matches_of}
-use Rattle.clap.specs.Faults.{built_fault, check_fault, defaults_fault, entered_fault, fault_of, settle_fault, turn_fault, use_fault, react_fault, walk_fault}
-use Rattle.clap.specs.Kinds.{Kinds, HasKind, or_else, range_kinds}
-use Rattle.clap.specs.Values.{kind_of}
-use Rattle.clap.specs.declared.error.Error.{Error}
-use Rattle.clap.specs.declared.error.kind.ErrorKind.TheVariants as kind
-use Rattle.clap.proofs.OnLiterals.{clap_on_literals}
-use Rattle.command_line.specs.declared.words.WordsFault.{WordsFault}
-use Rattle.command_line.specs.declared.words.WordsFault.TheVariants as faults
-use Rattle.command_line.specs.WordReading.{ReadsValue}
-use Rattle.command_line.specs.Words.{AreOptions, IsEnd, NamesValue, IsLimit, GivesLimit}
-use Rattle.command_line.proofs.ClapTurns.{walnut_app, shape, rules, option_rule, holds, stand, turn, or_else_nil, Looks, mark, long, other, looks, option_word, stray_after_mark, turn_at_mark, flag_named, fault_at_value, turn_at_value, fault_at_name, turn_at_name, stray_where_idle, value_where_waiting}
+use Rattle.clap.specs.Faults.{check_fault, defaults_fault, entered_fault, fault_of, react_fault, settle_fault, turn_fault, use_fault, walk_fault}
+use Rattle.clap.specs.Kinds.{Kinds, or_else}
+use Rattle.clap.specs.Values.{bool_text}
+use Rattle.command_line.specs.Program.{walnut_app}
+use Rattle.command_line.specs.Words.{Given, states, stop, make, AreNameAndValue, AreWordsOfAll, IsEnd, states_in, seeds_in, stops_in, at_most_one, Names}
+use Rattle.command_line.proofs.ClapTurns.{shape, rules, stop_rule, Valued, of_states, of_make, id_of, rule_at, holds, stand, turn, or_else_nil, Looks, mark, long, other, looks, option_word, stray_after_mark, turn_at_mark, IsName, flag_named, fault_at_value, turn_at_value, fault_at_name, turn_at_name, fault_at_stop, turn_at_stop, no_value_at_stop, stray_where_idle, value_where_waiting}
+use Rattle.command_line.proofs.ClapUses.{AreUsed, rows_with, used_once, limits_counted, seeds_counted, stops_counted, Found, found_of_uses}
 
--- what is held after the words, what fails until then and there, and the option's value
-abbrev end_of : Walk → List Text → Held
+-- what is held after the words, and what fails until then and there
+abbrev pub end_of : Walk → List Text → Held
 end_of w words = (fold (walked rules []) w words).held
 
-abbrev faults_from : Walk → List Text → Kinds
+abbrev pub faults_from : Walk → List Text → Kinds
 faults_from w words = or_else (walk_fault shape [] w words) (settle_fault rules false (end_of w words))
 
-abbrev value_at : Held → Option Text
-value_at held = first_of (codes "states") (finished rules held)
+abbrev pub last_rows : Walk → List Text → List Row
+last_rows w words = (settled rules (end_of w words)).rows
+
+-- where nothing waits for a value, and where an option does
+abbrev pub at_idle : List Row → Option (Text × List Text) → Walk
+at_idle rows pending = stand (holds rows pending) idle false
+
+abbrev pub at_option : Valued → List Row → Walk
+at_option v rows = stand (holds rows (Some (id_of v, []))) (option (id_of v)) false
 
 -- one word more
 more : (w : Walk) (word : Text) (rest : List Text) → faults_from w (word ∷ rest) ≡ [] → (turn_fault shape [] w word ≡ []) × (faults_from (walked rules [] w word) rest ≡ [])
@@ -46,218 +49,229 @@ unfolding walk_fault
 after_mark held waiting [] e = (refl, e)
 after_mark held waiting (word ∷ rest) e = absurd (stray_after_mark held waiting word (more (stand held waiting true) word rest e).0)
 
--- a flag uses what is pending
-settles_at_flag : (held : Held) (waiting : Waiting) (word : Text) (p : Text × Option Text) → bytes_eq word (45 ∷ 45 ∷ []) ≡ false → long_of word ≡ Some p → turn held waiting word ≡ [] → settle_fault rules false held ≡ []
-settles_at_flag held waiting word (name, value) unlike is e = by_value value (flag_named held waiting word (name, value) unlike is e) is
-  where
-    by_value : (v : Option Text) → name ≡ codes "states" → long_of word ≡ Some (name, v) → settle_fault rules false held ≡ []
-    by_value None named is =
-        let is' : long_of word ≡ Some (codes "states", None) = is ∙ ap (λ (n : Text). let o : Option (Text × Option Text) = Some (n, None) in o) named in
-        (or_else_nil (settle_fault rules false held) [] (sym (fault_at_name held waiting word unlike is') ∙ e)).0
-    by_value (Some v) named is =
-        let is' : long_of word ≡ Some (codes "states", Some v) = is ∙ ap (λ (n : Text). let o : Option (Text × Option Text) = Some (n, Some v) in o) named in
-        let react = (or_else_nil (react_fault rules false option_rule (v ∷ []) held) [] (sym (fault_at_value held waiting word v unlike is') ∙ e)).0 in
-        (or_else_nil (settle_fault rules false held) (use_fault false option_rule (v ∷ []) (settled rules held).rows) react).0
-
--- the row of a value
-abbrev row : Text → List Row
-row value = used option_rule (value ∷ []) []
-
--- a second use is refused wherever it is made
-no_second_use : (value : Text) (values : List Text) → settle_fault rules false (holds (row value) (Some (codes "states", values))) ≡ [] → ⊥
-no_second_use value values e = cc ((or_else_nil (range_kinds 1 1 (length values)) _ e).1)
-
 -- the mark is the last word
 marked : (held : Held) (waiting : Waiting) (word : Text) (rest : List Text) → word ≡ 45 ∷ 45 ∷ [] → faults_from (walked rules [] (stand held waiting false) word) rest ≡ [] → (rest ≡ []) × (settle_fault rules false held ≡ [])
 marked held waiting word rest is e =
     let P : Text → Type 0 = λ w. faults_from (walked rules [] (stand held waiting false) w) rest ≡ [] in
     after_mark held waiting rest (moved (walked rules [] (stand held waiting false) (45 ∷ 45 ∷ [])) (stand held waiting true) rest (turn_at_mark held waiting) (subst P is e))
 
--- whether the option waits for its value
-abbrev waits : Bool → Waiting
-waits true = option (codes "states")
-waits false = idle
+-- a word is this flag
+renamed : (word name id : Text) (value : Option Text) → long_of word ≡ Some (name, value) → name ≡ id → long_of word ≡ Some (id, value)
+renamed word name id value is named = is ∙ ap (λ (n : Text). let o : Option (Text × Option Text) = Some (n, value) in o) named
 
-abbrev Again : Text → List Text → Type 0
-Again value rest = (f : Bool) (vs : List Text) → faults_from (stand (holds (row value) (Some (codes "states", vs))) (waits f) false) rest ≡ [] → ⊥
-
--- where the option has a value and is named again, the words are refused
-named_again : (flag : Bool) (value : Text) (values words : List Text) → faults_from (stand (holds (row value) (Some (codes "states", values))) (waits flag) false) words ≡ [] → ⊥
-unfolding walk_fault
-named_again flag value values [] e = no_second_use value values e
-named_again flag value values (word ∷ rest) e = by_look (λ f vs. named_again f value vs rest) flag (looks word) (more (stand (holds (row value) (Some (codes "states", values))) (waits flag) false) word rest e)
+-- a flag uses what is pending
+settles_at_flag : (held : Held) (waiting : Waiting) (word : Text) (p : Text × Option Text) → bytes_eq word (45 ∷ 45 ∷ []) ≡ false → long_of word ≡ Some p → turn held waiting word ≡ [] → settle_fault rules false held ≡ []
+settles_at_flag held waiting word (name, value) unlike is e = by_name value (flag_named held waiting word (name, value) unlike is e) is
   where
-    goes_on : Again value rest → (b : Bool) → faults_from (stand (holds (row value) (Some (codes "states", values ++ word ∷ []))) (if b then option (codes "states") else idle) false) rest ≡ [] → ⊥
-    goes_on again true e = again true (values ++ word ∷ []) e
-    goes_on again false e = again false (values ++ word ∷ []) e
+    by_name : (v : Option Text) → IsName name → long_of word ≡ Some (name, v) → settle_fault rules false held ≡ []
+    by_name None (inl (v, named)) is = (or_else_nil (settle_fault rules false held) [] (sym (fault_at_name v held waiting word unlike (renamed word name (id_of v) None is named)) ∙ e)).0
+    by_name (Some value) (inl (v, named)) is =
+        let react = (or_else_nil (react_fault rules false (rule_at v) (value ∷ []) held) [] (sym (fault_at_value v held waiting word value unlike (renamed word name (id_of v) (Some value) is named)) ∙ e)).0 in
+        (or_else_nil (settle_fault rules false held) (use_fault false (rule_at v) (value ∷ []) (settled rules held).rows) react).0
+    by_name None (inr named) is =
+        let react = (or_else_nil (react_fault rules false stop_rule [] held) [] (sym (fault_at_stop held waiting word unlike (renamed word name (codes "stop") None is named)) ∙ e)).0 in
+        (or_else_nil (settle_fault rules false held) (use_fault false stop_rule [] (settled rules held).rows) react).0
+    by_name (Some value) (inr named) is = absurd (no_value_at_stop held waiting word value unlike (renamed word name (codes "stop") (Some value) is named) e)
 
-    by_look : Again value rest → (f : Bool) → Looks word → (turn (holds (row value) (Some (codes "states", values))) (waits f) word ≡ []) × (faults_from (walked rules [] (stand (holds (row value) (Some (codes "states", values))) (waits f) false) word) rest ≡ []) → ⊥
-    by_look again f (mark is) step = no_second_use value values (marked (holds (row value) (Some (codes "states", values))) (waits f) word rest is step.1).1
-    by_look again f (long unlike p is) step = no_second_use value values (settles_at_flag (holds (row value) (Some (codes "states", values))) (waits f) word p unlike is step.0)
-    by_look again false (other unlike none) step = stray_where_idle (row value) (Some (codes "states", values)) word unlike none step.0
-    by_look again true (other unlike none) step = goes_on again (nat_lt (length (values ++ word ∷ [])) 1) (moved _ _ rest (value_where_waiting (row value) (Some (codes "states", values)) word unlike none step.0) step.1)
-
--- after the option's value only the mark may be
-after_value : (rows : List Row) (pending : Option (Text × List Text)) (value : Text) → (settled rules (holds rows pending)).rows ≡ row value → value_at (holds rows pending) ≡ Some value → (words : List Text)
-    → faults_from (stand (holds rows pending) idle false) words ≡ [] → IsEnd words × (value_at (end_of (stand (holds rows pending) idle false) words) ≡ Some value)
-after_value rows pending value used_is has [] e = (inl refl, has)
-after_value rows pending value used_is has (word ∷ rest) e = by_look (looks word) (more (stand (holds rows pending) idle false) word rest e)
-  where
-    by_flag : (p : Text × Option Text) → bytes_eq word (45 ∷ 45 ∷ []) ≡ false → long_of word ≡ Some p → p.0 ≡ codes "states" → turn (holds rows pending) idle word ≡ [] → faults_from (walked rules [] (stand (holds rows pending) idle false) word) rest ≡ [] → ⊥
-    by_flag (name, None) unlike is named now later =
-        let is' : long_of word ≡ Some (codes "states", None) = is ∙ ap (λ (n : Text). let o : Option (Text × Option Text) = Some (n, None) in o) named in
-        let P : List Row → Type 0 = λ rs. faults_from (stand (holds rs (Some (codes "states", []))) (option (codes "states")) false) rest ≡ [] in
-        named_again true value [] rest (subst P used_is (moved _ _ rest (turn_at_name (holds rows pending) idle word unlike is') later))
-    by_flag (name, Some v) unlike is named now later =
-        let is' : long_of word ≡ Some (codes "states", Some v) = is ∙ ap (λ (n : Text). let o : Option (Text × Option Text) = Some (n, Some v) in o) named in
-        let react = (or_else_nil (react_fault rules false option_rule (v ∷ []) (holds rows pending)) [] (sym (fault_at_value (holds rows pending) idle word v unlike is') ∙ now)).0 in
-        let second = (or_else_nil (settle_fault rules false (holds rows pending)) (use_fault false option_rule (v ∷ []) (settled rules (holds rows pending)).rows) react).1 in
-        let P : List Row → Type 0 = λ rs. use_fault false option_rule (v ∷ []) rs ≡ [] in
-        cc (subst P used_is second)
-
-    by_look : Looks word → (turn (holds rows pending) idle word ≡ []) × (faults_from (walked rules [] (stand (holds rows pending) idle false) word) rest ≡ []) → IsEnd (word ∷ rest) × (value_at (end_of (stand (holds rows pending) idle false) (word ∷ rest)) ≡ Some value)
-    by_look (mark is) step =
-        let none : rest ≡ [] = (marked (holds rows pending) idle word rest is step.1).0 in
-        let words : word ∷ rest ≡ codes "--" ∷ [] = λ i. is i ∷ none i in
-        let P : List Text → Type 0 = λ ws. value_at (end_of (stand (holds rows pending) idle false) ws) ≡ Some value in
-        (inr words, subst P (sym words) (ap (λ (w : Walk). value_at w.held) (turn_at_mark (holds rows pending) idle) ∙ has))
-    by_look (long unlike p is) step = absurd (by_flag p unlike is (flag_named (holds rows pending) idle word p unlike is step.0) step.0 step.1)
-    by_look (other unlike none) step = absurd (stray_where_idle rows pending word unlike none step.0)
-
--- what may come after the option's name: its value, and then the mark
-record Follows (words : List Text) (found : Option Text) : Type 0 where
-  value : Text
-  rest : List Text
-  split : words ≡ value ∷ rest
-  is_end : IsEnd rest
-  found_is : found ≡ Some value
-
-abbrev at_name : Held
-at_name = holds [] (Some (codes "states", []))
-
-none_yet : settle_fault rules false at_name ≡ [] → ⊥
-none_yet e = cc
-
-after_name : (words : List Text) → faults_from (stand at_name (option (codes "states")) false) words ≡ [] → Follows words (value_at (end_of (stand at_name (option (codes "states")) false) words))
-unfolding walk_fault
-after_name [] e = absurd (none_yet e)
-after_name (word ∷ rest) e = by_look (looks word) (more (stand at_name (option (codes "states")) false) word rest e)
-  where
-    by_look : Looks word → (turn at_name (option (codes "states")) word ≡ []) × (faults_from (walked rules [] (stand at_name (option (codes "states")) false) word) rest ≡ []) → Follows (word ∷ rest) (value_at (end_of (stand at_name (option (codes "states")) false) (word ∷ rest)))
-    by_look (mark is) step = absurd (none_yet (marked at_name (option (codes "states")) word rest is step.1).1)
-    by_look (long unlike p is) step = absurd (none_yet (settles_at_flag at_name (option (codes "states")) word p unlike is step.0))
-    by_look (other unlike none) step =
-        let there : walked rules [] (stand at_name (option (codes "states")) false) word ≡ stand (holds [] (Some (codes "states", word ∷ []))) idle false = value_where_waiting [] (Some (codes "states", [])) word unlike none step.0 in
-        let ends = after_value [] (Some (codes "states", word ∷ [])) word refl refl rest (moved _ _ rest there step.1) in
-        record {
-          value = word;
-          rest = rest;
-          split = refl;
-          is_end = ends.0;
-          found_is = ap (λ (w : Walk). value_at (end_of w rest)) there ∙ ends.1;
-        }
-
--- the words after the program's name
-record AreWords (words : List Text) (found : Option Text) : Type 0 where
+-- words that are options one behind another, which are used from some rows to others
+record Reads (rows : List Row) (words : List Text) (last : List Row) : Type 0 where
+  given : List Given
   options : List Text
   end : List Text
   split : words ≡ options ++ end
-  are_options : AreOptions options found
+  are_words : AreWordsOfAll given options
   is_end : IsEnd end
+  are_used : AreUsed given rows
+  last_is : last ≡ rows_with given rows
 
-abbrev at_start : Walk
-at_start = stand nothing_held idle false
+-- such words behind the words of one option
+joins : (v : Valued) (rows last : List Row) (value : Text) (words first rest : List Text) → words ≡ first ++ rest → AreNameAndValue (45 ∷ 45 ∷ id_of v) value first → use_fault false (rule_at v) (value ∷ []) rows ≡ []
+    → Reads (used (rule_at v) (value ∷ []) rows) rest last → Reads rows words last
+joins of_states rows last value words first rest split are free reads = record {
+  given = states value ∷ reads.given;
+  options = first ++ reads.options;
+  end = reads.end;
+  split = split ∙ (ap (λ (xs : List Text). first ++ xs) reads.split ∙ sym (append_assoc first reads.options reads.end));
+  are_words = (first, reads.options, refl, are, reads.are_words);
+  is_end = reads.is_end;
+  are_used = (free, reads.are_used);
+  last_is = reads.last_is;
+}
+joins of_make rows last value words first rest split are free reads = record {
+  given = make value ∷ reads.given;
+  options = first ++ reads.options;
+  end = reads.end;
+  split = split ∙ (ap (λ (xs : List Text). first ++ xs) reads.split ∙ sym (append_assoc first reads.options reads.end));
+  are_words = (first, reads.options, refl, are, reads.are_words);
+  is_end = reads.is_end;
+  are_used = (free, reads.are_used);
+  last_is = reads.last_is;
+}
 
-are_words : (words : List Text) → faults_from at_start words ≡ [] → AreWords words (value_at (end_of at_start words))
-are_words [] e = record { options = []; end = []; split = refl; are_options = refl; is_end = inl refl }
-are_words (word ∷ rest) e = by_look (looks word) (more at_start word rest e)
+joins_stop : (rows last : List Row) (words first rest : List Text) → words ≡ first ++ rest → first ≡ codes "--stop" ∷ [] → use_fault false stop_rule [] rows ≡ [] → Reads (used stop_rule [] rows) rest last → Reads rows words last
+joins_stop rows last words first rest split are free reads = record {
+  given = stop ∷ reads.given;
+  options = first ++ reads.options;
+  end = reads.end;
+  split = split ∙ (ap (λ (xs : List Text). first ++ xs) reads.split ∙ sym (append_assoc first reads.options reads.end));
+  are_words = (first, reads.options, refl, are, reads.are_words);
+  is_end = reads.is_end;
+  are_used = (free, reads.are_used);
+  last_is = reads.last_is;
+}
+
+to_last : (rows last last' : List Row) (words : List Text) → last' ≡ last → Reads rows words last → Reads rows words last'
+to_last rows last last' words same reads = let P : List Row → Type 0 = λ rs. Reads rows words rs in subst P (sym same) reads
+
+-- what is read where nothing waits, and where an option does
+abbrev IdleReads : List Text → Type 0
+IdleReads words = (rows : List Row) (pending : Option (Text × List Text)) → faults_from (at_idle rows pending) words ≡ []
+    → (settle_fault rules false (holds rows pending) ≡ []) × Reads (settled_rows rules pending rows) words (last_rows (at_idle rows pending) words)
+
+record FindsValue (v : Valued) (rows : List Row) (words : List Text) (last : List Row) : Type 0 where
+  value : Text
+  rest : List Text
+  split : words ≡ value ∷ rest
+  free : use_fault false (rule_at v) (value ∷ []) rows ≡ []
+  reads : Reads (used (rule_at v) (value ∷ []) rows) rest last
+
+abbrev WaitsReads : List Text → Type 0
+WaitsReads words = (v : Valued) (rows : List Row) → faults_from (at_option v rows) words ≡ [] → FindsValue v rows words (last_rows (at_option v rows) words)
+
+idle_at_end : IdleReads []
+unfolding walk_fault
+idle_at_end rows pending e = (e, record { given = []; options = []; end = []; split = refl; are_words = refl; is_end = inl refl; are_used = tt; last_is = refl })
+
+-- an option that waits for a value must get one
+no_value_yet : (v : Valued) (rows : List Row) → settle_fault rules false (holds rows (Some (id_of v, []))) ≡ [] → ⊥
+no_value_yet of_states rows e = cc
+no_value_yet of_make rows e = cc
+
+waits_at_end : WaitsReads []
+unfolding walk_fault
+waits_at_end v rows e = absurd (no_value_yet v rows e)
+
+waits_more : (word : Text) (rest : List Text) → IdleReads rest → WaitsReads (word ∷ rest)
+waits_more word rest goes_on v rows e = by_look (looks word) (more (at_option v rows) word rest e)
   where
-    by_flag : (p : Text × Option Text) → bytes_eq word (45 ∷ 45 ∷ []) ≡ false → long_of word ≡ Some p → p.0 ≡ codes "states" → faults_from (walked rules [] at_start word) rest ≡ [] → AreWords (word ∷ rest) (value_at (end_of at_start (word ∷ rest)))
-    by_flag (name, None) unlike is named later =
-        let is' : long_of word ≡ Some (codes "states", None) = is ∙ ap (λ (n : Text). let o : Option (Text × Option Text) = Some (n, None) in o) named in
-        let there = turn_at_name nothing_held idle word unlike is' in
-        let follows = after_name rest (moved _ _ rest there later) in
-        let found : value_at (end_of at_start (word ∷ rest)) ≡ Some follows.value = ap (λ (w : Walk). value_at (end_of w rest)) there ∙ follows.found_is in
-        let spelled : word ≡ codes "--states" = option_word word (name, None) is named in
-        let P : Option Text → Type 0 = λ v. AreWords (word ∷ rest) v in
-        subst P (sym found) (record { options = codes "--states" ∷ follows.value ∷ []; end = follows.rest; split = λ i. spelled i ∷ follows.split i; are_options = inl refl; is_end = follows.is_end })
-    by_flag (name, Some v) unlike is named later =
-        let is' : long_of word ≡ Some (codes "states", Some v) = is ∙ ap (λ (n : Text). let o : Option (Text × Option Text) = Some (n, Some v) in o) named in
-        let there : walked rules [] at_start word ≡ stand (holds (row v) None) idle false = turn_at_value nothing_held idle word v unlike is' in
-        let ends = after_value (row v) None v refl refl rest (moved _ _ rest there later) in
-        let found : value_at (end_of at_start (word ∷ rest)) ≡ Some v = ap (λ (w : Walk). value_at (end_of w rest)) there ∙ ends.1 in
-        let spelled : word ≡ codes "--states=" ++ v = option_word word (name, Some v) is named in
-        let P : Option Text → Type 0 = λ x. AreWords (word ∷ rest) x in
-        subst P (sym found) (record { options = (codes "--states=" ++ v) ∷ []; end = rest; split = λ i. spelled i ∷ rest; are_options = inr refl; is_end = ends.0 })
+    finds : (v : Valued) (last last' : List Row) → last' ≡ last → (settle_fault rules false (holds rows (Some (id_of v, word ∷ []))) ≡ []) × Reads (settled_rows rules (Some (id_of v, word ∷ [])) rows) rest last → FindsValue v rows (word ∷ rest) last'
+    finds of_states last last' same (free, reads) = record { value = word; rest = rest; split = refl; free = free; reads = to_last _ last last' rest same reads }
+    finds of_make last last' same (free, reads) = record { value = word; rest = rest; split = refl; free = free; reads = to_last _ last last' rest same reads }
 
-    by_look : Looks word → (turn nothing_held idle word ≡ []) × (faults_from (walked rules [] at_start word) rest ≡ []) → AreWords (word ∷ rest) (value_at (end_of at_start (word ∷ rest)))
+    by_look : Looks word → (turn (holds rows (Some (id_of v, []))) (option (id_of v)) word ≡ []) × (faults_from (walked rules [] (at_option v rows) word) rest ≡ []) → FindsValue v rows (word ∷ rest) (last_rows (at_option v rows) (word ∷ rest))
+    by_look (mark is) step = absurd (no_value_yet v rows (marked (holds rows (Some (id_of v, []))) (option (id_of v)) word rest is step.1).1)
+    by_look (long unlike p is) step = absurd (no_value_yet v rows (settles_at_flag (holds rows (Some (id_of v, []))) (option (id_of v)) word p unlike is step.0))
+    by_look (other unlike none) step =
+        let there : walked rules [] (at_option v rows) word ≡ at_idle rows (Some (id_of v, word ∷ [])) = value_where_waiting v rows word unlike none step.0 in
+        finds v (last_rows (at_idle rows (Some (id_of v, word ∷ []))) rest) _ (ap (λ (w : Walk). last_rows w rest) there) (goes_on rows (Some (id_of v, word ∷ [])) (moved _ _ rest there step.1))
+
+idle_more : (word : Text) (rest : List Text) → IdleReads rest → WaitsReads rest → IdleReads (word ∷ rest)
+idle_more word rest goes_on waits rows pending e = by_look (looks word) (more (at_idle rows pending) word rest e)
+  where
+    before : List Row
+    before = settled_rows rules pending rows
+
+    last : List Row
+    last = last_rows (at_idle rows pending) (word ∷ rest)
+
+    Both : Type 0
+    Both = (settle_fault rules false (holds rows pending) ≡ []) × Reads before (word ∷ rest) last
+
+    by_flag : (p : Text × Option Text) → bytes_eq word (45 ∷ 45 ∷ []) ≡ false → long_of word ≡ Some p → IsName p.0 → turn (holds rows pending) idle word ≡ [] → faults_from (walked rules [] (at_idle rows pending) word) rest ≡ [] → Both
+    by_flag (name, None) unlike is (inl (v, named)) now later =
+        let is' : long_of word ≡ Some (id_of v, None) = renamed word name (id_of v) None is named in
+        let there : walked rules [] (at_idle rows pending) word ≡ at_option v before = turn_at_name v (holds rows pending) idle word unlike is' in
+        let found = waits v before (moved _ _ rest there later) in
+        let spelled : word ≡ 45 ∷ 45 ∷ id_of v = option_word (id_of v) word None is' in (
+          (or_else_nil (settle_fault rules false (holds rows pending)) [] (sym (fault_at_name v (holds rows pending) idle word unlike is') ∙ now)).0,
+          joins v before last found.value (word ∷ rest) (word ∷ found.value ∷ []) found.rest (ap (λ (xs : List Text). word ∷ xs) found.split) (inl (λ i. spelled i ∷ found.value ∷ [])) found.free
+              (to_last _ _ last found.rest (ap (λ (w : Walk). last_rows w rest) there) found.reads),
+        )
+    by_flag (name, Some value) unlike is (inl (v, named)) now later =
+        let is' : long_of word ≡ Some (id_of v, Some value) = renamed word name (id_of v) (Some value) is named in
+        let there : walked rules [] (at_idle rows pending) word ≡ at_idle (used (rule_at v) (value ∷ []) before) None = turn_at_value v (holds rows pending) idle word value unlike is' in
+        let react = (or_else_nil (react_fault rules false (rule_at v) (value ∷ []) (holds rows pending)) [] (sym (fault_at_value v (holds rows pending) idle word value unlike is') ∙ now)).0 in
+        let parts = or_else_nil (settle_fault rules false (holds rows pending)) (use_fault false (rule_at v) (value ∷ []) before) react in
+        let spelled : word ≡ 45 ∷ 45 ∷ (id_of v ++ 61 ∷ value) = option_word (id_of v) word (Some value) is' in
+        let next = goes_on (used (rule_at v) (value ∷ []) before) None (moved _ _ rest there later) in
+        (parts.0, joins v before last value (word ∷ rest) (word ∷ []) rest refl (inr (λ i. spelled i ∷ [])) parts.1 (to_last _ _ last rest (ap (λ (w : Walk). last_rows w rest) there) next.1))
+    by_flag (name, None) unlike is (inr named) now later =
+        let is' : long_of word ≡ Some (codes "stop", None) = renamed word name (codes "stop") None is named in
+        let there : walked rules [] (at_idle rows pending) word ≡ at_idle (used stop_rule [] before) None = turn_at_stop (holds rows pending) idle word unlike is' in
+        let react = (or_else_nil (react_fault rules false stop_rule [] (holds rows pending)) [] (sym (fault_at_stop (holds rows pending) idle word unlike is') ∙ now)).0 in
+        let parts = or_else_nil (settle_fault rules false (holds rows pending)) (use_fault false stop_rule [] before) react in
+        let spelled : word ≡ codes "--stop" = option_word (codes "stop") word None is' in
+        let next = goes_on (used stop_rule [] before) None (moved _ _ rest there later) in
+        (parts.0, joins_stop before last (word ∷ rest) (word ∷ []) rest refl (λ i. spelled i ∷ []) parts.1 (to_last _ _ last rest (ap (λ (w : Walk). last_rows w rest) there) next.1))
+    by_flag (name, Some value) unlike is (inr named) now later = absurd (no_value_at_stop (holds rows pending) idle word value unlike (renamed word name (codes "stop") (Some value) is named) now)
+
+    by_look : Looks word → (turn (holds rows pending) idle word ≡ []) × (faults_from (walked rules [] (at_idle rows pending) word) rest ≡ []) → Both
     by_look (mark is) step =
-        let none : rest ≡ [] = (marked nothing_held idle word rest is step.1).0 in
-        let words : word ∷ rest ≡ codes "--" ∷ [] = λ i. is i ∷ none i in
-        let P : List Text → Type 0 = λ ws. AreWords ws (value_at (end_of at_start ws)) in
-        let Q : Option Text → Type 0 = λ v. AreWords (codes "--" ∷ []) v in
-        subst P (sym words) (subst Q (sym (ap (λ (w : Walk). value_at w.held) (turn_at_mark nothing_held idle))) (record { options = []; end = codes "--" ∷ []; split = refl; are_options = refl; is_end = inr refl }))
-    by_look (long unlike p is) step = by_flag p unlike is (flag_named nothing_held idle word p unlike is step.0) step.1
-    by_look (other unlike none) step = absurd (stray_where_idle [] None word unlike none step.0)
+        let ends = marked (holds rows pending) idle word rest is step.1 in
+        let none : rest ≡ [] = ends.0 in
+        let there : last ≡ last_rows (walked rules [] (at_idle rows pending) (45 ∷ 45 ∷ [])) [] = λ i. last_rows (walked rules [] (at_idle rows pending) (is i)) (none i) in (
+          ends.1,
+          record {
+            given = [];
+            options = [];
+            end = word ∷ rest;
+            split = refl;
+            are_words = refl;
+            is_end = inr (λ i. is i ∷ none i);
+            are_used = tt;
+            last_is = there ∙ ap (λ (w : Walk). (settled rules w.held).rows) (turn_at_mark (holds rows pending) idle);
+          },
+        )
+    by_look (long unlike p is) step = by_flag p unlike is (flag_named (holds rows pending) idle word p unlike is step.0) step.0 step.1
+    by_look (other unlike none) step = absurd (stray_where_idle rows pending word unlike none step.0)
+
+reads_all : (words : List Text) → IdleReads words × WaitsReads words
+reads_all [] = (idle_at_end, waits_at_end)
+reads_all (word ∷ rest) = let below = reads_all rest in (idle_more word rest below.0 below.1, waits_more word rest below.0)
 
 -- no fault of the whole parse is no fault of the walk
-of_walk : (words : List Text) → fault_of walnut_app words ≡ [] → faults_from at_start (drop 1 words) ≡ []
+of_walk : (words : List Text) → fault_of walnut_app words ≡ [] → faults_from (at_idle [] None) (drop 1 words) ≡ []
 of_walk words e =
     let tail : List Text = drop 1 words in
-    let end : Held = end_of at_start tail in
-    let stop : Option (Text × List Text) = (fold (walked rules []) at_start tail).stopped in
-    let last : Kinds = or_else (defaults_fault (settled rules end).rows rules) (check_fault shape (finished rules end) (is_some (entered (built walnut_app) stop))) in
-    let below : Kinds = or_else (entered_fault (built walnut_app) stop) (or_else (settle_fault rules false end) last) in
-    let parts = or_else_nil (walk_fault shape [] at_start tail) below e in
-    let parts' = or_else_nil (entered_fault (built walnut_app) stop) (or_else (settle_fault rules false end) last) parts.1 in
+    let end : Held = end_of (at_idle [] None) tail in
+    let stopped : Option (Text × List Text) = (fold (walked rules []) (at_idle [] None) tail).stopped in
+    let last : Kinds = or_else (defaults_fault (settled rules end).rows rules) (check_fault shape (finished rules end) (is_some (entered (built walnut_app) stopped))) in
+    let below : Kinds = or_else (entered_fault (built walnut_app) stopped) (or_else (settle_fault rules false end) last) in
+    let parts = or_else_nil (walk_fault shape [] (at_idle [] None) tail) below e in
+    let parts' = or_else_nil (entered_fault (built walnut_app) stopped) (or_else (settle_fault rules false end) last) parts.1 in
     let parts'' = or_else_nil (settle_fault rules false end) last parts'.1 in
     rw parts.0 parts''.0
 
--- what is parsed with no fault names a value, or none
-pub names_of_parse : (words : List Text) → fault_of walnut_app words ≡ [] → NamesValue words (first_of (codes "states") (matches_of walnut_app words))
+-- at most one value, and a flag at most once
+one_at_most : (values : List Text) → length values ≤ 1 → values ≡ at_most_one (slice_get values 0)
+one_at_most [] most = refl
+one_at_most (value ∷ []) most = refl
+one_at_most (value ∷ again ∷ values) most = absurd (omega arith)
+
+flag_of : (n : ℕ) → n ≤ 1 → (is_set : Bool) × (n ≡ (if is_set then 1 else 0))
+flag_of zero most = (false, refl)
+flag_of (suc zero) most = (true, refl)
+flag_of (suc (suc n)) most = absurd (omega arith)
+
+-- what is parsed with no fault names these values
+pub names_of_parse : (words : List Text) → fault_of walnut_app words ≡ []
+    → (is_stop : Bool) × Names words (first_of (codes "states") (matches_of walnut_app words)) is_stop (first_of (codes "make") (matches_of walnut_app words)) × (one_of (codes "stop") (matches_of walnut_app words) ≡ Some (bool_text is_stop))
 names_of_parse words e =
-    let are : AreWords (drop 1 words) (value_at (end_of at_start (drop 1 words))) = are_words (drop 1 words) (of_walk words e) in
-    record { options = are.options; end = are.end; split = are.split; are_options = are.are_options; is_end = are.is_end }
-
--- a value that does not begin with a hyphen is no fault
-no_fault_with_value : (value : Text) → 48 < get_or value 0 0 → (options end : List Text) → AreOptions options (Some value) → IsEnd end → built_fault (built walnut_app) nothing_held (options ++ end) ≡ []
-unfolding clap_on_literals
-no_fault_with_value [] digit options end are is_end = absurd (omega arith)
-no_fault_with_value (d ∷ ds) digit options end are is_end = by_test (d == 45) refl are is_end
-  where
-    taken : (d == 45) ≡ false → AreOptions options (Some (d ∷ ds)) → IsEnd end → built_fault (built walnut_app) nothing_held (options ++ end) ≡ []
-    taken differs (inl two) (inl none) = rw (two, none, differs, differs) refl
-    taken differs (inl two) (inr ended) = rw (two, ended, differs, differs) refl
-    taken differs (inr one) (inl none) = rw (one, none) refl
-    taken differs (inr one) (inr ended) = rw (one, ended) refl
-
-    by_test : (v : Bool) → (d == 45) ≡ v → AreOptions options (Some (d ∷ ds)) → IsEnd end → built_fault (built walnut_app) nothing_held (options ++ end) ≡ []
-    by_test true is are is_end = let same : d ≡ 45 = search all_rules in absurd (omega arith)
-    by_test false is are is_end = taken is are is_end
-
-no_fault_with_none : (options end : List Text) → AreOptions options None → IsEnd end → built_fault (built walnut_app) nothing_held (options ++ end) ≡ []
-unfolding clap_on_literals
-no_fault_with_none options end are (inl none) = rw (are, none) refl
-no_fault_with_none options end are (inr ended) = rw (are, ended) refl
-
--- words that give a limit are no fault
-no_fault : (words : List Text) (limit : ℕ) → GivesLimit words limit → fault_of walnut_app words ≡ []
-no_fault words limit (value, names, is) =
-    let P : List Text → Type 0 = λ tail. built_fault (built walnut_app) nothing_held tail ≡ [] in
-    subst P (sym names.split) (by_value value names.are_options is)
-  where
-    by_value : (v : Option Text) → AreOptions names.options v → IsLimit v limit → built_fault (built walnut_app) nothing_held (names.options ++ names.end) ≡ []
-    by_value None are is = no_fault_with_none names.options names.end are names.is_end
-    by_value (Some text) are (spelled, least, most) = no_fault_with_value text (rw spelled (first_decimal limit (omega arith) (omega arith))) names.options names.end are names.is_end
-
--- what a failed parse says
-pub refused_parse : (words : List Text) (fault : WordsFault) (error : Error) → (fault ≡ faults.Refused → kind_of error ≢ kind.OutOfMemory) → HasKind (fault_of walnut_app words) error → ReadsValue words (Err fault)
-refused_parse words faults.Memory error seen has = tt
-refused_parse words faults.Refused error seen has = λ limit gives.
-    let none : fault_of walnut_app words ≡ [] = no_fault words limit gives in
-    let P : Kinds → Type 0 = λ ks. HasKind ks error in
-    by_kind (subst P none has)
-  where
-    by_kind : HasKind [] error → ⊥
-    by_kind (inl memory) = seen refl memory
-    by_kind (inr among) = absurd among
+    let reads : Reads [] (drop 1 words) (last_rows (at_idle [] None) (drop 1 words)) = ((reads_all (drop 1 words)).0 [] None (of_walk words e)).1 in
+    let once = used_once reads.given [] reads.are_used in
+    let flag = flag_of (stops_in reads.given) (omega (arith, stops_counted reads.given, once (codes "stop"))) in
+    let found : Found reads.given flag.0 (matches_of walnut_app words) = found_of_uses reads.given flag.0 (last_rows (at_idle [] None) (drop 1 words)) reads.are_used flag.1 reads.last_is in (
+      flag.0,
+      record {
+        given = reads.given;
+        options = reads.options;
+        end = reads.end;
+        split = reads.split;
+        are_words = reads.are_words;
+        is_end = reads.is_end;
+        limits = one_at_most (states_in reads.given) (omega (arith, limits_counted reads.given, once (codes "states"))) ∙ ap at_most_one (sym found.limits);
+        stops = flag.1;
+        seeds = one_at_most (seeds_in reads.given) (omega (arith, seeds_counted reads.given, once (codes "make"))) ∙ ap at_most_one (sym found.seeds);
+      },
+      found.stops,
+    )

@@ -1,4 +1,6 @@
 -- Lemmas, in reading order.
-pub mod OneLimits
+pub mod OneOptions
 pub mod ClapTurns
+pub mod ClapUses
 pub mod ClapWalks
+pub mod ClapPasses

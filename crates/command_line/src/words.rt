@@ -1,13 +1,14 @@
-ghost use Rattle.std.specs.Prelude.{◌≡◌, ◌≢◌, map, string_bytes};
+ghost use Rattle.std.specs.Prelude.{◌≡◌, ◌≢◌, IfOk, map, string_bytes};
+ghost use Rattle.clap.specs.Simple.{app_of};
 ghost use Rattle.clap.specs.Values.{kind_of};
-ghost use Rattle.command_line.specs.WordReading.{ReadsLimit, ReadsValue, ReadsNumber};
+ghost use Rattle.command_line.specs.Program.{walnut_app};
+ghost use Rattle.command_line.specs.WordReading.{ReadsNames};
 
 use clap::error::ErrorKind;
 use clap::{Arg, ArgAction, Command, Error};
-use itoa::Buffer;
 use std::alloc::{AllocError, Global};
 
-/// Why the words of the command line give no limit.
+/// Why the words of the command line give no options.
 #[derive(Clone, Copy)]
 pub enum WordsFault {
     /// They are none that the program takes.
@@ -26,42 +27,48 @@ impl From<AllocError> for WordsFault {
     }
 }
 
-/// The most values of a step where the words name none.
-const DEFAULT_LIMIT: u32 = 100_000;
-
-/// The least number that the words may name, and the greatest.
-const LEAST: u32 = 16;
-
-const GREATEST: u32 = 1_000_000;
-
-/// The most values that a step may have, by the words of the command line: the program's name, and maybe the option `--states`.
-/// It is 100,000 without the option. Time and memory follow the words.
-///
-/// # Errors
-/// `Refused` where the words give no limit, or `Memory`.
-pub fn limit_of(alloc: Global, words: &[String]) -> Result<u32, WordsFault>
-    ensures { ReadsLimit (map string_bytes words.now) result }
-{
-    match value_of(alloc, words) {
-        Ok(None) => Ok(DEFAULT_LIMIT),
-        Ok(Some(text)) => number_of(text).ok_or(WordsFault::Refused),
-        Err(fault) => Err(fault),
-    }
+/// What the words name, as they have it.
+#[derive(Clone, Copy)]
+pub(crate) struct Named<'a> {
+    /// The value of `--states`.
+    pub(crate) limit: Option<&'a str>,
+    /// Whether `--stop` is among them.
+    pub(crate) stop: bool,
+    /// The value of `--make`.
+    pub(crate) seed: Option<&'a str>,
 }
 
-/// The value of the option `--states`, where the words have it.
-fn value_of(alloc: Global, words: &[String]) -> Result<Option<&str>, WordsFault>
-    ensures { ReadsValue (map string_bytes words.now) result }
+/// The command that takes the words.
+fn program<'a>(alloc: Global) -> Result<Command<'a>, AllocError>
+    ensures { IfOk result (λ command. app_of command ≡ walnut_app) }
 {
     let states = Arg::new(alloc, "states")
         .long("states")
         .action(ArgAction::Set);
+    let stop = Arg::new(alloc, "stop")
+        .long("stop")
+        .action(ArgAction::SetTrue);
+    let make = Arg::new(alloc, "make").long("make").action(ArgAction::Set);
     let command = Command::new(alloc, "walnut")
         .disable_help_flag(true)
         .disable_version_flag(true)
-        .arg(states)?;
+        .arg(states)?
+        .arg(stop)?
+        .arg(make)?;
+    Ok(command)
+}
+
+/// What the words name.
+pub(crate) fn names_of(alloc: Global, words: &[String]) -> Result<Named<'_>, WordsFault>
+    ensures { ReadsNames (map string_bytes words.now) result }
+{
+    let command = program(alloc)?;
     match command.try_get_matches_from(words) {
-        Ok(matches) => Ok(matches.get_str("states")),
+        Ok(matches) => Ok(Named {
+            limit: matches.get_str("states"),
+            stop: matches.get_flag("stop"),
+            seed: matches.get_str("make"),
+        }),
         Err(error) => Err(words_fault(&error)),
     }
 }
@@ -74,20 +81,5 @@ fn words_fault(error: &Error) -> WordsFault
         WordsFault::Memory
     } else {
         WordsFault::Refused
-    }
-}
-
-/// The limit that a text denotes: a number of the range, in decimal without a sign or a leading zero.
-fn number_of(text: &str) -> Option<u32>
-    ensures { ReadsNumber text.now result }
-{
-    let Ok(number) = text.parse::<u32>() else {
-        return None;
-    };
-    let mut buffer = Buffer::new();
-    if buffer.format(number) == text && LEAST <= number && number <= GREATEST {
-        Some(number)
-    } else {
-        None
     }
 }

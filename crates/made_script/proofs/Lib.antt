@@ -1,0 +1,2 @@
+-- Lemmas, in reading order.
+pub mod DrawnCommands
