@@ -1,31 +1,36 @@
 -- The plan of a resolved formula is over systems: a variable over that of its first occurrence.
 use Rattle.std.specs.Prelude.{nat_lt}
-use Rattle.std.specs.List.{AllByRecursion}
+use Rattle.std.specs.List.{AllByRecursion, filter}
 use Rattle.std.specs.Option.{option_or}
 use Rattle.std.specs.Str.{bytes_eq}
 use Rattle.std.proofs.lemmas.Bool.{lt-ltb, false≢true}
 use Rattle.std.proofs.lemmas.Slice.Eq.{bytes_eq-Decides}
-use Rattle.std.proofs.Common.{◌≡◌, ℕ, ◌+◌, ◌<◌, ◌≤◌, Bool, true, false, ◌||◌, if◌then◌else◌, List, [], ◌∷◌, ◌++◌, None, refl, sym, ap, ◌∙◌, subst, arith}
+use Rattle.std.proofs.Common.{◌≡◌, ℕ, ◌+◌, ◌<◌, ◌≤◌, Bool, true, false, ◌||◌, if◌then◌else◌, List, [], ◌∷◌, ◌++◌, map, None, Some, inl, inr, refl, sym, ap, ◌∙◌, subst, arith}
 use Rattle.digit_tuple.specs.declared.direction.Direction.{Direction}
-use Rattle.formula_parse.specs.Tokens.{Name, Quantifier, some, every}
-use Rattle.formula_parse.specs.Trees.{Names, no_names, names, Formula, atom, negated, chain, quantified, marked, Operands, no_operands, operands}
+use Rattle.formula_parse.specs.Tokens.{Name, Quantifier, some, every, infinite, less}
+use Rattle.formula_parse.specs.Trees.{Names, no_names, names, and, Formula, atom, negated, chain, quantified, marked, Operands, no_operands, operands}
 use Rattle.formula_plan.specs.Tracks.{Track, own, fresh, same_track, has_track, without}
-use Rattle.formula_plan.specs.Plans.{Plan, complement, projected, tracks, Made}
+use Rattle.formula_plan.specs.Plans.{Plan, compared, joined, complement, projected, tracks, Made}
 use Rattle.formula_plan.specs.FactPlans as plans
-use Rattle.formula_plan.specs.FormulaPlans.{chained, kept, projected_all, for_every, quantified_made, plan_of, operand_plans}
+use Rattle.formula_plan.specs.FormulaPlans.{chained, kept, projected_all, for_every, for_infinitely, for_infinitely_many, quantified_made, plan_of, operand_plans}
 use Rattle.formula_resolve.specs.Headers.{Headers}
 use Rattle.formula_resolve.specs.Mentions.{marks, mentions, mentions_among}
 use Rattle.formula_resolve.specs.Arity.{misuse, first_misuse}
 use Rattle.formula_resolve.specs.Occurrences.{Binders, unbound, is_listed, bound_by, occurrences, occurrences_among, all_occurrences}
+use Rattle.formula_resolve.specs.FreeOccurrences.{named, system_among, free_system}
 use Rattle.formula_resolve.specs.Clashes.{first_system, first_clash}
 use Rattle.formula_resolve.specs.Directions.{conflict_in, conflict_in_operands, conflict_among_parts, part_of, parts_among, first_conflict}
 use Rattle.formula_resolve.specs.declared.mention.Mention.{Mention}
 use Rattle.formula_resolve.specs.declared.occurrence.Occurrence.{Occurrence}
-use Rattle.formula_build.specs.TrackSystems.{TrackSystems, IsOver}
-use Rattle.formula_build.specs.Resolved.{plan_headers, AreDirections, or_none, system_under, systems_of}
-use Rattle.formula_build.proofs.AllLemmas.{all_first, all_second}
-use Rattle.formula_build.proofs.HasLemmas.{stays_apart}
-use Rattle.formula_build.proofs.OverLemmas.{over_depends, over_projected, Only, only_more, only_joined, Faces, over_joined}
+use Rattle.formula_build.specs.TrackSystems.{TrackSystems, with_system, HaveOneDirection, IsOver}
+use Rattle.formula_build.specs.Resolved.{plan_headers, ShareDirection, AreDirections, or_none, system_under, systems_of}
+use Rattle.formula_plan.proofs.TrackLemmas.{same_self, first_is}
+use Rattle.formula_plan.proofs.AgreementLemmas.{has_first, has_second}
+use Rattle.formula_build.proofs.AllLemmas.{all_first, all_second, all_two, all_filter, all_of}
+use Rattle.formula_build.proofs.HasLemmas.{has_cases, has_either, stays_apart, other_track_stays}
+use Rattle.formula_build.proofs.VariableSystemLemmas.{IsOutside, outside, member_found, found_member, free_system_is, among_up}
+use Rattle.formula_build.proofs.DirectionLemmas.{tracks_share}
+use Rattle.formula_build.proofs.OverLemmas.{each_among, over_depends, over_projected, Only, only_more, only_joined, Faces, over_joined}
 use Rattle.formula_build.proofs.TermOverLemmas.{IsOwn}
 use Rattle.formula_build.proofs.PlaceOverLemmas.{on_by, OccursAnywhere}
 use Rattle.formula_build.proofs.FactOverLemmas.{neither, fact_only, fact_over}
@@ -92,22 +97,56 @@ same_projections : (ks : List Name) (p q : Plan) → tracks p ≡ tracks q → t
 same_projections [] p q same = same
 same_projections (k ∷ ks) p q same = same_projections ks (projected (own k) p) (projected (own k) q) (ap (without (own k)) same)
 
-quantified_tracks : (q : Quantifier) (ks : List Name) (m : Made) → tracks (quantified_made q ks m).last ≡ tracks (projected_all ks m.last)
-quantified_tracks some ks m = refl
-quantified_tracks every [] m = refl
-quantified_tracks every (k ∷ ks) m = same_projections (k ∷ ks) (complement m.last) m.last refl
+every_tracks : (ks : List Name) (m : Made) → tracks (for_every ks m).last ≡ tracks (projected_all ks m.last)
+every_tracks [] m = refl
+every_tracks (k ∷ ks) m = same_projections (k ∷ ks) (complement m.last) m.last refl
 
-pub quantified_has : (q : Quantifier) (ns : Names) (m : Made) (u : Track) → has_track (tracks (quantified_made q (kept ns (tracks m.last)) m).last) u ≡ true
+-- `I` drops its variable, and its fresh bound
+pub infinitely_has : (s n : Name) (m : Made) (u : Track) → has_track (tracks (for_infinitely s n m).last) u ≡ true → (has_track (tracks m.last) u ≡ true) × (same_track (own n) u ≡ false)
+infinitely_has s n m u is =
+    let unbound_track = stays_apart (fresh m.next) (without (own n) (tracks m.last ++ (fresh m.next ∷ own n ∷ []))) u is in
+    let apart = stays_apart (own n) (tracks m.last ++ (fresh m.next ∷ own n ∷ [])) u unbound_track.0 in (
+      elim (has_either (tracks m.last) (fresh m.next ∷ own n ∷ []) u apart.0) [
+        | inl there ↦ there
+        | inr added_here ↦ absurd (elim (has_cases (fresh m.next) (own n ∷ []) u added_here) [
+          | inl same ↦ other (fresh m.next) unbound_track.1 same
+          | inr later ↦ elim (has_cases (own n) [] u later) [ inl same ↦ other (own n) apart.1 same | inr none ↦ false≢true none ]
+        ])
+      ],
+      apart.1,
+    )
+  where
+    other : (t : Track) → same_track t u ≡ false → t ≡ u → ⊥
+    other t none same = false≢true (sym none ∙ ap (same_track t) (sym same) ∙ same_self t)
+
+many_has : (on : Name → Name) (ns : Names) (m : Made) (u : Track) → has_track (tracks (for_infinitely_many on ns m).last) u ≡ true → (has_track (tracks m.last) u ≡ true) × (in_names ns u ≡ false)
+many_has on no_names m u is = (is, in_none u)
+many_has on (names ns n) m u is = by (has_track (tracks m.last) (own n)) refl (many_has on ns (for_infinitely (on n) n m) u) (many_has on ns m u) is
+  where
+    by : (b : Bool) → has_track (tracks m.last) (own n) ≡ b
+        → (has_track (tracks (for_infinitely_many on ns (for_infinitely (on n) n m)).last) u ≡ true → (has_track (tracks (for_infinitely (on n) n m).last) u ≡ true) × (in_names ns u ≡ false))
+        → (has_track (tracks (for_infinitely_many on ns m).last) u ≡ true → (has_track (tracks m.last) u ≡ true) × (in_names ns u ≡ false))
+        → has_track (tracks (for_infinitely_many on ns (if b then for_infinitely (on n) n m else m)).last) u ≡ true
+        → (has_track (tracks m.last) u ≡ true) × (in_names (names ns n) u ≡ false)
+    by true there first second now =
+        let known = first now in
+        let apart = infinitely_has (on n) n m u known.0 in
+        (apart.0, listed_more ns n u known.1 apart.1)
+    by false none first second now = let known = second now in (known.0, listed_more ns n u known.1 (not_there m.last n u none known.0))
+
+pub quantified_has : (q : Quantifier) (on : Name → Name) (ns : Names) (m : Made) (u : Track) → has_track (tracks (quantified_made q on ns m).last) u ≡ true
     → (has_track (tracks m.last) u ≡ true) × (in_names ns u ≡ false)
-quantified_has q ns m u is = kept_tracks ns m.last u (subst (λ (ts : List Track). has_track ts u ≡ true) (quantified_tracks q (kept ns (tracks m.last)) m) is)
+quantified_has some on ns m u is = kept_tracks ns m.last u is
+quantified_has every on ns m u is = kept_tracks ns m.last u (subst (λ (ts : List Track). has_track ts u ≡ true) (every_tracks (kept ns (tracks m.last)) m) is)
+quantified_has infinite on ns m u is = many_has on ns m u is
 
 -- a variable that is not listed has the binding that it had
 other_binder : (i : ℕ) (ns : Names) (b : Binders) (n : Name) → is_listed n ns ≡ false → bound_by i ns b n ≡ b n
 other_binder i ns b n none = ap (λ (c : Bool). if c then i else b n) none
 
-quantified_only : (Q : Occurrence → Type 0) (q : Quantifier) (ns : Names) (b : Binders) (i : ℕ) (m : Made) → Only (IsOwn (OccursAnywhere Q (bound_by i ns b))) m.last
-    → Only (IsOwn (OccursAnywhere Q b)) (quantified_made q (kept ns (tracks m.last)) m).last
-quantified_only Q q ns b i m only = λ u is. let known = quantified_has q ns m u is in outside u known.1 (only u known.0)
+quantified_only : (Q : Occurrence → Type 0) (q : Quantifier) (on : Name → Name) (ns : Names) (b : Binders) (i : ℕ) (m : Made) → Only (IsOwn (OccursAnywhere Q (bound_by i ns b))) m.last
+    → Only (IsOwn (OccursAnywhere Q b)) (quantified_made q on ns m).last
+quantified_only Q q on ns b i m only = λ u is. let known = quantified_has q on ns m u is in outside u known.1 (only u known.0)
   where
     outside : (u : Track) → in_names ns u ≡ false → IsOwn (OccursAnywhere Q (bound_by i ns b)) u → IsOwn (OccursAnywhere Q b) u
     outside (own n) none occurs = (occurs.0, subst (λ (k : ℕ). Q (record { name = n; binder = k; system = occurs.0 })) (other_binder i ns b n none) occurs.1)
@@ -127,7 +166,7 @@ mutual
       operands_only h Q os b i k rights.0 (all_first Q prefix.list last.list all) (plan_of (plan_headers h) f next).last
       (plan_only h Q f b prefix.next next rights.1 (all_second Q prefix.list last.list all))
   plan_only h Q (quantified q ns f) b i k right all =
-      quantified_only Q q ns b i (plan_of (plan_headers h) f k) (plan_only h Q f (bound_by i ns b) (i + 1) k right all)
+      quantified_only Q q ((plan_headers h).of_variable f) ns b i (plan_of (plan_headers h) f k) (plan_only h Q f (bound_by i ns b) (i + 1) k right all)
   plan_only h Q (marked ms f) b i k right all = plan_only h Q f b i k (right_both h (marks ms) (mentions f) right).1 all
 
   operands_only : (h : Headers) (Q : Occurrence → Type 0) (os : Operands) (b : Binders) (i k : ℕ) → first_misuse h (mentions_among os) ≡ None → AllByRecursion Q (occurrences_among h b i os).list
@@ -143,28 +182,46 @@ mutual
       (operands_only h Q os b i k rights.0 (all_first Q prefix.list last.list all) p (plan_only h Q f b prefix.next ps.next rights.1 (all_second Q prefix.list last.list all)))
       only
 
--- the numbers of quantifiers grow
-mutual
-  pub occurrences_up : (h : Headers) (b : Binders) (i : ℕ) (f : Formula) → i ≤ (occurrences h b i f).next
-  occurrences_up h b i (atom x) = omega arith
-  occurrences_up h b i (negated f) = occurrences_up h b i f
-  occurrences_up h b i (chain os f) =
-      let first = among_up h b i os in
-      let second = occurrences_up h b (occurrences_among h b i os).next f in
-      omega (arith, first, second)
-  occurrences_up h b i (quantified q ns f) = let up = occurrences_up h (bound_by i ns b) (i + 1) f in omega (arith, up)
-  occurrences_up h b i (marked ms f) = occurrences_up h b i f
-
-  pub among_up : (h : Headers) (b : Binders) (i : ℕ) (os : Operands) → i ≤ (occurrences_among h b i os).next
-  among_up h b i no_operands = omega arith
-  among_up h b i (operands os f j) =
-      let first = among_up h b i os in
-      let second = occurrences_up h b (occurrences_among h b i os).next f in
-      omega (arith, first, second)
-
 -- all binders are below the number of the next quantifier
 abbrev AreBelow : Binders → ℕ → Type 0
 AreBelow b i = (n : Name) → b n < i
+
+-- a variable that is a track is over the system of one of its occurrences, that which is first and free
+pub variable_found : (h : Headers) (P : Occurrence → Type 0) (f : Formula) (b : Binders) (i k : ℕ) → AreBelow b i → first_misuse h (mentions f) ≡ None → AllByRecursion P (occurrences h b i f).list
+    → (n : Name) → has_track (tracks (plan_of (plan_headers h) f k).last) (own n) ≡ true
+    → (o : Occurrence) × ((plan_headers h).of_variable f n ≡ o.system) × (o.name ≡ n) × (o.binder ≡ b n) × P o
+variable_found h P f b i k below right all n there =
+    (found.0, ap or_none (system_is ∙ ap Some (sym found.1)), sym found.2, bound ∙ ap b (sym found.2), found.3.0.0)
+  where
+    os : List Occurrence
+    os = (occurrences h b i f).list
+
+    free : List Occurrence
+    free = filter (λ o. nat_lt o.binder i) os
+
+    Found : Name → Type 0
+    Found m = (s : Name) × (system_among (map named free) m ≡ Some s)
+
+    Q : Occurrence → Type 0
+    Q o = nat_lt o.binder i ≡ true → Found o.name
+
+    here : OccursAnywhere Q b n
+    here = plan_only h Q f b i k right (all_kept (λ o. Found o.name) (λ o. nat_lt o.binder i) os (all_of (λ o. Found o.name) free (λ o member. member_found free o member))) (own n) there
+
+    system : Found n
+    system = here.1 (lt-ltb (b n) i (below n))
+
+    system_is : free_system h f n ≡ Some system.0
+    system_is = free_system_is h b i f n below ∙ system.1
+
+    kept : AllByRecursion (λ o. (P o × IsOutside b i o) × (nat_lt o.binder i ≡ true)) free
+    kept = all_filter (λ o. P o × IsOutside b i o) (λ o. nat_lt o.binder i) os (all_two P (IsOutside b i) os all (outside h i f b i (omega arith)))
+
+    found : (o : Occurrence) × (o.system ≡ system.0) × (n ≡ o.name) × ((P o × IsOutside b i o) × (nat_lt o.binder i ≡ true))
+    found = found_member (λ o. (P o × IsOutside b i o) × (nat_lt o.binder i ≡ true)) free n system.0 kept system.1
+
+    bound : found.0.binder ≡ b found.0.name
+    bound = found.3.0.1 found.3.1
 
 bound_below : (i : ℕ) (ns : Names) (b : Binders) → AreBelow b i → AreBelow (bound_by i ns b) (i + 1)
 bound_below i ns b below n = by (is_listed n ns) (below n)
@@ -173,7 +230,7 @@ bound_below i ns b below n = by (is_listed n ns) (below n)
     by true low = omega arith
     by false low = omega (arith, low)
 
-module _ (h : plans.Headers) (direction : Name → Direction) where
+module _ (h : plans.Headers) (direction : Name → Direction) (of_automata : (n : Name) → ShareDirection direction (h.of_automaton n)) (of_words : (n : Name) → ShareDirection direction (h.of_word n)) where
   -- a quantifier drops its variables over the systems inside
   kept_over : (ns : Names) (p : Plan) (inside outside : TrackSystems) → ((u : Track) → has_track (tracks p) u ≡ true → in_names ns u ≡ false → inside u ≡ outside u) → IsOver h direction inside p
       → IsOver h direction outside (projected_all (kept ns (tracks p)) p)
@@ -194,11 +251,70 @@ module _ (h : plans.Headers) (direction : Name → Direction) where
   every_over [] m on first second = first
   every_over (k ∷ ks) m on first second = second
 
-  quantified_over : (q : Quantifier) (ns : Names) (m : Made) (inside outside : TrackSystems) → ((u : Track) → has_track (tracks m.last) u ≡ true → in_names ns u ≡ false → inside u ≡ outside u)
-      → IsOver h direction inside m.last → IsOver h direction outside (quantified_made q (kept ns (tracks m.last)) m).last
-  quantified_over some ns m inside outside same over = kept_over ns m.last inside outside same over
-  quantified_over every ns m inside outside same over =
+  -- no track is fresh
+  abbrev HasNoFresh : Plan → Type 0
+  HasNoFresh p = (i : ℕ) → has_track (tracks p) (fresh i) ≡ true → ⊥
+
+  -- the variables that are tracks are in these systems
+  abbrev AreVariablesOn : (Name → Name) → TrackSystems → Plan → Type 0
+  AreVariablesOn systems on p = (n : Name) → has_track (tracks p) (own n) ≡ true → systems n ≡ on (own n)
+
+  infinitely_over : (s n : Name) (m : Made) (on : TrackSystems) → s ≡ on (own n) → HasNoFresh m.last → has_track (tracks m.last) (own n) ≡ true → IsOver h direction on m.last → IsOver h direction on (for_infinitely s n m).last
+  infinitely_over s n m on same none there over = (
+    other_track_stays (own n) (tracks m.last ++ (fresh m.next ∷ own n ∷ [])) (fresh m.next) (has_second (tracks m.last) (fresh m.next ∷ own n ∷ []) (fresh m.next) (first_is (fresh m.next) (own n ∷ []))) refl,
+    (
+      s,
+      over_projected h direction inside (own n) (joined and m.last less_than) (has_first (tracks m.last) (fresh m.next ∷ own n ∷ []) (own n) there) (over_inside, (bound_on, variable_on), one),
+    ),
+  )
+    where
+      inside : TrackSystems
+      inside = with_system (fresh m.next) s on
+
+      less_than : Plan
+      less_than = compared s less (fresh m.next) (own n)
+
+      stays : (u : Track) → has_track (tracks m.last) u ≡ true → on u ≡ inside u
+      stays (own v) is = refl
+      stays (fresh j) is = absurd (none j is)
+
+      over_inside : IsOver h direction inside m.last
+      over_inside = over_depends h direction m.last on inside stays over
+
+      bound_on : inside (fresh m.next) ≡ s
+      bound_on = ap (λ (b : Bool). if b then s else on (fresh m.next)) (same_self (fresh m.next))
+
+      variable_on : inside (own n) ≡ s
+      variable_on = sym same
+
+      one : HaveOneDirection direction inside m.last less_than
+      one u v in_m in_less =
+          tracks_share h direction of_automata of_words m.last inside over_inside u (own n) in_m there ∙ ap direction variable_on
+          ∙ sym (each_among (λ w. direction (inside w) ≡ direction s) (fresh m.next ∷ own n ∷ []) (ap direction bound_on, (ap direction variable_on, tt)) v in_less)
+
+  many_over : (systems : Name → Name) (ns : Names) (m : Made) (on : TrackSystems) → AreVariablesOn systems on m.last → HasNoFresh m.last → IsOver h direction on m.last → IsOver h direction on (for_infinitely_many systems ns m).last
+  many_over systems no_names m on variables none over = over
+  many_over systems (names ns n) m on variables none over = by (has_track (tracks m.last) (own n)) refl (many_over systems ns (for_infinitely (systems n) n m) on) (many_over systems ns m on variables none over)
+    where
+      after : Made
+      after = for_infinitely (systems n) n m
+
+      by : (b : Bool) → has_track (tracks m.last) (own n) ≡ b
+          → (AreVariablesOn systems on after.last → HasNoFresh after.last → IsOver h direction on after.last → IsOver h direction on (for_infinitely_many systems ns after).last)
+          → IsOver h direction on (for_infinitely_many systems ns m).last → IsOver h direction on (for_infinitely_many systems ns (if b then after else m)).last
+      by true there first second =
+          first (λ v is. variables v (infinitely_has (systems n) n m (own v) is).0) (λ j is. none j (infinitely_has (systems n) n m (fresh j) is).0)
+          (infinitely_over (systems n) n m on (variables n there) none there over)
+      by false apart first second = second
+
+  quantified_over : (q : Quantifier) (systems : Name → Name) (ns : Names) (m : Made) (inside outside : TrackSystems) → ((u : Track) → has_track (tracks m.last) u ≡ true → in_names ns u ≡ false → inside u ≡ outside u)
+      → AreVariablesOn systems inside m.last → HasNoFresh m.last → IsOver h direction inside m.last → IsOver h direction outside (quantified_made q systems ns m).last
+  quantified_over some systems ns m inside outside same variables none over = kept_over ns m.last inside outside same over
+  quantified_over every systems ns m inside outside same variables none over =
       every_over (kept ns (tracks m.last)) m outside (kept_over ns m.last inside outside same over) (kept_over ns (complement m.last) inside outside same over)
+  quantified_over infinite systems ns m inside outside same variables none over =
+      over_depends h direction (for_infinitely_many systems ns m).last inside outside (λ u is. let known = many_has systems ns m u is in same u known.0 known.1)
+      (many_over systems ns m inside variables none over)
 
 -- in a scope the variables are over the systems of their first occurrences
 abbrev pub scope_on : List Occurrence → Binders → TrackSystems
@@ -230,6 +346,14 @@ module _ (h : Headers) (direction : Name → Direction) (directions : AreDirecti
   unbound_same i ns b (own n) none = ap (λ (k : ℕ). or_none (first_system all (record { name = n; binder = k; system = [] }))) (other_binder i ns b n none)
   unbound_same i ns b (fresh j) none = refl
 
+  -- a variable is over the system at its first free occurrence
+  variable_on : (f : Formula) (b : Binders) (i k : ℕ) → AreBelow b i → first_misuse h (mentions f) ≡ None → AllByRecursion (Agrees all) (occurrences h b i f).list
+      → (n : Name) → has_track (tracks (plan_of ph f k).last) (own n) ≡ true → ph.of_variable f n ≡ scope_on all b (own n)
+  variable_on f b i k below right agree n there =
+      let found = variable_found h (Agrees all) f b i k below right agree n there in
+      let is : found.0 ≡ record { name = n; binder = b n; system = found.0.system } = λ j. record { name = found.2 j; binder = found.3 j; system = found.0.system } in
+      found.1 ∙ sym (agreed_system all b found.0.system n (subst (Agrees all) is found.4))
+
   mutual
     pub plan_over : (f : Formula) (b : Binders) (i k : ℕ) → AreBelow b i → first_misuse h (mentions f) ≡ None → conflict_in h b i f ≡ None → AllByRecursion (Agrees all) (occurrences h b i f).list
         → IsOver ph direction (scope_on all b) (plan_of ph f k).last
@@ -256,8 +380,12 @@ module _ (h : Headers) (direction : Name → Direction) (directions : AreDirecti
         (plan_over f b prefix.next next later rights.1 inner.1 second)
         (part_faces f b prefix.next next d later rights.1 second (all_second Faced parts (part ∷ []) facing.1).0)).0
     plan_over (quantified q ns f) b i k below right straight agree =
-        quantified_over ph direction q ns (plan_of ph f k) (scope_on all (bound_by i ns b)) (scope_on all b) (λ u is none. unbound_same i ns b u none)
-        (plan_over f (bound_by i ns b) (i + 1) k (bound_below i ns b below) right straight agree)
+        let inner = bound_by i ns b in
+        let low = bound_below i ns b below in
+        quantified_over ph direction directions.of_automaton directions.of_word q (ph.of_variable f) ns (plan_of ph f k) (scope_on all inner) (scope_on all b) (λ u is none. unbound_same i ns b u none)
+        (λ n there. variable_on f inner (i + 1) k low right agree n there)
+        (λ j is. plan_only h (Agrees all) f inner (i + 1) k right agree (fresh j) is)
+        (plan_over f inner (i + 1) k low right straight agree)
     plan_over (marked ms f) b i k below right straight agree = plan_over f b i k below (right_both h (marks ms) (mentions f) right).1 straight agree
 
     operands_over : (os : Operands) (b : Binders) (i k : ℕ) (d : Direction) → AreBelow b i → first_misuse h (mentions_among os) ≡ None → conflict_in_operands h b i os ≡ None

@@ -1,13 +1,13 @@
 -- The numbers of fresh tracks grow.
 use Rattle.std.specs.Prelude.{⊤}
-use Rattle.std.proofs.Common.{◌≡◌, ℕ, zero, suc, ◌+◌, ◌-◌, ◌/◌, ◌%◌, ◌==◌, ◌≤◌, Bool, true, false, if◌then◌else◌, List, [], ◌∷◌, slice_index_or, Option, None, Some, refl, arith}
-use Rattle.formula_parse.specs.Tokens.{Name, Relation, equal, Quantifier, some, every}
-use Rattle.formula_parse.specs.Trees.{Term, variable, numeral, product, sum, Factors, no_factors, factors, times, Terms, no_terms, terms, Addends, no_addends, addends, Fact, compare, words, word_letter, letter_word, call, Formula, atom, negated, chain, quantified, marked, Operands, no_operands, operands}
-use Rattle.formula_plan.specs.Tracks.{Track, fresh}
+use Rattle.std.proofs.Common.{◌≡◌, ℕ, zero, suc, ◌+◌, ◌-◌, ◌/◌, ◌%◌, ◌==◌, ◌≤◌, Bool, true, false, if◌then◌else◌, List, [], ◌∷◌, ◌++◌, slice_index_or, Option, None, Some, refl, arith}
+use Rattle.formula_parse.specs.Tokens.{Name, Relation, equal, Quantifier, some, every, infinite}
+use Rattle.formula_parse.specs.Trees.{Names, no_names, names, Term, variable, numeral, product, sum, Factors, no_factors, factors, times, divided, Terms, no_terms, terms, Addends, no_addends, addends, Fact, compare, words, word_letter, letter_word, call, Formula, atom, negated, chain, quantified, marked, Operands, no_operands, operands}
+use Rattle.formula_plan.specs.Tracks.{Track, own, fresh, has_track}
 use Rattle.formula_plan.specs.Plans.{compared, added, tracks, Made}
-use Rattle.formula_plan.specs.TermPlans.{TermPlan, no_times, linked, multiple, times_numeral, times_numerals, numeral_plan, begun, term_plan, factor_plans, sum_plan}
+use Rattle.formula_plan.specs.TermPlans.{TermPlan, no_times, linked, multiple, parted, below, quotient_made, Scaling, by_numeral, by_divisor, scaling_made, scaled, scaled_all, numeral_plan, begun, term_plan, factor_plans, sum_plan}
 use Rattle.formula_plan.specs.FactPlans.{Headers, count, argument_plans, Form, long, variable_left, variable_right, form_by, is_equal, as_variable, compare_by, fact_plan}
-use Rattle.formula_plan.specs.FormulaPlans.{kept, for_every, quantified_made, plan_of, operand_plans}
+use Rattle.formula_plan.specs.FormulaPlans.{kept, for_every, for_infinitely, for_infinitely_many, quantified_made, plan_of, operand_plans}
 
 if_up : (b : Bool) (m n : Made) (k : ℕ) → k ≤ m.next → k ≤ n.next → k ≤ (if b then m else n).next
 if_up true m n k first second = first
@@ -35,38 +35,56 @@ multiple_up (suc most) s c x y k =
     odd : Made
     odd = linked (multiple most s (c - 1) x (fresh k) (k + 1)) (fresh k) (added s (fresh k) x y)
 
-pub times_up : (s : Name) (p : TermPlan) (c : ℕ) → p.next + 1 ≤ (times_numeral s p c).next
-times_up s p c = multiple_up c s c p.placed.track (fresh p.next) (p.next + 1)
+quotient_up : (s : Name) (c : ℕ) (x y : Track) (k : ℕ) → k ≤ (quotient_made s c x y k).next
+quotient_up s c x y k =
+    if_up (c == 1) (record { steps = []; last = compared s equal x y; next = k })
+    (linked (record { steps = whole.steps ++ small.steps; last = small.last; next = small.next }) (fresh (k + 1)) whole.last) k (omega arith)
+    (let up = multiple_up c s c y (fresh k) (k + 3) in omega (arith, up))
+  where
+    whole : Made
+    whole = parted s c x y (fresh k) (fresh (k + 1)) (k + 3)
 
-pub numerals_up : (s : Name) (p : TermPlan) (cs : List ℕ) → p.next ≤ (times_numerals s p cs).next
-numerals_up s p [] = omega arith
-numerals_up s p (c ∷ cs) =
-    let first = times_up s p c in
-    let rest = numerals_up s (times_numeral s p c) cs in
+    small : Made
+    small = below s c (fresh (k + 1)) (fresh (k + 2)) whole.next
+
+pub scaling_up : (s : Name) (f : Scaling) (x y : Track) (k : ℕ) → k ≤ (scaling_made s f x y k).next
+scaling_up s (by_numeral c) x y k = multiple_up c s c x y k
+scaling_up s (by_divisor c) x y k = quotient_up s c x y k
+
+pub scaled_up : (s : Name) (p : TermPlan) (f : Scaling) → p.next + 1 ≤ (scaled s p f).next
+scaled_up s p f = scaling_up s f p.placed.track (fresh p.next) (p.next + 1)
+
+all_scaled_up : (s : Name) (p : TermPlan) (fs : List Scaling) → p.next ≤ (scaled_all s p fs).next
+all_scaled_up s p [] = omega arith
+all_scaled_up s p (f ∷ fs) =
+    let first = scaled_up s p f in
+    let rest = all_scaled_up s (scaled s p f) fs in
     omega (arith, first, rest)
 
 abbrev IsUp : Option (ℕ → TermPlan) → Type 0
 IsUp None = ⊤
 IsUp (Some plan) = (k : ℕ) → k ≤ (plan k).next
 
-begun_up : (s : Name) (other : Option (ℕ → TermPlan)) (cs : List ℕ) (k : ℕ) → IsUp other → k ≤ (begun s other cs k).next
-begun_up s (Some plan) cs k up =
+begun_up : (s : Name) (other : Option (ℕ → TermPlan)) (fs : List Scaling) (k : ℕ) → IsUp other → k ≤ (begun s other fs k).next
+begun_up s (Some plan) fs k up =
     let first = up k in
-    let rest = numerals_up s (plan k) cs in
+    let rest = all_scaled_up s (plan k) fs in
     omega (arith, first, rest)
 begun_up s None [] k up = omega arith
-begun_up s None (c ∷ cs) k up = let rest = numerals_up s (numeral_plan s c k) cs in omega (arith, rest)
+begun_up s None (by_numeral c ∷ fs) k up = let rest = all_scaled_up s (numeral_plan s c k) fs in omega (arith, rest)
+begun_up s None (by_divisor c ∷ fs) k up = let rest = all_scaled_up s (numeral_plan s 1 k) (by_divisor c ∷ fs) in omega (arith, rest)
 
 mutual
   pub term_up : (s : Name) (t : Term) (k : ℕ) → k ≤ (term_plan s t k).next
   term_up s (variable n) k = omega arith
   term_up s (numeral c) k = omega arith
-  term_up s (product fs) k = begun_up s (factor_plans s fs).other (factor_plans s fs).numerals k (factors_up s fs)
+  term_up s (product fs) k = begun_up s (factor_plans s fs).other (factor_plans s fs).scalings k (factors_up s fs)
   term_up s (sum ss t) k = sum_up s ss (term_plan s t) (term_up s t) k
 
   factors_up : (s : Name) (fs : Factors) → IsUp (factor_plans s fs).other
   factors_up s no_factors = tt
   factors_up s (factors fs (times (numeral c))) = factors_up s fs
+  factors_up s (factors fs (divided c)) = factors_up s fs
   factors_up s (factors fs (times (variable n))) = term_up s (variable n)
   factors_up s (factors fs (times (product gs))) = term_up s (product gs)
   factors_up s (factors fs (times (sum ss t))) = term_up s (sum ss t)
@@ -107,9 +125,17 @@ every_next : (ks : List Name) (m : Made) → (for_every ks m).next ≡ m.next
 every_next [] m = refl
 every_next (n ∷ ks) m = refl
 
-pub quantified_next : (q : Quantifier) (ks : List Name) (m : Made) → (quantified_made q ks m).next ≡ m.next
-quantified_next some ks m = refl
-quantified_next every ks m = every_next ks m
+pub many_up : (on : Name → Name) (ns : Names) (m : Made) → m.next ≤ (for_infinitely_many on ns m).next
+many_up on no_names m = omega arith
+many_up on (names ns n) m =
+    let first = if_up (has_track (tracks m.last) (own n)) (for_infinitely (on n) n m) m m.next (omega arith) (omega arith) in
+    let rest = many_up on ns (if has_track (tracks m.last) (own n) then for_infinitely (on n) n m else m) in
+    omega (arith, first, rest)
+
+pub quantified_up : (q : Quantifier) (on : Name → Name) (ns : Names) (m : Made) → m.next ≤ (quantified_made q on ns m).next
+quantified_up some on ns m = omega arith
+quantified_up every on ns m = let same = every_next (kept ns (tracks m.last)) m in omega (arith, same)
+quantified_up infinite on ns m = many_up on ns m
 
 mutual
   pub plan_up : (h : Headers) (f : Formula) (k : ℕ) → k ≤ (plan_of h f k).next
@@ -121,8 +147,8 @@ mutual
       omega (arith, first, second)
   plan_up h (quantified q ns f) k =
       let up = plan_up h f k in
-      let same = quantified_next q (kept ns (tracks (plan_of h f k).last)) (plan_of h f k) in
-      omega (arith, up, same)
+      let more = quantified_up q (h.of_variable f) ns (plan_of h f k) in
+      omega (arith, up, more)
   plan_up h (marked ms f) k = plan_up h f k
 
   pub operands_up : (h : Headers) (os : Operands) (k : ℕ) → k ≤ (operand_plans h os k).next

@@ -1,17 +1,20 @@
 -- The names in the plan of a resolved formula mean something if those of the formula do.
 use Rattle.std.specs.Prelude.{⊤}
-use Rattle.std.proofs.Common.{◌≡◌, ℕ, ℤ, zero, suc, ◌+◌, ◌-◌, ◌/◌, ◌%◌, ◌<◌, ◌==◌, Bool, true, false, if◌then◌else◌, List, [], ◌∷◌, slice_index_or, Option, None, Some, arith, subst, sym}
-use Rattle.formula_parse.specs.Tokens.{Name, Sign, plus, minus, Relation, equal, Quantifier, some, every}
-use Rattle.formula_parse.specs.Trees.{Term, variable, numeral, product, sum, Factors, no_factors, factors, times, Terms, no_terms, terms, Addends, no_addends, addends, Index, Fact, compare, words, word_letter, letter_word, call, Formula, atom, negated, chain, quantified, marked, Operands, no_operands, operands}
-use Rattle.formula_plan.specs.Tracks.{Track, own, fresh}
+use Rattle.std.specs.List.{AllByRecursion}
+use Rattle.std.proofs.Common.{◌≡◌, ℕ, ℤ, zero, suc, ◌+◌, ◌-◌, ◌/◌, ◌%◌, ◌<◌, ◌==◌, Bool, true, false, if◌then◌else◌, List, [], ◌∷◌, ◌++◌, slice_index_or, Option, None, Some, refl, arith, subst, sym}
+use Rattle.formula_parse.specs.Tokens.{Name, Sign, plus, minus, Relation, equal, Quantifier, some, every, infinite}
+use Rattle.formula_parse.specs.Trees.{Names, no_names, names, Term, variable, numeral, product, sum, Factors, no_factors, factors, times, divided, Terms, no_terms, terms, Addends, no_addends, addends, Index, Fact, compare, words, word_letter, letter_word, call, Formula, atom, negated, chain, quantified, marked, Operands, no_operands, operands}
+use Rattle.formula_plan.specs.Tracks.{Track, own, fresh, has_track}
 use Rattle.formula_plan.specs.Plans.{Plan, compared, added, called, lettered, paired, complement, projected, tracks, Made}
-use Rattle.formula_plan.specs.TermPlans.{TermPlan, closed_by, closed, no_times, linked, multiple, times_numeral, times_numerals, sum_relation, with_addend, numeral_plan, begun, term_plan, factor_plans, sum_plan}
+use Rattle.formula_plan.specs.TermPlans.{TermPlan, closed_by, closed, no_times, linked, multiple, parted, below, quotient_made, Scaling, by_numeral, by_divisor, scaling_made, scaled, scaled_all, sum_relation, with_addend, numeral_plan, begun, term_plan, factor_plans, sum_plan}
 use Rattle.formula_plan.specs.FactPlans.{Places, no_places, places, tracks_of, closed_all, count, argument_plans, letter_plan, words_plan, mirrored, Form, long, variable_left, variable_right, form_by, is_equal, as_variable, named_by, compare_by, fact_plan}
-use Rattle.formula_plan.specs.FormulaPlans.{chained, kept, projected_all, quantified_made, plan_of, operand_plans}
+use Rattle.formula_plan.specs.FormulaPlans.{chained, kept, projected_all, for_every, for_infinitely, for_infinitely_many, quantified_made, plan_of, operand_plans}
 use Rattle.formula_resolve.specs.Headers.{Headers, automaton_tracks, word_tracks}
 use Rattle.formula_resolve.specs.Mentions.{marks, mentions, mentions_among, fact_mentions}
 use Rattle.formula_resolve.specs.Mentions as mentioned
 use Rattle.formula_resolve.specs.Arity.{misuse, first_misuse}
+use Rattle.formula_resolve.specs.Occurrences.{Binders, unbound, bound_by, term_occurrences, place_occurrences, fact_occurrences, occurrences, occurrences_among}
+use Rattle.formula_resolve.specs.declared.occurrence.Occurrence.{Occurrence}
 use Rattle.formula_resolve.specs.declared.mention.Mention.TheVariants.{Called}
 use Rattle.num_system.specs.Sealed.{SystemValue}
 use Rattle.num_system.specs.Tracks.{absent_system}
@@ -21,7 +24,9 @@ use Rattle.formula_build.specs.KnownNames.{HasWord, IsKnownFact, AreKnownIn, Are
 use Rattle.formula_build.specs.Resolved.{plan_headers}
 use Rattle.formula_build.specs.TrackSystems.{IsKnown, Fits}
 use Rattle.formula_build.proofs.FactOverLemmas.{neither, automaton_counted, word_counted}
-use Rattle.formula_build.proofs.FormulaOverLemmas.{right_both}
+use Rattle.formula_build.proofs.AllLemmas.{all_both}
+use Rattle.formula_build.proofs.VariableSystemLemmas.{term_all, places_all}
+use Rattle.formula_build.proofs.FormulaOverLemmas.{right_both, infinitely_has, variable_found}
 use Rattle.formula_build.proofs.PartLemmas.{all_closed}
 
 module _ (l : LibraryValue) where
@@ -65,14 +70,26 @@ module _ (l : LibraryValue) where
   abbrev IsTermKnown : TermPlan → Type 0
   IsTermKnown p = IsValueKnown p.placed.relation
 
-  times_known : (s : Name) (p : TermPlan) (c : ℕ) → IsSystem s → IsTermKnown p → IsTermKnown (times_numeral s p c)
-  times_known s p c is known =
-      closed_known p.placed.track p.placed.relation (multiple c s c p.placed.track (fresh p.next) (p.next + 1)).last known
-      (multiple_known c s c p.placed.track (fresh p.next) (p.next + 1) is)
+  quotient_known : (s : Name) (c : ℕ) (x y : Track) (k : ℕ) → IsSystem s → IsKnown l (quotient_made s c x y k).last
+  quotient_known s c x y k is =
+      let whole = parted s c x y (fresh k) (fresh (k + 1)) (k + 3) in
+      let small = below s c (fresh (k + 1)) (fresh (k + 2)) whole.next in
+      if_known (c == 1) (record { steps = []; last = compared s equal x y; next = k })
+      (linked (record { steps = whole.steps ++ small.steps; last = small.last; next = small.next }) (fresh (k + 1)) whole.last) is
+      ((is, is), (multiple_known c s c y (fresh k) (k + 3) is, is))
 
-  numerals_known : (s : Name) (p : TermPlan) (cs : List ℕ) → IsSystem s → IsTermKnown p → IsTermKnown (times_numerals s p cs)
-  numerals_known s p [] is known = known
-  numerals_known s p (c ∷ cs) is known = numerals_known s (times_numeral s p c) cs is (times_known s p c is known)
+  scaling_known : (s : Name) (f : Scaling) (x y : Track) (k : ℕ) → IsSystem s → IsKnown l (scaling_made s f x y k).last
+  scaling_known s (by_numeral c) x y k is = multiple_known c s c x y k is
+  scaling_known s (by_divisor c) x y k is = quotient_known s c x y k is
+
+  scaled_known : (s : Name) (p : TermPlan) (f : Scaling) → IsSystem s → IsTermKnown p → IsTermKnown (scaled s p f)
+  scaled_known s p f is known =
+      closed_known p.placed.track p.placed.relation (scaling_made s f p.placed.track (fresh p.next) (p.next + 1)).last known
+      (scaling_known s f p.placed.track (fresh p.next) (p.next + 1) is)
+
+  all_scaled_known : (s : Name) (p : TermPlan) (fs : List Scaling) → IsSystem s → IsTermKnown p → IsTermKnown (scaled_all s p fs)
+  all_scaled_known s p [] is known = known
+  all_scaled_known s p (f ∷ fs) is known = all_scaled_known s (scaled s p f) fs is (scaled_known s p f is known)
 
   sum_known : (s : Name) (sign : Sign) (x y z : Track) → IsSystem s → IsKnown l (sum_relation s sign x y z)
   sum_known s plus x y z is = is
@@ -88,21 +105,23 @@ module _ (l : LibraryValue) where
   IsOtherKnown None = ⊤
   IsOtherKnown (Some plan) = (k : ℕ) → IsTermKnown (plan k)
 
-  begun_known : (s : Name) (other : Option (ℕ → TermPlan)) (cs : List ℕ) (k : ℕ) → IsSystem s → IsOtherKnown other → IsTermKnown (begun s other cs k)
-  begun_known s (Some plan) cs k is known = numerals_known s (plan k) cs is (known k)
+  begun_known : (s : Name) (other : Option (ℕ → TermPlan)) (fs : List Scaling) (k : ℕ) → IsSystem s → IsOtherKnown other → IsTermKnown (begun s other fs k)
+  begun_known s (Some plan) fs k is known = all_scaled_known s (plan k) fs is (known k)
   begun_known s None [] k is known = is
-  begun_known s None (c ∷ cs) k is known = numerals_known s (numeral_plan s c k) cs is is
+  begun_known s None (by_numeral c ∷ fs) k is known = all_scaled_known s (numeral_plan s c k) fs is is
+  begun_known s None (by_divisor c ∷ fs) k is known = all_scaled_known s (numeral_plan s 1 k) (by_divisor c ∷ fs) is is
 
   mutual
     term_known : (s : Name) → IsSystem s → (t : Term) (k : ℕ) → IsTermKnown (term_plan s t k)
     term_known s is (variable n) k = tt
     term_known s is (numeral c) k = is
-    term_known s is (product fs) k = begun_known s (factor_plans s fs).other (factor_plans s fs).numerals k is (factors_known s is fs)
+    term_known s is (product fs) k = begun_known s (factor_plans s fs).other (factor_plans s fs).scalings k is (factors_known s is fs)
     term_known s is (sum ss t) k = sums_known s is ss (term_plan s t) (term_known s is t) k
 
     factors_known : (s : Name) → IsSystem s → (fs : Factors) → IsOtherKnown (factor_plans s fs).other
     factors_known s is no_factors = tt
     factors_known s is (factors fs (times (numeral c))) = factors_known s is fs
+    factors_known s is (factors fs (divided c)) = factors_known s is fs
     factors_known s is (factors fs (times (variable n))) = term_known s is (variable n)
     factors_known s is (factors fs (times (product gs))) = term_known s is (product gs)
     factors_known s is (factors fs (times (sum ss t))) = term_known s is (sum ss t)
@@ -142,10 +161,30 @@ module _ (l : LibraryValue) where
   kept_known [] p known = known
   kept_known (k ∷ ks) p known = kept_known ks (projected (own k) p) known
 
-  quantified_known : (q : Quantifier) (ks : List Name) (m : Made) → IsKnown l m.last → IsKnown l (quantified_made q ks m).last
-  quantified_known some ks m known = kept_known ks m.last known
-  quantified_known every [] m known = known
-  quantified_known every (k ∷ ks) m known = kept_known (k ∷ ks) (complement m.last) known
+  every_known : (ks : List Name) (m : Made) → IsKnown l m.last → IsKnown l (for_every ks m).last
+  every_known [] m known = known
+  every_known (k ∷ ks) m known = kept_known (k ∷ ks) (complement m.last) known
+
+  -- the systems of the variables that are tracks are known
+  abbrev AreVariablesKnown : (Name → Name) → Plan → Type 0
+  AreVariablesKnown on p = (n : Name) → has_track (tracks p) (own n) ≡ true → IsSystem (on n)
+
+  many_known : (on : Name → Name) (ns : Names) (m : Made) → AreVariablesKnown on m.last → IsKnown l m.last → IsKnown l (for_infinitely_many on ns m).last
+  many_known on no_names m variables known = known
+  many_known on (names ns n) m variables known = by (has_track (tracks m.last) (own n)) refl (many_known on ns (for_infinitely (on n) n m)) (many_known on ns m variables known)
+    where
+      after : Made
+      after = for_infinitely (on n) n m
+
+      by : (b : Bool) → has_track (tracks m.last) (own n) ≡ b → (AreVariablesKnown on after.last → IsKnown l after.last → IsKnown l (for_infinitely_many on ns after).last)
+          → IsKnown l (for_infinitely_many on ns m).last → IsKnown l (for_infinitely_many on ns (if b then after else m)).last
+      by true there first second = first (λ v is. variables v (infinitely_has (on n) n m (own v) is).0) (known, variables n there)
+      by false apart first second = second
+
+  quantified_known : (q : Quantifier) (on : Name → Name) (ns : Names) (m : Made) → AreVariablesKnown on m.last → IsKnown l m.last → IsKnown l (quantified_made q on ns m).last
+  quantified_known some on ns m variables known = kept_known (kept ns (tracks m.last)) m.last known
+  quantified_known every on ns m variables known = every_known (kept ns (tracks m.last)) m known
+  quantified_known infinite on ns m variables known = many_known on ns m variables known
 
 module _ (l : LibraryValue) (h : Headers) (direction : Name → Direction) (fits : Fits l (plan_headers h) direction) where
   -- the values of a known word's indices
@@ -184,6 +223,54 @@ module _ (l : LibraryValue) (h : Headers) (direction : Name → Direction) (fits
       all_closed_known l ps.placed (called n (tracks_of ps.placed))
       (arguments_known l ss ts k (λ i low. (slice_index_or known.0.systems i absent_system, over.each i (omega (arith, low, counted))))) known
 
+  -- the systems of variables, where they occur, are known
+  index_occurrences_known : (x : Index) (b : Binders) → misuse h (mentioned.index_mention x) ≡ None → HasWord l x.word
+      → AllByRecursion (λ (o : Occurrence). IsSystem l o.system) (place_occurrences (word_tracks h x.word) b x.places)
+  index_occurrences_known x b right known =
+      let over = fits.words x.word known.0 known.1 in
+      places_all (λ (o : Occurrence). IsSystem l o.system) b (word_tracks h x.word) (λ i low n. (slice_index_or known.0.systems i absent_system, over.each i low)) x.places
+
+  fact_occurrences_known : (s : Name) (x : Fact) (b : Binders) → first_misuse h (fact_mentions x) ≡ None → IsKnownFact l s x
+      → AllByRecursion (λ (o : Occurrence). IsSystem l o.system) (fact_occurrences h b s x)
+  fact_occurrences_known s (compare t r u) b right known =
+      all_both (λ (o : Occurrence). IsSystem l o.system) (term_occurrences s b t) (term_occurrences s b u)
+      (term_all (λ (o : Occurrence). IsSystem l o.system) b s (λ n. known) t) (term_all (λ (o : Occurrence). IsSystem l o.system) b s (λ n. known) u)
+  fact_occurrences_known s (words x r y) b right known =
+      let of_x = neither (misuse h (mentioned.index_mention x)) (first_misuse h (mentioned.index_mention y ∷ [])) right in
+      all_both (λ (o : Occurrence). IsSystem l o.system) (place_occurrences (word_tracks h x.word) b x.places) (place_occurrences (word_tracks h y.word) b y.places)
+      (index_occurrences_known x b of_x.0 known.0) (index_occurrences_known y b (neither (misuse h (mentioned.index_mention y)) None of_x.1).0 known.1)
+  fact_occurrences_known s (word_letter x r c) b right known = index_occurrences_known x b (neither (misuse h (mentioned.index_mention x)) None right).0 known
+  fact_occurrences_known s (letter_word c r x) b right known = index_occurrences_known x b (neither (misuse h (mentioned.index_mention x)) None right).0 known
+  fact_occurrences_known s (call n ts) b right known =
+      let over = fits.relations n known.0 known.1 in
+      places_all (λ (o : Occurrence). IsSystem l o.system) b (automaton_tracks h n) (λ i low m. (slice_index_or known.0.systems i absent_system, over.each i low)) ts
+
+  mutual
+    occurrences_known : (f : Formula) (b : Binders) (i : ℕ) → first_misuse h (mentions f) ≡ None → AreKnownIn l f → AllByRecursion (λ (o : Occurrence). IsSystem l o.system) (occurrences h b i f).list
+    occurrences_known (atom x) b i right known = fact_occurrences_known x.system x.fact b right known
+    occurrences_known (negated f) b i right known = occurrences_known f b i right known
+    occurrences_known (chain os f) b i right known =
+        let prefix = occurrences_among h b i os in
+        let last = occurrences h b prefix.next f in
+        let rights = right_both h (mentions_among os) (mentions f) right in
+        all_both (λ (o : Occurrence). IsSystem l o.system) prefix.list last.list (among_known os b i rights.0 known.0) (occurrences_known f b prefix.next rights.1 known.1)
+    occurrences_known (quantified q ns f) b i right known = occurrences_known f (bound_by i ns b) (i + 1) right known
+    occurrences_known (marked ms f) b i right known = occurrences_known f b i (right_both h (marks ms) (mentions f) right).1 known
+
+    among_known : (os : Operands) (b : Binders) (i : ℕ) → first_misuse h (mentions_among os) ≡ None → AreKnownAmong l os
+        → AllByRecursion (λ (o : Occurrence). IsSystem l o.system) (occurrences_among h b i os).list
+    among_known no_operands b i right known = tt
+    among_known (operands os f j) b i right known =
+        let prefix = occurrences_among h b i os in
+        let last = occurrences h b prefix.next f in
+        let rights = right_both h (mentions_among os) (mentions f) right in
+        all_both (λ (o : Occurrence). IsSystem l o.system) prefix.list last.list (among_known os b i rights.0 known.0) (occurrences_known f b prefix.next rights.1 known.1)
+
+  variables_known : (f : Formula) (k : ℕ) → first_misuse h (mentions f) ≡ None → AreKnownIn l f → AreVariablesKnown l ((plan_headers h).of_variable f) (plan_of (plan_headers h) f k).last
+  variables_known f k right known n there =
+      let found = variable_found h (λ (o : Occurrence). IsSystem l o.system) f unbound 1 k (λ m. omega arith) right (occurrences_known f unbound 1 right known) n there in
+      subst (IsSystem l) (sym found.1) found.4
+
   mutual
     pub known_plans : (f : Formula) (k : ℕ) → first_misuse h (mentions f) ≡ None → AreKnownIn l f → IsKnown l (plan_of (plan_headers h) f k).last
     known_plans (atom x) k right known = fact_known x.system x.fact k right known
@@ -193,8 +280,7 @@ module _ (l : LibraryValue) (h : Headers) (direction : Name → Direction) (fits
         let rights = right_both h (mentions_among os) (mentions f) right in
         operands_known os k rights.0 known.0 (plan_of (plan_headers h) f next).last (known_plans f next rights.1 known.1)
     known_plans (quantified q ns f) k right known =
-        let m = plan_of (plan_headers h) f k in
-        quantified_known l q (kept ns (tracks m.last)) m (known_plans f k right known)
+        quantified_known l q ((plan_headers h).of_variable f) ns (plan_of (plan_headers h) f k) (variables_known f k right known) (known_plans f k right known)
     known_plans (marked ms f) k right known = known_plans f k (right_both h (marks ms) (mentions f) right).1 known
 
     operands_known : (os : Operands) (k : ℕ) → first_misuse h (mentions_among os) ≡ None → AreKnownAmong l os → (q : Plan) → IsKnown l q → IsKnown l (chained (operand_plans (plan_headers h) os k).operands q)

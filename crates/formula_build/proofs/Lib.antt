@@ -23,6 +23,8 @@ pub mod TermOverLemmas
 pub mod PlaceOverLemmas
 pub mod FactOverLemmas
 pub mod ResolvedLemmas
+pub mod VariableSystemLemmas
+pub mod DirectionLemmas
 pub mod FormulaOverLemmas
 pub mod KnownLemmas
 pub mod ParsedNames

@@ -3,17 +3,17 @@
 use Rattle.std.specs.Prelude.{⊤}
 use Rattle.std.proofs.Common.{◌≡◌, ℕ, ℤ, zero, suc, ◌+◌, ◌-◌, ◌/◌, ◌%◌, ◌^◌, ◌==◌, ◌≤◌, Bool, true, false, if◌then◌else◌, List, [], ◌∷◌, ◌++◌, slice_index_or, Option, None, Some, refl, arith}
 use Rattle.std.specs.List.{AllByRecursion}
-use Rattle.formula_parse.specs.Tokens.{Name, Sign, plus, minus, Relation, equal, Quantifier, some, every}
-use Rattle.formula_parse.specs.Trees.{Term, variable, numeral, product, sum, Factors, no_factors, factors, times, Terms, no_terms, terms, Addends, no_addends, addends, Names, no_names, names, Index, Fact, compare, words, word_letter, letter_word, call, Formula, atom, negated, chain, quantified, marked, Operands, no_operands, operands}
+use Rattle.formula_parse.specs.Tokens.{Name, Sign, plus, minus, Relation, equal, Quantifier, some, every, infinite}
+use Rattle.formula_parse.specs.Trees.{Term, variable, numeral, product, sum, Factors, no_factors, factors, times, divided, Terms, no_terms, terms, Addends, no_addends, addends, Names, no_names, names, Index, Fact, compare, words, word_letter, letter_word, call, Formula, atom, negated, chain, quantified, marked, Operands, no_operands, operands}
 use Rattle.formula_plan.specs.Tracks.{Track, own, fresh, has_track, without}
 use Rattle.formula_plan.specs.Plans.{Plan, compared, added, called, lettered, paired, complement, projected, tracks, Made}
-use Rattle.formula_plan.specs.TermPlans.{TermPlan, closed_by, closed, no_times, linked, multiple, times_numeral, times_numerals, sum_relation, with_addend, numeral_plan, begun, term_plan, factor_plans, sum_plan}
+use Rattle.formula_plan.specs.TermPlans.{TermPlan, closed_by, closed, no_times, linked, multiple, parted, below, quotient_made, Scaling, by_numeral, by_divisor, scaling_made, scaled, scaled_all, sum_relation, with_addend, numeral_plan, begun, term_plan, factor_plans, sum_plan}
 use Rattle.formula_plan.specs.FactPlans.{Headers, Places, no_places, places, tracks_of, all_places, closed_all, count, argument_plans, Form, long, variable_left, variable_right, form_by, is_equal, as_variable, named_by, compare_by, mirrored, letter_plan, fact_plan}
-use Rattle.formula_plan.specs.FormulaPlans.{chained, kept, projected_all, for_every, quantified_made, plan_of, operand_plans}
+use Rattle.formula_plan.specs.FormulaPlans.{chained, kept, projected_all, for_every, for_infinitely, for_infinitely_many, quantified_made, plan_of, operand_plans}
 use Rattle.formula_build.specs.TrackNames.{begins_with_letter, IsNamed, AreNamed}
 use Rattle.formula_build.specs.VariableNames.{IsNamedTerm, AreNamedFactors, AreNamedAddends, AreNamedTerms, IsNamedFact, AreNamedIn, AreNamedAmong}
 use Rattle.formula_build.proofs.TrackNameLemmas.{named_track}
-use Rattle.formula_build.proofs.GrowthLemmas.{multiple_up, times_up, term_up, arguments_up, quantified_next, plan_up}
+use Rattle.formula_build.proofs.GrowthLemmas.{multiple_up, scaled_up, term_up, arguments_up, many_up, quantified_up, plan_up}
 
 abbrev AreNamedOption : Option Plan → Type 0
 AreNamedOption None = ⊤
@@ -80,17 +80,41 @@ multiple_named (suc most) s c x y k first second =
     odd_named : (IsNamed (fresh k) → IsMadeNamed less) → IsMadeNamed odd
     odd_named former room = let here = below_less room in (here, (former here room, (here, first, second)))
 
-times_named : (s : Name) (p : TermPlan) (c : ℕ) → IsPlanNamed p → IsPlanNamed (times_numeral s p c)
-times_named s p c named room =
-    let up = times_up s p c in
+quotient_named : (s : Name) (c : ℕ) (x y : Track) (k : ℕ) → IsNamed x → IsNamed y → IsMadeNamed (quotient_made s c x y k)
+quotient_named s c x y k first second = if_named (c == 1) (record { steps = []; last = compared s equal x y; next = k }) parts (λ room. (first, second)) more
+  where
+    whole : Made
+    whole = parted s c x y (fresh k) (fresh (k + 1)) (k + 3)
+
+    small : Made
+    small = below s c (fresh (k + 1)) (fresh (k + 2)) whole.next
+
+    parts : Made
+    parts = linked (record { steps = whole.steps ++ small.steps; last = small.last; next = small.next }) (fresh (k + 1)) whole.last
+
+    more : IsMadeNamed parts
+    more room =
+        let up = multiple_up c s c y (fresh k) (k + 3) in
+        let part_named : IsNamed (fresh k) = omega (arith, up, room) in
+        let rest_named : IsNamed (fresh (k + 1)) = omega (arith, up, room) in
+        let bound_named : IsNamed (fresh (k + 2)) = omega (arith, up, room) in
+        (rest_named, ((bound_named, (bound_named, (rest_named, bound_named))), (part_named, (multiple_named c s c y (fresh k) (k + 3) second part_named room, (part_named, rest_named, first)))))
+
+scaling_named : (s : Name) (f : Scaling) (x y : Track) (k : ℕ) → IsNamed x → IsNamed y → IsMadeNamed (scaling_made s f x y k)
+scaling_named s (by_numeral c) x y k first second = multiple_named c s c x y k first second
+scaling_named s (by_divisor c) x y k first second = quotient_named s c x y k first second
+
+scaled_named : (s : Name) (p : TermPlan) (f : Scaling) → IsPlanNamed p → IsPlanNamed (scaled s p f)
+scaled_named s p f named room =
+    let up = scaled_up s p f in
     let here : IsNamed (fresh p.next) = omega (arith, up, room) in
     let value = named (omega (arith, up, room)) in
-    let m = multiple c s c p.placed.track (fresh p.next) (p.next + 1) in
-    (here, closed_named p.placed.track p.placed.relation m.last value (multiple_named c s c p.placed.track (fresh p.next) (p.next + 1) value.0 here room))
+    let m = scaling_made s f p.placed.track (fresh p.next) (p.next + 1) in
+    (here, closed_named p.placed.track p.placed.relation m.last value (scaling_named s f p.placed.track (fresh p.next) (p.next + 1) value.0 here room))
 
-numerals_named : (s : Name) (p : TermPlan) (cs : List ℕ) → IsPlanNamed p → IsPlanNamed (times_numerals s p cs)
-numerals_named s p [] named = named
-numerals_named s p (c ∷ cs) named = numerals_named s (times_numeral s p c) cs (times_named s p c named)
+all_scaled_named : (s : Name) (p : TermPlan) (fs : List Scaling) → IsPlanNamed p → IsPlanNamed (scaled_all s p fs)
+all_scaled_named s p [] named = named
+all_scaled_named s p (f ∷ fs) named = all_scaled_named s (scaled s p f) fs (scaled_named s p f named)
 
 sum_named : (s : Name) (sign : Sign) (x y z : Track) → IsNamed x → IsNamed y → IsNamed z → AreNamed (sum_relation s sign x y z)
 sum_named s plus x y z first second third = (first, second, third)
@@ -114,21 +138,23 @@ abbrev IsOtherNamed : Option (ℕ → TermPlan) → Type 0
 IsOtherNamed None = ⊤
 IsOtherNamed (Some plan) = (k : ℕ) → IsPlanNamed (plan k)
 
-begun_named : (s : Name) (other : Option (ℕ → TermPlan)) (cs : List ℕ) (k : ℕ) → IsOtherNamed other → IsPlanNamed (begun s other cs k)
-begun_named s (Some plan) cs k named = numerals_named s (plan k) cs (named k)
+begun_named : (s : Name) (other : Option (ℕ → TermPlan)) (fs : List Scaling) (k : ℕ) → IsOtherNamed other → IsPlanNamed (begun s other fs k)
+begun_named s (Some plan) fs k named = all_scaled_named s (plan k) fs (named k)
 begun_named s None [] k named = numeral_named s 1 k
-begun_named s None (c ∷ cs) k named = numerals_named s (numeral_plan s c k) cs (numeral_named s c k)
+begun_named s None (by_numeral c ∷ fs) k named = all_scaled_named s (numeral_plan s c k) fs (numeral_named s c k)
+begun_named s None (by_divisor c ∷ fs) k named = all_scaled_named s (numeral_plan s 1 k) (by_divisor c ∷ fs) (numeral_named s 1 k)
 
 mutual
   term_named : (s : Name) (t : Term) → IsNamedTerm t → (k : ℕ) → IsPlanNamed (term_plan s t k)
   term_named s (variable n) named k = λ room. (named, tt)
   term_named s (numeral c) named k = numeral_named s c k
-  term_named s (product fs) named k = begun_named s (factor_plans s fs).other (factor_plans s fs).numerals k (factors_named s fs named)
+  term_named s (product fs) named k = begun_named s (factor_plans s fs).other (factor_plans s fs).scalings k (factors_named s fs named)
   term_named s (sum ss t) named k = sums_named s ss named.0 (term_plan s t) (term_up s t) (term_named s t named.1) k
 
   factors_named : (s : Name) (fs : Factors) → AreNamedFactors fs → IsOtherNamed (factor_plans s fs).other
   factors_named s no_factors named = tt
   factors_named s (factors fs (times (numeral c))) named = factors_named s fs named.0
+  factors_named s (factors fs (divided c)) named = factors_named s fs named
   factors_named s (factors fs (times (variable n))) named = term_named s (variable n) named.1
   factors_named s (factors fs (times (product gs))) named = term_named s (product gs) named.1
   factors_named s (factors fs (times (sum ss t))) named = term_named s (sum ss t) named.1
@@ -248,9 +274,26 @@ every_named : (ks : List Name) (m : Made) → AreNamed m.last → AreNamed (proj
 every_named [] m named inside = named
 every_named (n ∷ ks) m named inside = inside
 
-quantified_named : (q : Quantifier) (ns : Names) (m : Made) → AreNamed m.last → AreNamed (quantified_made q (kept ns (tracks m.last)) m).last
-quantified_named some ns m named = kept_named ns m.last named
-quantified_named every ns m named = every_named (kept ns (tracks m.last)) m named (kept_named ns (complement m.last) named)
+many_named : (on : Name → Name) (ns : Names) (m : Made) → AreNamed m.last → (for_infinitely_many on ns m).next ≤ 2 ^ 64 → AreNamed (for_infinitely_many on ns m).last
+many_named on no_names m named room = named
+many_named on (names ns n) m named room =
+    let up = many_up on ns step in
+    many_named on ns step (by (has_track (tracks m.last) (own n)) refl (omega (arith, up, room))) room
+  where
+    step : Made
+    step = if has_track (tracks m.last) (own n) then for_infinitely (on n) n m else m
+
+    by : (b : Bool) → has_track (tracks m.last) (own n) ≡ b → (if b then for_infinitely (on n) n m else m).next ≤ 2 ^ 64 → AreNamed (if b then for_infinitely (on n) n m else m).last
+    by true there low =
+        let bound : IsNamed (fresh m.next) = omega (arith, low) in
+        let variable_named : IsNamed (own n) = named_track m.last (own n) named there in
+        (bound, (variable_named, (named, (bound, variable_named))))
+    by false apart low = named
+
+quantified_named : (q : Quantifier) (on : Name → Name) (ns : Names) (m : Made) → AreNamed m.last → (quantified_made q on ns m).next ≤ 2 ^ 64 → AreNamed (quantified_made q on ns m).last
+quantified_named some on ns m named room = kept_named ns m.last named
+quantified_named every on ns m named room = every_named (kept ns (tracks m.last)) m named (kept_named ns (complement m.last) named)
+quantified_named infinite on ns m named room = many_named on ns m named room
 
 mutual
   pub named_plans : (h : Headers) (f : Formula) (k : ℕ) → AreNamedIn f → (plan_of h f k).next ≤ 2 ^ 64 → AreNamed (plan_of h f k).last
@@ -262,8 +305,8 @@ mutual
       operands_named h os k (plan_of h f next).last named.0 (omega (arith, up, room)) (named_plans h f next named.1 room)
   named_plans h (quantified q ns f) k named room =
       let m = plan_of h f k in
-      let same = quantified_next q (kept ns (tracks m.last)) m in
-      quantified_named q ns m (named_plans h f k named (omega (arith, same, room)))
+      let up = quantified_up q (h.of_variable f) ns m in
+      quantified_named q (h.of_variable f) ns m (named_plans h f k named (omega (arith, up, room))) room
   named_plans h (marked ms f) k named room = named_plans h f k named room
 
   operands_named : (h : Headers) (os : Operands) (k : ℕ) (q : Plan) → AreNamedAmong os → (operand_plans h os k).next ≤ 2 ^ 64 → AreNamed q → AreNamed (chained (operand_plans h os k).operands q)

@@ -7,7 +7,7 @@ use Rattle.std.proofs.lemmas.Bool.{false≢true}
 use Rattle.std.proofs.lemmas.Cmp.{nat_list_eq_equiv}
 use Rattle.std.proofs.lemmas.Slice.Eq.{bytes_eq-Decides}
 use Rattle.formula_parse.specs.Tokens.{Name}
-use Rattle.formula_parse.specs.Trees.{Names, no_names, names, Term, variable, numeral, product, sum, Factors, no_factors, factors, times, Terms, no_terms, terms, Addends, no_addends, addends, Fact, compare, words, word_letter, letter_word, call, Formula, atom, negated, chain, quantified, marked, Operands, no_operands, operands}
+use Rattle.formula_parse.specs.Trees.{Names, no_names, names, Term, variable, numeral, product, sum, Factors, no_factors, factors, times, divided, Terms, no_terms, terms, Addends, no_addends, addends, Fact, compare, words, word_letter, letter_word, call, Formula, atom, negated, chain, quantified, marked, Operands, no_operands, operands}
 use Rattle.formula_plan.specs.Linear.{others, IsLinear, AreLinearFactors, AreLinearAddends, AreLinear, IsLinearFact, IsLinearFormula, AreLinearOperands}
 use Rattle.formula_plan.specs.OwnNames.{own_names, own_multiplied, own_before, own_among, own_there, without_name, without_all, has_name, own_of, own_operands}
 use Rattle.formula_plan.proofs.OwnTracks.{named_both, without_named, first_no, second_no}
@@ -51,6 +51,7 @@ module _ (s : Name) (b : Binders) where
   no_others : (fs : Factors) → others fs ≡ 0 → AreNone (factor_occurrences s b fs)
   no_others no_factors none = tt
   no_others (factors fs (times (numeral c))) none = all_both (λ (o : Occurrence). ⊥) (factor_occurrences s b fs) [] (no_others fs none) tt
+  no_others (factors fs (divided c)) none = absurd (omega (arith, none))
   no_others (factors fs (times (variable n))) none = absurd (omega (arith, none))
   no_others (factors fs (times (product gs))) none = absurd (omega (arith, none))
   no_others (factors fs (times (sum ss t))) none = absurd (omega (arith, none))
@@ -66,6 +67,8 @@ module _ (s : Name) (b : Binders) where
     factors_among no_factors few linear = tt
     factors_among (factors fs (times (numeral c))) few linear =
         all_both (λ (o : Occurrence). HasName (own_multiplied fs) o.name) (factor_occurrences s b fs) [] (factors_among fs few linear.0) tt
+    factors_among (factors fs (divided c)) few linear =
+        all_both (λ (o : Occurrence). HasName (own_multiplied fs) o.name) (factor_occurrences s b fs) [] (factors_among fs (omega (arith, few)) linear) tt
     factors_among (factors fs (times (variable n))) few linear =
         after_none (own_names (variable n)) (factor_occurrences s b fs) (term_occurrences s b (variable n)) (no_others fs (omega (arith, few))) (term_among (variable n) linear.1)
     factors_among (factors fs (times (product gs))) few linear =

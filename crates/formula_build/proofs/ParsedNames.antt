@@ -14,8 +14,8 @@ use Rattle.text_grammar.specs.Spots as cut
 use Rattle.formula_parse.specs.Trees as trees
 use Rattle.formula_parse.specs.Trees.{Names, no_names, names}
 use Rattle.formula_parse.specs.Building.{multiplied, summed, chained, under_marks}
-use Rattle.formula_parse.specs.Formulas.{Factor, variable, numeral, in_parens, Prod, factor, times, Term, prod, signed, Index, word, further, Terms, term, comma, Atom, compare, words, word_letter, letter_word, call_none, call, Variables, variable_one, variable_more, WrittenFormula, imp, iff, Imp, chain, implies, Chain, operand, joined, Operand, marked, Core, negated, quantified, grouped, atom, factor_then, prod_then, term_then, index_then, terms_then, minus_then, letter_then, atom_then, variables_then, marks_then, formula_then, imp_then, chain_then, operand_then, core_then, derived_tokens}
-use Rattle.formula_parse.specs.FormulaTrees.{factor_tree, before_factor, last_factor, before_prod, last_prod, term_tree, index_places, terms_tree, fact, marks_system, formula_system, imp_system, chain_system, before_imp, last_imp, before_chain, last_chain, before_operand, last_operand, operand_tree, core_tree, default_system}
+use Rattle.formula_parse.specs.Formulas.{Factor, variable, numeral, in_parens, Prod, factor, times, divided, Term, prod, signed, Index, word, further, Terms, term, comma, Atom, compare, words, word_letter, letter_word, call_none, call, Variables, variable_one, variable_more, Binder, some, every, infinite, WrittenFormula, imp, iff, Imp, chain, implies, Chain, operand, joined, Operand, marked, Core, negated, quantified, grouped, atom, factor_then, prod_then, term_then, index_then, terms_then, minus_then, letter_then, atom_then, variables_then, binder_then, marks_then, formula_then, imp_then, chain_then, operand_then, core_then, derived_tokens}
+use Rattle.formula_parse.specs.FormulaTrees.{factor_tree, factors_of, before_prod, last_prod, term_tree, index_places, terms_tree, fact, marks_system, formula_system, imp_system, chain_system, before_imp, last_imp, before_chain, last_chain, before_operand, last_operand, operand_tree, core_tree, default_system}
 use Rattle.formula_parse.specs.Grammar.{Reads}
 use Rattle.formula_plan.proofs.TrackLemmas.{or_left}
 use Rattle.formula_build.specs.TrackNames.{begins_with_letter}
@@ -39,8 +39,8 @@ if_lexeme false k l first second = second
 sign_named : (at b : ℕ) → IsNamedToken (sign_token at b)
 sign_named at b =
     if_token (b == 126) _ _ tt (if_token (b == 63) _ _ tt (if_token (b == 36) _ _ tt (if_token (b == 64) _ _ tt (if_token (b == 38) _ _ tt (if_token (b == 124) _ _ tt
-    (if_token (b == 94) _ _ tt (if_token (b == 43) _ _ tt (if_token (b == 45) _ _ tt (if_token (b == 42) _ _ tt (if_token (b == 40) _ _ tt (if_token (b == 41) _ _ tt
-    (if_token (b == 91) _ _ tt (if_token (b == 93) _ _ tt (if_token (b == 44) _ _ tt tt))))))))))))))
+    (if_token (b == 94) _ _ tt (if_token (b == 43) _ _ tt (if_token (b == 45) _ _ tt (if_token (b == 42) _ _ tt (if_token (b == 47) _ _ tt (if_token (b == 40) _ _ tt (if_token (b == 41) _ _ tt
+    (if_token (b == 91) _ _ tt (if_token (b == 93) _ _ tt (if_token (b == 44) _ _ tt tt)))))))))))))))
 
 signs_named : (at b c d : ℕ) → IsNamedLexeme (sign_lexeme at b c d)
 signs_named at b c d =
@@ -106,9 +106,12 @@ summed_named : (ss : trees.Addends) (t : trees.Term) → AreNamedAddends ss → 
 summed_named trees.no_addends t first second = second
 summed_named (trees.addends ss s g) t first second = (first, second)
 
-multiplied_named : (fs : trees.Factors) (t : trees.Term) → AreNamedFactors fs → IsNamedTerm t → IsNamedTerm (multiplied fs t)
-multiplied_named trees.no_factors t first second = second
-multiplied_named (trees.factors fs f) t first second = (first, second)
+multiplied_named : (fs : trees.Factors) → AreNamedFactors fs → IsNamedTerm (multiplied fs)
+multiplied_named trees.no_factors all = all
+multiplied_named (trees.factors trees.no_factors (trees.times t)) all = all.1
+multiplied_named (trees.factors trees.no_factors (trees.divided c)) all = all
+multiplied_named (trees.factors (trees.factors fs g) (trees.times t)) all = all
+multiplied_named (trees.factors (trees.factors fs g) (trees.divided c)) all = all
 
 chained_named : (os : trees.Operands) (f : trees.Formula) → AreNamedAmong os → AreNamedIn f → AreNamedIn (chained os f)
 chained_named trees.no_operands f first second = second
@@ -127,19 +130,22 @@ mutual
       let parts = term_parts t (suc d) (tokens.here tokens.closing d ∷ r) all.1 in
       (summed_named (before_prod t) (last_prod t) parts.0 parts.1, parts.2.1)
 
-  prod_parts : (p : Prod) (d : ℕ) (r : List Placed) → AreNamedPlaced (prod_then p d r) → AreNamedFactors (before_factor p) × IsNamedTerm (last_factor p) × AreNamedPlaced r
-  prod_parts (factor f) d r all = let one = factor_named f d r all in (tt, one.0, one.1)
+  prod_parts : (p : Prod) (d : ℕ) (r : List Placed) → AreNamedPlaced (prod_then p d r) → AreNamedFactors (factors_of p) × AreNamedPlaced r
+  prod_parts (factor f) d r all = let one = factor_named f d r all in ((tt, one.0), one.1)
   prod_parts (times p b f) d r all =
       let prefix = prod_parts p d (tokens.here (tokens.times b) d ∷ factor_then f d r) all in
-      let last = factor_named f d r prefix.2.1 in
-      ((prefix.0, prefix.1), last.0, last.1)
+      let last = factor_named f d r prefix.1.1 in
+      ((prefix.0, last.0), last.1)
+  prod_parts (divided p c) d r all =
+      let prefix = prod_parts p d (tokens.here tokens.slash d ∷ tokens.here (tokens.number (suc c)) d ∷ r) all in
+      (prefix.0, prefix.1.1.1)
 
   term_parts : (t : Term) (d : ℕ) (r : List Placed) → AreNamedPlaced (term_then t d r) → AreNamedAddends (before_prod t) × IsNamedTerm (last_prod t) × AreNamedPlaced r
-  term_parts (prod p) d r all = let parts = prod_parts p d r all in (tt, multiplied_named (before_factor p) (last_factor p) parts.0 parts.1, parts.2)
+  term_parts (prod p) d r all = let parts = prod_parts p d r all in (tt, multiplied_named (factors_of p) parts.0, parts.1)
   term_parts (signed t s p) d r all =
       let prefix = term_parts t d (tokens.here (tokens.sign s) d ∷ prod_then p d r) all in
       let last = prod_parts p d r prefix.2.1 in
-      ((prefix.0, prefix.1), multiplied_named (before_factor p) (last_factor p) last.0 last.1, last.2)
+      ((prefix.0, prefix.1), multiplied_named (factors_of p) last.0, last.1)
 
 term_named : (t : Term) (d : ℕ) (r : List Placed) → AreNamedPlaced (term_then t d r) → IsNamedTerm (term_tree t) × AreNamedPlaced r
 term_named t d r all = let parts = term_parts t d r all in (summed_named (before_prod t) (last_prod t) parts.0 parts.1, parts.2)
@@ -189,6 +195,11 @@ variables_named : (vs : Variables) (d : ℕ) (r : List Placed) → AreNamedPlace
 variables_named (variable_one n) d r all = all.1
 variables_named (variable_more vs n) d r all = (variables_named vs d (tokens.here tokens.comma d ∷ tokens.here (tokens.name n) d ∷ r) all).1.1
 
+binder_named : (q : Binder) (d : ℕ) (r : List Placed) → AreNamedPlaced (binder_then q d r) → AreNamedPlaced r
+binder_named (some vs) d r all = variables_named vs d r all.1
+binder_named (every vs) d r all = variables_named vs d r all.1
+binder_named (infinite n) d r all = all.1.1
+
 marks_named : (ms : Names) (d : ℕ) (r : List Placed) → AreNamedPlaced (marks_then ms d r) → AreNamedPlaced r
 marks_named no_names d r all = all
 marks_named (names ms n) d r all = (marks_named ms d (tokens.here tokens.mark d ∷ tokens.here (tokens.system n) d ∷ r) all).1.1
@@ -228,8 +239,8 @@ mutual
 
   core_named : (c : Core) (y : Name) (d : ℕ) (r : List Placed) → AreNamedPlaced (core_then c d r) → AreNamedIn (core_tree y c) × AreNamedPlaced r
   core_named (negated o) y d r all = operand_named o y (suc d) r all.1
-  core_named (quantified q vs f) y d r all =
-      let parts = formula_parts f y (suc d) r (variables_named vs (suc d) (formula_then f (suc d) r) all.1) in
+  core_named (quantified q f) y d r all =
+      let parts = formula_parts f y (suc d) r (binder_named q (suc d) (formula_then f (suc d) r) all) in
       (chained_named (before_imp y f) (last_imp y f) parts.0 parts.1, parts.2)
   core_named (grouped f) y d r all =
       let parts = formula_parts f y (suc d) (tokens.here tokens.closing d ∷ r) all.1 in

@@ -1,13 +1,13 @@
 -- Each step of a formula's plan is a part of what the plan makes at last.
 use Rattle.std.specs.Prelude.{⊤}
 use Rattle.std.proofs.Common.{◌≡◌, ℕ, ℤ, zero, suc, ◌+◌, ◌-◌, ◌/◌, ◌%◌, ◌==◌, Bool, true, false, if◌then◌else◌, List, [], ◌∷◌, ◌++◌, slice_index_or, Option, None, Some, inl, inr, refl, sym, ap, subst}
-use Rattle.formula_parse.specs.Tokens.{Name, Sign, Relation, equal, some, every, Quantifier}
-use Rattle.formula_parse.specs.Trees.{Term, variable, numeral, product, sum, Factors, no_factors, factors, times, Terms, no_terms, terms, Addends, no_addends, addends, Index, Fact, compare, words, word_letter, letter_word, call, and, Formula, atom, negated, chain, quantified, marked, Operands, no_operands, operands}
-use Rattle.formula_plan.specs.Tracks.{Track, own, fresh}
-use Rattle.formula_plan.specs.Plans.{Plan, compared, added, called, lettered, renamed, joined, paired, complement, projected, tracks, Made}
-use Rattle.formula_plan.specs.TermPlans.{TermPlan, closed_by, closed, closing_by, closing, no_times, linked, multiple, times_numeral, times_numerals, sum_relation, with_addend, numeral_plan, begun, term_plan, factor_plans, sum_plan}
+use Rattle.formula_parse.specs.Tokens.{Name, Sign, Relation, equal, less, some, every, infinite, Quantifier}
+use Rattle.formula_parse.specs.Trees.{Names, no_names, names, Term, variable, numeral, product, sum, Factors, no_factors, factors, times, divided, Terms, no_terms, terms, Addends, no_addends, addends, Index, Fact, compare, words, word_letter, letter_word, call, and, Formula, atom, negated, chain, quantified, marked, Operands, no_operands, operands}
+use Rattle.formula_plan.specs.Tracks.{Track, own, fresh, has_track}
+use Rattle.formula_plan.specs.Plans.{Plan, compared, added, constant, called, lettered, renamed, joined, paired, complement, projected, tracks, Made}
+use Rattle.formula_plan.specs.TermPlans.{TermPlan, closed_by, closed, closing_by, closing, no_times, linked, multiple, parted, below, quotient_made, Scaling, by_numeral, by_divisor, scaling_made, scaled, scaled_all, sum_relation, with_addend, numeral_plan, begun, term_plan, factor_plans, sum_plan}
 use Rattle.formula_plan.specs.FactPlans.{Headers, Places, no_places, places, tracks_of, all_places, closed_all, closing_all, TermPlans, over_terms, count, argument_plans, Form, long, variable_left, variable_right, form_by, is_equal, as_variable, named_by, compared_values, compare_by, mirrored, letter_plan, words_plan, fact_plan}
-use Rattle.formula_plan.specs.FormulaPlans.{MadeOperands, none_made, made, chained, chaining, kept, projected_all, projecting, for_some, for_every, quantified_made, plan_of, operand_plans}
+use Rattle.formula_plan.specs.FormulaPlans.{MadeOperands, none_made, made, chained, chaining, kept, projected_all, projecting, for_some, for_every, above_bound, for_infinitely, for_infinitely_many, quantified_made, plan_of, operand_plans}
 use Rattle.formula_build.specs.Parts.{IsPart, AreParts}
 
 pub parts_both : (ps qs : List Plan) (q : Plan) → AreParts ps q → AreParts qs q → AreParts (ps ++ qs) q
@@ -83,18 +83,48 @@ multiple_parts (suc most) s c x y k =
     odd : Made
     odd = linked (multiple most s (c - 1) x (fresh k) (k + 1)) (fresh k) (added s (fresh k) x y)
 
-times_parts : (s : Name) (p : TermPlan) (c : ℕ) → AreTermParts p → AreTermParts (times_numeral s p c)
-times_parts s p c parts =
-    let m = multiple c s c p.placed.track (fresh p.next) (p.next + 1) in
+quotient_parts : (s : Name) (c : ℕ) (x y : Track) (k : ℕ) → AreOwnParts (quotient_made s c x y k)
+quotient_parts s c x y k =
+    if_parts (c == 1) (record { steps = []; last = compared s equal x y; next = k })
+    (linked (record { steps = whole.steps ++ small.steps; last = small.last; next = small.next }) (fresh (k + 1)) whole.last) tt
+    (parts_both (whole.steps ++ small.steps) (joined and small.last whole.last ∷ last ∷ []) last
+    (parts_both whole.steps small.steps last (parts_within whole.steps whole.last last (λ p is. inr (inr (inr is))) whole_parts) (parts_within small.steps small.last last (λ p is. inr (inr (inl is))) small_parts))
+    (inr (inl refl), (inl refl, tt)))
+  where
+    whole : Made
+    whole = parted s c x y (fresh k) (fresh (k + 1)) (k + 3)
+
+    small : Made
+    small = below s c (fresh (k + 1)) (fresh (k + 2)) whole.next
+
+    last : Plan
+    last = projected (fresh (k + 1)) (joined and small.last whole.last)
+
+    bound : Made
+    bound = record { steps = constant s c (fresh (k + 2)) ∷ []; last = constant s c (fresh (k + 2)); next = whole.next }
+
+    whole_parts : AreOwnParts whole
+    whole_parts = linked_parts (multiple c s c y (fresh k) (k + 3)) (fresh k) (added s (fresh k) (fresh (k + 1)) x) (multiple_parts c s c y (fresh k) (k + 3))
+
+    small_parts : AreOwnParts small
+    small_parts = linked_parts bound (fresh (k + 2)) (compared s less (fresh (k + 1)) (fresh (k + 2))) (refl, tt)
+
+scaling_parts : (s : Name) (f : Scaling) (x y : Track) (k : ℕ) → AreOwnParts (scaling_made s f x y k)
+scaling_parts s (by_numeral c) x y k = multiple_parts c s c x y k
+scaling_parts s (by_divisor c) x y k = quotient_parts s c x y k
+
+scaled_parts : (s : Name) (p : TermPlan) (f : Scaling) → AreTermParts p → AreTermParts (scaled s p f)
+scaled_parts s p f parts =
+    let m = scaling_made s f p.placed.track (fresh p.next) (p.next + 1) in
     let last = closed p.placed m.last in
     parts_both p.steps (m.steps ++ closing p.placed m.last) last (value_closed p.steps p.placed.track p.placed.relation m.last parts)
     (parts_both m.steps (closing p.placed m.last) last
-    (parts_within m.steps m.last last (base_closed p.placed.track p.placed.relation m.last) (multiple_parts c s c p.placed.track (fresh p.next) (p.next + 1)))
+    (parts_within m.steps m.last last (base_closed p.placed.track p.placed.relation m.last) (scaling_parts s f p.placed.track (fresh p.next) (p.next + 1)))
     (closing_parts p.placed.track p.placed.relation m.last))
 
-numerals_parts : (s : Name) (p : TermPlan) (cs : List ℕ) → AreTermParts p → AreTermParts (times_numerals s p cs)
-numerals_parts s p [] parts = parts
-numerals_parts s p (c ∷ cs) parts = numerals_parts s (times_numeral s p c) cs (times_parts s p c parts)
+all_scaled_parts : (s : Name) (p : TermPlan) (fs : List Scaling) → AreTermParts p → AreTermParts (scaled_all s p fs)
+all_scaled_parts s p [] parts = parts
+all_scaled_parts s p (f ∷ fs) parts = all_scaled_parts s (scaled s p f) fs (scaled_parts s p f parts)
 
 addend_parts : (s : Name) (sign : Sign) (p q : TermPlan) → AreTermParts p → AreTermParts q → AreTermParts (with_addend s sign p q)
 addend_parts s sign p q first second =
@@ -117,21 +147,23 @@ abbrev AreOtherParts : Option (ℕ → TermPlan) → Type 0
 AreOtherParts None = ⊤
 AreOtherParts (Some plan) = (k : ℕ) → AreTermParts (plan k)
 
-begun_parts : (s : Name) (other : Option (ℕ → TermPlan)) (cs : List ℕ) (k : ℕ) → AreOtherParts other → AreTermParts (begun s other cs k)
-begun_parts s (Some plan) cs k parts = numerals_parts s (plan k) cs (parts k)
+begun_parts : (s : Name) (other : Option (ℕ → TermPlan)) (fs : List Scaling) (k : ℕ) → AreOtherParts other → AreTermParts (begun s other fs k)
+begun_parts s (Some plan) fs k parts = all_scaled_parts s (plan k) fs (parts k)
 begun_parts s None [] k parts = numeral_parts s 1 k
-begun_parts s None (c ∷ cs) k parts = numerals_parts s (numeral_plan s c k) cs (numeral_parts s c k)
+begun_parts s None (by_numeral c ∷ fs) k parts = all_scaled_parts s (numeral_plan s c k) fs (numeral_parts s c k)
+begun_parts s None (by_divisor c ∷ fs) k parts = all_scaled_parts s (numeral_plan s 1 k) (by_divisor c ∷ fs) (numeral_parts s 1 k)
 
 mutual
   term_parts : (s : Name) (t : Term) (k : ℕ) → AreTermParts (term_plan s t k)
   term_parts s (variable n) k = refl
   term_parts s (numeral c) k = numeral_parts s c k
-  term_parts s (product fs) k = begun_parts s (factor_plans s fs).other (factor_plans s fs).numerals k (factor_parts s fs)
+  term_parts s (product fs) k = begun_parts s (factor_plans s fs).other (factor_plans s fs).scalings k (factor_parts s fs)
   term_parts s (sum ss t) k = sum_parts s ss (term_plan s t) (term_parts s t) k
 
   factor_parts : (s : Name) (fs : Factors) → AreOtherParts (factor_plans s fs).other
   factor_parts s no_factors = tt
   factor_parts s (factors fs (times (numeral c))) = factor_parts s fs
+  factor_parts s (factors fs (divided c)) = factor_parts s fs
   factor_parts s (factors fs (times (variable n))) = term_parts s (variable n)
   factor_parts s (factors fs (times (product gs))) = term_parts s (product gs)
   factor_parts s (factors fs (times (sum ss t))) = term_parts s (sum ss t)
@@ -270,9 +302,27 @@ every_parts (n ∷ ns) m parts =
     let inside : Made = record { steps = m.steps ++ complement m.last ∷ []; last = complement m.last; next = m.next } in
     complement_parts (for_some (n ∷ ns) inside) (some_parts (n ∷ ns) inside (complement_parts m parts))
 
-quantified_parts : (q : Quantifier) (ns : List Name) (m : Made) → AreOwnParts m → AreOwnParts (quantified_made q ns m)
-quantified_parts some ns m parts = some_parts ns m parts
-quantified_parts every ns m parts = every_parts ns m parts
+projected_parts : (t : Track) (m : Made) → AreOwnParts m → AreParts (m.steps ++ projected t m.last ∷ []) (projected t m.last)
+projected_parts t m parts = parts_both m.steps (projected t m.last ∷ []) (projected t m.last) (parts_within m.steps m.last (projected t m.last) (in_projected t m.last) parts) (inl refl, tt)
+
+infinitely_parts : (s n : Name) (m : Made) → AreOwnParts m → AreOwnParts (for_infinitely s n m)
+infinitely_parts s n m parts =
+    let above = above_bound s n m in
+    let none_above : Made = record { steps = above.steps ++ complement above.last ∷ []; last = complement above.last; next = above.next } in
+    let bounded : Made = record { steps = none_above.steps ++ projected (fresh m.next) none_above.last ∷ []; last = projected (fresh m.next) none_above.last; next = above.next } in
+    complement_parts bounded (projected_parts (fresh m.next) none_above (complement_parts above
+    (linked_parts (record { steps = m.steps; last = m.last; next = m.next + 1 }) (own n) (compared s less (fresh m.next) (own n)) parts)))
+
+many_parts : (on : Name → Name) (ns : Names) (m : Made) → AreOwnParts m → AreOwnParts (for_infinitely_many on ns m)
+many_parts on no_names m parts = parts
+many_parts on (names ns n) m parts =
+    many_parts on ns (if has_track (tracks m.last) (own n) then for_infinitely (on n) n m else m)
+    (if_parts (has_track (tracks m.last) (own n)) (for_infinitely (on n) n m) m (infinitely_parts (on n) n m parts) parts)
+
+quantified_parts : (q : Quantifier) (on : Name → Name) (ns : Names) (m : Made) → AreOwnParts m → AreOwnParts (quantified_made q on ns m)
+quantified_parts some on ns m parts = some_parts (kept ns (tracks m.last)) m parts
+quantified_parts every on ns m parts = every_parts (kept ns (tracks m.last)) m parts
+quantified_parts infinite on ns m parts = many_parts on ns m parts
 
 mutual
   pub steps_are_parts : (h : Headers) (f : Formula) (k : ℕ) → AreParts (plan_of h f k).steps (plan_of h f k).last
@@ -287,8 +337,7 @@ mutual
       (parts_within m.steps m.last last (last_chained ps.operands m.last) (steps_are_parts h f ps.next))
       (chaining_parts ps.operands m.last))
   steps_are_parts h (quantified q ns f) k =
-      let m = plan_of h f k in
-      quantified_parts q (kept ns (tracks m.last)) m (steps_are_parts h f k)
+      quantified_parts q (h.of_variable f) ns (plan_of h f k) (steps_are_parts h f k)
   steps_are_parts h (marked ms f) k = steps_are_parts h f k
 
   -- whatever the last operand makes

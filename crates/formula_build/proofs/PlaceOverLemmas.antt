@@ -111,7 +111,7 @@ term_only Q s b t k all =
     value_only h direction (λ u. s) s (Occurs Q s b) here (IsOwn (OccursAnywhere Q b)) p.placed.track p.placed.relation k p.next anywhere (term_stands h direction (λ u. s) s b Q here t all k)
   where
     h : Headers
-    h = record { of_automaton = λ n. []; of_word = λ n. [] }
+    h = record { of_automaton = λ n. []; of_word = λ n. []; of_variable = λ f n. [] }
 
     direction : Name → Direction
     direction = λ n. Msd

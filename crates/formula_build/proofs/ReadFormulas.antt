@@ -166,7 +166,7 @@ module _ (l : LibraryValue) where
 
     core_known : (c : Core) (y : Name) → HasSystem l y → AreMet (mentions (core_tree y c)) → AreKnownIn l (core_tree y c) × HasSystem l (core_system y c)
     core_known (negated o) y is met = operand_known o y is met
-    core_known (quantified q vs f) y is met =
+    core_known (quantified q f) y is met =
         let split = chained_met (before_imp y f) (last_imp y f) met in
         let parts = formula_known f y is split.0 split.1 in
         (chained_known (before_imp y f) (last_imp y f) parts.0 parts.1, parts.2)

@@ -4,20 +4,21 @@ use Rattle.std.proofs.Common.{◌≡◌, ℕ, zero, suc, ◌+◌, ◌-◌, ◌/�
 use Rattle.std.specs.List.{AllByRecursion}
 use Rattle.digit_tuple.specs.declared.direction.Direction.{Direction}
 use Rattle.formula_parse.specs.Tokens.{Name, Sign, plus, minus, equal}
-use Rattle.formula_parse.specs.Trees.{Term, variable, numeral, product, sum, Factors, no_factors, factors, times, Addends, no_addends, addends, and}
+use Rattle.formula_parse.specs.Tokens as tokens
+use Rattle.formula_parse.specs.Trees.{Term, variable, numeral, product, sum, Factors, no_factors, factors, times, divided, Addends, no_addends, addends, and}
 use Rattle.formula_plan.specs.Tracks.{Track, own, fresh, same_track, has_track}
 use Rattle.formula_plan.specs.Plans.{Plan, compared, added, number, constant, joined, tracks, Made}
-use Rattle.formula_plan.specs.TermPlans.{TermPlan, closed, no_times, linked, multiple, times_numeral, times_numerals, sum_relation, with_addend, numeral_plan, begun, term_plan, factor_plans, sum_plan}
+use Rattle.formula_plan.specs.TermPlans.{TermPlan, closed, no_times, linked, multiple, parted, below, quotient_made, Scaling, by_numeral, by_divisor, scaling_made, scaled, scaled_all, sum_relation, with_addend, numeral_plan, begun, term_plan, factor_plans, sum_plan}
 use Rattle.formula_plan.specs.FactPlans.{Headers}
-use Rattle.formula_plan.proofs.MultipleLemmas.{IsBelow}
+use Rattle.formula_plan.proofs.MultipleLemmas.{IsBelow, below_more}
 use Rattle.formula_plan.proofs.TrackLemmas.{fresh_apart, first_is, later_is}
-use Rattle.formula_plan.proofs.AgreementLemmas.{has_second}
+use Rattle.formula_plan.proofs.AgreementLemmas.{has_first, has_second}
 use Rattle.formula_resolve.specs.Occurrences.{Binders, term_occurrences, factor_occurrences, addend_occurrences}
 use Rattle.formula_resolve.specs.declared.occurrence.Occurrence.{Occurrence}
 use Rattle.formula_build.specs.TrackSystems.{TrackSystems, IsOver}
 use Rattle.formula_build.proofs.AllLemmas.{all_first, all_second}
 use Rattle.formula_build.proofs.HasLemmas.{other_track_stays}
-use Rattle.formula_build.proofs.GrowthLemmas.{times_up}
+use Rattle.formula_build.proofs.GrowthLemmas.{scaled_up}
 use Rattle.formula_build.proofs.OverLemmas.{each_among, over_projected, Only, OrIs, only_more, only_linked, OnlyOf, only_closed, has_closed, Faces, one_direction, OverOf, over_joined, over_closed, faces_closed}
 
 -- the track of such a variable
@@ -105,6 +106,86 @@ multiple_has (suc most) s c x y k below = by_zero (c == 0) (c == 1) (c == 2) (c 
     by_zero false false false true = linked_has half k even y below (third_is (fresh k) (fresh k) y)
     by_zero false false false false = linked_has less k odd y below (third_is (fresh k) x y)
 
+-- the value's own track is among a multiple's
+linked_has_first : (m : Made) (k : ℕ) (base : Plan) (y : Track) → IsBelow y k → has_track (tracks m.last) y ≡ true → has_track (tracks (linked m (fresh k) base).last) y ≡ true
+linked_has_first m k base y below there = other_track_stays (fresh k) (tracks m.last ++ tracks base) y (has_first (tracks m.last) (tracks base) y there) (apart_above y k below)
+
+multiple_has_value : (most : ℕ) (s : Name) (c : ℕ) (x y : Track) (k : ℕ) → IsBelow x k → has_track (tracks (multiple most s c x y k).last) x ≡ true
+multiple_has_value zero s c x y k below = later_is y (x ∷ []) x (first_is x [])
+multiple_has_value (suc most) s c x y k below =
+    by_zero (c == 0) (multiple_has_value most s (c / 2) x (fresh k) (k + 1) (below_more x k (k + 1) below (omega arith)))
+    (multiple_has_value most s (c - 1) x (fresh k) (k + 1) (below_more x k (k + 1) below (omega arith))) (c == 1) (c == 2) (c % 2 == 0)
+  where
+    half : Made
+    half = multiple most s (c / 2) x (fresh k) (k + 1)
+
+    less_one : Made
+    less_one = multiple most s (c - 1) x (fresh k) (k + 1)
+
+    even : Plan
+    even = added s (fresh k) (fresh k) y
+
+    odd : Plan
+    odd = added s (fresh k) x y
+
+    by_zero : (z : Bool) → has_track (tracks half.last) x ≡ true → has_track (tracks less_one.last) x ≡ true → (o t e : Bool)
+        → has_track (tracks (if z then no_times s x y k else (if o then record { steps = []; last = compared s equal x y; next = k } else (if t then record { steps = []; last = added s x x y; next = k } else (if e then linked half (fresh k) even else linked less_one (fresh k) odd)))).last) x ≡ true
+    by_zero true a b o t e = later_is y (x ∷ []) x (first_is x [])
+    by_zero false a b true t e = first_is x (y ∷ [])
+    by_zero false a b false true e = first_is x (x ∷ y ∷ [])
+    by_zero false a b false false true = linked_has_first half k even x below a
+    by_zero false a b false false false = linked_has_first less_one k odd x below b
+
+-- the quotient's tracks
+parted_only : (E : Track → Type 0) (s : Name) (c : ℕ) (x y : Track) (k r next : ℕ) → E x → E y → E (fresh r) → Only E (parted s c x y (fresh k) (fresh r) next).last
+parted_only E s c x y k r next first second rest =
+    only_linked E (multiple c s c y (fresh k) next) (fresh k) (added s (fresh k) (fresh r) x) (multiple_only (OrIs E (fresh k)) c s c y (fresh k) next (inl second) (inr refl))
+    (each_among (OrIs E (fresh k)) (fresh k ∷ fresh r ∷ x ∷ []) (inr refl, (inl rest, (inl first, tt))))
+
+below_only : (E : Track → Type 0) (s : Name) (c r b next : ℕ) → E (fresh r) → Only E (below s c (fresh r) (fresh b) next).last
+below_only E s c r b next rest =
+    only_linked E (record { steps = constant s c (fresh b) ∷ []; last = constant s c (fresh b); next = next }) (fresh b) (compared s tokens.less (fresh r) (fresh b))
+    (each_among (OrIs E (fresh b)) (fresh b ∷ []) (inr refl, tt)) (each_among (OrIs E (fresh b)) (fresh r ∷ fresh b ∷ []) (inl rest, (inr refl, tt)))
+
+-- the parts of a quotient
+abbrev whole_of : Name → ℕ → Track → Track → ℕ → Made
+whole_of s c x y k = parted s c x y (fresh k) (fresh (k + 1)) (k + 3)
+
+abbrev small_of : Name → ℕ → Track → Track → ℕ → Made
+small_of s c x y k = below s c (fresh (k + 1)) (fresh (k + 2)) (whole_of s c x y k).next
+
+abbrev both_of : Name → ℕ → Track → Track → ℕ → Made
+both_of s c x y k = record { steps = (whole_of s c x y k).steps ++ (small_of s c x y k).steps; last = (small_of s c x y k).last; next = (small_of s c x y k).next }
+
+quotient_only : (E : Track → Type 0) (s : Name) (c : ℕ) (x y : Track) (k : ℕ) → E x → E y → Only E (quotient_made s c x y k).last
+quotient_only E s c x y k first second = by (c == 1)
+  where
+    F : Track → Type 0
+    F = OrIs E (fresh (k + 1))
+
+    by : (b : Bool) → Only E (if b then record { steps = []; last = compared s equal x y; next = k } else linked (both_of s c x y k) (fresh (k + 1)) (whole_of s c x y k).last).last
+    by true = each_among E (x ∷ y ∷ []) (first, (second, tt))
+    by false =
+        only_linked E (both_of s c x y k) (fresh (k + 1)) (whole_of s c x y k).last (below_only F s c (k + 1) (k + 2) (whole_of s c x y k).next (inr refl))
+        (parted_only F s c x y k (k + 1) (k + 3) (inl first) (inl second) (inr refl))
+
+quotient_has : (s : Name) (c : ℕ) (x y : Track) (k : ℕ) → IsBelow y k → has_track (tracks (quotient_made s c x y k).last) y ≡ true
+quotient_has s c x y k low = by (c == 1)
+  where
+    by : (b : Bool) → has_track (tracks (if b then record { steps = []; last = compared s equal x y; next = k } else linked (both_of s c x y k) (fresh (k + 1)) (whole_of s c x y k).last).last) y ≡ true
+    by true = later_is x (y ∷ []) y (first_is y [])
+    by false =
+        linked_has (both_of s c x y k) (k + 1) (whole_of s c x y k).last y (below_more y k (k + 1) low (omega arith))
+        (linked_has_first (multiple c s c y (fresh k) (k + 3)) k (added s (fresh k) (fresh (k + 1)) x) y low (multiple_has_value c s c y (fresh k) (k + 3) (below_more y k (k + 3) low (omega arith))))
+
+scaling_only : (E : Track → Type 0) (s : Name) (f : Scaling) (x y : Track) (k : ℕ) → E x → E y → Only E (scaling_made s f x y k).last
+scaling_only E s (by_numeral c) x y k first second = multiple_only E c s c x y k first second
+scaling_only E s (by_divisor c) x y k first second = quotient_only E s c x y k first second
+
+scaling_has : (s : Name) (f : Scaling) (x y : Track) (k : ℕ) → IsBelow y k → has_track (tracks (scaling_made s f x y k).last) y ≡ true
+scaling_has s (by_numeral c) x y k low = multiple_has c s c x y k low
+scaling_has s (by_divisor c) x y k low = quotient_has s c x y k low
+
 module _ (h : Headers) (direction : Name → Direction) (on : TrackSystems) (s : Name) (O : Name → Type 0) (are_on : AreOn on s O) where
   abbrev Stands : TermPlan → ℕ → Type 0
   Stands p k = IsStood h direction on O p.placed.track p.placed.relation k p.next
@@ -190,30 +271,73 @@ module _ (h : Headers) (direction : Name → Direction) (on : TrackSystems) (s :
       by_zero false a b false false false = linked_over less k odd b (multiple_only F most s (c - 1) x (fresh k) (k + 1) (ap direction first) (ap direction here)) (here, first, second)
           (each_among F (fresh k ∷ x ∷ y ∷ []) (ap direction here, (ap direction first, (ap direction second, tt)))) (first_is (fresh k) (x ∷ y ∷ []))
 
-  times_stands : (p : TermPlan) (c k : ℕ) → Stands p k → Stands (times_numeral s p c) k
-  times_stands p c k stood =
-      let up = times_up s p c in
+  quotient_over : (c : ℕ) (x y : Track) (k : ℕ) → on x ≡ s → on y ≡ s → IsOver h direction on (quotient_made s c x y k).last
+  quotient_over c x y k first second = by (c == 1)
+    where
+      F : Track → Type 0
+      F = Faces direction on (direction s)
+
+      fresh_faces : (i : ℕ) → F (fresh i)
+      fresh_faces i = ap direction (are_on.of_fresh i)
+
+      whole : Made
+      whole = whole_of s c x y k
+
+      bound : Made
+      bound = record { steps = constant s c (fresh (k + 2)) ∷ []; last = constant s c (fresh (k + 2)); next = whole.next }
+
+      whole_over : IsOver h direction on whole.last
+      whole_over =
+          linked_over (multiple c s c y (fresh k) (k + 3)) k (added s (fresh k) (fresh (k + 1)) x) (multiple_over c c y (fresh k) (k + 3) second (are_on.of_fresh k))
+          (multiple_only F c s c y (fresh k) (k + 3) (ap direction second) (fresh_faces k)) (are_on.of_fresh k, are_on.of_fresh (k + 1), first)
+          (each_among F (fresh k ∷ fresh (k + 1) ∷ x ∷ []) (fresh_faces k, (fresh_faces (k + 1), (ap direction first, tt)))) (first_is (fresh k) (fresh (k + 1) ∷ x ∷ []))
+
+      small_over : IsOver h direction on (small_of s c x y k).last
+      small_over =
+          linked_over bound (k + 2) (compared s tokens.less (fresh (k + 1)) (fresh (k + 2))) (are_on.of_fresh (k + 2)) (each_among F (fresh (k + 2) ∷ []) (fresh_faces (k + 2), tt))
+          (are_on.of_fresh (k + 1), are_on.of_fresh (k + 2)) (each_among F (fresh (k + 1) ∷ fresh (k + 2) ∷ []) (fresh_faces (k + 1), (fresh_faces (k + 2), tt)))
+          (later_is (fresh (k + 1)) (fresh (k + 2) ∷ []) (fresh (k + 2)) (first_is (fresh (k + 2)) []))
+
+      rest_there : has_track (tracks whole.last) (fresh (k + 1)) ≡ true
+      rest_there =
+          other_track_stays (fresh k) (tracks (multiple c s c y (fresh k) (k + 3)).last ++ (fresh k ∷ fresh (k + 1) ∷ x ∷ [])) (fresh (k + 1))
+          (has_second (tracks (multiple c s c y (fresh k) (k + 3)).last) (fresh k ∷ fresh (k + 1) ∷ x ∷ []) (fresh (k + 1)) (later_is (fresh k) (fresh (k + 1) ∷ x ∷ []) (fresh (k + 1)) (first_is (fresh (k + 1)) (x ∷ []))))
+          (fresh_apart k (k + 1) (λ same. let e : k ≡ k + 1 = same in omega (arith, e)))
+
+      by : (b : Bool) → IsOver h direction on (if b then record { steps = []; last = compared s equal x y; next = k } else linked (both_of s c x y k) (fresh (k + 1)) whole.last).last
+      by true = (first, second)
+      by false =
+          linked_over (both_of s c x y k) (k + 1) whole.last small_over (below_only F s c (k + 1) (k + 2) whole.next (fresh_faces (k + 1)))
+          whole_over (parted_only F s c x y k (k + 1) (k + 3) (ap direction first) (ap direction second) (fresh_faces (k + 1))) rest_there
+
+  scaling_over : (f : Scaling) (x y : Track) (k : ℕ) → on x ≡ s → on y ≡ s → IsOver h direction on (scaling_made s f x y k).last
+  scaling_over (by_numeral c) x y k first second = multiple_over c c x y k first second
+  scaling_over (by_divisor c) x y k first second = quotient_over c x y k first second
+
+  scaled_stands : (p : TermPlan) (f : Scaling) (k : ℕ) → Stands p k → Stands (scaled s p f) k
+  scaled_stands p f k stood =
+      let up = scaled_up s p f in
       let below = stood_up p.placed.track p.placed.relation k p.next stood in
       let x = p.placed.track in
       let y = fresh p.next in
       let at_x = track_on x p.placed.relation k p.next stood in
       let at_y = are_on.of_fresh p.next in
-      let base = (multiple c s c x y (p.next + 1)).last in
+      let base = (scaling_made s f x y (p.next + 1)).last in
       let E = OrIs (IsOwn O) y in
       record {
         low = below;
         high = omega (arith, up);
         over = over_closed h direction on (direction s) x p.placed.relation base (value_over x p.placed.relation k p.next stood)
-            (multiple_over c c x y (p.next + 1) at_x at_y)
-            (multiple_only (Faces direction on (direction s)) c s c x y (p.next + 1) (ap direction at_x) (ap direction at_y));
-        there = has_closed x p.placed.relation base y (track_apart x p.placed.relation k p.next p.next stood (omega arith)) (multiple_has c s c x y (p.next + 1) (omega arith));
+            (scaling_over f x y (p.next + 1) at_x at_y)
+            (scaling_only (Faces direction on (direction s)) s f x y (p.next + 1) (ap direction at_x) (ap direction at_y));
+        there = has_closed x p.placed.relation base y (track_apart x p.placed.relation k p.next p.next stood (omega arith)) (scaling_has s f x y (p.next + 1) (omega arith));
         only = only_closed E x p.placed.relation base (value_only E x p.placed.relation k p.next (λ u is. inl is) stood)
-            (multiple_only (OrIs E x) c s c x y (p.next + 1) (inr refl) (inl (inr refl)));
+            (scaling_only (OrIs E x) s f x y (p.next + 1) (inr refl) (inl (inr refl)));
       }
 
-  numerals_stand : (p : TermPlan) (cs : List ℕ) (k : ℕ) → Stands p k → Stands (times_numerals s p cs) k
-  numerals_stand p [] k stood = stood
-  numerals_stand p (c ∷ cs) k stood = numerals_stand (times_numeral s p c) cs k (times_stands p c k stood)
+  all_stand : (p : TermPlan) (fs : List Scaling) (k : ℕ) → Stands p k → Stands (scaled_all s p fs) k
+  all_stand p [] k stood = stood
+  all_stand p (f ∷ fs) k stood = all_stand (scaled s p f) fs k (scaled_stands p f k stood)
 
   numeral_stands : (c k : ℕ) → Stands (numeral_plan s c k) k
   numeral_stands c k = record {
@@ -269,10 +393,11 @@ module _ (h : Headers) (direction : Name → Direction) (on : TrackSystems) (s :
   OtherStands None = ⊤
   OtherStands (Some plan) = (k : ℕ) → Stands (plan k) k
 
-  begun_stands : (other : Option (ℕ → TermPlan)) (cs : List ℕ) (k : ℕ) → OtherStands other → Stands (begun s other cs k) k
-  begun_stands (Some plan) cs k stood = numerals_stand (plan k) cs k (stood k)
+  begun_stands : (other : Option (ℕ → TermPlan)) (fs : List Scaling) (k : ℕ) → OtherStands other → Stands (begun s other fs k) k
+  begun_stands (Some plan) fs k stood = all_stand (plan k) fs k (stood k)
   begun_stands None [] k stood = numeral_stands 1 k
-  begun_stands None (c ∷ cs) k stood = numerals_stand (numeral_plan s c k) cs k (numeral_stands c k)
+  begun_stands None (by_numeral c ∷ fs) k stood = all_stand (numeral_plan s c k) fs k (numeral_stands c k)
+  begun_stands None (by_divisor c ∷ fs) k stood = all_stand (numeral_plan s 1 k) (by_divisor c ∷ fs) k (numeral_stands 1 k)
 
 -- the variables of a term over a system whose occurrences are Q
 abbrev pub Occurs : (Occurrence → Type 0) → Name → Binders → Name → Type 0
@@ -287,7 +412,7 @@ module _ (h : Headers) (direction : Name → Direction) (on : TrackSystems) (s :
         → IsStood h direction on O (term_plan s t k).placed.track (term_plan s t k).placed.relation k (term_plan s t k).next
     term_stands (variable n) all k = (all.0, omega arith)
     term_stands (numeral c) all k = numeral_stands h direction on s O are_on c k
-    term_stands (product fs) all k = begun_stands h direction on s O are_on (factor_plans s fs).other (factor_plans s fs).numerals k (factors_stand fs all)
+    term_stands (product fs) all k = begun_stands h direction on s O are_on (factor_plans s fs).other (factor_plans s fs).scalings k (factors_stand fs all)
     term_stands (sum ss t) all k =
         let first = all_first Q (addend_occurrences s b ss) (term_occurrences s b t) all in
         let second = all_second Q (addend_occurrences s b ss) (term_occurrences s b t) all in
@@ -296,6 +421,7 @@ module _ (h : Headers) (direction : Name → Direction) (on : TrackSystems) (s :
     factors_stand : (fs : Factors) → AllByRecursion Q (factor_occurrences s b fs) → OtherStands h direction on s O are_on (factor_plans s fs).other
     factors_stand no_factors all = tt
     factors_stand (factors fs (times (numeral c))) all = factors_stand fs (all_first Q (factor_occurrences s b fs) [] all)
+    factors_stand (factors fs (divided c)) all = factors_stand fs (all_first Q (factor_occurrences s b fs) [] all)
     factors_stand (factors fs (times (variable n))) all = term_stands (variable n) (all_second Q (factor_occurrences s b fs) (term_occurrences s b (variable n)) all)
     factors_stand (factors fs (times (product gs))) all = term_stands (product gs) (all_second Q (factor_occurrences s b fs) (term_occurrences s b (product gs)) all)
     factors_stand (factors fs (times (sum ss t))) all = term_stands (sum ss t) (all_second Q (factor_occurrences s b fs) (term_occurrences s b (sum ss t)) all)

@@ -1,6 +1,6 @@
 -- Formulas in which the name of each variable begins with a letter.
 use Rattle.std.specs.Prelude.{◌≡◌, true, ⊤}
-use Rattle.formula_parse.specs.Trees.{Term, variable, numeral, product, sum, Factors, no_factors, factors, times, Terms, no_terms, terms, Addends, no_addends, addends, Fact, compare, words, word_letter, letter_word, call, Formula, atom, negated, chain, quantified, marked, Operands, no_operands, operands}
+use Rattle.formula_parse.specs.Trees.{Term, variable, numeral, product, sum, Factors, no_factors, factors, times, divided, Terms, no_terms, terms, Addends, no_addends, addends, Fact, compare, words, word_letter, letter_word, call, Formula, atom, negated, chain, quantified, marked, Operands, no_operands, operands}
 use Rattle.formula_build.specs.TrackNames.{begins_with_letter}
 
 abbrev mutual
@@ -13,6 +13,7 @@ abbrev mutual
   pub AreNamedFactors : Factors → Type 0
   AreNamedFactors no_factors = ⊤
   AreNamedFactors (factors fs (times t)) = AreNamedFactors fs × IsNamedTerm t
+  AreNamedFactors (factors fs (divided c)) = AreNamedFactors fs
 
   pub AreNamedAddends : Addends → Type 0
   AreNamedAddends no_addends = ⊤

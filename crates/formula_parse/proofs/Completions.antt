@@ -1,9 +1,9 @@
 -- Every state can be completed: tokens can follow that end a text.
 use Rattle.std.proofs.Common.{◌≡◌, refl, ◌∙◌, ap, ℕ, suc, true, false, List, [], ◌∷◌}
-use Rattle.formula_parse.specs.Tokens.{Name, equal, Letter, Placed, here, value_of, name, system, called, opening, closing, bracket, unbracket, letter_sign, relation, end}
+use Rattle.formula_parse.specs.Tokens.{Name, equal, Letter, Placed, here, value_of, name, number, system, called, opening, closing, bracket, unbracket, letter_sign, relation, end}
 use Rattle.formula_parse.specs.Trees.{names}
-use Rattle.formula_parse.proofs.Derivations.{Factor, variable, in_parens, Factors, no_factors, Addends, no_addends, Term, term, Terms, no_terms, index, Core, compare, words, word_letter, letter_word, call_none, call, grouped, marked, Formula, ends, quantified, formula_then, derived_tokens, parts, derivations}
-use Rattle.formula_parse.specs.Machine.{within, Body, Frame, Outer, Aim, Side, Role, Representation, Position, State, left_index, left_letter, first, second, left_side, right_of, place_in, argument, on_left, on_right, at_operand, at_system, at_variable, after_operand, after_first, at_factor, after_factor, after_index, at_word, at_bracket, at_letter, at_value, after_letter, at_called, at_call, at_argument, done, paren, scope, fresh, whole, closed, within_role, within_outer}
+use Rattle.formula_parse.proofs.Derivations.{variable, in_parens, Factors, no_factors, Prod, prod, divided, Addends, no_addends, Term, term, Terms, no_terms, index, Core, compare, words, word_letter, letter_word, call_none, call, grouped, marked, Formula, ends, quantified, formula_then, derived_tokens, parts, derivations}
+use Rattle.formula_parse.specs.Machine.{within, Body, Frame, Outer, Aim, Side, Role, Representation, Position, State, left_index, left_letter, first, second, left_side, right_of, place_in, argument, on_left, on_right, at_operand, at_system, at_variable, after_operand, after_first, at_factor, after_factor, at_divisor, after_index, at_word, at_bracket, at_letter, at_value, after_letter, at_called, at_call, at_argument, done, paren, scope, fresh, whole, closed, within_role, within_outer}
 use Rattle.formula_parse.specs.Flaws.{Product, product_start}
 use Rattle.formula_parse.proofs.Sound.{nesting, prefix_then, body_then, frames_then, state_then, at, wrapped_then}
 
@@ -28,8 +28,8 @@ closes [] f = record { more = here end 0 ∷ []; text = f; derived_is = refl }
 closes (paren h y ∷ hs) f =
     let c = closes hs (whole derivations h.prefix (ends (closed derivations h (grouped f)))) in
     record { more = here closing (within h.tildes (nesting hs)) ∷ c.more; text = c.text; derived_is = close_paren h hs f c }
-closes (scope k ns n h ∷ hs) f =
-    let c = closes hs (whole derivations h.prefix (quantified h.tildes h.marks k ns n f)) in
+closes (scope k n h ∷ hs) f =
+    let c = closes hs (whole derivations h.prefix (quantified h.tildes h.marks k n f)) in
     record { more = c.more; text = c.text; derived_is = c.derived_is }
 
 -- an operand ends the text
@@ -53,8 +53,11 @@ then_token p e c = record { more = p ∷ c.more; text = c.text; derived_is = c.d
 abbrev x_name : Name
 x_name = 120 ∷ []
 
+abbrev name_term : Name → Term
+name_term n = term no_addends (prod no_factors (variable n))
+
 abbrev x_term : Term
-x_term = term no_addends no_factors (variable x_name)
+x_term = name_term x_name
 
 abbrev zero_letter : ℕ → Letter
 zero_letter b = record { at = b; negative = false; value = 0 }
@@ -109,27 +112,31 @@ index_ends s (second (left_letter l k)) n ts t =
     record { more = c.more; text = c.text; derived_is = c.derived_is }
 
 -- a whole term, by where it is
-whole_ends : (s : State parts) (h : Role parts) (ss : Addends) (ps : Factors) (p : Product) (f : Factor) (q : _) → Completed (at s (after_factor h [] ss ps p f q))
-whole_ends s left_side ss ps p f q =
-    let c = operand s (compare (term ss ps f) equal x_term) in
+whole_ends : (s : State parts) (h : Role parts) (ss : Addends) (m : Prod) (p : Product) (q : _) → Completed (at s (after_factor h [] ss m p q))
+whole_ends s left_side ss m p q =
+    let c = operand s (compare (term ss m) equal x_term) in
     record { more = here (relation equal) (level s) ∷ here (name x_name) (level s) ∷ c.more; text = c.text; derived_is = c.derived_is }
-whole_ends s (right_of l k) ss ps p f q =
-    let c = operand s (compare l k (term ss ps f)) in
+whole_ends s (right_of l k) ss m p q =
+    let c = operand s (compare l k (term ss m)) in
     record { more = c.more; text = c.text; derived_is = c.derived_is }
-whole_ends s (place_in a n ts) ss ps p f q = then_token (here unbracket (level s)) (λ r. refl) (index_ends s a n ts (term ss ps f))
-whole_ends s (argument n ts) ss ps p f q = then_token (here closing (level s)) (λ r. refl) (operand s (call n ts (term ss ps f)))
+whole_ends s (place_in a n ts) ss m p q = then_token (here unbracket (level s)) (λ r. refl) (index_ends s a n ts (term ss m))
+whole_ends s (argument n ts) ss m p q = then_token (here closing (level s)) (λ r. refl) (operand s (call n ts (term ss m)))
 
-factor_ends : (s : State parts) (h : Role parts) (o : List (Outer parts)) (ss : Addends) (ps : Factors) (p : Product) (f : Factor) (q : _) → Completed (at s (after_factor h o ss ps p f q))
-factor_ends s h [] ss ps p f q = whole_ends s h ss ps p f q
-factor_ends s h (x ∷ o) ss ps p f q =
+factor_ends : (s : State parts) (h : Role parts) (o : List (Outer parts)) (ss : Addends) (m : Prod) (p : Product) (q : _) → Completed (at s (after_factor h o ss m p q))
+factor_ends s h [] ss m p q = whole_ends s h ss m p q
+factor_ends s h (x ∷ o) ss m p q =
     then_token
     (here closing (within_outer o (within_role h (level s))))
     (λ r. refl)
-    (factor_ends s h o x.addends x.factors x.product (in_parens (term ss ps f)) true)
+    (factor_ends s h o x.addends (prod x.factors (in_parens (term ss m))) x.product true)
 
 factor_begins : (s : State parts) (h : Role parts) (o : List (Outer parts)) (ss : Addends) (ps : Factors) (p : Product) → Completed (at s (at_factor h o ss ps p))
 factor_begins s h o ss ps p =
-    then_token (here (name x_name) (within_outer o (within_role h (level s)))) (λ r. refl) (factor_ends s h o ss ps p (variable x_name) true)
+    then_token (here (name x_name) (within_outer o (within_role h (level s)))) (λ r. refl) (factor_ends s h o ss (prod ps (variable x_name)) p true)
+
+divisor_begins : (s : State parts) (h : Role parts) (o : List (Outer parts)) (ss : Addends) (m : Prod) (p : Product) → Completed (at s (at_divisor h o ss m p))
+divisor_begins s h o ss m p =
+    then_token (here (number 1) (within_outer o (within_role h (level s)))) (λ r. refl) (factor_ends s h o ss (divided m 0) p false)
 
 bracket_begins : (s : State parts) (a : Aim parts) (n : Name) → Completed (at s (at_bracket a n))
 bracket_begins s a n =
@@ -154,18 +161,19 @@ position_completed s at_system =
     (here (system x_name) (level s))
     (λ q. refl)
     (operand_begins (record s { body = record s.body { marks = names s.body.marks x_name } }))
-position_completed s (at_variable q ns) =
+position_completed s (at_variable q) =
     then_token
-    {n = record s { around = scope q ns x_name s.body ∷ s.around; body = fresh derivations 0; position = at_operand }}
+    {n = record s { around = scope q x_name s.body ∷ s.around; body = fresh derivations 0; position = at_operand }}
     (here (name x_name) (suc (level s)))
     (λ q. refl)
-    (operand_begins (record s { around = scope q ns x_name s.body ∷ s.around; body = fresh derivations 0 }))
+    (operand_begins (record s { around = scope q x_name s.body ∷ s.around; body = fresh derivations 0 }))
 position_completed s (after_operand c) = operand s c
 position_completed s (after_first n) =
-    let c = operand s (compare (term no_addends no_factors (variable n)) equal x_term) in
+    let c = operand s (compare (name_term n) equal x_term) in
     record { more = here (relation equal) (level s) ∷ here (name x_name) (level s) ∷ c.more; text = c.text; derived_is = c.derived_is }
 position_completed s (at_factor h o ss ps p) = factor_begins s h o ss ps p
-position_completed s (after_factor h o ss ps p f q) = factor_ends s h o ss ps p f q
+position_completed s (after_factor h o ss m p q) = factor_ends s h o ss m p q
+position_completed s (at_divisor h o ss m p) = divisor_begins s h o ss m p
 position_completed s (after_index a n ts t) = index_ends s a n ts t
 position_completed s (at_word a) = word_begins s a
 position_completed s (at_bracket a n) = bracket_begins s a n

@@ -1,12 +1,13 @@
 -- Derivations as the machine reads them, and the tokens that they derive. The last operand of a formula is determined from those before it.
 use Rattle.std.specs.Prelude.{ℕ, suc, List, [], ◌∷◌}
-use Rattle.formula_parse.specs.Tokens.{Name, Relation, Quantifier, Connective, Sign, Letter, Placed, here, name, number, called, call_sign, negation, quantifier, comma, opening, closing, bracket, unbracket, sign, times, relation, connective, implies, iff, end}
+use Rattle.formula_parse.specs.Tokens as tokens
+use Rattle.formula_parse.specs.Tokens.{Name, Relation, Connective, Sign, Letter, Placed, here, name, number, called, call_sign, negation, quantifier, comma, opening, closing, bracket, unbracket, sign, times, slash, relation, connective, implies, iff, end}
 use Rattle.formula_parse.specs.Trees.{Names, no_names, names}
-use Rattle.formula_parse.specs.Making.{Kinds, Making}
+use Rattle.formula_parse.specs.Making.{Binding, some, every, infinite, Kinds, Making}
 use Rattle.formula_parse.specs.Machine.{within}
 use Rattle.formula_parse.specs.Formulas.{letter_then, marks_then}
 
--- factor := VAR | NUM | "(" term ")"; prod := { factor "*" } factor; term := { prod ("+" | "-") } prod
+-- factor := VAR | NUM | "(" term ")"; prod := [ prod "*" ] factor | prod "/" NUM; term := { prod ("+" | "-") } prod
 mutual
   pub data Factor : Type 0 where
     variable : Name → Factor
@@ -15,14 +16,19 @@ mutual
 
   pub data Factors : Type 0 where
     no_factors : Factors
-    factors : Factors → Factor → ℕ → Factors
+    factors : Prod → ℕ → Factors
+
+  pub data Prod : Type 0 where
+    prod : Factors → Factor → Prod
+    -- the numeral is one more
+    divided : Prod → ℕ → Prod
 
   pub data Addends : Type 0 where
     no_addends : Addends
-    addends : Addends → Factors → Factor → Sign → Addends
+    addends : Addends → Prod → Sign → Addends
 
   pub data Term : Type 0 where
-    term : Addends → Factors → Factor → Term
+    term : Addends → Prod → Term
 
 -- the terms before the last of an index or a call
 pub data Terms : Type 0 where
@@ -36,7 +42,7 @@ pub data Index : Type 0 where
 -- An operand that a connective follows has no quantifier at its right end: it is closed. The last of a formula may have one.
 -- closed := { "?" SYS } core; core := "~" closed | "(" formula ")" | atom
 -- atom := term REL term | index REL index | index REL letter | letter REL index | "$" NAME "(" [ { term "," } term ] ")"
--- last := closed | { { "?" SYS } "~" } { "?" SYS } ("E" | "A") { VAR "," } VAR formula
+-- last := closed | { { "?" SYS } "~" } { "?" SYS } (("E" | "A") { VAR "," } | "I") VAR formula
 -- formula := { imp "<=>" } { chain "=>" } { closed ("&" | "|" | "^") } last; imp := { chain "=>" } chain; chain := { closed ("&" | "|" | "^") } closed
 mutual
   pub data Core : Type 0 where
@@ -67,7 +73,7 @@ mutual
   pub data Last : Type 0 where
     ends : Closed → Last
     -- the marks before each `~`, the last first; the marks, the quantifier and the variables
-    quantified : List Names → Names → Quantifier → Names → Name → Formula → Last
+    quantified : List Names → Names → Binding → Name → Formula → Last
 
   pub data Formula : Type 0 where
     formula : Implications → Chains → Operands → Last → Formula
@@ -81,14 +87,18 @@ abbrev mutual
 
   pub factors_then : Factors → ℕ → List Placed → List Placed
   factors_then no_factors d r = r
-  factors_then (factors ps f b) d r = factors_then ps d (factor_then f d (here (times b) d ∷ r))
+  factors_then (factors m b) d r = prod_then m d (here (times b) d ∷ r)
+
+  pub prod_then : Prod → ℕ → List Placed → List Placed
+  prod_then (prod ps f) d r = factors_then ps d (factor_then f d r)
+  prod_then (divided m c) d r = prod_then m d (here slash d ∷ here (number (suc c)) d ∷ r)
 
   pub addends_then : Addends → ℕ → List Placed → List Placed
   addends_then no_addends d r = r
-  addends_then (addends ss ps f s) d r = addends_then ss d (factors_then ps d (factor_then f d (here (sign s) d ∷ r)))
+  addends_then (addends ss m s) d r = addends_then ss d (prod_then m d (here (sign s) d ∷ r))
 
   pub term_then : Term → ℕ → List Placed → List Placed
-  term_then (term ss ps f) d r = addends_then ss d (factors_then ps d (factor_then f d r))
+  term_then (term ss m) d r = addends_then ss d (prod_then m d r)
 
 abbrev pub arguments_then : Terms → ℕ → List Placed → List Placed
 arguments_then no_terms d r = r
@@ -105,6 +115,11 @@ index_then (index n ts t) d r = here (name n) d ∷ here bracket (suc d) ∷ pla
 abbrev pub variables_then : Names → ℕ → List Placed → List Placed
 variables_then no_names d r = r
 variables_then (names ns n) d r = variables_then ns d (here (name n) d ∷ here comma d ∷ r)
+
+abbrev pub binding_then : Binding → ℕ → List Placed → List Placed
+binding_then (some ns) d r = here (quantifier tokens.some) d ∷ variables_then ns d r
+binding_then (every ns) d r = here (quantifier tokens.every) d ∷ variables_then ns d r
+binding_then infinite d r = here (quantifier tokens.infinite) d ∷ r
 
 -- some `~`, each with the marks before it, the last first
 abbrev pub tildes_then : List Names → ℕ → List Placed → List Placed
@@ -139,11 +154,10 @@ abbrev mutual
 
   pub last_then : Last → ℕ → List Placed → List Placed
   last_then (ends c) d r = closed_then c d r
-  last_then (quantified st ms q ns n f) d r =
+  last_then (quantified st ms q n f) d r =
       tildes_then st d (
       marks_then ms (within st d) (
-      here (quantifier q) (suc (within st d)) ∷
-      variables_then ns (suc (within st d)) (here (name n) (suc (within st d)) ∷ formula_then f (suc (within st d)) r)
+      binding_then q (suc (within st d)) (here (name n) (suc (within st d)) ∷ formula_then f (suc (within st d)) r)
       )
       )
 
@@ -159,6 +173,7 @@ abbrev pub parts : Kinds
 parts = record {
   Factor = Factor;
   Factors = Factors;
+  Prod = Prod;
   Addends = Addends;
   Term = Term;
   Terms = Terms;
@@ -180,6 +195,8 @@ derivations = record {
   in_parens = in_parens;
   no_factors = no_factors;
   factors = factors;
+  prod = prod;
+  divided = divided;
   no_addends = no_addends;
   addends = addends;
   term = term;

@@ -1,11 +1,11 @@
 -- The least flaw so far, after a derivation.
 use Rattle.std.specs.Prelude.{Bool, true, false, ◌&&◌, Option}
 use Rattle.formula_parse.specs.Flaws.{Flaw, mixed_chain, noted_if, noted_factor, Product, product_start, product_next, Came, none_came, came_next, mixes}
-use Rattle.formula_parse.proofs.Derivations.{Factor, variable, numeral, in_parens, Factors, no_factors, factors, Addends, no_addends, addends, Term, term, Terms, no_terms, terms, Index, index, Core, compare, words, word_letter, letter_word, call_none, call, not_closed, grouped, Closed, marked, Operands, no_operands, operands, Chains, no_chains, chains, Implications, no_implications, implications, Last, ends, quantified, Formula, formula}
+use Rattle.formula_parse.proofs.Derivations.{Factor, variable, numeral, in_parens, Factors, no_factors, factors, Prod, prod, divided, Addends, no_addends, addends, Term, term, Terms, no_terms, terms, Index, index, Core, compare, words, word_letter, letter_word, call_none, call, not_closed, grouped, Closed, marked, Operands, no_operands, operands, Chains, no_chains, chains, Implications, no_implications, implications, Last, ends, quantified, Formula, formula}
 
 abbrev pub is_lone : Addends → Bool
 is_lone no_addends = true
-is_lone (addends ss ps f s) = false
+is_lone (addends ss m s) = false
 
 -- a numeral, or one in parentheses
 abbrev mutual
@@ -15,11 +15,20 @@ abbrev mutual
   is_numeral (in_parens t) = is_numeral_term t
 
   pub is_numeral_term : Term → Bool
-  is_numeral_term (term ss ps f) = (product_of (is_lone ss) ps).lone && is_numeral f
+  is_numeral_term (term ss m) = (product_of (is_lone ss) m).lone && ends_in_numeral m
 
-  pub product_of : Bool → Factors → Product
-  product_of l no_factors = product_start l
-  product_of l (factors ps f b) = product_next (product_of l ps) (is_numeral f) b
+  pub ends_in_numeral : Prod → Bool
+  ends_in_numeral (prod ps f) = is_numeral f
+  ends_in_numeral (divided m c) = false
+
+  pub product_before : Bool → Factors → Product
+  product_before l no_factors = product_start l
+  product_before l (factors m b) = product_next (product_of l m) (ends_in_numeral m) b
+
+  -- before the last factor
+  pub product_of : Bool → Prod → Product
+  product_of l (prod ps f) = product_before l ps
+  product_of l (divided m c) = product_of l m
 
 -- The least flaw so far, after a derivation.
 abbrev mutual
@@ -31,16 +40,18 @@ abbrev mutual
   -- after a factor, and what comes before it in its product
   pub factors_flaw : Option Flaw → Bool → Factors → Option Flaw
   factors_flaw w l no_factors = w
-  factors_flaw w l (factors ps f b) = noted_factor (product_of l ps) (is_numeral f) (factor_flaw (factors_flaw w l ps) f)
+  factors_flaw w l (factors m b) = prod_flaw w l m
+
+  pub prod_flaw : Option Flaw → Bool → Prod → Option Flaw
+  prod_flaw w l (prod ps f) = noted_factor (product_before l ps) (is_numeral f) (factor_flaw (factors_flaw w l ps) f)
+  prod_flaw w l (divided m c) = prod_flaw w l m
 
   pub addends_flaw : Option Flaw → Addends → Option Flaw
   addends_flaw w no_addends = w
-  addends_flaw w (addends ss ps f s) =
-      noted_factor (product_of (is_lone ss) ps) (is_numeral f) (factor_flaw (factors_flaw (addends_flaw w ss) (is_lone ss) ps) f)
+  addends_flaw w (addends ss m s) = prod_flaw (addends_flaw w ss) (is_lone ss) m
 
   pub term_flaw : Option Flaw → Term → Option Flaw
-  term_flaw w (term ss ps f) =
-      noted_factor (product_of (is_lone ss) ps) (is_numeral f) (factor_flaw (factors_flaw (addends_flaw w ss) (is_lone ss) ps) f)
+  term_flaw w (term ss m) = prod_flaw (addends_flaw w ss) (is_lone ss) m
 
 abbrev pub terms_flaw : Option Flaw → Terms → Option Flaw
 terms_flaw w no_terms = w
@@ -86,7 +97,7 @@ abbrev mutual
 
   pub last_flaw : Option Flaw → Last → Option Flaw
   last_flaw w (ends c) = closed_flaw w c
-  last_flaw w (quantified st ms q ns n f) = formula_flaw w f
+  last_flaw w (quantified st ms q n f) = formula_flaw w f
 
   pub formula_flaw : Option Flaw → Formula → Option Flaw
   formula_flaw w (formula is hs os l) = last_flaw (operands_flaw (chains_flaw (implications_flaw w is) hs) os) l

@@ -5,7 +5,7 @@ use Rattle.formula_parse.specs.Tokens.{end}
 use Rattle.formula_parse.specs.Making.{Kinds, Making}
 use Rattle.formula_parse.specs.Advances.{IsDone}
 use Rattle.formula_parse.specs.Flaws.{Flaw}
-use Rattle.formula_parse.specs.Machine.{Frame, Outer, Role, Position, State, left_index, left_letter, first, second, left_side, right_of, place_in, argument, at_operand, at_system, at_variable, after_operand, after_first, at_factor, after_factor, after_index, at_word, at_bracket, at_letter, at_value, after_letter, at_called, at_call, at_argument, done, paren, scope, close, step_at, step, leave_product, leave_whole}
+use Rattle.formula_parse.specs.Machine.{Frame, Outer, Role, Position, State, left_index, left_letter, first, second, left_side, right_of, place_in, argument, at_operand, at_system, at_variable, after_operand, after_first, at_factor, after_factor, at_divisor, after_index, at_word, at_bracket, at_letter, at_value, after_letter, at_called, at_call, at_argument, done, paren, scope, close, step_at, step, leave_product, leave_whole}
 
 abbrev pub EndsDone : {K : Kinds} → Option (State K) → Type 0
 EndsDone None = ⊤
@@ -15,7 +15,7 @@ module _ {K : Kinds} (A : Making K) where
   close_done : (w : Option Flaw) (gs : List (Frame K)) (f : K.Formula) → EndsDone (close A w gs f end)
   close_done w [] f = tt
   close_done w (paren h y ∷ hs) f = tt
-  close_done w (scope k ns n h ∷ hs) f = close_done w hs _
+  close_done w (scope k n h ∷ hs) f = close_done w hs _
 
   whole_done : (s : State K) (h : Role K) (t : K.Term) (q : Bool) → EndsDone (leave_whole A s h t q end)
   whole_done s left_side t q = tt
@@ -30,11 +30,12 @@ module _ {K : Kinds} (A : Making K) where
   position_done : (s : State K) (p : Position K) → EndsDone (step_at A s p end)
   position_done s at_operand = tt
   position_done s at_system = tt
-  position_done s (at_variable q ns) = tt
+  position_done s (at_variable q) = tt
   position_done s (after_operand c) = close_done s.flaw s.around _
   position_done s (after_first n) = tt
   position_done s (at_factor h o ss ps p) = tt
-  position_done s (after_factor h o ss ps p f q) = product_done s h o (A.term ss ps f) _
+  position_done s (after_factor h o ss m p q) = product_done s h o (A.term ss m) _
+  position_done s (at_divisor h o ss m p) = tt
   position_done s (after_index first n ts t) = tt
   position_done s (after_index (second (left_index z k)) n ts t) = close_done s.flaw s.around _
   position_done s (after_index (second (left_letter l k)) n ts t) = close_done s.flaw s.around _

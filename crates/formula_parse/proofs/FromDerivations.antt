@@ -2,54 +2,62 @@
 use Rattle.std.proofs.Common.{sym, subst, List, [], ◌∷◌, ◌++◌, append_assoc}
 use Rattle.std.proofs.lemmas.List.{append-nil}
 use Rattle.formula_parse.specs.Tokens as tokens
-use Rattle.formula_parse.specs.Tokens.{Name, Relation, Quantifier, Letter, Token}
+use Rattle.formula_parse.specs.Tokens.{Name, Relation, Letter, Token}
 use Rattle.formula_parse.specs.Trees.{Names, no_names, names}
+use Rattle.formula_parse.specs.Making.{Binding}
+use Rattle.formula_parse.specs.Making as making
 use Rattle.formula_parse.proofs.Derivations as derived
-use Rattle.formula_parse.specs.Formulas.{Factor, variable, numeral, in_parens, Prod, factor, times, Term, prod, signed, Index, word, further, Terms, term, comma, Atom, compare, words, word_letter, letter_word, call_none, call, Variables, variable_one, variable_more, WrittenFormula, imp, iff, Imp, chain, implies, Chain, operand, joined, Operand, marked, negated, quantified, grouped, atom, IsEnding, FormulaTakes, ImpTakes, ChainTakes, OperandTakes}
-use Rattle.formula_parse.proofs.SameTerms.{SameFactor, SameProd, SameTerm, same_variable, same_numeral, same_parens, same_factor, same_times, same_prod, same_signed, Alike, alike, SameTerms, same_one, same_comma, SameIndex, same_word, same_further, AlikeIndex, alike_index, SameAtom, same_compare, same_words, same_word_letter, same_letter_word, same_call_none, same_call}
+use Rattle.formula_parse.specs.Formulas.{Factor, variable, numeral, in_parens, Prod, factor, times, divided, Term, prod, signed, Index, word, further, Terms, term, comma, Atom, compare, words, word_letter, letter_word, call_none, call, Variables, variable_one, variable_more, Binder, some, every, infinite, WrittenFormula, imp, iff, Imp, chain, implies, Chain, operand, joined, Operand, marked, negated, quantified, grouped, atom, IsEnding, FormulaTakes, ImpTakes, ChainTakes, OperandTakes}
+use Rattle.formula_parse.proofs.SameTerms.{SameFactor, SameProd, SameTerm, same_variable, same_numeral, same_parens, same_factor, same_times, same_divided, same_prod, same_signed, Alike, alike, SameTerms, same_one, same_comma, SameIndex, same_word, same_further, AlikeIndex, alike_index, SameAtom, same_compare, same_words, same_word_letter, same_letter_word, same_call_none, same_call}
 use Rattle.formula_parse.proofs.SameFormulas as formulas
-use Rattle.formula_parse.proofs.SameFormulas.{SameOperand, SameChain, SameImp, SameFormula, same_operand, same_joined, same_chain, same_implies, same_imp, same_iff, same_atom, same_grouped, same_not, SameVariables, same_variable_one, same_variable_more, same_quantified, same_tilde}
+use Rattle.formula_parse.proofs.SameFormulas.{SameOperand, SameChain, SameImp, SameFormula, same_operand, same_joined, same_chain, same_implies, same_imp, same_iff, same_atom, same_grouped, same_not, SameVariables, same_variable_one, same_variable_more, SameBinder, same_some, same_every, same_infinite, same_quantified, same_tilde}
 
 record OfFactor (g : derived.Factor) : Type 0 where
   to : Factor
   same : SameFactor g to
 
-record OfProd (ps : derived.Factors) (g : derived.Factor) : Type 0 where
+record OfProd (m : derived.Prod) : Type 0 where
   to : Prod
-  same : SameProd ps g to
+  same : SameProd m to
 
-record OfTerm (ss : derived.Addends) (ps : derived.Factors) (g : derived.Factor) : Type 0 where
+record OfTerm (ss : derived.Addends) (m : derived.Prod) : Type 0 where
   to : Term
-  same : SameTerm ss ps g to
+  same : SameTerm ss m to
 
 mutual
   factor_of : (g : derived.Factor) → OfFactor g
   factor_of (derived.variable n) = record { to = variable n; same = same_variable n }
   factor_of (derived.numeral n) = record { to = numeral n; same = same_numeral n }
-  factor_of (derived.in_parens (derived.term ss ps g)) =
-      let u = term_of ss ps g (prod_of ps g (factor_of g)) in
-      record { to = in_parens u.to; same = same_parens ss ps g u.to u.same }
+  factor_of (derived.in_parens (derived.term ss m)) =
+      let u = term_of ss m (prod_of m) in
+      record { to = in_parens u.to; same = same_parens ss m u.to u.same }
 
-  prod_of : (ps : derived.Factors) (g : derived.Factor) → OfFactor g → OfProd ps g
-  prod_of derived.no_factors g u = record { to = factor u.to; same = same_factor g u.to u.same }
-  prod_of (derived.factors ps h b) g u =
-      let v = prod_of ps h (factor_of h) in
-      record { to = times v.to b u.to; same = same_times ps h g v.to b u.to v.same u.same }
+  prod_of : (m : derived.Prod) → OfProd m
+  prod_of (derived.prod derived.no_factors g) =
+      let u = factor_of g in
+      record { to = factor u.to; same = same_factor g u.to u.same }
+  prod_of (derived.prod (derived.factors m b) g) =
+      let v = prod_of m in
+      let u = factor_of g in
+      record { to = times v.to b u.to; same = same_times m g v.to b u.to v.same u.same }
+  prod_of (derived.divided m c) =
+      let v = prod_of m in
+      record { to = divided v.to c; same = same_divided m v.to c v.same }
 
-  term_of : (ss : derived.Addends) (ps : derived.Factors) (g : derived.Factor) → OfProd ps g → OfTerm ss ps g
-  term_of derived.no_addends ps g u = record { to = prod u.to; same = same_prod ps g u.to u.same }
-  term_of (derived.addends ss qs h s) ps g u =
-      let v = term_of ss qs h (prod_of qs h (factor_of h)) in
-      record { to = signed v.to s u.to; same = same_signed ss qs ps h g v.to s u.to v.same u.same }
+  term_of : (ss : derived.Addends) (m : derived.Prod) → OfProd m → OfTerm ss m
+  term_of derived.no_addends m u = record { to = prod u.to; same = same_prod m u.to u.same }
+  term_of (derived.addends ss k s) m u =
+      let v = term_of ss k (prod_of k) in
+      record { to = signed v.to s u.to; same = same_signed ss k m v.to s u.to v.same u.same }
 
 record OfWhole (g : derived.Term) : Type 0 where
   to : Term
   same : Alike g to
 
 whole_of : (g : derived.Term) → OfWhole g
-whole_of (derived.term ss ps g) =
-    let u = term_of ss ps g (prod_of ps g (factor_of g)) in
-    record { to = u.to; same = alike ss ps g u.to u.same }
+whole_of (derived.term ss m) =
+    let u = term_of ss m (prod_of m) in
+    record { to = u.to; same = alike ss m u.to u.same }
 
 record OfTerms (gs : derived.Terms) (g : derived.Term) : Type 0 where
   to : Terms
@@ -95,6 +103,19 @@ variables_of no_names n = record { to = variable_one n; same = same_variable_one
 variables_of (names ns m) n =
     let u = variables_of ns m in
     record { to = variable_more u.to n; same = same_variable_more ns m n u.to u.same }
+
+record OfBinder (q : Binding) (n : Name) : Type 0 where
+  to : Binder
+  same : SameBinder q n to
+
+binder_of : (q : Binding) (n : Name) → OfBinder q n
+binder_of (making.some ns) n =
+    let u = variables_of ns n in
+    record { to = some u.to; same = same_some ns n u.to u.same }
+binder_of (making.every ns) n =
+    let u = variables_of ns n in
+    record { to = every u.to; same = same_every ns n u.to u.same }
+binder_of making.infinite n = record { to = infinite n; same = same_infinite n }
 
 -- an operand after which any token may come
 record OfClosed (e : derived.Closed) : Type 0 where
@@ -165,36 +186,34 @@ grouped_of : (ms : Names) (g : derived.Formula) → OfText g → OfClosed (deriv
 grouped_of ms g u = record { to = marked ms (grouped u.to); same = same_grouped ms g u.to u.same; takes = λ t. u.takes tokens.closing tt }
 
 -- one more `~` before some
-tildes_of : (st ss : List Names) (ms : Names) (q : Quantifier) (ns : Names) (n : Name) (g : derived.Formula) → OfLast (derived.quantified st ms q ns n g) → OfLast (derived.quantified (st ++ ss) ms q ns n g)
-tildes_of st [] ms q ns n g u = subst (λ z. OfLast (derived.quantified z ms q ns n g)) (sym (append-nil st)) u
-tildes_of st (k ∷ ss) ms q ns n g u =
+tildes_of : (st ss : List Names) (ms : Names) (q : Binding) (n : Name) (g : derived.Formula) → OfLast (derived.quantified st ms q n g) → OfLast (derived.quantified (st ++ ss) ms q n g)
+tildes_of st [] ms q n g u = subst (λ z. OfLast (derived.quantified z ms q n g)) (sym (append-nil st)) u
+tildes_of st (k ∷ ss) ms q n g u =
     subst
-    (λ z. OfLast (derived.quantified z ms q ns n g))
+    (λ z. OfLast (derived.quantified z ms q n g))
     (append_assoc st (k ∷ []) ss)
     (tildes_of
     (st ++ k ∷ [])
     ss
     ms
     q
-    ns
     n
     g
-    (record { to = marked k (negated u.to); same = same_tilde k st ms q ns n g u.to u.same; takes = u.takes }))
+    (record { to = marked k (negated u.to); same = same_tilde k st ms q n g u.to u.same; takes = u.takes }))
 
-quantified_of : (st : List Names) (ms : Names) (q : Quantifier) (ns : Names) (n : Name) (g : derived.Formula) → OfText g → OfLast (derived.quantified st ms q ns n g)
-quantified_of st ms q ns n g u =
-    let v = variables_of ns n in
+quantified_of : (st : List Names) (ms : Names) (q : Binding) (n : Name) (g : derived.Formula) → OfText g → OfLast (derived.quantified st ms q n g)
+quantified_of st ms q n g u =
+    let v = binder_of q n in
     tildes_of
     []
     st
     ms
     q
-    ns
     n
     g
     (record {
-      to = marked ms (quantified q v.to u.to);
-      same = same_quantified ms q ns n v.to g u.to v.same u.same;
+      to = marked ms (quantified v.to u.to);
+      same = same_quantified ms q n v.to g u.to v.same u.same;
       takes = λ t e. (e, u.takes t e);
     })
 
@@ -216,7 +235,7 @@ mutual
   last_of (derived.ends e) =
       let u = closed_of e in
       record { to = u.to; same = u.same; takes = λ t h. u.takes t }
-  last_of (derived.quantified st ms q ns n g) = quantified_of st ms q ns n g (formula_of g)
+  last_of (derived.quantified st ms q n g) = quantified_of st ms q n g (formula_of g)
 
   chain_of : (os : derived.Operands) (l : derived.Last) (o : Operand) → SameOperand l o → OfChain os l o
   chain_of derived.no_operands l o s = record { to = operand o; same = same_operand l o s; takes = λ t h. h }

@@ -7,7 +7,7 @@ use Rattle.formula_parse.specs.Tokens.{Token, number, Placed, token_of}
 use Rattle.formula_parse.specs.Trees as trees
 use Rattle.formula_parse.specs.Making.{Kinds, Making}
 use Rattle.formula_parse.proofs.Derivations.{Formula, derived_tokens, parts, derivations}
-use Rattle.formula_parse.specs.Machine.{within, Position, at_letter, at_value, State, at_operand, at_system, at_variable, after_operand, after_first, at_factor, after_factor, after_index, at_word, at_bracket, after_letter, at_called, at_call, at_argument, done, step, start, depth, within_position}
+use Rattle.formula_parse.specs.Machine.{within, Position, at_letter, at_value, State, at_operand, at_system, at_variable, after_operand, after_first, at_factor, after_factor, at_divisor, after_index, at_word, at_bracket, after_letter, at_called, at_call, at_argument, done, step, start, depth, within_position}
 use Rattle.formula_parse.specs.Flaws.{Flaw}
 use Rattle.formula_parse.proofs.DerivedFlaws.{formula_flaw}
 use Rattle.formula_parse.specs.Runs.{after, run_tokens, run, placed}
@@ -196,11 +196,12 @@ done_of : (p : Position parts) → bare_position p ≡ done tt → (g : Formula)
 done_of (done g) e = (g, refl)
 done_of at_operand e = absurd cc
 done_of at_system e = absurd cc
-done_of (at_variable q ns) e = absurd cc
+done_of (at_variable q) e = absurd cc
 done_of (after_operand c) e = absurd cc
 done_of (after_first n) e = absurd cc
 done_of (at_factor h o ss ps p) e = absurd cc
-done_of (after_factor h o ss ps p f q) e = absurd cc
+done_of (after_factor h o ss m p q) e = absurd cc
+done_of (at_divisor h o ss m p) e = absurd cc
 done_of (after_index a n ts t) e = absurd cc
 done_of (at_word a) e = absurd cc
 done_of (at_bracket a n) e = absurd cc

@@ -1,5 +1,5 @@
 -- A list of one is its item, and a longer one is kept.
-use Rattle.std.proofs.Common.{◌≡◌, refl, sym, ◌∙◌, ap, List, [], ◌∷◌, ◌++◌, length, map}
+use Rattle.std.proofs.Common.{◌≡◌, refl, sym, ◌∙◌, ap, ℕ, List, [], ◌∷◌, ◌++◌, length, map}
 use Rattle.std.specs.Prelude.{Vec, Box}
 use Rattle.std.specs.List.{fold}
 use Rattle.std.specs.declared.alloc.Global.{Global}
@@ -15,7 +15,7 @@ use Rattle.formula_parse.specs.declared.tree.Addend.{Addend}
 use Rattle.formula_parse.specs.declared.tree.Formula.{Formula}
 use Rattle.formula_parse.specs.declared.tree.Formula.TheVariants as formula
 use Rattle.formula_parse.specs.declared.tree.Operand.{Operand}
-use Rattle.formula_parse.proofs.ViewSteps.{view_product, view_times, view_sum, view_chain, view_marked}
+use Rattle.formula_parse.proofs.ViewSteps.{view_product, view_times, view_divided, view_sum, view_chain, view_marked}
 
 -- the prefix of a list with an item more at its end, and that item
 record Snoc {X : Type 0} (xs : List X) : Type 0 where
@@ -37,14 +37,11 @@ map_snoc : {X Y : Type 0} (f : X → Y) (xs : List X) (x : X) → map f (xs ++ x
 map_snoc f [] x = refl
 map_snoc f (y ∷ ys) x = ap (λ zs. f y ∷ zs) (map_snoc f ys x)
 
-factors_snoc : (ps : List Factor) (p : Factor) → factors_view (ps ++ p ∷ []) ≡ trees.factors (factors_view ps) (factor_view p)
+pub factors_snoc : (ps : List Factor) (p : Factor) → factors_view (ps ++ p ∷ []) ≡ trees.factors (factors_view ps) (factor_view p)
 factors_snoc ps p = ap (fold trees.factors trees.no_factors) (map_snoc factor_view ps p) ∙ fold_snoc trees.factors trees.no_factors (map factor_view ps) (factor_view p)
 
-pub times_snoc : (ps : List Factor) (t : Term) → factors_view (ps ++ factor.Times t ∷ []) ≡ trees.factors (factors_view ps) (trees.times (term_view t))
-times_snoc ps t = factors_snoc ps (factor.Times t) ∙ ap (trees.factors (factors_view ps)) (view_times t)
-
-pub times_more : (all : List Factor) (ps : List Factor) (t : Term) → all ≡ ps ++ factor.Times t ∷ [] → factors_view all ≡ trees.factors (factors_view ps) (trees.times (term_view t))
-times_more all ps t e = ap factors_view e ∙ times_snoc ps t
+pub factors_more : (all : List Factor) (ps : List Factor) (f : Factor) → all ≡ ps ++ f ∷ [] → factors_view all ≡ trees.factors (factors_view ps) (factor_view f)
+factors_more all ps f e = ap factors_view e ∙ factors_snoc ps f
 
 addends_snoc : (ss : List Addend) (a : Addend) → addends_view (ss ++ a ∷ []) ≡ with_addend (addends_view ss) (addend_view a)
 addends_snoc ss a = ap (fold with_addend trees.no_addends) (map_snoc addend_view ss a) ∙ fold_snoc with_addend trees.no_addends (map addend_view ss) (addend_view a)
@@ -55,19 +52,33 @@ operands_snoc os o = ap (fold with_operand trees.no_operands) (map_snoc operand_
 names_snoc : (ns : List Name) (n : Name) → names_view (ns ++ n ∷ []) ≡ trees.names (names_view ns) n
 names_snoc ns n = fold_snoc trees.names trees.no_names ns n
 
-pub multiplied_none : (ps : List Factor) (t : trees.Term) → length ps ≡ 0 → t ≡ multiplied (factors_view ps) t
+pub multiplied_none : (ps : List Factor) (t : trees.Term) → length ps ≡ 0 → t ≡ multiplied (trees.factors (factors_view ps) (trees.times t))
 multiplied_none [] t e = refl
 multiplied_none (x ∷ xs) t e = absurd cc
 
-pub multiplied_more : (all : Vec Factor Global) (ps : List Factor) (t : Term) → (length ps ≡ 0 → ⊥) → all.items ≡ ps ++ factor.Times t ∷ [] → term_view (term.Product all) ≡ multiplied (factors_view ps) (term_view t)
+pub multiplied_more : (all : Vec Factor Global) (ps : List Factor) (t : Term) → (length ps ≡ 0 → ⊥) → all.items ≡ ps ++ factor.Times t ∷ [] → term_view (term.Product all) ≡ multiplied (trees.factors (factors_view ps) (trees.times (term_view t)))
 multiplied_more all [] t h e = absurd (h refl)
 multiplied_more all (x ∷ xs) t h e =
     let s = snoc x xs in
     let prefix = ap factors_view s.is ∙ factors_snoc s.prefix s.last in
+    let last = trees.times (term_view t) in
     view_product all
     ∙ (ap (λ z. trees.product (factors_view z)) e
-    ∙ (ap trees.product (times_snoc (x ∷ xs) t)
-    ∙ (ap (λ z. trees.product (trees.factors z (trees.times (term_view t)))) prefix ∙ ap (λ z. multiplied z (term_view t)) (sym prefix))))
+    ∙ (ap trees.product (factors_snoc (x ∷ xs) (factor.Times t))
+    ∙ (ap (λ z. trees.product (trees.factors (factors_view (x ∷ xs)) z)) (view_times t)
+    ∙ (ap (λ z. trees.product (trees.factors z last)) prefix ∙ ap (λ z. multiplied (trees.factors z last)) (sym prefix)))))
+
+-- a divisor stays one, also alone
+pub multiplied_divided : (all : Vec Factor Global) (ps : List Factor) (c : ℕ) → all.items ≡ ps ++ factor.Divided c ∷ [] → term_view (term.Product all) ≡ multiplied (trees.factors (factors_view ps) (trees.divided c))
+multiplied_divided all ps c e =
+    view_product all
+    ∙ (ap (λ z. trees.product (factors_view z)) e
+    ∙ (ap trees.product (factors_snoc ps (factor.Divided c))
+    ∙ (ap (λ z. trees.product (trees.factors (factors_view ps) z)) (view_divided c) ∙ kept (factors_view ps))))
+  where
+    kept : (fs : trees.Factors) → trees.product (trees.factors fs (trees.divided c)) ≡ multiplied (trees.factors fs (trees.divided c))
+    kept trees.no_factors = refl
+    kept (trees.factors fs f) = refl
 
 pub summed_none : (ss : List Addend) (t : trees.Term) → length ss ≡ 0 → t ≡ summed (addends_view ss) t
 summed_none [] t e = refl

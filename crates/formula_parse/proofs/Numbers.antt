@@ -1,14 +1,16 @@
 -- Where a numeral may be, and where not.
-use Rattle.std.proofs.Common.{◌≡◌, refl, ℕ, Bool, true, false, List, [], ◌∷◌, Option, None}
+use Rattle.std.proofs.Common.{◌≡◌, refl, ℕ, zero, suc, ◌<◌, Bool, true, false, List, [], ◌∷◌, Option, None, arith}
+use Rattle.std.specs.Prelude.{IsSome}
 use Rattle.formula_parse.specs.Tokens.{number}
 use Rattle.formula_parse.specs.Making.{Kinds, Making}
-use Rattle.formula_parse.specs.Flaws.{Flaw}
-use Rattle.formula_parse.specs.Machine.{Frame, Outer, Role, Position, State, left_index, left_letter, first, second, left_side, right_of, place_in, argument, at_operand, at_system, at_variable, after_operand, after_first, at_factor, after_factor, after_index, at_word, at_bracket, at_letter, at_value, after_letter, at_called, at_call, at_argument, done, paren, scope, close, step_at, leave_product, leave_whole}
+use Rattle.formula_parse.specs.Flaws.{Flaw, Product}
+use Rattle.formula_parse.specs.Machine.{Frame, Outer, Role, Position, State, left_index, left_letter, first, second, left_side, right_of, place_in, argument, at_operand, at_system, at_variable, after_operand, after_first, at_factor, after_factor, at_divisor, after_index, at_word, at_bracket, at_letter, at_value, after_letter, at_called, at_call, at_argument, done, paren, scope, close, step_at, leave_product, leave_whole, enter_divisor}
 
--- positions at which no numeral goes on
+-- positions at which no numeral goes on; a divisor is above 0
 abbrev pub refuses : {K : Kinds} → Position K → Bool
 refuses at_operand = false
 refuses (at_factor h o ss ps p) = false
+refuses (at_divisor h o ss m p) = false
 refuses (at_argument n) = false
 refuses (at_letter c b) = false
 refuses (at_value c b) = false
@@ -18,7 +20,7 @@ module _ {K : Kinds} (A : Making K) (v : ℕ) where
   close_number : (w : Option Flaw) (gs : List (Frame K)) (f : K.Formula) → close A w gs f (number v) ≡ None
   close_number w [] f = refl
   close_number w (paren h y ∷ hs) f = refl
-  close_number w (scope k ns n h ∷ hs) f = close_number w hs _
+  close_number w (scope k n h ∷ hs) f = close_number w hs _
 
   whole_number : (s : State K) (h : Role K) (t : K.Term) (q : Bool) → leave_whole A s h t q (number v) ≡ None
   whole_number s left_side t q = refl
@@ -33,11 +35,12 @@ module _ {K : Kinds} (A : Making K) (v : ℕ) where
   pub position_number : (s : State K) (p : Position K) → refuses p ≡ true → step_at A s p (number v) ≡ None
   position_number s at_operand e = absurd cc
   position_number s at_system e = refl
-  position_number s (at_variable q ns) e = refl
+  position_number s (at_variable q) e = refl
   position_number s (after_operand c) e = close_number s.flaw s.around _
   position_number s (after_first n) e = refl
   position_number s (at_factor h o ss ps p) e = absurd cc
-  position_number s (after_factor h o ss ps p f q) e = product_number s h o (A.term ss ps f) _
+  position_number s (after_factor h o ss m p q) e = product_number s h o (A.term ss m) _
+  position_number s (at_divisor h o ss m p) e = absurd cc
   position_number s (after_index first n ts t) e = refl
   position_number s (after_index (second (left_index z k)) n ts t) e = close_number s.flaw s.around _
   position_number s (after_index (second (left_letter l k)) n ts t) e = close_number s.flaw s.around _
@@ -51,3 +54,8 @@ module _ {K : Kinds} (A : Making K) (v : ℕ) where
   position_number s (at_call n) e = refl
   position_number s (at_argument n) e = absurd cc
   position_number s (done f) e = refl
+
+module _ {K : Kinds} (A : Making K) (s : State K) (h : Role K) (o : List (Outer K)) (ss : K.Addends) (m : K.Prod) (p : Product) where
+  pub divisor_above : (v : ℕ) → 0 < v → IsSome (enter_divisor A s h o ss m p (number v))
+  divisor_above zero e = absurd (omega (arith, e))
+  divisor_above (suc c) e = refl

@@ -132,11 +132,12 @@ finished text n (positions.Done f) result e w d h =
     flawed_parses text f n.context.around.flaw result (walks_end (tokens_of (spots text)) (state_view n) (formula_view f) w (ap position_view e)) h
 finished text n positions.AtOperand result e w d h = absurd d
 finished text n positions.AtSystem result e w d h = absurd d
-finished text n (positions.AtVariable q ns) result e w d h = absurd d
+finished text n (positions.AtVariable b) result e w d h = absurd d
 finished text n (positions.AfterOperand f) result e w d h = absurd d
 finished text n (positions.AfterFirst m) result e w d h = absurd d
 finished text n (positions.AtFactor r) result e w d h = absurd d
 finished text n (positions.AfterFactor r p') result e w d h = absurd d
+finished text n (positions.AtDivisor r) result e w d h = absurd d
 finished text n (positions.AfterIndex p' t) result e w d h = absurd d
 finished text n (positions.AtWord a) result e w d h = absurd d
 finished text n (positions.AtBracket a m) result e w d h = absurd d

@@ -1,10 +1,10 @@
 -- The tokens of a text are placed in one way: the tokens before one determine its nesting, and which letter a numeral belongs to.
-use Rattle.std.proofs.Common.{◌≡◌, refl, sym, ◌∙◌, ap, subst, ℕ, ◌≤◌, List, [], ◌∷◌, ◌++◌, map, Option, None, Some, arith}
+use Rattle.std.proofs.Common.{◌≡◌, refl, sym, ◌∙◌, ap, subst, ℕ, zero, suc, ◌≤◌, List, [], ◌∷◌, ◌++◌, map, Option, None, Some, arith}
 use Rattle.std.proofs.lemmas.List.{append-nil}
 use Rattle.std.specs.List.{AllByRecursion}
 use Rattle.formula_parse.specs.Tokens.{Token, number, Placed, token_of, nesting_of}
 use Rattle.formula_parse.proofs.Derivations.{Formula, derived_tokens, parts, derivations}
-use Rattle.formula_parse.specs.Machine.{within, Position, State, on_left, on_right, at_operand, at_factor, at_letter, at_value, at_argument, step, step_at, start, within_position}
+use Rattle.formula_parse.specs.Machine.{within, Position, State, on_left, on_right, at_operand, at_factor, at_divisor, at_letter, at_value, at_argument, step, step_at, start, within_position}
 use Rattle.formula_parse.proofs.DerivedFlaws.{formula_flaw}
 use Rattle.formula_parse.specs.Runs.{after, run_tokens, placed}
 use Rattle.formula_parse.specs.FormulaTrees.{default_system}
@@ -88,6 +88,8 @@ Keeps s p (Some n) = deep n ≡ within_position p (within s.body.tildes (nesting
 number_keeps : (s : State parts) (v : ℕ) (p : Position parts) → Keeps s p (step_at derivations s p (number v))
 number_keeps s v at_operand = refl
 number_keeps s v (at_factor h o ss ps p) = refl
+number_keeps s zero (at_divisor h o ss m p) = tt
+number_keeps s (suc c) (at_divisor h o ss m p) = refl
 number_keeps s v (at_argument n) = refl
 number_keeps s v (at_letter on_left b) = refl
 number_keeps s v (at_letter (on_right x k) b) = refl

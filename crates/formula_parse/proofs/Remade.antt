@@ -1,9 +1,9 @@
 -- Derivations made of derivations are those derivations.
 use Rattle.std.proofs.Common.{◌≡◌, refl, ap}
 use Rattle.formula_parse.specs.Tokens.{Name}
-use Rattle.formula_parse.proofs.Derivations.{Factor, variable, numeral, in_parens, Factors, no_factors, factors, Addends, no_addends, addends, Term, term, Terms, no_terms, terms, Index, index, Core, compare, words, word_letter, letter_word, call_none, call, not_closed, grouped, Closed, marked, Operands, no_operands, operands, Chains, no_chains, chains, Implications, no_implications, implications, Last, ends, quantified, Formula, formula, derivations}
+use Rattle.formula_parse.proofs.Derivations.{Factor, variable, numeral, in_parens, Factors, no_factors, factors, Prod, prod, divided, Addends, no_addends, addends, Term, term, Terms, no_terms, terms, Index, index, Core, compare, words, word_letter, letter_word, call_none, call, not_closed, grouped, Closed, marked, Operands, no_operands, operands, Chains, no_chains, chains, Implications, no_implications, implications, Last, ends, quantified, Formula, formula, derivations}
 use Rattle.formula_parse.specs.FormulaTrees.{marks_system}
-use Rattle.formula_parse.proofs.Systems.{tildes_system, operands_system, chains_system, implications_system, factor_of, factors_of, addends_of, term_of, terms_of, index_of, core_of, closed_of, operands_of, chains_of, implications_of, last_of, formula_of}
+use Rattle.formula_parse.proofs.Systems.{tildes_system, operands_system, chains_system, implications_system, factor_of, factors_of, prod_of, addends_of, term_of, terms_of, index_of, core_of, closed_of, operands_of, chains_of, implications_of, last_of, formula_of}
 
 mutual
   factor_remade : (f : Factor) → factor_of derivations f ≡ f
@@ -13,14 +13,18 @@ mutual
 
   factors_remade : (ps : Factors) → factors_of derivations ps ≡ ps
   factors_remade no_factors = refl
-  factors_remade (factors ps f b) = cc (factors_remade ps, factor_remade f)
+  factors_remade (factors m b) = cc (prod_remade m)
+
+  prod_remade : (m : Prod) → prod_of derivations m ≡ m
+  prod_remade (prod ps f) = cc (factors_remade ps, factor_remade f)
+  prod_remade (divided m c) = cc (prod_remade m)
 
   addends_remade : (ss : Addends) → addends_of derivations ss ≡ ss
   addends_remade no_addends = refl
-  addends_remade (addends ss ps f s) = cc (addends_remade ss, factors_remade ps, factor_remade f)
+  addends_remade (addends ss m s) = cc (addends_remade ss, prod_remade m)
 
   term_remade : (t : Term) → term_of derivations t ≡ t
-  term_remade (term ss ps f) = cc (addends_remade ss, factors_remade ps, factor_remade f)
+  term_remade (term ss m) = cc (addends_remade ss, prod_remade m)
 
 terms_remade : (ts : Terms) → terms_of derivations ts ≡ ts
 terms_remade no_terms = refl
@@ -59,7 +63,7 @@ mutual
 
   last_remade : (y : Name) (l : Last) → last_of derivations y l ≡ l
   last_remade y (ends c) = ap ends (closed_remade y c)
-  last_remade y (quantified st ms q ns n f) = ap (quantified st ms q ns n) (formula_remade (marks_system (tildes_system y st) ms) f)
+  last_remade y (quantified st ms q n f) = ap (quantified st ms q n) (formula_remade (marks_system (tildes_system y st) ms) f)
 
   pub formula_remade : (y : Name) (f : Formula) → formula_of derivations y f ≡ f
   formula_remade y (formula is hs os l) =

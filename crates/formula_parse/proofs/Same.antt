@@ -1,10 +1,9 @@
 -- The machine goes on at the same tokens, whatever trees it makes: seen without its trees, it is one machine.
-use Rattle.std.proofs.Common.{◌≡◌, refl, ◌∙◌, ap, ℕ, suc, Bool, true, false, List, [], ◌∷◌, Option, None, Some}
-use Rattle.formula_parse.specs.Tokens.{Name, Quantifier, Token, name, number, system, called, mark, call_sign, negation, quantifier, comma, opening, closing, bracket, unbracket, letter_sign, sign, minus, times, relation, connective, implies, iff, end}
-use Rattle.formula_parse.specs.Trees.{Names}
-use Rattle.formula_parse.specs.Making.{Kinds, Making}
+use Rattle.std.proofs.Common.{◌≡◌, refl, ◌∙◌, ap, ℕ, zero, suc, Bool, true, false, List, [], ◌∷◌, Option, None, Some}
+use Rattle.formula_parse.specs.Tokens.{Name, Token, name, number, system, called, mark, call_sign, negation, quantifier, comma, opening, closing, bracket, unbracket, letter_sign, sign, minus, times, slash, relation, connective, implies, iff, end}
+use Rattle.formula_parse.specs.Making.{Binding, some, every, infinite, Kinds, Making}
 use Rattle.formula_parse.specs.Flaws.{Flaw, Product, product_start}
-use Rattle.formula_parse.specs.Machine.{Prefix, Body, Frame, Outer, Aim, Side, Role, Representation, Position, State, left_index, left_letter, first, second, left_side, right_of, place_in, argument, on_left, on_right, at_operand, at_system, at_variable, after_operand, after_first, at_factor, after_factor, after_index, at_word, at_bracket, at_letter, at_value, after_letter, at_called, at_call, at_argument, done, paren, scope, close, whole, closed, leave_closed, leave, close_term, leave_whole, leave_product, leave_factor, leave_first, leave_side, leave_index, enter_word, enter_bracket, enter_letter, enter_value, leave_letter, enter_called, enter_call, enter_factor, enter_argument, next_variable, enter, enter_system, enter_variable, step, step_at, operand_nesting, within_role, within_outer, within_position, depth}
+use Rattle.formula_parse.specs.Machine.{Prefix, Body, Frame, Outer, Aim, Side, Role, Representation, Position, State, left_index, left_letter, first, second, left_side, right_of, place_in, argument, on_left, on_right, at_operand, at_system, at_variable, after_operand, after_first, at_factor, after_factor, at_divisor, after_index, at_word, at_bracket, at_letter, at_value, after_letter, at_called, at_call, at_argument, done, paren, scope, close, whole, closed, leave_closed, leave, close_term, leave_whole, leave_product, leave_factor, enter_divisor, leave_first, leave_side, leave_index, enter_word, enter_bracket, enter_letter, enter_value, leave_letter, enter_called, enter_call, enter_factor, enter_argument, with_variable, at_next, next_variable, enter, enter_system, enter_variable, step, step_at, operand_nesting, within_role, within_outer, within_position, depth}
 use Rattle.formula_parse.specs.Runs.{placed}
 
 -- nothing is made
@@ -12,6 +11,7 @@ abbrev pub nothing : Kinds
 nothing = record {
   Factor = Unit {0};
   Factors = Unit {0};
+  Prod = Unit {0};
   Addends = Unit {0};
   Term = Unit {0};
   Terms = Unit {0};
@@ -32,10 +32,12 @@ none = record {
   numeral = λ n. tt;
   in_parens = λ t. tt;
   no_factors = tt;
-  factors = λ ps f b. tt;
+  factors = λ m b. tt;
+  prod = λ ps f. tt;
+  divided = λ m c. tt;
   no_addends = tt;
-  addends = λ ss ps f s. tt;
-  term = λ ss ps f. tt;
+  addends = λ ss m s. tt;
+  term = λ ss m. tt;
   no_terms = tt;
   terms = λ ts t. tt;
   index = λ n ts t. tt;
@@ -56,7 +58,7 @@ none = record {
   no_implications = tt;
   implications = λ is hs os c. tt;
   ends = λ c. tt;
-  quantified = λ ts ms q ns n f. tt;
+  quantified = λ ts ms q n f. tt;
   formula = λ is hs os l. tt;
 }
 
@@ -70,7 +72,7 @@ module _ {K : Kinds} where
   abbrev pub bare_frames : List (Frame K) → List (Frame nothing)
   bare_frames [] = []
   bare_frames (paren h y ∷ hs) = paren (bare_body h) y ∷ bare_frames hs
-  bare_frames (scope q ns n h ∷ hs) = scope q ns n (bare_body h) ∷ bare_frames hs
+  bare_frames (scope q n h ∷ hs) = scope q n (bare_body h) ∷ bare_frames hs
 
   abbrev pub bare_outer : List (Outer K) → List (Outer nothing)
   bare_outer [] = []
@@ -97,11 +99,12 @@ module _ {K : Kinds} where
   abbrev pub bare_position : Position K → Position nothing
   bare_position at_operand = at_operand
   bare_position at_system = at_system
-  bare_position (at_variable q ns) = at_variable q ns
+  bare_position (at_variable q) = at_variable q
   bare_position (after_operand c) = after_operand tt
   bare_position (after_first n) = after_first n
   bare_position (at_factor h o ss ps p) = at_factor (bare_role h) (bare_outer o) tt tt p
-  bare_position (after_factor h o ss ps p f q) = after_factor (bare_role h) (bare_outer o) tt tt p tt q
+  bare_position (after_factor h o ss m p q) = after_factor (bare_role h) (bare_outer o) tt tt p q
+  bare_position (at_divisor h o ss m p) = at_divisor (bare_role h) (bare_outer o) tt tt p
   bare_position (after_index a n ts t) = after_index (bare_side a) n tt tt
   bare_position (at_word a) = at_word (bare_aim a)
   bare_position (at_bracket a n) = at_bracket (bare_aim a) n
@@ -126,7 +129,7 @@ module _ {K : Kinds} (A : Making K) where
   close_same w [] f _ = refl
   close_same w (paren h y ∷ hs) f closing = refl
   close_same w (paren h y ∷ hs) f _ = refl
-  close_same w (scope k ns n h ∷ hs) f t = close_same w hs (whole A h.prefix (A.quantified h.tildes h.marks k ns n f)) t
+  close_same w (scope k n h ∷ hs) f t = close_same w hs (whole A h.prefix (A.quantified h.tildes h.marks k n f)) t
 
   closed_same : (s : State K) (r : Prefix K) (c : K.Closed) (t : Token) → leave_closed none (bare s) (bare_prefix r) tt t ≡ bared (leave_closed A s r c t)
   closed_same s r c (connective k b) = refl
@@ -140,7 +143,7 @@ module _ {K : Kinds} (A : Making K) where
   close_term_same : (s : State K) (gs : List (Frame K)) (b : Bool) (t : K.Term) (q : Bool) → close_term none (bare s) (bare_frames gs) b tt q ≡ bared (close_term A s gs b t q)
   close_term_same s (paren h y ∷ hs) false t q = refl
   close_term_same s (paren h y ∷ hs) true t q = refl
-  close_term_same s (scope k ns n h ∷ hs) b t q = refl
+  close_term_same s (scope k n h ∷ hs) b t q = refl
   close_term_same s [] b t q = refl
 
   whole_same : (s : State K) (h : Role K) (t : K.Term) (q : Bool) (u : Token) → leave_whole none (bare s) (bare_role h) tt q u ≡ bared (leave_whole A s h t q u)
@@ -159,14 +162,20 @@ module _ {K : Kinds} (A : Making K) where
   product_same s h (x ∷ o) t q closing = refl
   product_same s h (x ∷ o) t q _ = refl
 
-  leave_factor_same : (s : State K) (h : Role K) (o : List (Outer K)) (ss : K.Addends) (ps : K.Factors) (p : Product) (f : K.Factor) (q : Bool) (u : Token) → leave_factor none (bare s) (bare_role h) (bare_outer o) tt tt p tt q u ≡ bared (leave_factor A s h o ss ps p f q u)
-  leave_factor_same s h o ss ps p f q (times b) = refl
-  leave_factor_same s h o ss ps p f q (sign k) = refl
-  leave_factor_same s h o ss ps p f q t = product_same s h o (A.term ss ps f) _ t
+  leave_factor_same : (s : State K) (h : Role K) (o : List (Outer K)) (ss : K.Addends) (m : K.Prod) (p : Product) (q : Bool) (u : Token) → leave_factor none (bare s) (bare_role h) (bare_outer o) tt tt p q u ≡ bared (leave_factor A s h o ss m p q u)
+  leave_factor_same s h o ss m p q (times b) = refl
+  leave_factor_same s h o ss m p q slash = refl
+  leave_factor_same s h o ss m p q (sign k) = refl
+  leave_factor_same s h o ss m p q t = product_same s h o (A.term ss m) _ t
+
+  divisor_same : (s : State K) (h : Role K) (o : List (Outer K)) (ss : K.Addends) (m : K.Prod) (p : Product) (u : Token) → enter_divisor none (bare s) (bare_role h) (bare_outer o) tt tt p u ≡ bared (enter_divisor A s h o ss m p u)
+  divisor_same s h o ss m p (number (suc c)) = refl
+  divisor_same s h o ss m p (number zero) = refl
+  divisor_same s h o ss m p _ = refl
 
   first_same : (s : State K) (n : Name) (u : Token) → leave_first none (bare s) n u ≡ bared (leave_first A s n u)
   first_same s n bracket = refl
-  first_same s n t = leave_factor_same s left_side [] A.no_addends A.no_factors (product_start true) (A.variable n) false t
+  first_same s n t = leave_factor_same s left_side [] A.no_addends (A.prod A.no_factors (A.variable n)) (product_start true) false t
 
   side_same : (s : State K) (a : Side K) (x : K.Index) (u : Token) → leave_side none (bare s) (bare_side a) tt u ≡ bared (leave_side A s a x u)
   side_same s first x (relation k) = refl
@@ -221,9 +230,14 @@ module _ {K : Kinds} (A : Making K) where
   argument_same s n closing = refl
   argument_same s n t = factor_same s (argument n A.no_terms) [] A.no_addends A.no_factors (product_start true) t
 
+  begun_same : (s : State K) (hs : List (Frame K)) (h : Body K) (q : Binding) (n : Name) → at_next none (bare s) (bare_frames hs) (bare_body h) (with_variable q n) ≡ bared (at_next A s hs h (with_variable q n))
+  begun_same s hs h (some ns) n = refl
+  begun_same s hs h (every ns) n = refl
+  begun_same s hs h infinite n = refl
+
   next_same : (s : State K) (gs : List (Frame K)) (b : Bool) → next_variable none (bare s) (bare_frames gs) b ≡ bared (next_variable A s gs b)
-  next_same s (scope k ns n h ∷ hs) false = refl
-  next_same s (scope k ns n h ∷ hs) true = refl
+  next_same s (scope k n h ∷ hs) false = begun_same s hs h k n
+  next_same s (scope k n h ∷ hs) true = refl
   next_same s (paren h y ∷ hs) b = refl
   next_same s [] b = refl
 
@@ -243,18 +257,19 @@ module _ {K : Kinds} (A : Making K) where
   system_same s (system n) = refl
   system_same s _ = refl
 
-  variable_same : (s : State K) (q : Quantifier) (ns : Names) (u : Token) → enter_variable none (bare s) q ns u ≡ bared (enter_variable A s q ns u)
-  variable_same s q ns (name n) = refl
-  variable_same s q ns _ = refl
+  variable_same : (s : State K) (q : Binding) (u : Token) → enter_variable none (bare s) q u ≡ bared (enter_variable A s q u)
+  variable_same s q (name n) = refl
+  variable_same s q _ = refl
 
   position_same : (s : State K) (p : Position K) (u : Token) → step_at none (bare s) (bare_position p) u ≡ bared (step_at A s p u)
   position_same s at_operand u = enter_same s u
   position_same s at_system u = system_same s u
-  position_same s (at_variable q ns) u = variable_same s q ns u
+  position_same s (at_variable q) u = variable_same s q u
   position_same s (after_operand c) u = leave_same s c u
   position_same s (after_first n) u = first_same s n u
   position_same s (at_factor h o ss ps p) u = factor_same s h o ss ps p u
-  position_same s (after_factor h o ss ps p f q) u = leave_factor_same s h o ss ps p f q u
+  position_same s (after_factor h o ss m p q) u = leave_factor_same s h o ss m p q u
+  position_same s (at_divisor h o ss m p) u = divisor_same s h o ss m p u
   position_same s (after_index a n ts t) u = index_same s a n ts t u
   position_same s (at_word a) u = word_same s a u
   position_same s (at_bracket a n) u = bracket_same s a n u
@@ -282,10 +297,11 @@ module _ {K : Kinds} (A : Making K) where
 
   within_same : (p : Position K) (d : ℕ) → within_position (bare_position p) d ≡ within_position p d
   within_same (at_factor h o ss ps p) d = ap (within_outer (bare_outer o)) (role_same h d) ∙ outer_same o _
-  within_same (after_factor h o ss ps p f q) d = ap (within_outer (bare_outer o)) (role_same h d) ∙ outer_same o _
+  within_same (after_factor h o ss m p q) d = ap (within_outer (bare_outer o)) (role_same h d) ∙ outer_same o _
+  within_same (at_divisor h o ss m p) d = ap (within_outer (bare_outer o)) (role_same h d) ∙ outer_same o _
   within_same at_operand d = refl
   within_same at_system d = refl
-  within_same (at_variable q ns) d = refl
+  within_same (at_variable q) d = refl
   within_same (after_operand c) d = refl
   within_same (after_first n) d = refl
   within_same (after_index a n ts t) d = refl
@@ -309,11 +325,12 @@ module _ {K : Kinds} (A : Making K) where
   placed_same (at_value c b) _ d = refl
   placed_same at_operand t d = refl
   placed_same at_system t d = refl
-  placed_same (at_variable q ns) t d = refl
+  placed_same (at_variable q) t d = refl
   placed_same (after_operand c) t d = refl
   placed_same (after_first n) t d = refl
   placed_same (at_factor h o ss ps p) t d = refl
-  placed_same (after_factor h o ss ps p f q) t d = refl
+  placed_same (after_factor h o ss m p q) t d = refl
+  placed_same (at_divisor h o ss m p) t d = refl
   placed_same (after_index a n ts u) t d = refl
   placed_same (at_word a) t d = refl
   placed_same (at_bracket a n) t d = refl

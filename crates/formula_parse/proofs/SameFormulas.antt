@@ -1,27 +1,29 @@
 -- Formulas of the grammar, and derivations of the same tokens, tree and flaws.
 use Rattle.std.proofs.Common.{◌≡◌, refl, sym, ◌∙◌, ap, subst, ℕ, suc, Bool, List, [], ◌∷◌, ◌++◌, Option}
 use Rattle.formula_parse.specs.Tokens as tokens
-use Rattle.formula_parse.specs.Tokens.{Name, Quantifier, Connective, Token, Placed, here}
+use Rattle.formula_parse.specs.Tokens.{Name, Connective, Token, Placed, here}
 use Rattle.formula_parse.specs.Trees as shapes
 use Rattle.formula_parse.specs.Trees.{Names, no_names, names}
+use Rattle.formula_parse.specs.Making.{Binding, some, every, infinite}
 use Rattle.formula_parse.proofs.Derivations as derived
-use Rattle.formula_parse.specs.Formulas.{marks_then, Atom, Variables, variable_one, variable_more, WrittenFormula, imp, iff, Imp, chain, implies, Chain, operand, joined, Operand, marked, negated, quantified, grouped, atom, variables_then, formula_then, imp_then, chain_then, operand_then}
+use Rattle.formula_parse.specs.Formulas.{marks_then, Atom, Variables, variable_one, variable_more, Binder, WrittenFormula, imp, iff, Imp, chain, implies, Chain, operand, joined, Operand, marked, negated, quantified, grouped, atom, variables_then, binder_then, formula_then, imp_then, chain_then, operand_then}
+use Rattle.formula_parse.specs.Formulas as written
 use Rattle.formula_parse.specs.Machine.{within}
-use Rattle.formula_parse.proofs.Derivations.{tildes_then}
+use Rattle.formula_parse.proofs.Derivations.{binding_then, tildes_then}
 use Rattle.formula_parse.proofs.Systems as systems
-use Rattle.formula_parse.specs.FormulaTrees.{marks_system, variables, formula_system, imp_system, chain_system, operand_system, before_imp, last_imp, before_chain, last_chain, before_operand, last_operand, operand_tree}
+use Rattle.formula_parse.specs.FormulaTrees.{marks_system, variables, binder_quantifier, binder_names, formula_system, imp_system, chain_system, operand_system, before_imp, last_imp, before_chain, last_chain, before_operand, last_operand, operand_tree}
 use Rattle.formula_parse.proofs.Systems.{tildes_system}
 use Rattle.formula_parse.proofs.DerivedFlaws as flaws
 use Rattle.formula_parse.specs.Flaws.{Flaw, mixed_chain, noted_if, Came, came_next, mixes}
 use Rattle.formula_parse.specs.Made.{trees}
-use Rattle.formula_parse.specs.Building.{chained, under_marks, under_tildes, joint}
+use Rattle.formula_parse.specs.Building.{chained, under_marks, under_tildes, joint, quantifier_of, names_of}
 use Rattle.formula_parse.specs.FormulaFlaws.{came_in, is_implied, formula_flaw, imp_flaw, chain_flaw, operand_flaw}
 use Rattle.formula_parse.proofs.SameTerms.{both, SameAtom}
 
 -- the system after an operand that closes
 abbrev pub SystemIs : derived.Last → Name → Name → Type 0
 SystemIs (derived.ends c) y z = systems.closed_system y c ≡ z
-SystemIs (derived.quantified st ms q ns n f) y z = Unit {0}
+SystemIs (derived.quantified st ms q n f) y z = Unit {0}
 
 pub record SameOperand (l : derived.Last) (o : Operand) : Type 0 where
   pub derived_is : (d : ℕ) (r : List Placed) → derived.last_then l d r ≡ operand_then o d r
@@ -195,13 +197,40 @@ same_variable_more ns m n vs s = record {
   names_are = cc (s.names_are);
 }
 
-pub same_quantified : (ms : Names) (q : Quantifier) (ns : Names) (n : Name) (vs : Variables) (g : derived.Formula) (f : WrittenFormula) → SameVariables ns n vs → Alike g f → SameOperand (derived.quantified [] ms q ns n g) (marked ms (quantified q vs f))
-same_quantified ms q ns n vs g f v s = record {
+-- the quantifier with its variables before the last, and the last
+pub record SameBinder (q : Binding) (n : Name) (b : Binder) : Type 0 where
+  pub derived_is : (d : ℕ) (r : List Placed) → binding_then q d (here (tokens.name n) d ∷ r) ≡ binder_then b d r
+  pub quantifier_is : quantifier_of q ≡ binder_quantifier b
+  pub names_are : names (names_of q) n ≡ binder_names b
+
+pub same_some : (ns : Names) (n : Name) (vs : Variables) → SameVariables ns n vs → SameBinder (some ns) n (written.some vs)
+same_some ns n vs s = record {
+  derived_is = λ d r. ap (λ z. here (tokens.quantifier tokens.some) d ∷ z) (s.derived_is d r);
+  quantifier_is = refl;
+  names_are = s.names_are;
+}
+
+pub same_every : (ns : Names) (n : Name) (vs : Variables) → SameVariables ns n vs → SameBinder (every ns) n (written.every vs)
+same_every ns n vs s = record {
+  derived_is = λ d r. ap (λ z. here (tokens.quantifier tokens.every) d ∷ z) (s.derived_is d r);
+  quantifier_is = refl;
+  names_are = s.names_are;
+}
+
+pub same_infinite : (n : Name) → SameBinder infinite n (written.infinite n)
+same_infinite n = record { derived_is = λ d r. refl; quantifier_is = refl; names_are = refl }
+
+pub same_quantified : (ms : Names) (q : Binding) (n : Name) (b : Binder) (g : derived.Formula) (f : WrittenFormula) → SameBinder q n b → Alike g f → SameOperand (derived.quantified [] ms q n g) (marked ms (quantified b f))
+same_quantified ms q n b g f v s = record {
   derived_is = λ d r.
       ap
-      (λ z. marks_then ms d (here (tokens.quantifier q) (suc d) ∷ z))
-      (v.derived_is (suc d) (derived.formula_then g (suc d) r) ∙ ap (variables_then vs (suc d)) (s.derived_is (suc d) r));
-  tree_is = λ y. ap (under_marks ms) (both (shapes.quantified q) v.names_are (s.tree_is (marks_system y ms)));
+      (marks_then ms d)
+      (v.derived_is (suc d) (derived.formula_then g (suc d) r) ∙ ap (binder_then b (suc d)) (s.derived_is (suc d) r));
+  tree_is = λ y.
+      ap
+      (under_marks ms)
+      (ap (λ k. shapes.quantified k (names (names_of q) n) (systems.formula_of trees (marks_system y ms) g)) v.quantifier_is
+      ∙ both (shapes.quantified (binder_quantifier b)) v.names_are (s.tree_is (marks_system y ms)));
   system_is = λ y. tt;
   flaw_is = s.flaw_is;
 }
@@ -227,15 +256,15 @@ system_first : (st : List Names) (ms : Names) (y : Name) → tildes_system y (st
 system_first [] ms y = refl
 system_first (m ∷ st) ms y = ap (λ z. marks_system z m) (system_first st ms y)
 
-module _ (ms : Names) (st : List Names) (ks : Names) (q : Quantifier) (ns : Names) (n : Name) (g : derived.Formula) where
+module _ (ms : Names) (st : List Names) (ks : Names) (q : Binding) (n : Name) (g : derived.Formula) where
   abbrev last_derived : ℕ → List Placed → List Placed
   last_derived e r =
-      marks_then ks e (here (tokens.quantifier q) (suc e) ∷ derived.variables_then ns (suc e) (here (tokens.name n) (suc e) ∷ derived.formula_then g (suc e) r))
+      marks_then ks e (binding_then q (suc e) (here (tokens.name n) (suc e) ∷ derived.formula_then g (suc e) r))
 
   abbrev last_tree_in : Name → shapes.Formula
-  last_tree_in z = under_marks ks (shapes.quantified q (names ns n) (systems.formula_of trees (marks_system z ks) g))
+  last_tree_in z = under_marks ks (shapes.quantified (quantifier_of q) (names (names_of q) n) (systems.formula_of trees (marks_system z ks) g))
 
-  pub same_tilde : (o : Operand) → SameOperand (derived.quantified st ks q ns n g) o → SameOperand (derived.quantified (st ++ ms ∷ []) ks q ns n g) (marked ms (negated o))
+  pub same_tilde : (o : Operand) → SameOperand (derived.quantified st ks q n g) o → SameOperand (derived.quantified (st ++ ms ∷ []) ks q n g) (marked ms (negated o))
   same_tilde o s = record {
     derived_is = λ d r.
         ap (λ e. tildes_then (st ++ ms ∷ []) d (last_derived e r)) (within_first st ms d)

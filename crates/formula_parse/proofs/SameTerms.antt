@@ -6,12 +6,12 @@ use Rattle.formula_parse.specs.Trees as shapes
 use Rattle.formula_parse.proofs.Derivations as derived
 use Rattle.formula_parse.proofs.Systems as systems
 use Rattle.formula_parse.proofs.DerivedFlaws as flaws
-use Rattle.formula_parse.specs.Flaws.{Flaw, not_linear, noted_if, noted_factor}
+use Rattle.formula_parse.specs.Flaws.{Flaw, not_linear, noted_if}
 use Rattle.formula_parse.proofs.DerivedFlaws.{product_of}
 use Rattle.formula_parse.specs.Made.{trees}
 use Rattle.formula_parse.specs.Building.{multiplied, summed, letter_of, in_system}
-use Rattle.formula_parse.specs.Formulas.{Factor, variable, numeral, in_parens, Prod, factor, times, Term, prod, signed, Index, word, further, Terms, term, comma, Atom, compare, words, word_letter, letter_word, call_none, call, letter_then, factor_then, prod_then, term_then, index_then, terms_then, atom_then}
-use Rattle.formula_parse.specs.FormulaTrees.{factor_tree, before_factor, last_factor, before_prod, last_prod, term_tree, index_word, index_places, index_tree, terms_tree, fact}
+use Rattle.formula_parse.specs.Formulas.{Factor, variable, numeral, in_parens, Prod, factor, times, divided, Term, prod, signed, Index, word, further, Terms, term, comma, Atom, compare, words, word_letter, letter_word, call_none, call, letter_then, factor_then, prod_then, term_then, index_then, terms_then, atom_then}
+use Rattle.formula_parse.specs.FormulaTrees.{factor_tree, factors_of, before_prod, last_prod, term_tree, index_word, index_places, index_tree, terms_tree, fact}
 use Rattle.formula_parse.specs.FormulaFlaws.{is_numeral, is_numeral_term, is_numeral_prod, has_unknown, factor_flaw, prod_flaw, term_flaw, index_flaw, terms_flaw, atom_flaw}
 
 pub both : {X Y Z : Type 0} (f : X → Y → Z) {a b : X} {c d : Y} → a ≡ b → c ≡ d → f a c ≡ f b d
@@ -23,22 +23,20 @@ pub record SameFactor (g : derived.Factor) (f : Factor) : Type 0 where
   pub numeral_is : flaws.is_numeral g ≡ is_numeral f
   pub flaw_is : (w : Option Flaw) → flaws.factor_flaw w g ≡ factor_flaw w f
 
--- the factors before the last, and the last
-pub record SameProd (ps : derived.Factors) (g : derived.Factor) (p : Prod) : Type 0 where
-  pub derived_is : (d : ℕ) (r : List Placed) → derived.factors_then ps d (derived.factor_then g d r) ≡ prod_then p d r
-  pub before_is : systems.factors_of trees ps ≡ before_factor p
-  pub last_is : systems.factor_of trees g ≡ last_factor p
-  pub unknown_is : (l : Bool) → ((product_of l ps).unknown || not (flaws.is_numeral g)) ≡ has_unknown p
-  pub numeral_is : (l : Bool) → ((product_of l ps).lone && flaws.is_numeral g) ≡ (l && is_numeral_prod p)
-  pub flaw_is : (l : Bool) (w : Option Flaw) → noted_factor (product_of l ps) (flaws.is_numeral g) (flaws.factor_flaw (flaws.factors_flaw w l ps) g) ≡ prod_flaw w p
+pub record SameProd (m : derived.Prod) (p : Prod) : Type 0 where
+  pub derived_is : (d : ℕ) (r : List Placed) → derived.prod_then m d r ≡ prod_then p d r
+  pub tree_is : systems.prod_of trees m ≡ factors_of p
+  pub unknown_is : (l : Bool) → ((product_of l m).unknown || not (flaws.ends_in_numeral m)) ≡ has_unknown p
+  pub numeral_is : (l : Bool) → ((product_of l m).lone && flaws.ends_in_numeral m) ≡ (l && is_numeral_prod p)
+  pub flaw_is : (l : Bool) (w : Option Flaw) → flaws.prod_flaw w l m ≡ prod_flaw w p
 
 -- the products before the last, and the last
-pub record SameTerm (ss : derived.Addends) (ps : derived.Factors) (g : derived.Factor) (t : Term) : Type 0 where
-  pub derived_is : (d : ℕ) (r : List Placed) → derived.addends_then ss d (derived.factors_then ps d (derived.factor_then g d r)) ≡ term_then t d r
+pub record SameTerm (ss : derived.Addends) (m : derived.Prod) (t : Term) : Type 0 where
+  pub derived_is : (d : ℕ) (r : List Placed) → derived.addends_then ss d (derived.prod_then m d r) ≡ term_then t d r
   pub before_is : systems.addends_of trees ss ≡ before_prod t
-  pub last_is : multiplied (systems.factors_of trees ps) (systems.factor_of trees g) ≡ last_prod t
-  pub numeral_is : flaws.is_numeral_term (derived.term ss ps g) ≡ is_numeral_term t
-  pub flaw_is : (w : Option Flaw) → flaws.term_flaw w (derived.term ss ps g) ≡ term_flaw w t
+  pub last_is : multiplied (systems.prod_of trees m) ≡ last_prod t
+  pub numeral_is : flaws.is_numeral_term (derived.term ss m) ≡ is_numeral_term t
+  pub flaw_is : (w : Option Flaw) → flaws.term_flaw w (derived.term ss m) ≡ term_flaw w t
 
 pub same_variable : (n : Name) → SameFactor (derived.variable n) (variable n)
 same_variable n = record { derived_is = λ d r. refl; tree_is = refl; numeral_is = refl; flaw_is = λ w. refl }
@@ -46,19 +44,18 @@ same_variable n = record { derived_is = λ d r. refl; tree_is = refl; numeral_is
 pub same_numeral : (n : ℕ) → SameFactor (derived.numeral n) (numeral n)
 same_numeral n = record { derived_is = λ d r. refl; tree_is = refl; numeral_is = refl; flaw_is = λ w. refl }
 
-pub same_parens : (ss : derived.Addends) (ps : derived.Factors) (g : derived.Factor) (t : Term) → SameTerm ss ps g t → SameFactor (derived.in_parens (derived.term ss ps g)) (in_parens t)
-same_parens ss ps g t s = record {
+pub same_parens : (ss : derived.Addends) (m : derived.Prod) (t : Term) → SameTerm ss m t → SameFactor (derived.in_parens (derived.term ss m)) (in_parens t)
+same_parens ss m t s = record {
   derived_is = λ d r. ap (λ z. here tokens.opening (suc d) ∷ z) (s.derived_is (suc d) (here tokens.closing d ∷ r));
   tree_is = both summed s.before_is s.last_is;
   numeral_is = s.numeral_is;
   flaw_is = s.flaw_is;
 }
 
-pub same_factor : (g : derived.Factor) (f : Factor) → SameFactor g f → SameProd derived.no_factors g (factor f)
+pub same_factor : (g : derived.Factor) (f : Factor) → SameFactor g f → SameProd (derived.prod derived.no_factors g) (factor f)
 same_factor g f s = record {
   derived_is = s.derived_is;
-  before_is = refl;
-  last_is = s.tree_is;
+  tree_is = ap (λ t. shapes.factors shapes.no_factors (shapes.times t)) s.tree_is;
   unknown_is = λ l. ap not s.numeral_is;
   numeral_is = λ l. ap (λ b. l && b) s.numeral_is;
   flaw_is = λ l w. s.flaw_is w;
@@ -71,11 +68,10 @@ and_false false = refl
 noted_same : {a b c d : Bool} {x y : Option Flaw} (g : Flaw) → a ≡ b → c ≡ d → x ≡ y → noted_if (a && not c) g x ≡ noted_if (b && not d) g y
 noted_same {b = b} {d = d} {x = x} g e h k = ap (λ z. noted_if z g x) (both (λ (a c : Bool). a && not c) e h) ∙ ap (noted_if (b && not d) g) k
 
-pub same_times : (ps : derived.Factors) (g h : derived.Factor) (p : Prod) (b : ℕ) (f : Factor) → SameProd ps g p → SameFactor h f → SameProd (derived.factors ps g b) h (times p b f)
-same_times ps g h p b f s t = record {
+pub same_times : (m : derived.Prod) (h : derived.Factor) (p : Prod) (b : ℕ) (f : Factor) → SameProd m p → SameFactor h f → SameProd (derived.prod (derived.factors m b) h) (times p b f)
+same_times m h p b f s t = record {
   derived_is = λ d r. s.derived_is d (here (tokens.times b) d ∷ derived.factor_then h d r) ∙ ap (λ z. prod_then p d (here (tokens.times b) d ∷ z)) (t.derived_is d r);
-  before_is = cc (s.before_is, s.last_is);
-  last_is = t.tree_is;
+  tree_is = both (λ (ps : shapes.Factors) (g : shapes.Term). shapes.factors ps (shapes.times g)) s.tree_is t.tree_is;
   unknown_is = λ l. both (λ (a c : Bool). a || not c) (s.unknown_is l) t.numeral_is;
   numeral_is = λ l. and_false l;
   flaw_is = λ l w.
@@ -86,24 +82,41 @@ same_times ps g h p b f s t = record {
       (ap (λ z. flaws.factor_flaw z h) (s.flaw_is l w) ∙ t.flaw_is (prod_flaw w p));
 }
 
-pub same_prod : (ps : derived.Factors) (g : derived.Factor) (p : Prod) → SameProd ps g p → SameTerm derived.no_addends ps g (prod p)
-same_prod ps g p s = record {
+or_true : (b : Bool) → (b || true) ≡ true
+or_true true = refl
+or_true false = refl
+
+and_never : (b l : Bool) → (b && false) ≡ (l && false)
+and_never true l = and_false l
+and_never false l = and_false l
+
+pub same_divided : (m : derived.Prod) (p : Prod) (c : ℕ) → SameProd m p → SameProd (derived.divided m c) (divided p c)
+same_divided m p c s = record {
+  derived_is = λ d r. s.derived_is d (here tokens.slash d ∷ here (tokens.number (suc c)) d ∷ r);
+  tree_is = ap (λ ps. shapes.factors ps (shapes.divided (suc c))) s.tree_is;
+  unknown_is = λ l. or_true (product_of l m).unknown;
+  numeral_is = λ l. and_never (product_of l m).lone l;
+  flaw_is = s.flaw_is;
+}
+
+pub same_prod : (m : derived.Prod) (p : Prod) → SameProd m p → SameTerm derived.no_addends m (prod p)
+same_prod m p s = record {
   derived_is = s.derived_is;
   before_is = refl;
-  last_is = both multiplied s.before_is s.last_is;
+  last_is = ap multiplied s.tree_is;
   numeral_is = s.numeral_is true;
   flaw_is = λ w. s.flaw_is true w;
 }
 
-pub same_signed : (ss : derived.Addends) (ps qs : derived.Factors) (g h : derived.Factor) (t : Term) (k : Sign) (p : Prod) → SameTerm ss ps g t → SameProd qs h p → SameTerm (derived.addends ss ps g k) qs h (signed t k p)
-same_signed ss ps qs g h t k p s u = record {
+pub same_signed : (ss : derived.Addends) (m q : derived.Prod) (t : Term) (k : Sign) (p : Prod) → SameTerm ss m t → SameProd q p → SameTerm (derived.addends ss m k) q (signed t k p)
+same_signed ss m q t k p s u = record {
   derived_is = λ d r.
-      s.derived_is d (here (tokens.sign k) d ∷ derived.factors_then qs d (derived.factor_then h d r))
+      s.derived_is d (here (tokens.sign k) d ∷ derived.prod_then q d r)
       ∙ ap (λ z. term_then t d (here (tokens.sign k) d ∷ z)) (u.derived_is d r);
-  before_is = cc (s.before_is, s.last_is);
-  last_is = both multiplied u.before_is u.last_is;
+  before_is = both (λ (a : shapes.Addends) (f : shapes.Term). shapes.addends a f k) s.before_is s.last_is;
+  last_is = ap multiplied u.tree_is;
   numeral_is = u.numeral_is false;
-  flaw_is = λ w. u.flaw_is false (flaws.term_flaw w (derived.term ss ps g)) ∙ ap (λ z. prod_flaw z p) (s.flaw_is w);
+  flaw_is = λ w. u.flaw_is false (flaws.term_flaw w (derived.term ss m)) ∙ ap (λ z. prod_flaw z p) (s.flaw_is w);
 }
 
 -- a whole term
@@ -112,8 +125,8 @@ pub record Alike (g : derived.Term) (t : Term) : Type 0 where
   pub tree_is : systems.term_of trees g ≡ term_tree t
   pub flaw_is : (w : Option Flaw) → flaws.term_flaw w g ≡ term_flaw w t
 
-pub alike : (ss : derived.Addends) (ps : derived.Factors) (g : derived.Factor) (t : Term) → SameTerm ss ps g t → Alike (derived.term ss ps g) t
-alike ss ps g t s = record { derived_is = s.derived_is; tree_is = both summed s.before_is s.last_is; flaw_is = s.flaw_is }
+pub alike : (ss : derived.Addends) (m : derived.Prod) (t : Term) → SameTerm ss m t → Alike (derived.term ss m) t
+alike ss m t s = record { derived_is = s.derived_is; tree_is = both summed s.before_is s.last_is; flaw_is = s.flaw_is }
 
 -- the terms before the last, and the last
 pub record SameTerms (gs : derived.Terms) (g : derived.Term) (ts : Terms) : Type 0 where

@@ -1,10 +1,12 @@
 -- A state of derivations derives what it has read.
-use Rattle.std.proofs.Common.{◌≡◌, refl, sym, ◌∙◌, ap, ℕ, suc, Bool, true, false, List, [], ◌∷◌, Option, None, Some}
-use Rattle.formula_parse.specs.Tokens.{Name, Quantifier, Letter, Token, Placed, here, name, number, system, called, mark, call_sign, negation, quantifier, comma, opening, closing, bracket, unbracket, letter_sign, sign, minus, times, relation, connective, implies, iff, end}
+use Rattle.std.proofs.Common.{◌≡◌, refl, sym, ◌∙◌, ap, ℕ, zero, suc, Bool, true, false, List, [], ◌∷◌, Option, None, Some}
+use Rattle.formula_parse.specs.Tokens as tokens
+use Rattle.formula_parse.specs.Tokens.{Name, Letter, Token, Placed, here, name, number, system, called, mark, call_sign, negation, quantifier, comma, opening, closing, bracket, unbracket, letter_sign, sign, minus, times, slash, relation, connective, implies, iff, end}
 use Rattle.formula_parse.specs.Trees.{Names}
-use Rattle.formula_parse.proofs.Derivations.{Factor, variable, Factors, no_factors, Addends, no_addends, Term, term, Terms, no_terms, index, Core, compare, words, letter_word, not_closed, Closed, marked, ends, quantified, Formula, factor_then, factors_then, addends_then, term_then, arguments_then, places_then, index_then, variables_then, tildes_then, core_then, closed_then, operands_then, chains_then, implications_then, formula_then, parts, derivations}
+use Rattle.formula_parse.specs.Making.{Binding, some, every, infinite}
+use Rattle.formula_parse.proofs.Derivations.{variable, Factors, no_factors, Prod, prod, Addends, no_addends, Term, term, Terms, no_terms, index, Core, compare, words, letter_word, not_closed, Closed, marked, ends, quantified, Formula, factors_then, prod_then, addends_then, term_then, arguments_then, places_then, index_then, binding_then, tildes_then, core_then, closed_then, operands_then, chains_then, implications_then, formula_then, parts, derivations}
 use Rattle.formula_parse.specs.Formulas.{letter_then, marks_then}
-use Rattle.formula_parse.specs.Machine.{within, Prefix, Body, Frame, Outer, Aim, Side, Role, Representation, Position, State, left_index, left_letter, first, second, left_side, right_of, place_in, argument, on_left, on_right, at_operand, at_system, at_variable, after_operand, after_first, at_factor, after_factor, after_index, at_word, at_bracket, at_letter, at_value, after_letter, at_called, at_call, at_argument, done, paren, scope, fresh, close, whole, wrapped, closed, leave_closed, leave, close_term, leave_whole, leave_product, leave_factor, leave_first, leave_side, leave_index, enter_word, enter_bracket, enter_letter, enter_value, leave_letter, enter_called, enter_call, enter_factor, enter_argument, next_variable, enter, enter_system, enter_variable, step, step_at, within_role, within_outer, within_position}
+use Rattle.formula_parse.specs.Machine.{within, Prefix, Body, Frame, Outer, Aim, Side, Role, Representation, Position, State, left_index, left_letter, first, second, left_side, right_of, place_in, argument, on_left, on_right, at_operand, at_system, at_variable, after_operand, after_first, at_factor, after_factor, at_divisor, after_index, at_word, at_bracket, at_letter, at_value, after_letter, at_called, at_call, at_argument, done, paren, scope, fresh, close, whole, wrapped, closed, leave_closed, leave, close_term, leave_whole, leave_product, leave_factor, enter_divisor, leave_first, leave_side, leave_index, enter_word, enter_bracket, enter_letter, enter_value, leave_letter, enter_called, enter_call, enter_factor, enter_argument, with_variable, at_next, next_variable, enter, enter_system, enter_variable, step, step_at, within_role, within_outer, within_position}
 use Rattle.formula_parse.specs.Flaws.{Flaw, Product, product_start}
 use Rattle.formula_parse.specs.Runs.{placed}
 
@@ -12,7 +14,7 @@ use Rattle.formula_parse.specs.Runs.{placed}
 abbrev pub nesting : List (Frame parts) → ℕ
 nesting [] = 0
 nesting (paren h y ∷ hs) = suc (within h.tildes (nesting hs))
-nesting (scope q ns n h ∷ hs) = suc (within h.tildes (nesting hs))
+nesting (scope q n h ∷ hs) = suc (within h.tildes (nesting hs))
 
 abbrev pub prefix_then : Prefix parts → ℕ → List Placed → List Placed
 prefix_then r d q = implications_then r.implications d (chains_then r.chains d (operands_then r.operands d q))
@@ -23,9 +25,9 @@ body_then g d q = prefix_then g.prefix d (tildes_then g.tildes d (marks_then g.m
 abbrev pub frames_then : List (Frame parts) → List Placed → List Placed
 frames_then [] q = q
 frames_then (paren h y ∷ hs) q = frames_then hs (body_then h (nesting hs) (here opening (suc (within h.tildes (nesting hs))) ∷ q))
-frames_then (scope k ns n h ∷ hs) q =
+frames_then (scope k n h ∷ hs) q =
     let d = suc (within h.tildes (nesting hs)) in
-    frames_then hs (body_then h (nesting hs) (here (quantifier k) d ∷ variables_then ns d (here (name n) d ∷ q)))
+    frames_then hs (body_then h (nesting hs) (binding_then k d (here (name n) d ∷ q)))
 
 abbrev pub aim_then : Aim parts → ℕ → List Placed → List Placed
 aim_then (left_index x k) d q = index_then x d (here (relation k) d ∷ q)
@@ -53,15 +55,18 @@ representation_then (on_right x k) d q = index_then x d (here (relation k) d ∷
 abbrev pub position_then : Position parts → ℕ → List Placed → List Placed
 position_then at_operand d q = q
 position_then at_system d q = here mark d ∷ q
-position_then (at_variable k ns) d q = here (quantifier k) (suc d) ∷ variables_then ns (suc d) q
+position_then (at_variable k) d q = binding_then k (suc d) q
 position_then (after_operand c) d q = core_then c d q
 position_then (after_first n) d q = here (name n) d ∷ q
 position_then (at_factor h o ss ps p) d q =
     let e = within_role h d in
     role_then h d (outer_then o e (addends_then ss (within_outer o e) (factors_then ps (within_outer o e) q)))
-position_then (after_factor h o ss ps p f b) d q =
+position_then (after_factor h o ss m p b) d q =
     let e = within_role h d in
-    role_then h d (outer_then o e (addends_then ss (within_outer o e) (factors_then ps (within_outer o e) (factor_then f (within_outer o e) q))))
+    role_then h d (outer_then o e (addends_then ss (within_outer o e) (prod_then m (within_outer o e) q)))
+position_then (at_divisor h o ss m p) d q =
+    let e = within_role h d in
+    role_then h d (outer_then o e (addends_then ss (within_outer o e) (prod_then m (within_outer o e) (here slash (within_outer o e) ∷ q))))
 position_then (after_index s n ts t) d q = role_then (place_in s n ts) d (term_then t (suc d) (here unbracket d ∷ q))
 position_then (at_word a) d q = aim_then a d q
 position_then (at_bracket a n) d q = aim_then a d (here (name n) d ∷ q)
@@ -93,7 +98,7 @@ pub record Stands (gs : List (Frame parts)) (g : Body parts) : Type 0 where
 abbrev pub AllStand : List (Frame parts) → Type 0
 AllStand [] = Unit {0}
 AllStand (paren h y ∷ hs) = Stands hs h × AllStand hs
-AllStand (scope k ns n h ∷ hs) = Stands hs h × AllStand hs
+AllStand (scope k n h ∷ hs) = Stands hs h × AllStand hs
 
 pub record Sane (s : State parts) : Type 0 where
   pub body : Stands s.around s.body
@@ -124,7 +129,7 @@ close_goes w [] f end a = goes (record { body = record { based = refl; empty = �
 close_goes w [] f _ a = tt
 close_goes w (paren h y ∷ hs) f closing a = goes (record { body = a.0; frames = a.1 }) (λ q. refl)
 close_goes w (paren h y ∷ hs) f _ a = tt
-close_goes w (scope k ns n h ∷ hs) f t a = close_goes w hs (whole derivations h.prefix (quantified h.tildes h.marks k ns n f)) t a.1
+close_goes w (scope k n h ∷ hs) f t a = close_goes w hs (whole derivations h.prefix (quantified h.tildes h.marks k n f)) t a.1
 
 -- a state with another position
 abbrev pub at : State parts → Position parts → State parts
@@ -167,7 +172,7 @@ close_term_goes s (paren h y ∷ hs) g false t q e a b =
     (body_then z (nesting (paren h y ∷ hs)) (term_then t (within z.tildes (nesting (paren h y ∷ hs))) (here closing (within h.tildes (nesting hs)) ∷ r))))
     (sym (a.empty (sym e))))
 close_term_goes s (paren h y ∷ hs) g true t q e a b = tt
-close_term_goes s (scope k ns n h ∷ hs) g c t q e a b = tt
+close_term_goes s (scope k n h ∷ hs) g c t q e a b = tt
 close_term_goes s [] g c t q e a b = tt
 
 whole_goes : (s : State parts) (h : Role parts) (t : Term) (q : Bool) (u : Token) → Sane s → GoesOn (leave_whole derivations s h t q u) (λ r. frames_then s.around (body_then s.body (nesting s.around) (role_then h (within s.body.tildes (nesting s.around)) (term_then t (within_role h (within s.body.tildes (nesting s.around))) r)))) (here u)
@@ -181,19 +186,25 @@ whole_goes s (argument n ts) t q comma a = goes (stays _ a) (λ r. refl)
 whole_goes s (argument n ts) t q closing a = goes (stays _ a) (λ r. refl)
 whole_goes s (argument n ts) t q _ a = tt
 
-product_goes : (s : State parts) (h : Role parts) (o : List (Outer parts)) (ss : Addends) (ps : Factors) (f : Factor) (q : Bool) (u : Token) → Sane s → GoesOn (leave_product derivations s h o (term ss ps f) q u) (state_then (at s (after_factor h o ss ps (product_start true) f q))) (here u)
-product_goes s h [] ss ps f q u a = whole_goes s h (term ss ps f) q u a
-product_goes s h (x ∷ o) ss ps f q closing a = goes (record { body = a.body; frames = a.frames }) (λ r. refl)
-product_goes s h (x ∷ o) ss ps f q _ a = tt
+product_goes : (s : State parts) (h : Role parts) (o : List (Outer parts)) (ss : Addends) (m : Prod) (q : Bool) (u : Token) → Sane s → GoesOn (leave_product derivations s h o (term ss m) q u) (state_then (at s (after_factor h o ss m (product_start true) q))) (here u)
+product_goes s h [] ss m q u a = whole_goes s h (term ss m) q u a
+product_goes s h (x ∷ o) ss m q closing a = goes (record { body = a.body; frames = a.frames }) (λ r. refl)
+product_goes s h (x ∷ o) ss m q _ a = tt
 
-leave_factor_goes : (s : State parts) (h : Role parts) (o : List (Outer parts)) (ss : Addends) (ps : Factors) (p : Product) (f : Factor) (q : Bool) (u : Token) → Sane s → GoesOn (leave_factor derivations s h o ss ps p f q u) (state_then (at s (after_factor h o ss ps p f q))) (here u)
-leave_factor_goes s h o ss ps p f q (times b) a = goes (stays _ a) (λ r. refl)
-leave_factor_goes s h o ss ps p f q (sign k) a = goes (stays _ a) (λ r. refl)
-leave_factor_goes s h o ss ps p f q t a = product_goes s h o ss ps f _ t a
+leave_factor_goes : (s : State parts) (h : Role parts) (o : List (Outer parts)) (ss : Addends) (m : Prod) (p : Product) (q : Bool) (u : Token) → Sane s → GoesOn (leave_factor derivations s h o ss m p q u) (state_then (at s (after_factor h o ss m p q))) (here u)
+leave_factor_goes s h o ss m p q (times b) a = goes (stays _ a) (λ r. refl)
+leave_factor_goes s h o ss m p q slash a = goes (stays _ a) (λ r. refl)
+leave_factor_goes s h o ss m p q (sign k) a = goes (stays _ a) (λ r. refl)
+leave_factor_goes s h o ss m p q t a = product_goes s h o ss m _ t a
+
+divisor_goes : (s : State parts) (h : Role parts) (o : List (Outer parts)) (ss : Addends) (m : Prod) (p : Product) (u : Token) → Sane s → GoesOn (enter_divisor derivations s h o ss m p u) (state_then (at s (at_divisor h o ss m p))) (here u)
+divisor_goes s h o ss m p (number (suc c)) a = goes (stays _ a) (λ r. refl)
+divisor_goes s h o ss m p (number zero) a = tt
+divisor_goes s h o ss m p _ a = tt
 
 first_goes : (s : State parts) (n : Name) (u : Token) → Sane s → GoesOn (leave_first derivations s n u) (state_then (at s (after_first n))) (here u)
 first_goes s n bracket a = goes (stays _ a) (λ r. refl)
-first_goes s n t a = leave_factor_goes s left_side [] no_addends no_factors (product_start true) (variable n) false t a
+first_goes s n t a = leave_factor_goes s left_side [] no_addends (prod no_factors (variable n)) (product_start true) false t a
 
 side_goes : (s : State parts) (d : Side parts) (n : Name) (ts : Terms) (t : Term) (u : Token) → Sane s → GoesOn (leave_side derivations s d (index n ts t) u) (state_then (at s (after_index d n ts t))) (here u)
 side_goes s first n ts t (relation k) a = goes (stays _ a) (λ r. refl)
@@ -247,16 +258,25 @@ argument_goes : (s : State parts) (n : Name) (u : Token) → Sane s → GoesOn (
 argument_goes s n closing a = goes (stays _ a) (λ r. refl)
 argument_goes s n t a = factor_goes s (argument n no_terms) [] no_addends no_factors (product_start true) t a
 
+-- the variables with one more, which a `,` precedes
+begun_goes : (s : State parts) (q : Binding) (n : Name) (h : Body parts) (hs : List (Frame parts)) → Stands hs h → AllStand hs → GoesOn (at_next derivations s hs h (with_variable q n)) (λ r. frames_then (scope q n h ∷ hs) r) (here comma)
+begun_goes s (some ns) n h hs b c = goes (record { body = b; frames = c }) (λ r. refl)
+begun_goes s (every ns) n h hs b c = goes (record { body = b; frames = c }) (λ r. refl)
+begun_goes s infinite n h hs b c = tt
+
 next_goes : (s : State parts) (gs : List (Frame parts)) (g : Body parts) (b : Bool) → b ≡ g.touched → Stands gs g → AllStand gs → GoesOn (next_variable derivations s gs b) (λ r. frames_then gs (body_then g (nesting gs) r)) (here comma)
-next_goes s (scope k ns n h ∷ hs) g false e a b =
-    goes
-    (record { body = b.0; frames = b.1 })
+next_goes s (scope k n h ∷ hs) g false e a b =
+    rederived
+    (at_next derivations s hs h (with_variable k n))
+    _
+    (λ r. frames_then (scope k n h ∷ hs) (body_then g (nesting (scope k n h ∷ hs)) r))
+    (here comma)
     (λ r.
     ap
-    (λ (z : Body parts).
-    frames_then (scope k ns n h ∷ hs) (body_then z (nesting (scope k ns n h ∷ hs)) (here comma (suc (within h.tildes (nesting hs))) ∷ r)))
+    (λ (z : Body parts). frames_then (scope k n h ∷ hs) (body_then z (nesting (scope k n h ∷ hs)) r))
     (sym (a.empty (sym e))))
-next_goes s (scope k ns n h ∷ hs) g true e a b = tt
+    (begun_goes s k n h hs b.0 b.1)
+next_goes s (scope k n h ∷ hs) g true e a b = tt
 next_goes s (paren h y ∷ hs) g c e a b = tt
 next_goes s [] g c e a b = tt
 
@@ -267,7 +287,9 @@ inside gs g a = ap (λ b. suc (within g.tildes b)) a.based
 enter_goes : (s : State parts) (u : Token) → Sane s → GoesOn (enter derivations s u) (state_then (at s at_operand)) (here u)
 enter_goes s mark a = goes (stays _ a) (λ r. refl)
 enter_goes s negation a = goes (record { body = record { based = a.body.based; empty = λ e. true_false e }; frames = a.frames }) (λ r. refl)
-enter_goes s (quantifier q) a = goes (stays _ a) (λ r. refl)
+enter_goes s (quantifier tokens.some) a = goes (stays _ a) (λ r. refl)
+enter_goes s (quantifier tokens.every) a = goes (stays _ a) (λ r. refl)
+enter_goes s (quantifier tokens.infinite) a = goes (stays _ a) (λ r. refl)
 enter_goes s opening a =
     goes (record { body = record { based = inside s.around s.body a.body; empty = λ e. refl }; frames = (a.body, a.frames) }) (λ r. refl)
 enter_goes s (name n) a = goes (stays _ a) (λ r. refl)
@@ -281,19 +303,20 @@ system_goes : (s : State parts) (u : Token) → Sane s → GoesOn (enter_system 
 system_goes s (system n) a = goes (record { body = record { based = a.body.based; empty = λ e. true_false e }; frames = a.frames }) (λ r. refl)
 system_goes s _ a = tt
 
-variable_goes : (s : State parts) (q : Quantifier) (ns : Names) (u : Token) → Sane s → GoesOn (enter_variable derivations s q ns u) (state_then (at s (at_variable q ns))) (here u)
-variable_goes s q ns (name n) a =
+variable_goes : (s : State parts) (q : Binding) (u : Token) → Sane s → GoesOn (enter_variable derivations s q u) (state_then (at s (at_variable q))) (here u)
+variable_goes s q (name n) a =
     goes (record { body = record { based = inside s.around s.body a.body; empty = λ e. refl }; frames = (a.body, a.frames) }) (λ r. refl)
-variable_goes s q ns _ a = tt
+variable_goes s q _ a = tt
 
 position_goes : (s : State parts) (p : Position parts) (u : Token) → Sane s → GoesOn (step_at derivations s p u) (state_then (at s p)) (placed p u)
 position_goes s at_operand u a = enter_goes s u a
 position_goes s at_system u a = system_goes s u a
-position_goes s (at_variable q ns) u a = variable_goes s q ns u a
+position_goes s (at_variable q) u a = variable_goes s q u a
 position_goes s (after_operand c) u a = leave_goes s c u a
 position_goes s (after_first n) u a = first_goes s n u a
 position_goes s (at_factor h o ss ps p) u a = factor_goes s h o ss ps p u a
-position_goes s (after_factor h o ss ps p f q) u a = leave_factor_goes s h o ss ps p f q u a
+position_goes s (after_factor h o ss m p q) u a = leave_factor_goes s h o ss m p q u a
+position_goes s (at_divisor h o ss m p) u a = divisor_goes s h o ss m p u a
 position_goes s (after_index d n ts t) u a = index_goes s d n ts t u a
 position_goes s (at_word m) u a = word_goes s m u a
 position_goes s (at_bracket m n) u a = bracket_goes s m n u a

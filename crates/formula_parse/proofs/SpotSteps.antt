@@ -60,7 +60,7 @@ name_fine make h b bs e =
 letter_fine : (b : ℕ) (bs : List ℕ) → is_letter b ≡ true → IsFine (suc (length bs)) (letter_lexeme (b ∷ bs))
 letter_fine b bs h =
     fine_if (b == 69) _ _ _ (λ e. short_fine _ _ tt)
-    (λ e. fine_if (b == 65) _ _ _ (λ e. short_fine _ _ tt) (λ e. fine_if (b == 73) _ _ _ (λ e. none_fine _) (λ e. name_fine name (λ n. tt) b bs h)))
+    (λ e. fine_if (b == 65) _ _ _ (λ e. short_fine _ _ tt) (λ e. fine_if (b == 73) _ _ _ (λ e. short_fine _ _ tt) (λ e. name_fine name (λ n. tt) b bs h)))
 
 sign_not_end : (at b : ℕ) → NotEnd (sign_token at b)
 sign_not_end at b =
@@ -74,9 +74,10 @@ sign_not_end at b =
     (token_if (b == 43) _ _ tt
     (token_if (b == 45) _ _ tt
     (token_if (b == 42) _ _ tt
+    (token_if (b == 47) _ _ tt
     (token_if (b == 40) _ _ tt
     (token_if (b == 41) _ _ tt
-    (token_if (b == 91) _ _ tt (token_if (b == 93) _ _ tt (token_if (b == 44) _ _ tt tt))))))))))))))
+    (token_if (b == 91) _ _ tt (token_if (b == 93) _ _ tt (token_if (b == 44) _ _ tt tt)))))))))))))))
 
 long_fine : (bs : List ℕ) (n : ℕ) (t : Token) → (0 == n) ≡ false → NotEnd t → (slice_index bs 0 == n) ≡ true → IsFine (suc (length bs)) (lexeme_of t 2)
 long_fine bs n t z h e =

@@ -3,7 +3,7 @@ use Rattle.std.specs.Prelude.{List, [], ◌∷◌}
 use Rattle.formula_parse.specs.Tokens.{Name}
 use Rattle.formula_parse.specs.Trees.{Names}
 use Rattle.formula_parse.specs.Making.{Kinds, Making}
-use Rattle.formula_parse.proofs.Derivations.{Factor, variable, numeral, in_parens, Factors, no_factors, factors, Addends, no_addends, addends, Term, term, Terms, no_terms, terms, Index, index, Core, compare, words, word_letter, letter_word, call_none, call, not_closed, grouped, Closed, marked, Operands, no_operands, operands, Chains, no_chains, chains, Implications, no_implications, implications, Last, ends, quantified, Formula, formula}
+use Rattle.formula_parse.proofs.Derivations.{Factor, variable, numeral, in_parens, Factors, no_factors, factors, Prod, prod, divided, Addends, no_addends, addends, Term, term, Terms, no_terms, terms, Index, index, Core, compare, words, word_letter, letter_word, call_none, call, not_closed, grouped, Closed, marked, Operands, no_operands, operands, Chains, no_chains, chains, Implications, no_implications, implications, Last, ends, quantified, Formula, formula}
 use Rattle.formula_parse.specs.FormulaTrees.{marks_system}
 
 abbrev pub tildes_system : Name → List Names → Name
@@ -46,14 +46,18 @@ module _ {K : Kinds} (A : Making K) where
 
     pub factors_of : Factors → K.Factors
     factors_of no_factors = A.no_factors
-    factors_of (factors ps f b) = A.factors (factors_of ps) (factor_of f) b
+    factors_of (factors m b) = A.factors (prod_of m) b
+
+    pub prod_of : Prod → K.Prod
+    prod_of (prod ps f) = A.prod (factors_of ps) (factor_of f)
+    prod_of (divided m c) = A.divided (prod_of m) c
 
     pub addends_of : Addends → K.Addends
     addends_of no_addends = A.no_addends
-    addends_of (addends ss ps f s) = A.addends (addends_of ss) (factors_of ps) (factor_of f) s
+    addends_of (addends ss m s) = A.addends (addends_of ss) (prod_of m) s
 
     pub term_of : Term → K.Term
-    term_of (term ss ps f) = A.term (addends_of ss) (factors_of ps) (factor_of f)
+    term_of (term ss m) = A.term (addends_of ss) (prod_of m)
 
   abbrev pub terms_of : Terms → K.Terms
   terms_of no_terms = A.no_terms
@@ -93,7 +97,7 @@ module _ {K : Kinds} (A : Making K) where
 
     pub last_of : Name → Last → K.Last
     last_of y (ends c) = A.ends (closed_of y c)
-    last_of y (quantified st ms q ns n f) = A.quantified st ms q ns n (formula_of (marks_system (tildes_system y st) ms) f)
+    last_of y (quantified st ms q n f) = A.quantified st ms q n (formula_of (marks_system (tildes_system y st) ms) f)
 
     pub formula_of : Name → Formula → K.Formula
     formula_of y (formula is hs os l) =

@@ -1,28 +1,28 @@
 -- A formula of the grammar, in which quantifiers take all that follows, has a derivation of the same tokens, tree and flaws.
 use Rattle.std.proofs.Common.{◌≡◌, refl, subst, ℕ, [], ◌∷◌, ◌++◌}
 use Rattle.formula_parse.specs.Tokens as tokens
-use Rattle.formula_parse.specs.Tokens.{Name, Quantifier, Connective, Token}
+use Rattle.formula_parse.specs.Tokens.{Name, Connective, Token}
 use Rattle.formula_parse.specs.Trees.{Names, no_names, names}
+use Rattle.formula_parse.specs.Making.{Binding}
+use Rattle.formula_parse.specs.Making as making
 use Rattle.formula_parse.proofs.Derivations as derived
-use Rattle.formula_parse.specs.Formulas.{Factor, variable, numeral, in_parens, Prod, factor, times, Term, prod, signed, Index, word, further, Terms, term, comma, Atom, compare, words, word_letter, letter_word, call_none, call, Variables, variable_one, variable_more, WrittenFormula, imp, iff, Imp, chain, implies, Chain, operand, joined, Operand, marked, Core, negated, quantified, grouped, atom, IsEnding, FormulaTakes, ImpTakes, ChainTakes, OperandTakes, CoreTakes}
-use Rattle.formula_parse.proofs.SameTerms.{SameFactor, SameProd, SameTerm, same_variable, same_numeral, same_parens, same_factor, same_times, same_prod, same_signed, Alike, alike, SameTerms, same_one, same_comma, SameIndex, same_word, same_further, AlikeIndex, alike_index, SameAtom, same_compare, same_words, same_word_letter, same_letter_word, same_call_none, same_call}
+use Rattle.formula_parse.specs.Formulas.{Factor, variable, numeral, in_parens, Prod, factor, times, divided, Term, prod, signed, Index, word, further, Terms, term, comma, Atom, compare, words, word_letter, letter_word, call_none, call, Variables, variable_one, variable_more, Binder, some, every, infinite, WrittenFormula, imp, iff, Imp, chain, implies, Chain, operand, joined, Operand, marked, Core, negated, quantified, grouped, atom, IsEnding, FormulaTakes, ImpTakes, ChainTakes, OperandTakes, CoreTakes}
+use Rattle.formula_parse.proofs.SameTerms.{SameFactor, SameProd, SameTerm, same_variable, same_numeral, same_parens, same_factor, same_times, same_divided, same_prod, same_signed, Alike, alike, SameTerms, same_one, same_comma, SameIndex, same_word, same_further, AlikeIndex, alike_index, SameAtom, same_compare, same_words, same_word_letter, same_letter_word, same_call_none, same_call}
 use Rattle.formula_parse.proofs.SameFormulas as formulas
-use Rattle.formula_parse.proofs.SameFormulas.{SameOperand, SameChain, SameImp, SameFormula, same_operand, same_joined, same_chain, same_implies, same_imp, same_iff, same_atom, same_grouped, same_not, SameVariables, same_variable_one, same_variable_more, same_quantified, same_tilde}
+use Rattle.formula_parse.proofs.SameFormulas.{SameOperand, SameChain, SameImp, SameFormula, same_operand, same_joined, same_chain, same_implies, same_imp, same_iff, same_atom, same_grouped, same_not, SameVariables, same_variable_one, same_variable_more, SameBinder, same_some, same_every, same_infinite, same_quantified, same_tilde}
 
 record OfFactor (f : Factor) : Type 0 where
   to : derived.Factor
   same : SameFactor to f
 
 record OfProd (p : Prod) : Type 0 where
-  before : derived.Factors
-  last : derived.Factor
-  same : SameProd before last p
+  to : derived.Prod
+  same : SameProd to p
 
 record OfTerm (t : Term) : Type 0 where
   before : derived.Addends
-  factors : derived.Factors
-  last : derived.Factor
-  same : SameTerm before factors last t
+  last : derived.Prod
+  same : SameTerm before last t
 
 mutual
   factor_of : (f : Factor) → OfFactor f
@@ -30,29 +30,31 @@ mutual
   factor_of (numeral n) = record { to = derived.numeral n; same = same_numeral n }
   factor_of (in_parens t) =
       let u = term_of t in
-      record { to = derived.in_parens (derived.term u.before u.factors u.last); same = same_parens u.before u.factors u.last t u.same }
+      record { to = derived.in_parens (derived.term u.before u.last); same = same_parens u.before u.last t u.same }
 
   prod_of : (p : Prod) → OfProd p
   prod_of (factor f) =
       let u = factor_of f in
-      record { before = derived.no_factors; last = u.to; same = same_factor u.to f u.same }
+      record { to = derived.prod derived.no_factors u.to; same = same_factor u.to f u.same }
   prod_of (times p b f) =
       let u = prod_of p in
       let v = factor_of f in
-      record { before = derived.factors u.before u.last b; last = v.to; same = same_times u.before u.last v.to p b f u.same v.same }
+      record { to = derived.prod (derived.factors u.to b) v.to; same = same_times u.to v.to p b f u.same v.same }
+  prod_of (divided p c) =
+      let u = prod_of p in
+      record { to = derived.divided u.to c; same = same_divided u.to p c u.same }
 
   term_of : (t : Term) → OfTerm t
   term_of (prod p) =
       let u = prod_of p in
-      record { before = derived.no_addends; factors = u.before; last = u.last; same = same_prod u.before u.last p u.same }
+      record { before = derived.no_addends; last = u.to; same = same_prod u.to p u.same }
   term_of (signed t s p) =
       let u = term_of t in
       let v = prod_of p in
       record {
-        before = derived.addends u.before u.factors u.last s;
-        factors = v.before;
-        last = v.last;
-        same = same_signed u.before u.factors v.before u.last v.last t s p u.same v.same;
+        before = derived.addends u.before u.last s;
+        last = v.to;
+        same = same_signed u.before u.last v.to t s p u.same v.same;
       }
 
 record OfWhole (t : Term) : Type 0 where
@@ -62,7 +64,7 @@ record OfWhole (t : Term) : Type 0 where
 whole_of : (t : Term) → OfWhole t
 whole_of t =
     let u = term_of t in
-    record { to = derived.term u.before u.factors u.last; same = alike u.before u.factors u.last t u.same }
+    record { to = derived.term u.before u.last; same = alike u.before u.last t u.same }
 
 record OfTerms (ts : Terms) : Type 0 where
   before : derived.Terms
@@ -137,14 +139,28 @@ variables_of (variable_more vs n) =
     let u = variables_of vs in
     record { before = names u.before u.last; last = n; same = same_variable_more u.before u.last n vs u.same }
 
+record OfBinder (b : Binder) : Type 0 where
+  binding : Binding
+  last : Name
+  same : SameBinder binding last b
+
+binder_of : (b : Binder) → OfBinder b
+binder_of (some vs) =
+    let u = variables_of vs in
+    record { binding = making.some u.before; last = u.last; same = same_some u.before u.last vs u.same }
+binder_of (every vs) =
+    let u = variables_of vs in
+    record { binding = making.every u.before; last = u.last; same = same_every u.before u.last vs u.same }
+binder_of (infinite n) = record { binding = making.infinite; last = n; same = same_infinite n }
+
 -- no quantifier's formula ends it
 abbrev IsClosed : derived.Last → Type 0
 IsClosed (derived.ends c) = Unit {0}
-IsClosed (derived.quantified st ms q ns n f) = ⊥
+IsClosed (derived.quantified st ms q n f) = ⊥
 
 closed_part : (l : derived.Last) → IsClosed l → (c : derived.Closed) × (l ≡ derived.ends c)
 closed_part (derived.ends c) h = (c, refl)
-closed_part (derived.quantified st ms q ns n f) h = absurd h
+closed_part (derived.quantified st ms q n f) h = absurd h
 
 -- a token that is no ending comes after a closed operand
 record OfOperand (o : Operand) (t : Token) : Type 0 where
@@ -185,14 +201,14 @@ text_of f t u = record {
 
 not_of : (ms : Names) (o : Operand) (t : Token) (l : derived.Last) → SameOperand l o → ((IsEnding t → ⊥) → IsClosed l) → OfOperand (marked ms (negated o)) t
 not_of ms o t (derived.ends e) s h = record { last = derived.ends (derived.marked ms (derived.not_closed e)); same = same_not ms e o s; closed = λ n. tt }
-not_of ms o t (derived.quantified st ks q ns n g) s h = record { last = derived.quantified (st ++ ms ∷ []) ks q ns n g; same = same_tilde ms st ks q ns n g o s; closed = h }
+not_of ms o t (derived.quantified st ks q n g) s h = record { last = derived.quantified (st ++ ms ∷ []) ks q n g; same = same_tilde ms st ks q n g o s; closed = h }
 
-quantified_of : (ms : Names) (q : Quantifier) (vs : Variables) (f : WrittenFormula) (t : Token) → IsEnding t → OfText f → OfOperand (marked ms (quantified q vs f)) t
-quantified_of ms q vs f t e u =
-    let v = variables_of vs in
+quantified_of : (ms : Names) (b : Binder) (f : WrittenFormula) (t : Token) → IsEnding t → OfText f → OfOperand (marked ms (quantified b f)) t
+quantified_of ms b f t e u =
+    let v = binder_of b in
     record {
-      last = derived.quantified [] ms q v.before v.last u.to;
-      same = same_quantified ms q v.before v.last vs u.to f v.same u.same;
+      last = derived.quantified [] ms v.binding v.last u.to;
+      same = same_quantified ms v.binding v.last b u.to f v.same u.same;
       closed = λ n. n e;
     }
 
@@ -283,7 +299,7 @@ mutual
   core_of (negated o) ms t h =
       let u = operand_of o t h in
       not_of ms o t u.last u.same u.closed
-  core_of (quantified q vs f) ms t h = quantified_of ms q vs f t h.0 (text_of f t (formula_of f t h.1))
+  core_of (quantified b f) ms t h = quantified_of ms b f t h.0 (text_of f t (formula_of f t h.1))
   core_of (grouped f) ms t h = grouped_of ms f t (text_of f tokens.closing (formula_of f tokens.closing h))
   core_of (atom a) ms t h = plain_of ms a t (atom_of a)
 

@@ -45,6 +45,12 @@ view_times t =
     ap (fold-Factor trees.Factor trees.Term Signed factor_step term_step addend_step) (sym (factor.rolls-Times t))
     ∙ fold-roll-Factor trees.Factor trees.Term Signed factor_step term_step addend_step (open_term.Times t)
 
+pub view_divided : (n : ℕ) → factor_view (factor.Divided n) ≡ trees.divided n
+unfolding factor_view
+view_divided n =
+    ap (fold-Factor trees.Factor trees.Term Signed factor_step term_step addend_step) (sym (factor.rolls-Divided n))
+    ∙ fold-roll-Factor trees.Factor trees.Term Signed factor_step term_step addend_step (open_term.Divided n)
+
 fold_addend : (a : Addend) → fold-Addend trees.Factor trees.Term Signed factor_step term_step addend_step a ≡ addend_view a
 unfolding term_view
 fold_addend a = fold_out-Addend trees.Factor trees.Term Signed factor_step term_step addend_step a

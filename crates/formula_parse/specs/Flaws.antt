@@ -27,7 +27,7 @@ noted_if false g w = w
 pub record Product : Type 0 where
   -- nothing does
   pub lone : Bool
-  -- a factor of its product that is no numeral does
+  -- a factor of its product that is no numeral does, or a quotient
   pub unknown : Bool
   -- the byte of the `*` before it
   pub star : ℕ

@@ -1,7 +1,7 @@
 -- The faults of the second pass in a formula of the grammar. The one at the least byte is kept.
 use Rattle.std.specs.Prelude.{Bool, true, false, not, ◌&&◌, ◌||◌, Option}
 use Rattle.formula_parse.specs.Flaws.{Flaw, mixed_chain, not_linear, noted_if, Came, none_came, came_next, mixes}
-use Rattle.formula_parse.specs.Formulas.{Factor, variable, numeral, in_parens, Prod, factor, times, Term, prod, signed, Index, word, further, Terms, term, comma, Atom, compare, words, word_letter, letter_word, call_none, call, WrittenFormula, imp, iff, Imp, chain, implies, Chain, operand, joined, Operand, marked, Core, negated, quantified, grouped, atom}
+use Rattle.formula_parse.specs.Formulas.{Factor, variable, numeral, in_parens, Prod, factor, times, divided, Term, prod, signed, Index, word, further, Terms, term, comma, Atom, compare, words, word_letter, letter_word, call_none, call, WrittenFormula, imp, iff, Imp, chain, implies, Chain, operand, joined, Operand, marked, Core, negated, quantified, grouped, atom}
 
 -- a numeral, or one in parentheses
 abbrev mutual
@@ -17,11 +17,13 @@ abbrev mutual
   pub is_numeral_prod : Prod → Bool
   is_numeral_prod (factor f) = is_numeral f
   is_numeral_prod (times p b f) = false
+  is_numeral_prod (divided p c) = false
 
--- whether a factor is no numeral
+-- whether a factor is no numeral; a quotient is none
 abbrev pub has_unknown : Prod → Bool
 has_unknown (factor f) = not (is_numeral f)
 has_unknown (times p b f) = has_unknown p || not (is_numeral f)
+has_unknown (divided p c) = true
 
 -- The least flaw so far, with those of each. A `*` before a second factor that is no numeral is one.
 abbrev mutual
@@ -33,6 +35,7 @@ abbrev mutual
   pub prod_flaw : Option Flaw → Prod → Option Flaw
   prod_flaw w (factor f) = factor_flaw w f
   prod_flaw w (times p b f) = noted_if (has_unknown p && not (is_numeral f)) (not_linear b) (factor_flaw (prod_flaw w p) f)
+  prod_flaw w (divided p c) = prod_flaw w p
 
   pub term_flaw : Option Flaw → Term → Option Flaw
   term_flaw w (prod p) = prod_flaw w p
@@ -83,6 +86,6 @@ abbrev mutual
 
   pub core_flaw : Option Flaw → Core → Option Flaw
   core_flaw w (negated o) = operand_flaw w o
-  core_flaw w (quantified q vs f) = formula_flaw w f
+  core_flaw w (quantified q f) = formula_flaw w f
   core_flaw w (grouped f) = formula_flaw w f
   core_flaw w (atom a) = atom_flaw w a

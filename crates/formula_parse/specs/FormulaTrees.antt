@@ -1,33 +1,31 @@
 -- The tree of a formula of the grammar, with the system that is in force at each atom.
-use Rattle.std.specs.Prelude.{[], ◌∷◌}
-use Rattle.formula_parse.specs.Tokens.{Name}
+use Rattle.std.specs.Prelude.{suc, [], ◌∷◌}
+use Rattle.formula_parse.specs.Tokens as tokens
+use Rattle.formula_parse.specs.Tokens.{Name, Quantifier}
 use Rattle.formula_parse.specs.Trees as trees
 use Rattle.formula_parse.specs.Trees.{Names, no_names, names}
-use Rattle.formula_parse.specs.Formulas.{Factor, variable, numeral, in_parens, Prod, factor, times, Term, prod, signed, Index, word, further, Terms, term, comma, Atom, compare, words, word_letter, letter_word, call_none, call, Variables, variable_one, variable_more, WrittenFormula, imp, iff, Imp, chain, implies, Chain, operand, joined, Operand, marked, Core, negated, quantified, grouped, atom}
+use Rattle.formula_parse.specs.Formulas.{Factor, variable, numeral, in_parens, Prod, factor, times, divided, Term, prod, signed, Index, word, further, Terms, term, comma, Atom, compare, words, word_letter, letter_word, call_none, call, Variables, variable_one, variable_more, Binder, some, every, infinite, WrittenFormula, imp, iff, Imp, chain, implies, Chain, operand, joined, Operand, marked, Core, negated, quantified, grouped, atom}
 use Rattle.formula_parse.specs.Building.{multiplied, summed, chained, under_marks, letter_of, joint, in_system}
 
--- Of what repeats: the tree of the last item, and those of the items before it. A list of one is its item, and parentheses leave no mark.
+-- Of what repeats: the tree of the last item, and those of the items before it; the factors of a product are one list. A list of one is its item, and parentheses leave no mark.
 abbrev mutual
   pub factor_tree : Factor → trees.Term
   factor_tree (variable n) = trees.variable n
   factor_tree (numeral n) = trees.numeral n
   factor_tree (in_parens t) = summed (before_prod t) (last_prod t)
 
-  pub before_factor : Prod → trees.Factors
-  before_factor (factor f) = trees.no_factors
-  before_factor (times p b f) = trees.factors (before_factor p) (trees.times (last_factor p))
-
-  pub last_factor : Prod → trees.Term
-  last_factor (factor f) = factor_tree f
-  last_factor (times p b f) = factor_tree f
+  pub factors_of : Prod → trees.Factors
+  factors_of (factor f) = trees.factors trees.no_factors (trees.times (factor_tree f))
+  factors_of (times p b f) = trees.factors (factors_of p) (trees.times (factor_tree f))
+  factors_of (divided p c) = trees.factors (factors_of p) (trees.divided (suc c))
 
   pub before_prod : Term → trees.Addends
   before_prod (prod p) = trees.no_addends
   before_prod (signed t s p) = trees.addends (before_prod t) (last_prod t) s
 
   pub last_prod : Term → trees.Term
-  last_prod (prod p) = multiplied (before_factor p) (last_factor p)
-  last_prod (signed t s p) = multiplied (before_factor p) (last_factor p)
+  last_prod (prod p) = multiplied (factors_of p)
+  last_prod (signed t s p) = multiplied (factors_of p)
 
 abbrev pub term_tree : Term → trees.Term
 term_tree t = summed (before_prod t) (last_prod t)
@@ -59,6 +57,16 @@ abbrev pub variables : Variables → trees.Names
 variables (variable_one n) = trees.names trees.no_names n
 variables (variable_more vs n) = trees.names (variables vs) n
 
+abbrev pub binder_quantifier : Binder → Quantifier
+binder_quantifier (some vs) = tokens.some
+binder_quantifier (every vs) = tokens.every
+binder_quantifier (infinite n) = tokens.infinite
+
+abbrev pub binder_names : Binder → trees.Names
+binder_names (some vs) = variables vs
+binder_names (every vs) = variables vs
+binder_names (infinite n) = trees.names trees.no_names n
+
 -- the system in force after some marks
 abbrev pub marks_system : Name → Names → Name
 marks_system y no_names = y
@@ -83,7 +91,7 @@ abbrev mutual
 
   pub core_system : Name → Core → Name
   core_system y (negated o) = operand_system y o
-  core_system y (quantified q vs f) = formula_system y f
+  core_system y (quantified q f) = formula_system y f
   core_system y (grouped f) = y
   core_system y (atom a) = y
 
@@ -118,7 +126,7 @@ abbrev mutual
 
   pub core_tree : Name → Core → trees.Formula
   core_tree y (negated o) = trees.negated (operand_tree y o)
-  core_tree y (quantified q vs f) = trees.quantified q (variables vs) (chained (before_imp y f) (last_imp y f))
+  core_tree y (quantified q f) = trees.quantified (binder_quantifier q) (binder_names q) (chained (before_imp y f) (last_imp y f))
   core_tree y (grouped f) = chained (before_imp y f) (last_imp y f)
   core_tree y (atom a) = in_system y (fact a)
 

@@ -2,7 +2,7 @@
 -- What repeats, as `prod { ("+" | "-") prod }`, is read from the left: it is one item, or what repeats and an item more.
 use Rattle.std.specs.Prelude.{ℕ, suc, Bool, true, false, List, [], ◌∷◌, ⊤}
 use Rattle.formula_parse.specs.Tokens as tokens
-use Rattle.formula_parse.specs.Tokens.{Name, Relation, Quantifier, Connective, Sign, Letter, Token, Placed, here, value_of}
+use Rattle.formula_parse.specs.Tokens.{Name, Relation, Connective, Sign, Letter, Token, Placed, here, value_of}
 use Rattle.formula_parse.specs.Trees.{Names, no_names, names}
 
 mutual
@@ -12,10 +12,11 @@ mutual
     numeral : ℕ → Factor
     in_parens : Term → Factor
 
-  -- prod := factor { "*" factor }, each `*` with its byte
+  -- prod := factor { "*" factor | "/" NUM }, each `*` with its byte; the numeral after `/` is above 0, and one more than what is kept
   pub data Prod : Type 0 where
     factor : Factor → Prod
     times : Prod → ℕ → Factor → Prod
+    divided : Prod → ℕ → Prod
 
   -- term := prod { ("+" | "-") prod }
   pub data Term : Type 0 where
@@ -47,6 +48,12 @@ pub data Variables : Type 0 where
   variable_one : Name → Variables
   variable_more : Variables → Name → Variables
 
+-- ("E" | "A") VAR { "," VAR } | "I" VAR
+pub data Binder : Type 0 where
+  some : Variables → Binder
+  every : Variables → Binder
+  infinite : Name → Binder
+
 mutual
   -- formula := imp { "<=>" imp }
   pub data WrittenFormula : Type 0 where
@@ -67,10 +74,10 @@ mutual
   pub data Operand : Type 0 where
     marked : Names → Core → Operand
 
-  -- core := "~" operand | ("E" | "A") VAR { "," VAR } formula | "(" formula ")" | atom
+  -- core := "~" operand | ("E" | "A") VAR { "," VAR } formula | "I" VAR formula | "(" formula ")" | atom
   pub data Core : Type 0 where
     negated : Operand → Core
-    quantified : Quantifier → Variables → WrittenFormula → Core
+    quantified : Binder → WrittenFormula → Core
     grouped : WrittenFormula → Core
     atom : Atom → Core
 
@@ -99,7 +106,7 @@ abbrev mutual
 
   pub CoreTakes : Core → Token → Type 0
   CoreTakes (negated o) t = OperandTakes o t
-  CoreTakes (quantified q vs f) t = IsEnding t × FormulaTakes f t
+  CoreTakes (quantified q f) t = IsEnding t × FormulaTakes f t
   CoreTakes (grouped f) t = FormulaTakes f tokens.closing
   CoreTakes (atom a) t = ⊤
 
@@ -113,6 +120,7 @@ abbrev mutual
   pub prod_then : Prod → ℕ → List Placed → List Placed
   prod_then (factor f) d r = factor_then f d r
   prod_then (times p b f) d r = prod_then p d (here (tokens.times b) d ∷ factor_then f d r)
+  prod_then (divided p c) d r = prod_then p d (here tokens.slash d ∷ here (tokens.number (suc c)) d ∷ r)
 
   pub term_then : Term → ℕ → List Placed → List Placed
   term_then (prod p) d r = prod_then p d r
@@ -146,6 +154,11 @@ abbrev pub variables_then : Variables → ℕ → List Placed → List Placed
 variables_then (variable_one n) d r = here (tokens.name n) d ∷ r
 variables_then (variable_more vs n) d r = variables_then vs d (here tokens.comma d ∷ here (tokens.name n) d ∷ r)
 
+abbrev pub binder_then : Binder → ℕ → List Placed → List Placed
+binder_then (some vs) d r = here (tokens.quantifier tokens.some) d ∷ variables_then vs d r
+binder_then (every vs) d r = here (tokens.quantifier tokens.every) d ∷ variables_then vs d r
+binder_then (infinite n) d r = here (tokens.quantifier tokens.infinite) d ∷ here (tokens.name n) d ∷ r
+
 abbrev pub marks_then : Names → ℕ → List Placed → List Placed
 marks_then no_names d r = r
 marks_then (names ms n) d r = marks_then ms d (here tokens.mark d ∷ here (tokens.system n) d ∷ r)
@@ -168,7 +181,7 @@ abbrev mutual
 
   pub core_then : Core → ℕ → List Placed → List Placed
   core_then (negated o) d r = here tokens.negation (suc d) ∷ operand_then o (suc d) r
-  core_then (quantified q vs f) d r = here (tokens.quantifier q) (suc d) ∷ variables_then vs (suc d) (formula_then f (suc d) r)
+  core_then (quantified q f) d r = binder_then q (suc d) (formula_then f (suc d) r)
   core_then (grouped f) d r = here tokens.opening (suc d) ∷ formula_then f (suc d) (here tokens.closing d ∷ r)
   core_then (atom a) d r = atom_then a d r
 

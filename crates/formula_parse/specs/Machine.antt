@@ -1,8 +1,9 @@
 -- A machine that reads tokens, over any way of making trees.
 use Rattle.std.specs.Prelude.{ℕ, suc, Bool, true, false, ◌&&◌, List, [], ◌∷◌, Option, None, Some}
-use Rattle.formula_parse.specs.Tokens.{Name, Relation, Quantifier, Letter, Token, name, number, system, called, mark, call_sign, negation, quantifier, comma, opening, closing, bracket, unbracket, letter_sign, sign, minus, times, relation, connective, implies, iff, end}
+use Rattle.formula_parse.specs.Tokens as tokens
+use Rattle.formula_parse.specs.Tokens.{Name, Relation, Quantifier, Letter, Token, name, number, system, called, mark, call_sign, negation, quantifier, comma, opening, closing, bracket, unbracket, letter_sign, sign, minus, times, slash, relation, connective, implies, iff, end}
 use Rattle.formula_parse.specs.Trees.{Names, no_names, names}
-use Rattle.formula_parse.specs.Making.{Kinds, Making}
+use Rattle.formula_parse.specs.Making.{Binding, some, every, infinite, Kinds, Making}
 use Rattle.formula_parse.specs.Flaws.{Flaw, mixed_chain, Product, product_start, product_next, noted_if, noted_factor, Came, none_came, came_next, mixes}
 
 -- what comes before the next operand of a formula
@@ -25,7 +26,7 @@ pub record Body (K : Kinds) : Type 0 where
 pub data Frame (K : Kinds) : Type 0 where
   -- by a parenthesis, with the system in force before it
   paren : Body K → Name → Frame K
-  scope : Quantifier → Names → Name → Body K → Frame K
+  scope : Binding → Name → Body K → Frame K
 
 -- a term inside of which a parenthesis was opened
 pub record Outer (K : Kinds) : Type 0 where
@@ -58,14 +59,15 @@ pub data Representation (K : Kinds) : Type 0 where
 pub data Position (K : Kinds) : Type 0 where
   at_operand : Position K
   at_system : Position K
-  at_variable : Quantifier → Names → Position K
+  at_variable : Binding → Position K
   after_operand : K.Core → Position K
   -- a name that begins an operand: a variable or a word
   after_first : Name → Position K
   -- where the term is, the terms around, the products and the factors before, what they are
   at_factor : Role K → List (Outer K) → K.Addends → K.Factors → Product → Position K
-  -- and a factor, and whether it is a numeral
-  after_factor : Role K → List (Outer K) → K.Addends → K.Factors → Product → K.Factor → Bool → Position K
+  -- and the product so far, what came before its last factor, and whether it ends in a factor that is a numeral
+  after_factor : Role K → List (Outer K) → K.Addends → K.Prod → Product → Bool → Position K
+  at_divisor : Role K → List (Outer K) → K.Addends → K.Prod → Product → Position K
   after_index : Side K → Name → K.Terms → K.Term → Position K
   at_word : Aim K → Position K
   at_bracket : Aim K → Name → Position K
@@ -104,9 +106,10 @@ within_outer [] d = d
 within_outer (x ∷ o) d = suc (within_outer o d)
 
 abbrev pub within_position : {K : Kinds} → Position K → ℕ → ℕ
-within_position (at_variable q ns) d = suc d
+within_position (at_variable q) d = suc d
 within_position (at_factor h o ss ps p) d = within_outer o (within_role h d)
-within_position (after_factor h o ss ps p f q) d = within_outer o (within_role h d)
+within_position (after_factor h o ss m p q) d = within_outer o (within_role h d)
+within_position (at_divisor h o ss m p) d = within_outer o (within_role h d)
 within_position (at_argument n) d = suc d
 within_position at_operand d = d
 within_position at_system d = d
@@ -125,6 +128,18 @@ within_position (done f) d = d
 -- the nesting of a state
 abbrev pub depth : {K : Kinds} → State K → ℕ
 depth s = within_position s.position (operand_nesting s.body)
+
+-- a quantifier of which no variable has come
+abbrev pub begun : Quantifier → Binding
+begun tokens.some = some no_names
+begun tokens.every = every no_names
+begun tokens.infinite = infinite
+
+-- with a variable that is not the last
+abbrev pub with_variable : Binding → Name → Option Binding
+with_variable (some ns) n = Some (some (names ns n))
+with_variable (every ns) n = Some (every (names ns n))
+with_variable infinite n = None
 
 module _ {K : Kinds} (A : Making K) where
   abbrev pub empty_prefix : Prefix K
@@ -160,7 +175,7 @@ module _ {K : Kinds} (A : Making K) where
   close w (paren h y ∷ hs) f closing =
       Some (record { around = hs; body = h; system = y; flaw = w; position = after_operand (A.grouped f) })
   close w (paren h y ∷ hs) f t = None
-  close w (scope q ns n h ∷ hs) f t = close w hs (whole h.prefix (A.quantified h.tildes h.marks q ns n f)) t
+  close w (scope q n h ∷ hs) f t = close w hs (whole h.prefix (A.quantified h.tildes h.marks q n f)) t
 
   abbrev pub joined : State K → Prefix K → Option Flaw → Option (State K)
   joined s r w = Some (record { around = s.around; body = with_prefix s.body r; system = s.system; flaw = w; position = at_operand })
@@ -192,7 +207,7 @@ module _ {K : Kinds} (A : Making K) where
 
   -- a factor was read
   abbrev pub with_factor : State K → Role K → List (Outer K) → K.Addends → K.Factors → Product → K.Factor → Bool → State K
-  with_factor s h o ss ps p f q = record s { flaw = noted_factor p q s.flaw; position = after_factor h o ss ps p f q }
+  with_factor s h o ss ps p f q = record s { flaw = noted_factor p q s.flaw; position = after_factor h o ss (A.prod ps f) p q }
 
   -- a `)` after a term that is no side of a relation: its parenthesis was a term's
   abbrev pub close_term : State K → List (Frame K) → Bool → K.Term → Bool → Option (State K)
@@ -203,11 +218,11 @@ module _ {K : Kinds} (A : Making K) where
         body = h;
         system = y;
         flaw = s.flaw;
-        position = after_factor left_side [] A.no_addends A.no_factors (product_start true) (A.in_parens t) q;
+        position = after_factor left_side [] A.no_addends (A.prod A.no_factors (A.in_parens t)) (product_start true) q;
       }
       )
   close_term s (paren h y ∷ hs) true t q = None
-  close_term s (scope e ns n h ∷ hs) b t q = None
+  close_term s (scope e n h ∷ hs) b t q = None
   close_term s [] b t q = None
 
   -- a term begins
@@ -232,15 +247,21 @@ module _ {K : Kinds} (A : Making K) where
   leave_product s h (x ∷ o) t q closing = Some (with_factor s h o x.addends x.factors x.product (A.in_parens t) q)
   leave_product s h (x ∷ o) t q _ = None
 
-  -- a token after a factor
-  abbrev pub leave_factor : State K → Role K → List (Outer K) → K.Addends → K.Factors → Product → K.Factor → Bool → Token → Option (State K)
-  leave_factor s h o ss ps p f q (times b) = moved s (at_factor h o ss (A.factors ps f b) (product_next p q b))
-  leave_factor s h o ss ps p f q (sign e) = moved s (at_factor h o (A.addends ss ps f e) A.no_factors (product_start false))
-  leave_factor s h o ss ps p f q t = leave_product s h o (A.term ss ps f) (p.lone && q) t
+  -- a token after a factor or a divisor
+  abbrev pub leave_factor : State K → Role K → List (Outer K) → K.Addends → K.Prod → Product → Bool → Token → Option (State K)
+  leave_factor s h o ss m p q (times b) = moved s (at_factor h o ss (A.factors m b) (product_next p q b))
+  leave_factor s h o ss m p q slash = moved s (at_divisor h o ss m p)
+  leave_factor s h o ss m p q (sign e) = moved s (at_factor h o (A.addends ss m e) A.no_factors (product_start false))
+  leave_factor s h o ss m p q t = leave_product s h o (A.term ss m) (p.lone && q) t
+
+  -- a quotient is no numeral
+  abbrev pub enter_divisor : State K → Role K → List (Outer K) → K.Addends → K.Prod → Product → Token → Option (State K)
+  enter_divisor s h o ss m p (number (suc c)) = moved s (after_factor h o ss (A.divided m c) p false)
+  enter_divisor s h o ss m p _ = None
 
   abbrev pub leave_first : State K → Name → Token → Option (State K)
   leave_first s n bracket = at_term s (place_in first n A.no_terms)
-  leave_first s n t = leave_factor s left_side [] A.no_addends A.no_factors (product_start true) (A.variable n) false t
+  leave_first s n t = leave_factor s left_side [] A.no_addends (A.prod A.no_factors (A.variable n)) (product_start true) false t
 
   abbrev pub leave_side : State K → Side K → K.Index → Token → Option (State K)
   leave_side s first x (relation e) = moved s (at_word (left_index x e))
@@ -297,11 +318,14 @@ module _ {K : Kinds} (A : Making K) where
   enter_argument s n closing = moved s (after_operand (A.call_none s.system n))
   enter_argument s n t = enter_factor s (argument n A.no_terms) [] A.no_addends A.no_factors (product_start true) t
 
+  abbrev pub at_next : State K → List (Frame K) → Body K → Option Binding → Option (State K)
+  at_next s hs h None = None
+  at_next s hs h (Some q) = Some (record { around = hs; body = h; system = s.system; flaw = s.flaw; position = at_variable q })
+
   -- a `,` directly after a quantifier's variable
   abbrev pub next_variable : State K → List (Frame K) → Bool → Option (State K)
-  next_variable s (scope q ns n h ∷ hs) false =
-      Some (record { around = hs; body = h; system = s.system; flaw = s.flaw; position = at_variable q (names ns n) })
-  next_variable s (scope q ns n h ∷ hs) true = None
+  next_variable s (scope q n h ∷ hs) false = at_next s hs h (with_variable q n)
+  next_variable s (scope q n h ∷ hs) true = None
   next_variable s (paren h y ∷ hs) b = None
   next_variable s [] b = None
 
@@ -315,7 +339,7 @@ module _ {K : Kinds} (A : Making K) where
         position = at_operand;
       }
       )
-  enter s (quantifier q) = moved s (at_variable q no_names)
+  enter s (quantifier q) = moved s (at_variable (begun q))
   enter s opening =
       Some (
       record s {
@@ -336,25 +360,26 @@ module _ {K : Kinds} (A : Making K) where
       Some (record s { body = record s.body { marks = names s.body.marks n; touched = true }; system = n; position = at_operand })
   enter_system s _ = None
 
-  abbrev pub enter_variable : State K → Quantifier → Names → Token → Option (State K)
-  enter_variable s q ns (name n) =
+  abbrev pub enter_variable : State K → Binding → Token → Option (State K)
+  enter_variable s q (name n) =
       Some (
       record s {
-        around = scope q ns n s.body ∷ s.around;
+        around = scope q n s.body ∷ s.around;
         body = fresh (suc (operand_nesting s.body));
         position = at_operand;
       }
       )
-  enter_variable s q ns _ = None
+  enter_variable s q _ = None
 
   abbrev pub step_at : State K → Position K → Token → Option (State K)
   step_at s at_operand t = enter s t
   step_at s at_system t = enter_system s t
-  step_at s (at_variable q ns) t = enter_variable s q ns t
+  step_at s (at_variable q) t = enter_variable s q t
   step_at s (after_operand c) t = leave s c t
   step_at s (after_first n) t = leave_first s n t
   step_at s (at_factor h o ss ps p) t = enter_factor s h o ss ps p t
-  step_at s (after_factor h o ss ps p f q) t = leave_factor s h o ss ps p f q t
+  step_at s (after_factor h o ss m p q) t = leave_factor s h o ss m p q t
+  step_at s (at_divisor h o ss m p) t = enter_divisor s h o ss m p t
   step_at s (after_index d n ts u) t = leave_index s d n ts u t
   step_at s (at_word a) t = enter_word s a t
   step_at s (at_bracket a n) t = enter_bracket s a n t

@@ -1,13 +1,14 @@
 -- Trees as what the machine makes.
-use Rattle.std.specs.Prelude.{ℤ}
-use Rattle.formula_parse.specs.Trees.{names, Term, variable, numeral, Factors, no_factors, factors, times, Terms, no_terms, terms, Addends, no_addends, addends, Index, compare, words, word_letter, letter_word, call, implies, iff, Formula, negated, quantified, Operands, no_operands, operands}
+use Rattle.std.specs.Prelude.{suc, ℤ}
+use Rattle.formula_parse.specs.Trees.{names, Term, variable, numeral, Factors, no_factors, factors, times, divided, Terms, no_terms, terms, Addends, no_addends, addends, Index, compare, words, word_letter, letter_word, call, implies, iff, Formula, negated, quantified, Operands, no_operands, operands}
 use Rattle.formula_parse.specs.Making.{Kinds, Making}
-use Rattle.formula_parse.specs.Building.{multiplied, summed, chained, under_marks, under_tildes, letter_of, joint, in_system}
+use Rattle.formula_parse.specs.Building.{multiplied, summed, chained, under_marks, under_tildes, letter_of, joint, quantifier_of, names_of, in_system}
 
 abbrev pub made : Kinds
 made = record {
   Factor = Term;
   Factors = Factors;
+  Prod = Factors;
   Addends = Addends;
   Term = Term;
   Terms = Terms;
@@ -28,10 +29,12 @@ trees = record {
   numeral = numeral;
   in_parens = λ t. t;
   no_factors = no_factors;
-  factors = λ ps f b. factors ps (times f);
+  factors = λ m b. m;
+  prod = λ ps f. factors ps (times f);
+  divided = λ m c. factors m (divided (suc c));
   no_addends = no_addends;
-  addends = λ ss ps f s. addends ss (multiplied ps f) s;
-  term = λ ss ps f. summed ss (multiplied ps f);
+  addends = λ ss m s. addends ss (multiplied m) s;
+  term = λ ss m. summed ss (multiplied m);
   no_terms = no_terms;
   terms = terms;
   index = λ n ts t. record { word = n; places = terms ts t };
@@ -52,6 +55,6 @@ trees = record {
   no_implications = no_operands;
   implications = λ is hs os c. operands is (chained hs (chained os c)) iff;
   ends = λ c. c;
-  quantified = λ st ms q ns n f. under_tildes st (under_marks ms (quantified q (names ns n) f));
+  quantified = λ st ms q n f. under_tildes st (under_marks ms (quantified (quantifier_of q) (names (names_of q) n) f));
   formula = λ is hs os l. chained is (chained hs (chained os l));
 }

@@ -1,12 +1,19 @@
 -- Ways of making trees: a function for each case of the grammar.
 use Rattle.std.specs.Prelude.{ℕ, List}
-use Rattle.formula_parse.specs.Tokens.{Name, Relation, Quantifier, Connective, Sign, Letter}
+use Rattle.formula_parse.specs.Tokens.{Name, Relation, Connective, Sign, Letter}
 use Rattle.formula_parse.specs.Trees.{Names}
+
+-- a quantifier, with the variables before the last
+pub data Binding : Type 0 where
+  some : Names → Binding
+  every : Names → Binding
+  infinite : Binding
 
 -- what is made of each part of a formula
 pub record Kinds : Type 1 where
   pub Factor : Type 0
   pub Factors : Type 0
+  pub Prod : Type 0
   pub Addends : Type 0
   pub Term : Type 0
   pub Terms : Type 0
@@ -25,13 +32,16 @@ pub record Making (K : Kinds) : Type 0 where
   pub variable : Name → K.Factor
   pub numeral : ℕ → K.Factor
   pub in_parens : K.Term → K.Factor
-  -- prod := factor { "*" factor }: the factors before the last, each with the byte of its `*`
+  -- prod := factor { "*" factor | "/" NUM }: what comes before a factor is nothing, or a product with the byte of the `*` after it
   pub no_factors : K.Factors
-  pub factors : K.Factors → K.Factor → ℕ → K.Factors
+  pub factors : K.Prod → ℕ → K.Factors
+  pub prod : K.Factors → K.Factor → K.Prod
+  -- the numeral is one more
+  pub divided : K.Prod → ℕ → K.Prod
   -- term := prod { ("+" | "-") prod }: the products before the last, each with its sign
   pub no_addends : K.Addends
-  pub addends : K.Addends → K.Factors → K.Factor → Sign → K.Addends
-  pub term : K.Addends → K.Factors → K.Factor → K.Term
+  pub addends : K.Addends → K.Prod → Sign → K.Addends
+  pub term : K.Addends → K.Prod → K.Term
   -- the terms of an index or a call, before the last
   pub no_terms : K.Terms
   pub terms : K.Terms → K.Term → K.Terms
@@ -57,5 +67,5 @@ pub record Making (K : Kinds) : Type 0 where
   pub implications : K.Implications → K.Chains → K.Operands → K.Closed → K.Implications
   -- the last operand: closed, or a quantifier's formula with the marks and `~` before it
   pub ends : K.Closed → K.Last
-  pub quantified : List Names → Names → Quantifier → Names → Name → K.Formula → K.Last
+  pub quantified : List Names → Names → Binding → Name → K.Formula → K.Last
   pub formula : K.Implications → K.Chains → K.Operands → K.Last → K.Formula

@@ -6,7 +6,7 @@ use Rattle.text_grammar.specs.Prefixes.{begins_in, prefix_len, prefix_of}
 use Rattle.text_grammar.specs.Numbers.{value_of}
 use Rattle.text_grammar.specs.Systems.{is_direction}
 use Rattle.text_grammar.specs.Spots.{Lexeme, lexeme_of, Lexing, Spot, spots_from}
-use Rattle.formula_parse.specs.Tokens.{Name, Token, name, number, system, called, mark, call_sign, negation, quantifier, some, every, comma, opening, closing, bracket, unbracket, letter_sign, sign, plus, minus, times, relation, equal, unequal, less, greater, at_most, at_least, connective, and, or, xor, implies, iff, other, end}
+use Rattle.formula_parse.specs.Tokens.{Name, Token, name, number, system, called, mark, call_sign, negation, quantifier, some, every, infinite, comma, opening, closing, bracket, unbracket, letter_sign, sign, plus, minus, times, slash, relation, equal, unequal, less, greater, at_most, at_least, connective, and, or, xor, implies, iff, other, end}
 
 -- What comes before a token: a system may follow `?`, and a name `$`.
 pub data Mode : Type 0 where
@@ -34,7 +34,7 @@ name_lexeme make text =
 abbrev pub number_lexeme : List ℕ → Lexeme Token
 number_lexeme text = lexeme_of (number (min (value_of (prefix_of Digit text)) (2 ^ 64))) (prefix_len Digit text)
 
--- `E`, `A`, or a variable or a word
+-- `E`, `A`, `I`, or a variable or a word
 abbrev pub letter_lexeme : List ℕ → Lexeme Token
 letter_lexeme text =
     if slice_index text 0 == 69
@@ -42,7 +42,7 @@ letter_lexeme text =
     else
     if slice_index text 0 == 65
     then lexeme_of (quantifier every) 1
-    else if slice_index text 0 == 73 then no_lexeme else name_lexeme name text
+    else if slice_index text 0 == 73 then lexeme_of (quantifier infinite) 1 else name_lexeme name text
 
 -- the sign that a byte is, whatever follows
 abbrev pub sign_token : ℕ → ℕ → Token
@@ -76,6 +76,9 @@ sign_token at b =
     else
     if b == 42
     then times at
+    else
+    if b == 47
+    then slash
     else
     if b == 40
     then opening

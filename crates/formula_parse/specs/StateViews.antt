@@ -6,8 +6,9 @@ use Rattle.formula_parse.specs.Tokens as tokens
 use Rattle.formula_parse.specs.Trees as trees
 use Rattle.formula_parse.specs.Flaws as flaws
 use Rattle.formula_parse.specs.Machine as machine
+use Rattle.formula_parse.specs.Making.{Binding, some, every, infinite}
 use Rattle.formula_parse.specs.Made.{made}
-use Rattle.formula_parse.specs.Views.{relation_view, quantifier_view, sign_view, names_view, term_view, terms_view, factors_view, addends_view, index_view, formula_view, operands_view}
+use Rattle.formula_parse.specs.Views.{relation_view, quantifier_view, sign_view, names_view, term_view, terms_view, factor_view, factors_view, addends_view, index_view, formula_view, operands_view}
 use Rattle.formula_parse.specs.declared.token.ChainSign.{ChainSign}
 use Rattle.formula_parse.specs.declared.token.ChainSign.TheVariants as chain_signs
 use Rattle.formula_parse.specs.declared.token.Token.{Token}
@@ -18,6 +19,8 @@ use Rattle.formula_parse.specs.declared.flaw.Product.{Product}
 use Rattle.formula_parse.specs.declared.flaw.Came.{Came}
 use Rattle.formula_parse.specs.declared.state.Prefix.{Prefix}
 use Rattle.formula_parse.specs.declared.state.Body.{Body}
+use Rattle.formula_parse.specs.declared.state.Binding.{Binding as Binding'}
+use Rattle.formula_parse.specs.declared.state.Binding.TheVariants as bindings
 use Rattle.formula_parse.specs.declared.state.Frame.{Frame}
 use Rattle.formula_parse.specs.declared.state.Frame.TheVariants as frames
 use Rattle.formula_parse.specs.declared.state.Sum.{Sum}
@@ -56,6 +59,7 @@ token_view token.Unbracket = tokens.unbracket
 token_view (token.LetterSign b) = tokens.letter_sign b
 token_view (token.Sign s) = tokens.sign (sign_view s)
 token_view (token.Times b) = tokens.times b
+token_view token.Slash = tokens.slash
 token_view (token.Relation r) = tokens.relation (relation_view r)
 token_view (token.Connective k b) = tokens.connective (chain_sign_view k) b
 token_view (token.Implies b) = tokens.implies b
@@ -99,9 +103,14 @@ body_view b = record {
   touched = b.touched;
 }
 
+abbrev pub binding_view : Binding' → Binding
+binding_view (bindings.Exists ns) = some (names_view ns.items)
+binding_view (bindings.ForAll ns) = every (names_view ns.items)
+binding_view bindings.Infinite = infinite
+
 abbrev pub frame_view : Frame → machine.Frame made
 frame_view (frames.Paren b y) = machine.paren (body_view b) y
-frame_view (frames.Quantified s b) = machine.scope (quantifier_view s.quantifier) (names_view s.names.items) s.last (body_view b)
+frame_view (frames.Quantified s b) = machine.scope (binding_view s.binding) s.last (body_view b)
 
 -- the innermost first
 abbrev pub frames_view : List Frame → List (machine.Frame made)
@@ -134,11 +143,12 @@ representation_view (representations.OnRight x r) = machine.on_right (index_view
 abbrev pub position_view : Position → machine.Position made
 position_view positions.AtOperand = machine.at_operand
 position_view positions.AtSystem = machine.at_system
-position_view (positions.AtVariable q ns) = machine.at_variable (quantifier_view q) (names_view ns.items)
+position_view (positions.AtVariable b) = machine.at_variable (binding_view b)
 position_view (positions.AfterOperand f) = machine.after_operand (formula_view f)
 position_view (positions.AfterFirst n) = machine.after_first n
 position_view (positions.AtFactor r) = machine.at_factor (role_view r.nest.role) (outers_view r.nest.outer.items) (addends_view r.sum.addends.items) (factors_view r.sum.factors.items) (product_view r.sum.product)
-position_view (positions.AfterFactor r p) = machine.after_factor (role_view r.nest.role) (outers_view r.nest.outer.items) (addends_view r.sum.addends.items) (factors_view r.sum.factors.items) (product_view r.sum.product) (term_view p.term) p.numeral
+position_view (positions.AfterFactor r p) = machine.after_factor (role_view r.nest.role) (outers_view r.nest.outer.items) (addends_view r.sum.addends.items) (trees.factors (factors_view r.sum.factors.items) (factor_view p.factor)) (product_view r.sum.product) p.numeral
+position_view (positions.AtDivisor r) = machine.at_divisor (role_view r.nest.role) (outers_view r.nest.outer.items) (addends_view r.sum.addends.items) (factors_view r.sum.factors.items) (product_view r.sum.product)
 position_view (positions.AfterIndex p t) = machine.after_index (side_view p.side) p.word (terms_view p.places.items) (term_view t)
 position_view (positions.AtWord a) = machine.at_word (aim_view a)
 position_view (positions.AtBracket a n) = machine.at_bracket (aim_view a) n

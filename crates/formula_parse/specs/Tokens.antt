@@ -15,6 +15,7 @@ pub data Relation : Type 0 where
 pub data Quantifier : Type 0 where
   some : Quantifier
   every : Quantifier
+  infinite : Quantifier
 
 -- the connectives of a chain
 pub data Connective : Type 0 where
@@ -47,6 +48,7 @@ pub data Token : Type 0 where
   letter_sign : ℕ → Token
   sign : Sign → Token
   times : ℕ → Token
+  slash : Token
   relation : Relation → Token
   connective : Connective → ℕ → Token
   implies : ℕ → Token

@@ -19,9 +19,10 @@ mutual
     no_factors : Factors
     factors : Factors → Factor → Factors
 
-  -- what a product is multiplied by
+  -- what a product is multiplied or divided by; a divisor divides all that is before it
   pub data Factor : Type 0 where
     times : Term → Factor
+    divided : ℕ → Factor
 
   pub data Addends : Type 0 where
     no_addends : Addends

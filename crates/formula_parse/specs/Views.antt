@@ -36,6 +36,7 @@ relation_view relations.AtLeast = tokens.at_least
 abbrev pub quantifier_view : Quantifier → tokens.Quantifier
 quantifier_view quantifiers.Exists = tokens.some
 quantifier_view quantifiers.ForAll = tokens.every
+quantifier_view quantifiers.Infinite = tokens.infinite
 
 abbrev pub sign_view : Sign → tokens.Sign
 sign_view signs.Plus = tokens.plus
@@ -67,6 +68,7 @@ term_step (open_term.Sum all last) = trees.sum (fold with_addend trees.no_addend
 
 abbrev pub factor_step : open_term.Factor-F trees.Factor trees.Term Signed → trees.Factor
 factor_step (open_term.Times t) = trees.times t
+factor_step (open_term.Divided n) = trees.divided n
 
 abbrev pub addend_step : open_term.Addend-F trees.Factor trees.Term Signed → Signed
 addend_step a = (a.term, sign_view a.sign)

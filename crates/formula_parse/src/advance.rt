@@ -34,24 +34,24 @@ fn depth(state: &State) -> usize
 {
     let nesting = state.context.body.nesting();
     match &state.position {
-        Position::AtVariable(_, _) | Position::AtArgument(_) => nesting.saturating_add(1),
-        Position::AtFactor(reading) | Position::AfterFactor(reading, _) => term_depth(
-            &reading.nest,
-            nesting,
-        ),
+        Position::AtVariable(_) | Position::AtArgument(_) => nesting.saturating_add(1),
+        Position::AtFactor(reading)
+        | Position::AfterFactor(reading, _)
+        | Position::AtDivisor(reading) => term_depth(&reading.nest, nesting),
         _ => nesting,
     }
 }
 
 /// The fault at a numeral of 2^64 or more.
-#[tactic(auto, using(crate::proofs::Numbers::position_number))]
+#[tactic(auto, using(crate::proofs::Numbers::position_number, crate::proofs::Numbers::divisor_above))]
 pub(crate) fn big_fault(position: &Position, at: usize) -> ParseFault
     ensures { (s : Machine) → s.position ≡ position_view position.now → Advances s (tokens.number (2 ^ 64)) at (Err result) }
 {
     match position {
-        Position::AtOperand | Position::AtFactor(_) | Position::AtArgument(_) => ParseFault::Number(
-            at,
-        ),
+        Position::AtOperand
+        | Position::AtFactor(_)
+        | Position::AtDivisor(_)
+        | Position::AtArgument(_) => ParseFault::Number(at),
         Position::AtLetter(_, sign) | Position::AtValue(_, sign) => ParseFault::Number(*sign),
         _ => ParseFault::Syntax(at),
     }

@@ -1,16 +1,19 @@
 //! The machine where an operand begins: marks, `~`, quantifiers and parentheses before it, and its first token.
 
 ghost use Rattle.std.specs.Prelude.{◌≡◌, ◌∷◌, Some, IfOk};
+ghost use Rattle.std.specs.Option.{option_map};
 ghost use Rattle.formula_parse.specs.Trees.{no_names};
 ghost use Rattle.formula_parse.specs.Made.{trees};
 ghost use Rattle.formula_parse.specs.Machine as machine;
 ghost use Rattle.formula_parse.specs.Views.{names_view, quantifier_view};
-ghost use Rattle.formula_parse.specs.StateViews.{token_view, noted_view, tildes_view, body_view, frame_view, frames_view, context_view, state_view};
+ghost use Rattle.formula_parse.specs.StateViews.{token_view, noted_view, binding_view, tildes_view, body_view, frame_view, frames_view, context_view, state_view};
 ghost use Rattle.formula_parse.specs.Stops.{Gives};
 
 use crate::fault::Stop;
+use crate::making::with_name;
 use crate::state::{
-    Around, Before, Body, Context, Frame, Position, Reading, Representation, Role, Scope, State,
+    Around, Before, Binding, Body, Context, Frame, Position, Reading, Representation, Role, Scope,
+    State,
 };
 use crate::terms::{after_factor, numeral};
 use crate::token::Token;
@@ -81,25 +84,55 @@ fn negate(alloc: Global, context: Context) -> Result<State, Stop>
     })
 }
 
+impl Binding {
+    /// A quantifier of which no variable has come.
+    fn begun(alloc: Global, quantifier: Quantifier) -> Binding
+        ensures { binding_view result ≡ machine.begun (quantifier_view quantifier) }
+    {
+        match quantifier {
+            Quantifier::Exists => Binding::Exists(Vec::new(alloc)),
+            Quantifier::ForAll => Binding::ForAll(Vec::new(alloc)),
+            Quantifier::Infinite => Binding::Infinite,
+        }
+    }
+
+    /// With a variable that is not the last; `I` has none.
+    fn with_variable(self, name: Name) -> Result<Option<Binding>, OutOfMemory>
+        ensures { IfOk result (λ b. option_map binding_view b ≡ machine.with_variable (binding_view self) name) }
+    {
+        match self {
+            Binding::Exists(names) => Ok(Some(Binding::Exists(with_name(names, name)?))),
+            Binding::ForAll(names) => Ok(Some(Binding::ForAll(with_name(names, name)?))),
+            Binding::Infinite => Ok(None),
+        }
+    }
+}
+
 /// A `,` after a quantifier's variable, with what is around the quantifier: what it takes was touched or not.
 fn reopened(context: Context, scope: Scope, touched: bool) -> Result<State, Stop>
     ensures { Gives result (machine.next_variable trees (context_view context)
-        (machine.scope (quantifier_view scope.quantifier) (names_view scope.names.items) scope.last (body_view context.body) ∷ frames_view context.around.frames.items) touched) }
+        (machine.scope (binding_view scope.binding) scope.last (body_view context.body) ∷ frames_view context.around.frames.items) touched) }
 {
     if touched {
         drop(context);
         drop(scope);
         return Err(Stop::Syntax);
     }
-    let quantifier = scope.quantifier;
-    let Ok(names) = scope.variables() else {
-        drop(context);
-        return Err(Stop::Memory);
-    };
-    Ok(State {
-        context,
-        position: Position::AtVariable(quantifier, names),
-    })
+    let Scope { binding, last } = scope;
+    match binding.with_variable(last) {
+        Ok(Some(binding)) => Ok(State {
+            context,
+            position: Position::AtVariable(binding),
+        }),
+        Ok(None) => {
+            drop(context);
+            Err(Stop::Syntax)
+        }
+        Err(OutOfMemory) => {
+            drop(context);
+            Err(Stop::Memory)
+        }
+    }
 }
 
 /// A `,` directly after a quantifier's variable.
@@ -139,7 +172,7 @@ pub(crate) fn enter(alloc: Global, context: Context, token: Token) -> Result<Sta
         Token::Quantifier(quantifier) => {
             Ok(State {
                 context,
-                position: Position::AtVariable(quantifier, Vec::new(alloc)),
+                position: Position::AtVariable(Binding::begun(alloc, quantifier)),
             })
         }
         Token::Opening => open(alloc, context),
@@ -201,7 +234,7 @@ pub(crate) fn enter_system(alloc: Global, context: Context, token: Token) -> Res
 
 /// A quantifier takes the formula that comes.
 fn quantify(alloc: Global, context: Context, scope: Scope) -> Result<State, Stop>
-    ensures { Gives result (machine.enter_variable trees (context_view context) (quantifier_view scope.quantifier) (names_view scope.names.items) (token_view (Token.Name scope.last))) }
+    ensures { Gives result (machine.enter_variable trees (context_view context) (binding_view scope.binding) (token_view (Token.Name scope.last))) }
 {
     let base = context.body.inside()?;
     let Context { around, body } = context;
@@ -212,24 +245,19 @@ fn quantify(alloc: Global, context: Context, scope: Scope) -> Result<State, Stop
 pub(crate) fn enter_variable(
     alloc: Global,
     context: Context,
-    quantifier: Quantifier,
-    names: Vec<Name>,
+    binding: Binding,
     token: Token,
 ) -> Result<State, Stop>
-    ensures { Gives result (machine.enter_variable trees (context_view context) (quantifier_view quantifier) (names_view names.items) (token_view token)) }
+    ensures { Gives result (machine.enter_variable trees (context_view context) (binding_view binding) (token_view token)) }
 {
     match token {
         Token::Name(last) => {
-            let scope = Scope {
-                quantifier,
-                names,
-                last,
-            };
+            let scope = Scope { binding, last };
             quantify(alloc, context, scope)
         }
         _ => {
             drop(context);
-            drop(names);
+            drop(binding);
             drop(token);
             Err(Stop::Syntax)
         }

@@ -3,8 +3,8 @@
 ghost use Rattle.std.specs.Prelude.{◌≡◌, [], ◌∷◌, IfOk};
 ghost use Rattle.formula_parse.specs.Made.{trees};
 ghost use Rattle.formula_parse.specs.Machine as machine;
-ghost use Rattle.formula_parse.specs.Views.{term_view, formula_view, names_view, quantifier_view};
-ghost use Rattle.formula_parse.specs.StateViews.{token_view, noted_view, tildes_view, prefix_view, body_view, frames_view, context_view};
+ghost use Rattle.formula_parse.specs.Views.{term_view, formula_view, names_view};
+ghost use Rattle.formula_parse.specs.StateViews.{token_view, noted_view, binding_view, tildes_view, prefix_view, body_view, frames_view, context_view};
 ghost use Rattle.formula_parse.specs.Stops.{Gives};
 
 use crate::fault::Stop;
@@ -99,7 +99,7 @@ fn scope_closed(
 ) -> Result<Formula, OutOfMemory>
     ensures { IfOk result (λ f. formula_view f ≡ machine.whole trees (prefix_view body.prefix) (trees.quantified
         (tildes_view body.before.tildes.items) (names_view body.before.marks.items)
-        (quantifier_view scope.quantifier) (names_view scope.names.items) scope.last (formula_view formula))) }
+        (binding_view scope.binding) scope.last (formula_view formula))) }
 {
     let core = quantified(alloc, body.before, scope, formula)?;
     body.prefix.whole(alloc, core)
@@ -143,7 +143,7 @@ fn close_term_paren(
     let reading = Reading::start(alloc, Role::LeftSide);
     Ok(State {
         context,
-        position: Position::AfterFactor(reading, read),
+        position: Position::AfterFactor(reading, read.factor()),
     })
 }
 

@@ -48,7 +48,7 @@ pub(crate) fn noted_if(met: bool, flaw: Flaw, least: Option<Flaw>) -> Option<Fla
 pub(crate) struct Product {
     /// Nothing does.
     pub lone: bool,
-    /// A factor of its product that is no numeral does.
+    /// A factor of its product that is no numeral does, or a quotient.
     pub unknown: bool,
     /// The byte of the `*` before it.
     pub star: usize,

@@ -123,7 +123,7 @@ fn number_lexeme(rest: &[u8]) -> Lexeme
     Lexeme { lexed, len }
 }
 
-/// `E`, `A`, or a variable or a word.
+/// `E`, `A`, `I`, or a variable or a word.
 fn letter_lexeme(alloc: Global, rest: &[u8]) -> Result<Lexeme, OutOfMemory>
     ensures { IfOk result (λ l. lexeme_view l ≡ spots.letter_lexeme rest.now) }
 {
@@ -135,7 +135,7 @@ fn letter_lexeme(alloc: Global, rest: &[u8]) -> Result<Lexeme, OutOfMemory>
         return Ok(Lexeme::new(Token::Quantifier(Quantifier::ForAll), 1));
     }
     if first == b'I' {
-        return Ok(Lexeme::none());
+        return Ok(Lexeme::new(Token::Quantifier(Quantifier::Infinite), 1));
     }
     name_lexeme(alloc, false, rest)
 }
@@ -155,6 +155,7 @@ fn sign_token(at: usize, byte: u8) -> Token
         b'+' => Token::Sign(Sign::Plus),
         b'-' => Token::Sign(Sign::Minus),
         b'*' => Token::Times(at),
+        b'/' => Token::Slash,
         b'(' => Token::Opening,
         b')' => Token::Closing,
         b'[' => Token::Bracket,

@@ -4,19 +4,21 @@ ghost use Rattle.std.specs.Prelude.{◌≡◌, IfOk};
 ghost use Rattle.formula_parse.specs.Trees as trees;
 ghost use Rattle.formula_parse.specs.Building as building;
 ghost use Rattle.formula_parse.specs.Made.{trees as making};
-ghost use Rattle.formula_parse.specs.Views.{term_view, terms_view, factors_view, addends_view, formula_view, operands_view, names_view, sign_view, connective_view, quantifier_view, fact_view};
-ghost use Rattle.formula_parse.specs.StateViews.{tildes_view};
+ghost use Rattle.formula_parse.specs.Views.{term_view, terms_view, factor_view, factors_view, addends_view, formula_view, operands_view, names_view, sign_view, connective_view, quantifier_view, fact_view};
+ghost use Rattle.formula_parse.specs.StateViews.{binding_view, tildes_view};
 
-use crate::state::{Before, Scope};
-use crate::tree::{Addend, Atom, Connective, Fact, Factor, Formula, Index, Operand, Sign, Term};
+use crate::state::{Before, Binding, Scope};
+use crate::tree::{
+    Addend, Atom, Connective, Fact, Factor, Formula, Index, Operand, Quantifier, Sign, Term,
+};
 use digit_tuple::faults::OutOfMemory;
 use digit_tuple::name::Name;
 use std::alloc::Global;
 
-/// The product of some factors and the last.
+/// The product of some factors and a last one, which is a term.
 #[tactic(auto, using(crate::proofs::MakingSteps::multiplied_none, crate::proofs::MakingSteps::multiplied_more))]
-pub fn multiplied(mut factors: Vec<Factor>, last: Term) -> Result<Term, OutOfMemory>
-    ensures { IfOk result (λ t. term_view t ≡ building.multiplied (factors_view factors.items) (term_view last)) }
+fn times(mut factors: Vec<Factor>, last: Term) -> Result<Term, OutOfMemory>
+    ensures { IfOk result (λ t. term_view t ≡ building.multiplied (trees.factors (factors_view factors.items) (trees.times (term_view last)))) }
 {
     if factors.is_empty() {
         return Ok(last);
@@ -25,12 +27,32 @@ pub fn multiplied(mut factors: Vec<Factor>, last: Term) -> Result<Term, OutOfMem
     Ok(Term::Product(factors))
 }
 
-/// The factors with one more.
-#[tactic(auto, using(crate::proofs::MakingSteps::times_more))]
-pub fn with_factor(mut factors: Vec<Factor>, term: Term) -> Result<Vec<Factor>, OutOfMemory>
-    ensures { IfOk result (λ v. factors_view v.items ≡ trees.factors (factors_view factors.items) (trees.times (term_view term))) }
+/// The product of some factors and a last divisor.
+#[tactic(auto, using(crate::proofs::MakingSteps::multiplied_divided))]
+fn divided(mut factors: Vec<Factor>, last: u64) -> Result<Term, OutOfMemory>
+    ensures { IfOk result (λ t. term_view t ≡ building.multiplied (trees.factors (factors_view factors.items) (trees.divided last))) }
 {
-    factors.push(Factor::Times(term))?;
+    factors.push(Factor::Divided(last))?;
+    Ok(Term::Product(factors))
+}
+
+/// The product of some factors and the last.
+#[tactic(auto, using(crate::proofs::ViewSteps::view_times, crate::proofs::ViewSteps::view_divided))]
+pub fn multiplied(factors: Vec<Factor>, last: Factor) -> Result<Term, OutOfMemory>
+    ensures { IfOk result (λ t. term_view t ≡ building.multiplied (trees.factors (factors_view factors.items) (factor_view last))) }
+{
+    match last {
+        Factor::Times(term) => times(factors, term),
+        Factor::Divided(divisor) => divided(factors, divisor),
+    }
+}
+
+/// The factors with one more.
+#[tactic(auto, using(crate::proofs::MakingSteps::factors_more))]
+pub fn with_factor(mut factors: Vec<Factor>, factor: Factor) -> Result<Vec<Factor>, OutOfMemory>
+    ensures { IfOk result (λ v. factors_view v.items ≡ trees.factors (factors_view factors.items) (factor_view factor)) }
+{
+    factors.push(factor)?;
     Ok(factors)
 }
 
@@ -136,26 +158,47 @@ pub fn atom(alloc: Global, system: &Name, fact: Fact) -> Result<Formula, OutOfMe
     Ok(Formula::Atom(Atom { system, fact }))
 }
 
-impl Scope {
-    /// The variables.
-    pub fn variables(self) -> Result<Vec<Name>, OutOfMemory>
-        ensures { IfOk result (λ v. names_view v.items ≡ trees.names (names_view self.names.items) self.last) }
+/// The names with one more.
+pub fn with_name(mut names: Vec<Name>, name: Name) -> Result<Vec<Name>, OutOfMemory>
+    ensures { IfOk result (λ v. names_view v.items ≡ trees.names (names_view names.items) name) }
+{
+    names.push(name)?;
+    Ok(names)
+}
+
+impl Binding {
+    fn quantifier(&self) -> Quantifier
+        ensures { quantifier_view result ≡ building.quantifier_of (binding_view self.now) }
     {
-        let mut names = self.names;
-        names.push(self.last)?;
-        Ok(names)
+        match self {
+            Binding::Exists(_) => Quantifier::Exists,
+            Binding::ForAll(_) => Quantifier::ForAll,
+            Binding::Infinite => Quantifier::Infinite,
+        }
+    }
+
+    /// The variables before the last.
+    fn names(self, alloc: Global) -> Vec<Name>
+        ensures { names_view result.items ≡ building.names_of (binding_view self) }
+    {
+        match self {
+            Binding::Exists(names) => names,
+            Binding::ForAll(names) => names,
+            Binding::Infinite => Vec::new(alloc),
+        }
     }
 }
 
 /// A quantifier's formula.
 #[tactic(auto, using(crate::proofs::ViewSteps::view_quantified))]
 fn under_quantifier(alloc: Global, scope: Scope, formula: Formula) -> Result<Formula, OutOfMemory>
-    ensures { IfOk result (λ f. formula_view f ≡ trees.quantified (quantifier_view scope.quantifier)
-        (trees.names (names_view scope.names.items) scope.last) (formula_view formula)) }
+    ensures { IfOk result (λ f. formula_view f ≡ trees.quantified (building.quantifier_of (binding_view scope.binding))
+        (trees.names (building.names_of (binding_view scope.binding)) scope.last) (formula_view formula)) }
 {
     let inner = Box::new(alloc, formula)?;
-    let quantifier = scope.quantifier;
-    let names = scope.variables()?;
+    let Scope { binding, last } = scope;
+    let quantifier = binding.quantifier();
+    let names = with_name(binding.names(alloc), last)?;
     Ok(Formula::Quantified(quantifier, names, inner))
 }
 
@@ -168,7 +211,7 @@ pub fn quantified(
 ) -> Result<Formula, OutOfMemory>
     ensures { IfOk result (λ f. formula_view f ≡ making.quantified
         (tildes_view before.tildes.items) (names_view before.marks.items)
-        (quantifier_view scope.quantifier) (names_view scope.names.items) scope.last (formula_view formula)) }
+        (binding_view scope.binding) scope.last (formula_view formula)) }
 {
     let quantified = under_quantifier(alloc, scope, formula)?;
     let marked = under_marks(alloc, before.marks, quantified)?;

@@ -1,7 +1,7 @@
 //! The states of the machine that reads a formula: what is open, what was read, and where it is.
 
 use crate::flaw::{Came, Flaw, Product};
-use crate::tree::{Addend, Factor, Formula, Index, Operand, Quantifier, Relation, Term};
+use crate::tree::{Addend, Factor, Formula, Index, Operand, Relation, Term};
 use digit_tuple::name::Name;
 
 /// The greatest nesting.
@@ -33,11 +33,18 @@ pub(crate) struct Body {
     pub touched: bool,
 }
 
-/// A quantifier with its variables: those before the last, and the last.
+/// A quantifier, with the variables before the last; `I` has one variable.
+#[derive(Drop)]
+pub(crate) enum Binding {
+    Exists(Vec<Name>),
+    ForAll(Vec<Name>),
+    Infinite,
+}
+
+/// A quantifier with its variables.
 #[derive(Drop)]
 pub(crate) struct Scope {
-    pub quantifier: Quantifier,
-    pub names: Vec<Name>,
+    pub binding: Binding,
     pub last: Name,
 }
 
@@ -110,10 +117,17 @@ pub(crate) struct Reading {
     pub sum: Sum,
 }
 
-/// A factor or a term that was read, and whether it is a numeral, maybe in parentheses.
+/// A term that was read, and whether it is a numeral, maybe in parentheses.
 #[derive(Drop)]
 pub(crate) struct ReadTerm {
     pub term: Term,
+    pub numeral: bool,
+}
+
+/// A factor or a divisor that was read, and whether it is a factor that is a numeral, maybe in parentheses.
+#[derive(Drop)]
+pub(crate) struct ReadFactor {
+    pub factor: Factor,
     pub numeral: bool,
 }
 
@@ -137,12 +151,13 @@ pub(crate) struct Letter {
 pub(crate) enum Position {
     AtOperand,
     AtSystem,
-    AtVariable(Quantifier, Vec<Name>),
+    AtVariable(Binding),
     AfterOperand(Formula),
     /// A name that begins an operand: a variable or a word.
     AfterFirst(Name),
     AtFactor(Reading),
-    AfterFactor(Reading, ReadTerm),
+    AfterFactor(Reading, ReadFactor),
+    AtDivisor(Reading),
     AfterIndex(Places, Term),
     AtWord(Aim),
     AtBracket(Aim, Name),

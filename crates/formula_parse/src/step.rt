@@ -12,7 +12,7 @@ use crate::indexes::{enter_bracket, enter_word, leave_index};
 use crate::letters::{enter_letter, enter_value, leave_letter};
 use crate::operands::leave;
 use crate::state::{Position, State};
-use crate::terms::{enter_factor, leave_factor, leave_first};
+use crate::terms::{enter_divisor, enter_factor, leave_factor, leave_first};
 use crate::token::Token;
 use std::alloc::Global;
 
@@ -24,13 +24,12 @@ pub(crate) fn step(alloc: Global, state: State, token: Token) -> Result<State, S
     match position {
         Position::AtOperand => enter(alloc, context, token),
         Position::AtSystem => enter_system(alloc, context, token),
-        Position::AtVariable(quantifier, names) => enter_variable(
-            alloc, context, quantifier, names, token,
-        ),
+        Position::AtVariable(binding) => enter_variable(alloc, context, binding, token),
         Position::AfterOperand(core) => leave(alloc, context, core, token),
         Position::AfterFirst(name) => leave_first(alloc, context, name, token),
         Position::AtFactor(reading) => enter_factor(alloc, context, reading, token),
         Position::AfterFactor(reading, read) => leave_factor(alloc, context, reading, read, token),
+        Position::AtDivisor(reading) => enter_divisor(context, reading, token),
         Position::AfterIndex(places, term) => leave_index(alloc, context, places, term, token),
         Position::AtWord(aim) => enter_word(context, aim, token),
         Position::AtBracket(aim, name) => enter_bracket(alloc, context, aim, name, token),

@@ -2,10 +2,10 @@
 
 ghost use Rattle.std.specs.Prelude.{◌≡◌, true, false, ◌&&◌, [], ◌∷◌, Some, IfOk};
 ghost use Rattle.formula_parse.specs.Flaws as flaws;
-ghost use Rattle.formula_parse.specs.Trees.{no_addends, no_factors};
+ghost use Rattle.formula_parse.specs.Trees.{no_addends, no_factors, factors, times as times'};
 ghost use Rattle.formula_parse.specs.Made.{trees};
 ghost use Rattle.formula_parse.specs.Machine as machine;
-ghost use Rattle.formula_parse.specs.Views.{term_view, terms_view, factors_view, addends_view, sign_view};
+ghost use Rattle.formula_parse.specs.Views.{term_view, terms_view, factor_view, factors_view, addends_view, sign_view};
 ghost use Rattle.formula_parse.specs.StateViews.{token_view, outer_view, outers_view, role_view, product_view, context_view, state_view};
 ghost use Rattle.formula_parse.specs.Stops.{Gives};
 
@@ -15,10 +15,11 @@ use crate::flaw::Product;
 use crate::making::{multiplied, summed, with_addend, with_factor};
 use crate::operands::{after_atom, leave_atom};
 use crate::state::{
-    Arguments, Context, Nest, Places, Position, ReadTerm, Reading, Role, Side, State, Sum,
+    Arguments, Context, Nest, Places, Position, ReadFactor, ReadTerm, Reading, Role, Side, State,
+    Sum,
 };
 use crate::token::Token;
-use crate::tree::{Fact, Sign, Term};
+use crate::tree::{Fact, Factor, Sign, Term};
 use digit_tuple::faults::OutOfMemory;
 use digit_tuple::name::Name;
 use std::alloc::Global;
@@ -34,6 +35,20 @@ pub(crate) fn at_term(alloc: Global, context: Context, role: Role) -> State
     }
 }
 
+impl ReadTerm {
+    /// As a factor of a product.
+    #[tactic(auto, using(crate::proofs::ViewSteps::view_times))]
+    pub fn factor(self) -> ReadFactor
+        ensures factor { factor_view result.factor ≡ times' (term_view self.term) }
+        ensures numeral { result.numeral ≡ self.numeral }
+    {
+        ReadFactor {
+            factor: Factor::Times(self.term),
+            numeral: self.numeral,
+        }
+    }
+}
+
 /// A factor was read.
 pub(crate) fn after_factor(mut context: Context, reading: Reading, read: ReadTerm) -> State
     ensures { state_view result ≡ machine.with_factor trees (context_view context) (role_view reading.nest.role) (outers_view reading.nest.outer.items)
@@ -42,7 +57,7 @@ pub(crate) fn after_factor(mut context: Context, reading: Reading, read: ReadTer
     context.around.flaw = reading.sum.product.noted(read.numeral, context.around.flaw);
     State {
         context,
-        position: Position::AfterFactor(reading, read),
+        position: Position::AfterFactor(reading, read.factor()),
     }
 }
 
@@ -296,12 +311,12 @@ fn leave_term(
 
 impl Sum {
     /// With one more factor and a `*` after it.
-    fn times(self, read: ReadTerm, at: usize) -> Result<Sum, OutOfMemory>
+    fn times(self, read: ReadFactor, at: usize) -> Result<Sum, OutOfMemory>
         ensures addends { IfOk result (λ s. addends_view s.addends.items ≡ addends_view self.addends.items) }
-        ensures factors { IfOk result (λ s. factors_view s.factors.items ≡ trees.factors (factors_view self.factors.items) (term_view read.term) at) }
+        ensures factors { IfOk result (λ s. factors_view s.factors.items ≡ factors (factors_view self.factors.items) (factor_view read.factor)) }
         ensures product { IfOk result (λ s. product_view s.product ≡ flaws.product_next (product_view self.product) read.numeral at) }
     {
-        let factors = with_factor(self.factors, read.term)?;
+        let factors = with_factor(self.factors, read.factor)?;
         Ok(Sum {
             addends: self.addends,
             factors,
@@ -309,9 +324,23 @@ impl Sum {
         })
     }
 
+    /// With one more factor and a `/` after it.
+    fn slashed(self, factor: Factor) -> Result<Sum, OutOfMemory>
+        ensures addends { IfOk result (λ s. addends_view s.addends.items ≡ addends_view self.addends.items) }
+        ensures factors { IfOk result (λ s. factors_view s.factors.items ≡ factors (factors_view self.factors.items) (factor_view factor)) }
+        ensures product { IfOk result (λ s. product_view s.product ≡ product_view self.product) }
+    {
+        let factors = with_factor(self.factors, factor)?;
+        Ok(Sum {
+            addends: self.addends,
+            factors,
+            product: self.product,
+        })
+    }
+
     /// With one more product and a sign after it.
-    fn signed(self, alloc: Global, factor: Term, sign: Sign) -> Result<Sum, OutOfMemory>
-        ensures addends { IfOk result (λ s. addends_view s.addends.items ≡ trees.addends (addends_view self.addends.items) (factors_view self.factors.items) (term_view factor) (sign_view sign)) }
+    fn signed(self, alloc: Global, factor: Factor, sign: Sign) -> Result<Sum, OutOfMemory>
+        ensures addends { IfOk result (λ s. addends_view s.addends.items ≡ trees.addends (addends_view self.addends.items) (factors (factors_view self.factors.items) (factor_view factor)) (sign_view sign)) }
         ensures factors { IfOk result (λ s. factors_view s.factors.items ≡ no_factors) }
         ensures product { IfOk result (λ s. product_view s.product ≡ flaws.product_start false) }
     {
@@ -325,11 +354,11 @@ impl Sum {
     }
 
     /// The whole term with its last factor.
-    fn whole(self, alloc: Global, last: ReadTerm) -> Result<ReadTerm, OutOfMemory>
-        ensures term { IfOk result (λ p. term_view p.term ≡ trees.term (addends_view self.addends.items) (factors_view self.factors.items) (term_view last.term)) }
+    fn whole(self, alloc: Global, last: ReadFactor) -> Result<ReadTerm, OutOfMemory>
+        ensures term { IfOk result (λ p. term_view p.term ≡ trees.term (addends_view self.addends.items) (factors (factors_view self.factors.items) (factor_view last.factor))) }
         ensures numeral { IfOk result (λ p. p.numeral ≡ (self.product.lone && last.numeral)) }
     {
-        let product = multiplied(self.factors, last.term)?;
+        let product = multiplied(self.factors, last.factor)?;
         Ok(ReadTerm {
             term: summed(alloc, self.addends, product)?,
             numeral: self.product.lone && last.numeral,
@@ -338,9 +367,9 @@ impl Sum {
 }
 
 /// A `*` after a factor.
-fn times(context: Context, reading: Reading, read: ReadTerm, at: usize) -> Result<State, Stop>
+fn times(context: Context, reading: Reading, read: ReadFactor, at: usize) -> Result<State, Stop>
     ensures { Gives result (machine.leave_factor trees (context_view context) (role_view reading.nest.role) (outers_view reading.nest.outer.items)
-        (addends_view reading.sum.addends.items) (factors_view reading.sum.factors.items) (product_view reading.sum.product) (term_view read.term) read.numeral (token_view (Token.Times at))) }
+        (addends_view reading.sum.addends.items) (factors (factors_view reading.sum.factors.items) (factor_view read.factor)) (product_view reading.sum.product) read.numeral (token_view (Token.Times at))) }
 {
     let Reading { nest, sum } = reading;
     let Ok(sum) = sum.times(read, at) else {
@@ -354,19 +383,73 @@ fn times(context: Context, reading: Reading, read: ReadTerm, at: usize) -> Resul
     })
 }
 
+/// A `/` after a factor.
+fn slash(context: Context, reading: Reading, read: ReadFactor) -> Result<State, Stop>
+    ensures { Gives result (machine.leave_factor trees (context_view context) (role_view reading.nest.role) (outers_view reading.nest.outer.items)
+        (addends_view reading.sum.addends.items) (factors (factors_view reading.sum.factors.items) (factor_view read.factor)) (product_view reading.sum.product) read.numeral (token_view Token.Slash)) }
+{
+    let Reading { nest, sum } = reading;
+    let Ok(sum) = sum.slashed(read.factor) else {
+        drop(context);
+        drop(nest);
+        return Err(Stop::Memory);
+    };
+    Ok(State {
+        context,
+        position: Position::AtDivisor(Reading { nest, sum }),
+    })
+}
+
+/// A numeral after a `/`.
+#[tactic(auto, using(crate::proofs::ViewSteps::view_divided, crate::proofs::OtherTokens::enter_divisor_zero, crate::proofs::OtherTokens::enter_divisor_above))]
+fn divide(context: Context, reading: Reading, divisor: u64) -> Result<State, Stop>
+    ensures { Gives result (machine.enter_divisor trees (context_view context) (role_view reading.nest.role) (outers_view reading.nest.outer.items)
+        (addends_view reading.sum.addends.items) (factors_view reading.sum.factors.items) (product_view reading.sum.product) (token_view (Token.Number divisor))) }
+{
+    if divisor == 0 {
+        drop(context);
+        drop(reading);
+        return Err(Stop::Syntax);
+    }
+    let read = ReadFactor {
+        factor: Factor::Divided(divisor),
+        numeral: false,
+    };
+    Ok(State {
+        context,
+        position: Position::AfterFactor(reading, read),
+    })
+}
+
+/// A token after a `/`.
+pub(crate) fn enter_divisor(context: Context, reading: Reading, token: Token) -> Result<State, Stop>
+    ensures { Gives result (machine.enter_divisor trees (context_view context) (role_view reading.nest.role) (outers_view reading.nest.outer.items)
+        (addends_view reading.sum.addends.items) (factors_view reading.sum.factors.items) (product_view reading.sum.product) (token_view token)) }
+{
+    match token {
+        Token::Number(divisor) => divide(context, reading, divisor),
+        _ => {
+            drop(context);
+            drop(reading);
+            drop(token);
+            Err(Stop::Syntax)
+        }
+    }
+}
+
 /// A sign after a factor.
 fn signed(
     alloc: Global,
     context: Context,
     reading: Reading,
-    read: ReadTerm,
+    read: ReadFactor,
     sign: Sign,
 ) -> Result<State, Stop>
     ensures { Gives result (machine.leave_factor trees (context_view context) (role_view reading.nest.role) (outers_view reading.nest.outer.items)
-        (addends_view reading.sum.addends.items) (factors_view reading.sum.factors.items) (product_view reading.sum.product) (term_view read.term) read.numeral (token_view (Token.Sign sign))) }
+        (addends_view reading.sum.addends.items) (factors (factors_view reading.sum.factors.items) (factor_view read.factor)) (product_view reading.sum.product) read.numeral (token_view (Token.Sign sign))) }
 {
     let Reading { nest, sum } = reading;
-    let Ok(sum) = sum.signed(alloc, read.term, sign) else {
+    let Ok(sum) = sum.signed(alloc, read.factor, sign) else {
         drop(context);
         drop(nest);
         return Err(Stop::Memory);
@@ -382,11 +465,11 @@ fn leave_sum(
     alloc: Global,
     context: Context,
     reading: Reading,
-    read: ReadTerm,
+    read: ReadFactor,
     token: Token,
 ) -> Result<State, Stop>
     ensures { Gives result (machine.leave_product trees (context_view context) (role_view reading.nest.role) (outers_view reading.nest.outer.items)
-        (trees.term (addends_view reading.sum.addends.items) (factors_view reading.sum.factors.items) (term_view read.term)) (reading.sum.product.lone && read.numeral) (token_view token)) }
+        (trees.term (addends_view reading.sum.addends.items) (factors (factors_view reading.sum.factors.items) (factor_view read.factor))) (reading.sum.product.lone && read.numeral) (token_view token)) }
 {
     let Reading { nest, sum } = reading;
     let Ok(term) = sum.whole(alloc, read) else {
@@ -403,14 +486,15 @@ pub(crate) fn leave_factor(
     alloc: Global,
     context: Context,
     reading: Reading,
-    read: ReadTerm,
+    read: ReadFactor,
     token: Token,
 ) -> Result<State, Stop>
     ensures { Gives result (machine.leave_factor trees (context_view context) (role_view reading.nest.role) (outers_view reading.nest.outer.items)
-        (addends_view reading.sum.addends.items) (factors_view reading.sum.factors.items) (product_view reading.sum.product) (term_view read.term) read.numeral (token_view token)) }
+        (addends_view reading.sum.addends.items) (factors (factors_view reading.sum.factors.items) (factor_view read.factor)) (product_view reading.sum.product) read.numeral (token_view token)) }
 {
     match token {
         Token::Times(at) => times(context, reading, read, at),
+        Token::Slash => slash(context, reading, read),
         Token::Sign(sign) => signed(alloc, context, reading, read, sign),
         _ => leave_sum(alloc, context, reading, read, token),
     }
@@ -418,11 +502,11 @@ pub(crate) fn leave_factor(
 
 /// A token after a name that is a variable.
 fn leave_variable(alloc: Global, context: Context, name: Name, token: Token) -> Result<State, Stop>
-    ensures { Gives result (machine.leave_factor trees (context_view context) machine.left_side [] no_addends no_factors
-        (flaws.product_start true) (trees.variable name) false (token_view token)) }
+    ensures { Gives result (machine.leave_factor trees (context_view context) machine.left_side [] no_addends
+        (trees.prod no_factors (trees.variable name)) (flaws.product_start true) false (token_view token)) }
 {
     let reading = Reading::start(alloc, Role::LeftSide);
-    leave_factor(alloc, context, reading, variable(name), token)
+    leave_factor(alloc, context, reading, variable(name).factor(), token)
 }
 
 /// A token after a name that begins an operand.

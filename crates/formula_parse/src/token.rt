@@ -36,6 +36,7 @@ pub(crate) enum Token {
     LetterSign(usize),
     Sign(Sign),
     Times(usize),
+    Slash,
     Relation(Relation),
     Connective(ChainSign, usize),
     Implies(usize),

@@ -26,6 +26,8 @@ pub enum Quantifier {
     Exists,
     /// `A`
     ForAll,
+    /// `I`, for infinitely many; of one variable.
+    Infinite,
 }
 
 /// The sign between two addends.
@@ -52,7 +54,7 @@ pub enum Connective {
     Iff,
 }
 
-/// A term. A product has at least two factors, and a sum at least one addend before the last.
+/// A term. A product has at least two factors, of which the first is no divisor, and a sum at least one addend before the last.
 #[derive(Drop)]
 #[cycle(terms)]
 pub enum Term {
@@ -66,12 +68,14 @@ pub enum Term {
     Sum(Vec<Addend>, Box<Term>),
 }
 
-/// What a product is multiplied by.
+/// What a product is multiplied or divided by.
 #[derive(Drop)]
 #[cycle(terms)]
 pub enum Factor {
     /// A term.
     Times(Term),
+    /// A numeral above 0 by which what stands before it is divided, rounded down.
+    Divided(u64),
 }
 
 /// An addend, with the sign after it.

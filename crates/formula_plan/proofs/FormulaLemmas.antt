@@ -1,6 +1,6 @@
 -- What the plan of a formula means is that the formula is true.
 use Rattle.std.proofs.Common.{ℕ}
-use Rattle.formula_parse.specs.Tokens.{some, every}
+use Rattle.formula_parse.specs.Tokens.{some, every, infinite}
 use Rattle.formula_parse.specs.Trees.{Formula, atom, negated, chain, quantified, marked, Operands, no_operands, operands}
 use Rattle.formula_truth.specs.Assignments.{Assignment}
 use Rattle.formula_truth.specs.Truth.{Meanings, Holds, ChainHolds}
@@ -14,7 +14,7 @@ use Rattle.formula_plan.specs.Means.{Means, AreDecided}
 use Rattle.formula_plan.specs.Linear.{IsLinearFormula, AreLinearOperands}
 use Rattle.formula_plan.specs.Laws.{PlansMean}
 use Rattle.formula_plan.proofs.FactLemmas.{fact_is}
-use Rattle.formula_plan.proofs.QuantifierLemmas.{Says, some_says, every_says, inner}
+use Rattle.formula_plan.proofs.QuantifierLemmas.{Says, some_says, every_says, infinitely_says, inner}
 
 mutual
   pub formula_says : (f : Formula) (m : Meanings) (h : Headers) (k : ℕ) → IsLinearFormula f → AreDecided m (plan_of h f k).last → Says m (plan_of h f k).last (Holds m f)
@@ -29,6 +29,7 @@ mutual
       let made = plan_of h f k in
       some_says ns m made.last (Holds m f) (formula_says f m h k linear (inner (kept ns (tracks made.last)) m made.last decided))
   formula_says (quantified every ns f) m h k linear decided = every_says ns m (plan_of h f k) (Holds m f) decided (λ d. formula_says f m h k linear d)
+  formula_says (quantified infinite ns f) m h k linear decided = infinitely_says ns (h.of_variable f) m (plan_of h f k) (Holds m f) decided (λ d. formula_says f m h k linear d)
   formula_says (marked ms f) m h k linear decided = formula_says f m h k linear decided
 
   chain_says : (os : Operands) (m : Meanings) (h : Headers) (k : ℕ) → AreLinearOperands os → (p : Plan) (P : Assignment → Type 0)

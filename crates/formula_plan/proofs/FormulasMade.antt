@@ -4,25 +4,26 @@ use Rattle.std.proofs.Common.{◌≡◌, ℕ, suc, ◌+◌, ◌<◌, ◌≤◌, 
 use Rattle.std.proofs.lemmas.List.{take_more, take_all, map-append, get_or_append_left}
 use Rattle.std.proofs.Math.Seq.{get_or-append_seam}
 use Rattle.std.proofs.lemmas.List.Sums.{fold-append}
-use Rattle.formula_parse.specs.Tokens.{Name, Quantifier, some, every}
-use Rattle.formula_parse.specs.Trees.{Names, no_names, names, Joint, Formula, negated, chain, quantified}
+use Rattle.formula_parse.specs.Tokens.{Name, Quantifier, some, every, infinite}
+use Rattle.formula_parse.specs.Tokens as tokens
+use Rattle.formula_parse.specs.Trees.{Names, no_names, names, Joint, and, Formula, negated, chain, quantified}
 use Rattle.formula_parse.specs.Views.{formula_view, operand_view, operands_view, with_operand, names_view, connective_view}
 use Rattle.formula_parse.specs.declared.tree.Operand.{Operand}
 use Rattle.formula_truth.proofs.ViewLemmas.{operands_more}
-use Rattle.formula_plan.specs.Tracks.{own, has_track, without}
-use Rattle.formula_plan.specs.Plans.{Plan, joined, complement, projected, tracks, Made}
+use Rattle.formula_plan.specs.Tracks.{own, fresh, has_track, without}
+use Rattle.formula_plan.specs.Plans.{Plan, compared, joined, complement, projected, tracks, Made}
 use Rattle.formula_plan.specs.FactPlans.{Headers}
-use Rattle.formula_plan.specs.FormulaPlans.{MadeOperands, none_made, made, chained, chaining, OperandPlans, kept, projected_all, projecting, for_some, for_every, quantified_made, plan_of, operand_plans}
+use Rattle.formula_plan.specs.FormulaPlans.{MadeOperands, none_made, made, chained, chaining, OperandPlans, kept, projected_all, projecting, for_some, for_every, for_infinitely, for_infinitely_many, quantified_made, plan_of, operand_plans}
 use Rattle.formula_plan.specs.OwnNames.{has_name, has_any, without_name, without_all, own_of, own_operands, HaveSame}
 use Rattle.formula_plan.specs.Makings.{plan_at}
-use Rattle.formula_plan.specs.Planning.{Adds, Does, base_made, step_made}
-use Rattle.formula_plan.specs.FormulaPlanning.{with_made, operand_at, operands_at, AreOperandsWithin, IsPrefixWithin, joined_prefix, chained_made, IsPrefixOf, DoesOperands, AgreeOn, projected_where}
+use Rattle.formula_plan.specs.Planning.{Adds, Does, linked_at, base_made, step_made}
+use Rattle.formula_plan.specs.FormulaPlanning.{with_made, operand_at, operands_at, AreOperandsWithin, IsPrefixWithin, joined_prefix, chained_made, IsPrefixOf, DoesOperands, AgreeOn, projected_where, infinitely_if}
 use Rattle.formula_plan.specs.declared.planner.Planner.{Planner}
 use Rattle.formula_plan.specs.declared.chains.Prefix.{Prefix}
 use Rattle.formula_plan.proofs.PlanningLemmas.{adds_none, adds_then, adds_more, at_later, does_none, does_then}
 use Rattle.formula_plan.proofs.OwnTracks.{without_none}
 use Rattle.formula_plan.proofs.SameNames.{same_after, same_without_all, added_then, agrees_same}
-use Rattle.formula_plan.proofs.OwnFormulas.{projected_agrees, kept_none, kept_some, formula_own}
+use Rattle.formula_plan.proofs.OwnFormulas.{projected_agrees, infinitely_agrees, kept_none, kept_some, formula_own}
 
 -- chains
 operands_at_more : (plans : List Plan) (fs : List Prefix) (i : ℕ) (f : Prefix) → i < length fs → f ≡ get_or fs i f
@@ -235,39 +236,162 @@ every_does old one two new i j k p vs ms on has first second third =
       next = outside.next ∙ mid.next ∙ first.next;
     })
 
+-- `I`
+infinitely_steps : (s n : Name) (m : Made) → (for_infinitely s n m).steps ≡ m.steps ++ (for_infinitely s n (base_made m.last m.next)).steps
+infinitely_steps s n m =
+    let base : Plan = compared s tokens.less (fresh m.next) (own n) in
+    let both : Plan = joined and m.last base in
+    let above : Plan = projected (own n) both in
+    let none_above : Plan = complement above in
+    let bounded : Plan = projected (fresh m.next) none_above in
+    let unbounded : Plan = complement bounded in
+    append_assoc ((m.steps ++ both ∷ above ∷ []) ++ none_above ∷ []) (bounded ∷ []) (unbounded ∷ [])
+    ∙ append_assoc (m.steps ++ both ∷ above ∷ []) (none_above ∷ []) (bounded ∷ unbounded ∷ [])
+    ∙ append_assoc m.steps (both ∷ above ∷ []) (none_above ∷ bounded ∷ unbounded ∷ [])
+
+-- what is made after this
+abbrev after : Made → Made → Made
+after m n = record { steps = m.steps ++ n.steps; last = n.last; next = n.next }
+
+infinitely_prefix : (s n : Name) (m : Made) → for_infinitely s n m ≡ after m (for_infinitely s n (base_made m.last m.next))
+infinitely_prefix s n m = ap (λ l. let x : Made = record { steps = l; last = (for_infinitely s n m).last; next = (for_infinitely s n m).next } in x) (infinitely_steps s n m)
+
+many_prefix : (on : Name → Name) (ns : Names) (m : Made) → for_infinitely_many on ns m ≡ after m (for_infinitely_many on ns (base_made m.last m.next))
+many_prefix on no_names m = ap (λ l. let x : Made = record { steps = l; last = m.last; next = m.next } in x) (sym (append-nil m.steps))
+many_prefix on (names ns n) m =
+    by (has_track (tracks m.last) (own n)) (many_prefix on ns (for_infinitely (on n) n m)) (many_prefix on ns (for_infinitely (on n) n (base_made m.last m.next))) (many_prefix on ns m)
+  where
+    whole : Made
+    whole = for_infinitely (on n) n m
+
+    part : Made
+    part = for_infinitely (on n) n (base_made m.last m.next)
+
+    rest : Made
+    rest = for_infinitely_many on ns (base_made part.last part.next)
+
+    by : (b : Bool) → for_infinitely_many on ns whole ≡ after whole rest → for_infinitely_many on ns part ≡ after part rest → for_infinitely_many on ns m ≡ after m (for_infinitely_many on ns (base_made m.last m.next))
+        → for_infinitely_many on ns (if b then whole else m) ≡ after m (for_infinitely_many on ns (if b then part else base_made m.last m.next))
+    by true of_whole of_part bare =
+        of_whole
+        ∙ ap (λ l. let x : Made = record { steps = l; last = rest.last; next = rest.next } in x) (ap (λ l. l ++ rest.steps) (infinitely_steps (on n) n m) ∙ append_assoc m.steps part.steps rest.steps)
+        ∙ sym (ap (after m) of_part)
+    by false of_whole of_part bare = bare
+
+pub infinitely_does : (old taken one two three four new : Planner) (place i j k l o r : ℕ) (s n : Name) → place < length old.plans
+    → r ≡ old.next → taken.next ≡ old.next + 1 → taken.plans ≡ old.plans
+    → Does taken one i (base_made (compared s tokens.less (fresh r) (own n)) taken.next)
+    → Does one two j (linked_at (plan_at one.plans place) (plan_at one.plans i) (own n) one.next)
+    → Does two three k (step_made (complement (plan_at two.plans j)) two.next)
+    → Does three four l (step_made (projected (fresh r) (plan_at three.plans k)) three.next)
+    → Does four new o (step_made (complement (plan_at four.plans l)) four.next)
+    → Does old new o (for_infinitely s n (base_made (plan_at old.plans place) old.next))
+infinitely_does old taken one two three four new place i j k l o r s n within here next same first second third fourth fifth =
+    let p : Plan = plan_at old.plans place in
+    let base : Plan = compared s tokens.less (fresh old.next) (own n) in
+    let above : Plan = projected (own n) (joined and p base) in
+    let bounded : Plan = projected (fresh old.next) (complement above) in
+    let bare : Adds old.plans one.plans [] = subst (λ x. Adds x one.plans []) same first.adds in
+    let base_is : plan_at one.plans i ≡ base = first.last.is ∙ ap (λ x. compared s tokens.less (fresh x) (own n)) here in
+    let one_two : Does one two j (linked_at p base (own n) one.next) =
+    subst (λ x. Does one two j (linked_at p x (own n) one.next)) base_is
+    (subst (λ x. Does one two j (linked_at x (plan_at one.plans i) (own n) one.next)) (at_later old.plans one.plans [] place bare within) second) in
+    let two_three : Does two three k (step_made (complement above) two.next) = subst (λ x. Does two three k (step_made (complement x) two.next)) one_two.last.is third in
+    let three_four : Does three four l (step_made bounded three.next) =
+    subst (λ x. Does three four l (step_made (projected (fresh x) (complement above)) three.next)) here
+    (subst (λ x. Does three four l (step_made (projected (fresh r) x) three.next)) two_three.last.is fourth) in
+    let four_new : Does four new o (step_made (complement bounded) four.next) = subst (λ x. Does four new o (step_made (complement x) four.next)) three_four.last.is fifth in
+    record {
+      adds = adds_then old.plans one.plans new.plans [] (joined and p base ∷ above ∷ complement above ∷ bounded ∷ complement bounded ∷ []) bare
+          (adds_then one.plans two.plans new.plans (joined and p base ∷ above ∷ []) (complement above ∷ bounded ∷ complement bounded ∷ []) one_two.adds
+          (adds_then two.plans three.plans new.plans (complement above ∷ []) (bounded ∷ complement bounded ∷ []) two_three.adds
+          (adds_then three.plans four.plans new.plans (bounded ∷ []) (complement bounded ∷ []) three_four.adds four_new.adds)));
+      last = four_new.last;
+      next = four_new.next ∙ three_four.next ∙ two_three.next ∙ one_two.next ∙ first.next ∙ next;
+    }
+
+-- a place of a planner before others
+pub still_within : (old taken one : Planner) (place i : ℕ) (m : Made) → taken.plans ≡ old.plans → place < length old.plans → Does taken one i m → place < length one.plans
+still_within old taken one place i m same within does = let more = adds_more taken.plans one.plans m.steps does.adds in let long = ap length same in omega (arith, more, long, within)
+
+-- the variables of `I`
+abbrev pub IsInfiniteSoFar : (Name → Name) → Planner → Planner → ℕ → Plan → Names → Names → List Name → List Name → Type 0
+IsInfiniteSoFar on old new to p all rest ms ns =
+    (m : Made) × Does old new to m × (for_infinitely_many on rest m ≡ for_infinitely_many on all (base_made p old.next)) × AgreeOn m.last ns × HaveSame (without_all rest ns) (without_all all ms)
+
+pub infinite_none : (on : Name → Name) (old : Planner) (to : ℕ) (all : Names) (ms : List Name) → to < length old.plans → AgreeOn (plan_at old.plans to) ms → IsInfiniteSoFar on old old to (plan_at old.plans to) all all ms ms
+infinite_none on old to all ms within agree = (base_made (plan_at old.plans to) old.next, does_none old to within, refl, agree, λ n. refl)
+
+infinite_does : (old mid new : Planner) (to up : ℕ) (m : Made) (s n : Name) (b : Bool) → Does old mid to m → Does mid new up (infinitely_if b s n (plan_at mid.plans to) mid.next)
+    → Does old new up (after m (infinitely_if b s n m.last m.next))
+infinite_does old mid new to up m s n b first second =
+    does_then old mid new to up m (infinitely_if b s n m.last m.next) first
+    (subst (λ k. Does mid new up (infinitely_if b s n m.last k)) first.next (subst (λ p. Does mid new up (infinitely_if b s n p mid.next)) first.last.is second))
+
+pub infinite_more : (on : Name → Name) (old mid new : Planner) (to up : ℕ) (p : Plan) (all : Names) (rest prefix : List Name) (n : Name) (ms ns ls : List Name) → rest ≡ prefix ++ n ∷ []
+    → IsInfiniteSoFar on old mid to p all (names_view rest) ms ns → Does mid new up (infinitely_if (has_name ns n) (on n) n (plan_at mid.plans to) mid.next) → HaveSame ls (without_name n ns)
+    → IsInfiniteSoFar on old new up p all (names_view prefix) ms ls
+infinite_more on old mid new to up p all rest prefix n ms ns ls same so_far second less =
+    by (has_name ns n) (so_far.3.agree n) (infinite_does old mid new to up m (on n) n (has_name ns n) so_far.1 second)
+  where
+    m : Made
+    m = so_far.0
+
+    seen : names_view rest ≡ names (names_view prefix) n
+    seen = ap names_view same ∙ names_end prefix n
+
+    names_left : HaveSame (without_all (names_view prefix) ls) (without_all all ms)
+    names_left k = same_without_all (names_view prefix) ls (without_name n ns) less k ∙ ap (λ v. has_name (without_all v ns) k) (sym seen) ∙ so_far.4 k
+
+    many_is : (b : Bool) → has_track (tracks m.last) (own n) ≡ b → for_infinitely_many on (names_view prefix) (if b then for_infinitely (on n) n m else m) ≡ for_infinitely_many on all (base_made p old.next)
+    many_is b is =
+        sym (ap (λ v. for_infinitely_many on v m) seen ∙ ap (λ x. for_infinitely_many on (names_view prefix) (if x then for_infinitely (on n) n m else m)) is) ∙ so_far.2
+
+    by : (b : Bool) → has_track (tracks m.last) (own n) ≡ b → Does old new up (after m (infinitely_if b (on n) n m.last m.next)) → IsInfiniteSoFar on old new up p all (names_view prefix) ms ls
+    by true has does = (
+      for_infinitely (on n) n m,
+      subst (λ x. Does old new up x) (sym (infinitely_prefix (on n) n m)) does,
+      many_is true has,
+      agrees_same (for_infinitely (on n) n m).last (without_name n ns) ls less (infinitely_agrees (on n) n m ns so_far.3),
+      names_left,
+    )
+    by false none does = (
+      m,
+      subst (λ l. Does old new up (record { steps = l; last = m.last; next = m.next })) (append-nil m.steps) does,
+      many_is false none,
+      agrees_same m.last ns ls (λ k. less k ∙ ap (λ l. has_name l k) (without_none n ns (sym (so_far.3.agree n) ∙ none))) so_far.3,
+      names_left,
+    )
+
 -- a quantifier after what it takes
-quantified_prefix : (q : Quantifier) (ns : List Name) (m : Made)
-    → quantified_made q ns m ≡ record { steps = m.steps ++ (quantified_made q ns (base_made m.last m.next)).steps; last = (quantified_made q ns (base_made m.last m.next)).last; next = m.next }
-quantified_prefix some ns m = refl
-quantified_prefix every [] m = ap (λ l. let x : Made = record { steps = l; last = m.last; next = m.next } in x) (sym (append-nil m.steps))
-quantified_prefix every (n ∷ ns) m =
+every_prefix : (ns : List Name) (m : Made) → for_every ns m ≡ after m (for_every ns (base_made m.last m.next))
+every_prefix [] m = ap (λ l. let x : Made = record { steps = l; last = m.last; next = m.next } in x) (sym (append-nil m.steps))
+every_prefix (n ∷ ns) m =
     let inside : Plan = complement m.last in
     let middle : List Plan = projecting (n ∷ ns) inside in
     let outside : Plan = complement (projected_all (n ∷ ns) inside) in
     ap (λ l. let x : Made = record { steps = l; last = outside; next = m.next } in x)
     (append_assoc (m.steps ++ inside ∷ []) middle (outside ∷ []) ∙ append_assoc m.steps (inside ∷ []) (middle ++ outside ∷ []))
 
-pub quantified_does : (h : Headers) (whole f : Formula) (q : Quantifier) (vs ws : List Name) (old mid new : Planner) (i j : ℕ) → whole ≡ quantified q (names_view vs) f → ws ≡ vs
-    → Does old mid i (plan_of h f old.next) → Does mid new j (quantified_made q (kept (names_view ws) (tracks (plan_at mid.plans i))) (base_made (plan_at mid.plans i) mid.next))
+quantified_prefix : (q : Quantifier) (on : Name → Name) (ns : Names) (m : Made) → quantified_made q on ns m ≡ after m (quantified_made q on ns (base_made m.last m.next))
+quantified_prefix some on ns m = refl
+quantified_prefix every on ns m = every_prefix (kept ns (tracks m.last)) m
+quantified_prefix infinite on ns m = many_prefix on ns m
+
+pub quantified_does : (h : Headers) (whole f g : Formula) (q : Quantifier) (vs ws : List Name) (old mid new : Planner) (i j : ℕ) → whole ≡ quantified q (names_view vs) f → ws ≡ vs → g ≡ f
+    → Does old mid i (plan_of h f old.next) → Does mid new j (quantified_made q (h.of_variable g) (names_view ws) (base_made (plan_at mid.plans i) mid.next))
     → Does old new j (plan_of h whole old.next)
-quantified_does h whole f q vs ws old mid new i j seen same first second =
+quantified_does h whole f g q vs ws old mid new i j seen same formula first second =
     let m : Made = plan_of h f old.next in
-    let left : List Name = kept (names_view vs) (tracks m.last) in
-    let here : Does mid new j (quantified_made q left (base_made m.last m.next)) =
-    subst (λ k. Does mid new j (quantified_made q left (base_made m.last k))) first.next
-    (subst (λ p. Does mid new j (quantified_made q (kept (names_view vs) (tracks p)) (base_made p mid.next))) first.last.is
-    (subst (λ l. Does mid new j (quantified_made q (kept (names_view l) (tracks (plan_at mid.plans i))) (base_made (plan_at mid.plans i) mid.next))) same second)) in
+    let on : Name → Name = h.of_variable f in
+    let here : Does mid new j (quantified_made q on (names_view vs) (base_made m.last m.next)) =
+    subst (λ k. Does mid new j (quantified_made q on (names_view vs) (base_made m.last k))) first.next
+    (subst (λ p. Does mid new j (quantified_made q on (names_view vs) (base_made p mid.next))) first.last.is
+    (subst (λ l. Does mid new j (quantified_made q on (names_view l) (base_made (plan_at mid.plans i) mid.next))) same
+    (subst (λ x. Does mid new j (quantified_made q (h.of_variable x) (names_view ws) (base_made (plan_at mid.plans i) mid.next))) formula second))) in
     subst (λ x. Does old new j (plan_of h x old.next)) (sym seen)
-    (subst (λ x. Does old new j x) (sym (quantified_prefix q left m)) (record {
-      adds = adds_then old.plans mid.plans new.plans m.steps (quantified_made q left (base_made m.last m.next)).steps first.adds here.adds;
-      last = here.last;
-      next = here.next ∙ next_same q left m;
-    }))
-  where
-    next_same : (k : Quantifier) (ns : List Name) (m : Made) → (quantified_made k ns (base_made m.last m.next)).next ≡ m.next
-    next_same some ns m = refl
-    next_same every [] m = refl
-    next_same every (n ∷ ns) m = refl
+    (subst (λ x. Does old new j x) (sym (quantified_prefix q on (names_view vs) m))
+    (does_then old mid new i j m (quantified_made q on (names_view vs) (base_made m.last m.next)) first here))
 
 pub formula_agrees : (h : Headers) (f : Formula) (old mid : Planner) (i : ℕ) (ms : List Name) → Does old mid i (plan_of h f old.next) → HaveSame ms (own_of f) → AgreeOn (plan_at mid.plans i) ms
 formula_agrees h f old mid i ms does are = subst (λ p. AgreeOn p ms) (sym does.last.is) (agrees_same (plan_of h f old.next).last (own_of f) ms are (formula_own h f old.next))

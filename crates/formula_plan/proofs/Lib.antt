@@ -2,6 +2,7 @@ pub mod OptionLemmas
 pub mod TrackLemmas
 pub mod Standing
 pub mod MultipleLemmas
+pub mod QuotientLemmas
 pub mod TermLemmas
 pub mod FactLemmas
 pub mod AgreementLemmas

@@ -1,12 +1,12 @@
 -- Formulas that are read are linear: where the second pass finds no flaw, each product has at most one factor that is no numeral.
-use Rattle.std.proofs.Common.{◌≡◌, ℕ, suc, ◌≤◌, Bool, true, false, not, ◌&&◌, ◌||◌, nat_lt, Option, None, Some, refl, sym, ◌∙◌, ap, subst, arith}
+use Rattle.std.proofs.Common.{◌≡◌, ℕ, suc, ◌-◌, ◌≤◌, Bool, true, false, not, ◌&&◌, ◌||◌, nat_lt, Option, None, Some, refl, sym, ◌∙◌, ap, subst, arith}
 use Rattle.std.proofs.lemmas.Bool.{false≢true}
 use Rattle.std.proofs.lemmas.Option.{none-some}
 use Rattle.formula_parse.specs.Tokens.{Name}
 use Rattle.formula_parse.specs.Trees as trees
-use Rattle.formula_parse.specs.Formulas.{Factor, variable, numeral, in_parens, Prod, factor, times, Term, prod, signed, Index, word, further, Terms, term, comma, Atom, compare, words, word_letter, letter_word, call_none, call, WrittenFormula, imp, iff, Imp, chain, implies, Chain, operand, joined, Operand, marked, Core, negated, quantified, grouped, atom}
+use Rattle.formula_parse.specs.Formulas.{Factor, variable, numeral, in_parens, Prod, factor, times, divided, Term, prod, signed, Index, word, further, Terms, term, comma, Atom, compare, words, word_letter, letter_word, call_none, call, WrittenFormula, imp, iff, Imp, chain, implies, Chain, operand, joined, Operand, marked, Core, negated, quantified, grouped, atom}
 use Rattle.formula_parse.specs.Building.{multiplied, summed, chained, under_marks}
-use Rattle.formula_parse.specs.FormulaTrees.{factor_tree, before_factor, last_factor, before_prod, last_prod, index_places, terms_tree, fact, marks_system, formula_system, imp_system, chain_system, before_imp, last_imp, before_chain, last_chain, before_operand, last_operand, operand_tree, core_tree, default_system}
+use Rattle.formula_parse.specs.FormulaTrees.{factor_tree, factors_of, before_prod, last_prod, index_places, terms_tree, fact, marks_system, formula_system, imp_system, chain_system, before_imp, last_imp, before_chain, last_chain, before_operand, last_operand, operand_tree, core_tree, default_system}
 use Rattle.formula_parse.specs.Flaws.{Flaw, mixed_chain, not_linear, earlier, byte_of, noted, noted_if, mixes}
 use Rattle.formula_parse.specs.FormulaFlaws.{is_numeral, has_unknown, factor_flaw, prod_flaw, term_flaw, index_flaw, terms_flaw, atom_flaw, came_in, is_implied, formula_flaw, imp_flaw, chain_flaw, operand_flaw, core_flaw}
 use Rattle.formula_plan.specs.Linear.{one_more_unless, others, IsLinear, AreLinearFactors, AreLinearAddends, AreLinear, IsLinearFact, IsLinearFormula, AreLinearOperands}
@@ -28,12 +28,22 @@ is_number (trees.numeral c) = true
 is_number (trees.product fs) = false
 is_number (trees.sum ss t) = false
 
+-- a product of several factors is a product
+multiplied_more : (p : Prod) (g : trees.Factor) → multiplied (trees.factors (factors_of p) g) ≡ trees.product (trees.factors (factors_of p) g)
+multiplied_more (factor f) (trees.times t) = refl
+multiplied_more (factor f) (trees.divided c) = refl
+multiplied_more (times p b f) (trees.times t) = refl
+multiplied_more (times p b f) (trees.divided c) = refl
+multiplied_more (divided p d) (trees.times t) = refl
+multiplied_more (divided p d) (trees.divided c) = refl
+
 numbers_same : (f : Factor) → is_number (factor_tree f) ≡ is_numeral f
 unfolding is_number
 numbers_same (variable n) = refl
 numbers_same (numeral n) = refl
 numbers_same (in_parens (prod (factor f))) = numbers_same f
-numbers_same (in_parens (prod (times p b f))) = refl
+numbers_same (in_parens (prod (times p b f))) = ap is_number (multiplied_more p (trees.times (factor_tree f)))
+numbers_same (in_parens (prod (divided p c))) = ap is_number (multiplied_more p (trees.divided (suc c)))
 numbers_same (in_parens (signed t s p)) = refl
 
 -- how many factors are no numerals: one, or none
@@ -61,9 +71,18 @@ unfolding Count
 at_most_one true n count = omega (arith, count)
 at_most_one false n count = omega (arith, count)
 
-multiplied_linear : (fs : trees.Factors) (t : trees.Term) → AreLinearFactors fs → IsLinear t → one_more_unless t (others fs) ≤ 1 → IsLinear (multiplied fs t)
-multiplied_linear trees.no_factors t all one few = one
-multiplied_linear (trees.factors fs p) t all one few = (few, (all, one))
+-- and a quotient is one
+one_quotient : (b : Bool) (n : ℕ) → Count b n → Count true (suc (n - 1))
+unfolding Count
+one_quotient true n count = let one : n ≡ 1 = count in omega (arith, one)
+one_quotient false n count = let none : n ≡ 0 = count in omega (arith, none)
+
+multiplied_linear : (fs : trees.Factors) → AreLinearFactors fs → others fs ≤ 1 → IsLinear (multiplied fs)
+multiplied_linear trees.no_factors all few = (few, all)
+multiplied_linear (trees.factors trees.no_factors (trees.times t)) all few = all.1
+multiplied_linear (trees.factors trees.no_factors (trees.divided c)) all few = (few, all)
+multiplied_linear (trees.factors (trees.factors fs g) (trees.times t)) all few = (few, all)
+multiplied_linear (trees.factors (trees.factors fs g) (trees.divided c)) all few = (few, all)
 
 summed_linear : (ss : trees.Addends) (t : trees.Term) → AreLinearAddends ss → IsLinear t → IsLinear (summed ss t)
 summed_linear trees.no_addends t all one = one
@@ -72,12 +91,11 @@ summed_linear (trees.addends ss u s) t all one = (all, one)
 -- what is known of a product without a flaw
 record IsLinearProduct (w : Option Flaw) (p : Prod) : Type 0 where
   before : w ≡ None
-  factors : AreLinearFactors (before_factor p)
-  last : IsLinear (last_factor p)
-  count : Count (has_unknown p) (one_more_unless (last_factor p) (others (before_factor p)))
+  all : AreLinearFactors (factors_of p)
+  count : Count (has_unknown p) (others (factors_of p))
 
-product_linear : (p : Prod) (w : Option Flaw) → IsLinearProduct w p → IsLinear (multiplied (before_factor p) (last_factor p))
-product_linear p w is = multiplied_linear (before_factor p) (last_factor p) is.factors is.last (at_most_one (has_unknown p) (one_more_unless (last_factor p) (others (before_factor p))) is.count)
+product_linear : (p : Prod) (w : Option Flaw) → IsLinearProduct w p → IsLinear (multiplied (factors_of p))
+product_linear p w is = multiplied_linear (factors_of p) is.all (at_most_one (has_unknown p) (others (factors_of p)) is.count)
 
 mutual
   factor_linear : (f : Factor) (w : Option Flaw) → factor_flaw w f ≡ None → (w ≡ None) × IsLinear (factor_tree f)
@@ -92,8 +110,7 @@ mutual
       let one = factor_linear f w none in
       record {
         before = one.0;
-        factors = tt;
-        last = one.1;
+        all = (tt, one.1);
         count = subst (λ b. Count (not b) (one_more_unless (factor_tree f) 0)) (numbers_same f) (one_more false 0 (factor_tree f) none_so_far refl);
       }
   prod_linear (times p b f) w none =
@@ -102,11 +119,13 @@ mutual
       let before = prod_linear p w one.0 in
       record {
         before = before.before;
-        factors = (before.factors, before.last);
-        last = one.1;
-        count = subst (λ c. Count (has_unknown p || not c) (one_more_unless (factor_tree f) (one_more_unless (last_factor p) (others (before_factor p))))) (numbers_same f)
-            (one_more (has_unknown p) (one_more_unless (last_factor p) (others (before_factor p))) (factor_tree f) before.count (ap (λ c. has_unknown p && not c) (numbers_same f) ∙ here.0));
+        all = (before.all, one.1);
+        count = subst (λ c. Count (has_unknown p || not c) (one_more_unless (factor_tree f) (others (factors_of p)))) (numbers_same f)
+            (one_more (has_unknown p) (others (factors_of p)) (factor_tree f) before.count (ap (λ c. has_unknown p && not c) (numbers_same f) ∙ here.0));
       }
+  prod_linear (divided p c) w none =
+      let before = prod_linear p w none in
+      record { before = before.before; all = before.all; count = one_quotient (has_unknown p) (others (factors_of p)) before.count }
 
   term_linear : (t : Term) (w : Option Flaw) → term_flaw w t ≡ None → (w ≡ None) × AreLinearAddends (before_prod t) × IsLinear (last_prod t)
   term_linear (prod p) w none =
@@ -199,7 +218,7 @@ mutual
 
   core_linear : (c : Core) (y : Name) (w : Option Flaw) → core_flaw w c ≡ None → (w ≡ None) × IsLinearFormula (core_tree y c)
   core_linear (negated o) y w none = operand_linear o y w none
-  core_linear (quantified q vs f) y w none =
+  core_linear (quantified q f) y w none =
       let is = formula_linear f y w none in
       (is.0, chained_linear (before_imp y f) (last_imp y f) is.1 is.2)
   core_linear (grouped f) y w none =

@@ -1,14 +1,17 @@
 -- Plans of multiples, made part by part.
-use Rattle.std.proofs.Common.{◌≡◌, ◌≢◌, ℕ, zero, suc, ◌+◌, ◌-◌, ◌/◌, ◌%◌, ◌<◌, ◌≤◌, ◌==◌, true, false, List, [], ◌∷◌, ◌++◌, length, get_or, take, Some, Result, Ok, Err, IfOk, refl, sym, ◌∙◌, ap, subst, arith, append-nil, append_assoc}
+use Rattle.std.proofs.Common.{◌≡◌, ◌≢◌, ℕ, zero, suc, ◌+◌, ◌-◌, ◌/◌, ◌%◌, ◌<◌, ◌≤◌, ◌==◌, true, false, List, [], ◌∷◌, ◌++◌, length, map, get_or, take, Some, Result, Ok, Err, IfOk, refl, sym, ◌∙◌, ap, subst, arith, append-nil, append_assoc}
 use Rattle.std.proofs.lemmas.Bool.{false_from_ne_true, eqb-true}
-use Rattle.std.proofs.lemmas.List.{take_more}
-use Rattle.formula_parse.specs.Tokens.{Name, equal}
+use Rattle.std.proofs.lemmas.List.{take_more, map-append}
+use Rattle.formula_parse.specs.Tokens.{Name, equal, less}
 use Rattle.formula_parse.specs.Trees.{and}
 use Rattle.formula_plan.specs.Tracks.{Track, fresh}
 use Rattle.formula_plan.specs.Plans.{Plan, compared, added, number, constant, joined, Made}
-use Rattle.formula_plan.specs.TermPlans.{Placed, TermPlan, no_times, linked, multiple, closing, times_numeral, times_numerals}
+use Rattle.formula_plan.specs.TermPlans.{Placed, TermPlan, no_times, linked, multiple, parted, below, quotient_made, Scaling, by_numeral, by_divisor, scaling_made, closing, scaled, scaled_all}
 use Rattle.formula_plan.specs.Makings.{plan_at}
 use Rattle.formula_plan.specs.Planning.{Adds, IsAt, Does, DoesTerm, linked_at, base_made, constant_made, closed_made, standing, placed_at, IsWithin}
+use Rattle.formula_plan.specs.TermPlanning.{scaling_view}
+use Rattle.formula_plan.specs.declared.multiples.Scaling as parsed_scaling
+use Rattle.formula_plan.specs.declared.multiples.Scaling.TheVariants as scalings
 use Rattle.formula_plan.specs.declared.planner.Planner.{Planner}
 use Rattle.formula_plan.specs.declared.planner.Placed as found
 use Rattle.formula_plan.proofs.PlanningLemmas.{adds_then, at_later, is_at_later, placed_later}
@@ -98,20 +101,87 @@ odd_does old taken one two new i j k r s c x y here next same large odd first se
     ∙ sym (multiple_odd most s c x y old.next large odd))
     (linked_does old taken one two new i j k (multiple most s (c - 1) x (fresh r) taken.next) (fresh r) (added s (fresh r) x y) same (first most (omega (arith, large, within))) second third)
 
--- a value times a number
-pub times_does : (old taken one new : Planner) (v w : found.Placed) (i j r : ℕ) (s : Name) (c : ℕ) → IsWithin old.plans v.relation
+-- a number parted, and one below a divisor
+pub parted_does : (old one two new : Planner) (i j k : ℕ) (s : Name) (c : ℕ) (x y part rest : Track)
+    → ((most : ℕ) → c ≤ most → Does old one i (multiple most s c y part old.next)) → Does one two j (base_made (added s part rest x) one.next)
+    → Does two new k (linked_at (plan_at two.plans i) (plan_at two.plans j) part two.next) → Does old new k (parted s c x y part rest old.next)
+parted_does old one two new i j k s c x y part rest first second third =
+    linked_does old old one two new i j k (multiple c s c y part old.next) part (added s part rest x) refl (first c (omega arith)) second third
+
+pub below_does : (old one two new : Planner) (i j k : ℕ) (s : Name) (c : ℕ) (rest bound : Track)
+    → Does old one i (constant_made s c bound old.next) → Does one two j (base_made (compared s less rest bound) one.next)
+    → Does two new k (linked_at (plan_at two.plans i) (plan_at two.plans j) bound two.next) → Does old new k (below s c rest bound old.next)
+below_does old one two new i j k s c rest bound first second third =
+    linked_does old old one two new i j k (constant_made s c bound old.next) bound (compared s less rest bound) refl first second third
+
+-- quotients
+pub quotient_once : {E : Type 0} (r : Result ℕ E) (old new : Planner) (s : Name) (c : ℕ) (x y : Track) → c ≡ 1 → IfOk r (λ place. Does old new place (base_made (compared s equal x y) old.next))
+    → IfOk r (λ place. Does old new place (quotient_made s c x y old.next))
+quotient_once (Ok place) old new s c x y one does = subst (λ m. Does old new place m) (sym (ap (λ d. quotient_made s d x y old.next) one)) does
+quotient_once (Err e) old new s c x y one does = does
+
+abbrev quotient_parts : Name → ℕ → Track → Track → ℕ → Made
+quotient_parts s c x y k =
+    let whole = parted s c x y (fresh k) (fresh (k + 1)) (k + 3) in
+    let small = below s c (fresh (k + 1)) (fresh (k + 2)) whole.next in
+    linked (record { steps = whole.steps ++ small.steps; last = small.last; next = small.next }) (fresh (k + 1)) whole.last
+
+quotient_more : (s : Name) (c : ℕ) (x y : Track) (k : ℕ) → c ≢ 1 → quotient_made s c x y k ≡ quotient_parts s c x y k
+quotient_more s c x y k more = let not_one : (c == 1) ≡ false = no_one c 1 more in rw not_one
+
+pub quotient_does : (old taken one two new : Planner) (i j k p q r : ℕ) (s : Name) (c : ℕ) (x y : Track) → c ≢ 1
+    → p ≡ old.next → q ≡ old.next + 1 → r ≡ old.next + 2 → taken.next ≡ old.next + 3 → taken.plans ≡ old.plans
+    → Does taken one i (parted s c x y (fresh p) (fresh q) taken.next) → Does one two j (below s c (fresh q) (fresh r) one.next)
+    → Does two new k (linked_at (plan_at two.plans j) (plan_at two.plans i) (fresh q) two.next) → Does old new k (quotient_made s c x y old.next)
+quotient_does old taken one two new i j k p q r s c x y more part_is rest_is bound_is next same first second third =
+    let n : ℕ = old.next in
+    let whole : Made = parted s c x y (fresh n) (fresh (n + 1)) (n + 3) in
+    let small : Made = below s c (fresh (n + 1)) (fresh (n + 2)) whole.next in
+    let one_does : Does taken one i whole =
+    subst (λ l. Does taken one i (parted s c x y (fresh n) (fresh (n + 1)) l)) next
+    (subst (λ l. Does taken one i (parted s c x y (fresh n) (fresh l) taken.next)) rest_is
+    (subst (λ l. Does taken one i (parted s c x y (fresh l) (fresh q) taken.next)) part_is first)) in
+    let two_does : Does one two j small =
+    subst (λ l. Does one two j (below s c (fresh (n + 1)) (fresh (n + 2)) l)) one_does.next
+    (subst (λ l. Does one two j (below s c (fresh (n + 1)) (fresh l) one.next)) bound_is
+    (subst (λ l. Does one two j (below s c (fresh l) (fresh r) one.next)) rest_is second)) in
+    let left : plan_at two.plans i ≡ whole.last = at_later one.plans two.plans small.steps i two_does.adds one_does.last.within ∙ one_does.last.is in
+    let last : Does two new k (linked_at small.last whole.last (fresh (n + 1)) two.next) =
+    subst (λ l. Does two new k (linked_at small.last whole.last (fresh l) two.next)) rest_is
+    (subst (λ l. Does two new k (linked_at small.last l (fresh q) two.next)) left
+    (subst (λ l. Does two new k (linked_at l (plan_at two.plans i) (fresh q) two.next)) two_does.last.is third)) in
+    subst (λ m. Does old new k m) (sym (quotient_more s c x y n more)) (record {
+      adds = adds_then old.plans two.plans new.plans (whole.steps ++ small.steps) (linked_at small.last whole.last (fresh (n + 1)) two.next).steps
+          (adds_then old.plans one.plans two.plans whole.steps small.steps (subst (λ l. Adds l one.plans whole.steps) same one_does.adds) two_does.adds) last.adds;
+      last = last.last;
+      next = last.next ∙ two_does.next;
+    })
+
+-- a scaling that is seen so
+pub times_answers : {E : Type 0} (r : Result ℕ E) (old new : Planner) (s : Name) (f : parsed_scaling.Scaling) (c : ℕ) (x y : Track) → f ≡ scalings.Times c
+    → IfOk r (λ place. (most : ℕ) → c ≤ most → Does old new place (multiple most s c x y old.next)) → IfOk r (λ place. Does old new place (scaling_made s (scaling_view f) x y old.next))
+times_answers (Ok place) old new s f c x y is does = subst (λ g. Does old new place (scaling_made s (scaling_view g) x y old.next)) (sym is) (does c (omega arith))
+times_answers (Err e) old new s f c x y is does = does
+
+pub over_answers : {E : Type 0} (r : Result ℕ E) (old new : Planner) (s : Name) (f : parsed_scaling.Scaling) (c : ℕ) (x y : Track) → f ≡ scalings.Over c
+    → IfOk r (λ place. Does old new place (quotient_made s c x y old.next)) → IfOk r (λ place. Does old new place (scaling_made s (scaling_view f) x y old.next))
+over_answers (Ok place) old new s f c x y is does = subst (λ g. Does old new place (scaling_made s (scaling_view g) x y old.next)) (sym is) does
+over_answers (Err e) old new s f c x y is does = does
+
+-- a value scaled
+pub scaled_does : (old taken one new : Planner) (v w : found.Placed) (i j r : ℕ) (s : Name) (f : Scaling) → IsWithin old.plans v.relation
     → r ≡ old.next → taken.next ≡ old.next + 1 → taken.plans ≡ old.plans
-    → Does taken one i (multiple c s c (placed_at old.plans v).track (fresh r) taken.next)
+    → Does taken one i (scaling_made s f (placed_at old.plans v).track (fresh r) taken.next)
     → Does one new j (closed_made one.next (placed_at one.plans v) (plan_at one.plans i))
     → IsWithin new.plans w.relation → placed_at new.plans w ≡ record { track = fresh r; relation = Some (plan_at new.plans j) }
-    → DoesTerm old new w (times_numeral s (standing (placed_at old.plans v) old.next) c)
-times_does old taken one new v w i j r s c inside here next same first second within stands =
+    → DoesTerm old new w (scaled s (standing (placed_at old.plans v) old.next) f)
+scaled_does old taken one new v w i j r s f inside here next same first second within stands =
     let p : Placed = placed_at old.plans v in
-    let ours : Does old one i (multiple c s c p.track (fresh old.next) (old.next + 1)) =
-    subst (λ l. Does old one i (multiple c s c p.track (fresh old.next) l)) next
-    (subst (λ q. Does old one i (multiple c s c p.track (fresh q) taken.next)) here
-    (record { adds = subst (λ l. Adds l one.plans (multiple c s c p.track (fresh r) taken.next).steps) same first.adds; last = first.last; next = first.next })) in
-    let m : Made = multiple c s c p.track (fresh old.next) (old.next + 1) in
+    let ours : Does old one i (scaling_made s f p.track (fresh old.next) (old.next + 1)) =
+    subst (λ l. Does old one i (scaling_made s f p.track (fresh old.next) l)) next
+    (subst (λ q. Does old one i (scaling_made s f p.track (fresh q) taken.next)) here
+    (record { adds = subst (λ l. Adds l one.plans (scaling_made s f p.track (fresh r) taken.next).steps) same first.adds; last = first.last; next = first.next })) in
+    let m : Made = scaling_made s f p.track (fresh old.next) (old.next + 1) in
     let closes : Does one new j (closed_made one.next p m.last) =
     subst (λ q. Does one new j (closed_made one.next q m.last)) (placed_later old.plans one.plans m.steps v ours.adds inside)
     (subst (λ q. Does one new j (closed_made one.next (placed_at one.plans v) q)) ours.last.is second) in
@@ -123,26 +193,29 @@ times_does old taken one new v w i j r s c inside here next same first second wi
       next = closes.next ∙ ours.next;
     }
 
--- one number more
-times_end : (s : Name) (p : TermPlan) (cs : List ℕ) (c : ℕ) → times_numerals s p (cs ++ c ∷ []) ≡ times_numeral s (times_numerals s p cs) c
-times_end s p [] c = refl
-times_end s p (d ∷ cs) c = times_end s (times_numeral s p d) cs c
+-- one scaling more
+scaled_end : (s : Name) (p : TermPlan) (fs : List Scaling) (f : Scaling) → scaled_all s p (fs ++ f ∷ []) ≡ scaled s (scaled_all s p fs) f
+scaled_end s p [] f = refl
+scaled_end s p (g ∷ fs) f = scaled_end s (scaled s p g) fs f
 
-pub times_more : (old mid new : Planner) (v w : found.Placed) (s : Name) (p : TermPlan) (cs : List ℕ) (i c : ℕ) → i < length cs → c ≡ get_or cs i 0
-    → DoesTerm old mid v (times_numerals s p (take i cs)) → DoesTerm mid new w (times_numeral s (standing (placed_at mid.plans v) mid.next) c)
-    → DoesTerm old new w (times_numerals s p (take (i + 1) cs))
-times_more old mid new v w s p cs i c within at first second =
-    let q : TermPlan = times_numerals s p (take i cs) in
-    let later : DoesTerm mid new w (times_numeral s (standing q.placed q.next) c) =
-    subst (λ l. DoesTerm mid new w (times_numeral s (standing q.placed l) c)) first.next
-    (subst (λ z. DoesTerm mid new w (times_numeral s (standing z mid.next) c)) first.placed_is second) in
-    let whole : DoesTerm old new w (times_numeral s q c) = record {
-      adds = adds_then old.plans mid.plans new.plans q.steps (times_numeral s (standing q.placed q.next) c).steps first.adds later.adds;
+pub scaled_more : (old mid new : Planner) (v w : found.Placed) (s : Name) (p : TermPlan) (xs : List parsed_scaling.Scaling) (i : ℕ) (x : parsed_scaling.Scaling) → i < length xs → x ≡ get_or xs i x
+    → DoesTerm old mid v (scaled_all s p (map scaling_view (take i xs))) → DoesTerm mid new w (scaled s (standing (placed_at mid.plans v) mid.next) (scaling_view x))
+    → DoesTerm old new w (scaled_all s p (map scaling_view (take (i + 1) xs)))
+scaled_more old mid new v w s p xs i x within at first second =
+    let f : Scaling = scaling_view x in
+    let q : TermPlan = scaled_all s p (map scaling_view (take i xs)) in
+    let later : DoesTerm mid new w (scaled s (standing q.placed q.next) f) =
+    subst (λ l. DoesTerm mid new w (scaled s (standing q.placed l) f)) first.next
+    (subst (λ z. DoesTerm mid new w (scaled s (standing z mid.next) f)) first.placed_is second) in
+    let whole : DoesTerm old new w (scaled s q f) = record {
+      adds = adds_then old.plans mid.plans new.plans q.steps (scaled s (standing q.placed q.next) f).steps first.adds later.adds;
       within = later.within;
       placed_is = later.placed_is;
       next = later.next;
     } in
-    subst (λ r. DoesTerm old new w r) (sym (ap (times_numerals s p) (take_more cs i 0 within ∙ ap (λ d. take i cs ++ d ∷ []) (sym at)) ∙ times_end s p (take i cs) c)) whole
+    subst (λ r. DoesTerm old new w r)
+    (sym (ap (λ l. scaled_all s p (map scaling_view l)) (take_more xs i x within ∙ ap (λ d. take i xs ++ d ∷ []) (sym at))
+    ∙ ap (scaled_all s p) (map-append scaling_view (take i xs) (x ∷ [])) ∙ scaled_end s p (map scaling_view (take i xs)) f)) whole
 
 -- what is made at last is in a list with more plans
 pub within_after : (old mid new : Planner) (i j : ℕ) (m n : Made) → Does old mid i m → Does mid new j n → i < length new.plans
@@ -165,26 +238,26 @@ twice_answers (Ok place) old new s c x y two does = λ most within. subst (λ m.
 twice_answers (Err e) old new s c x y two does = does
 
 -- a product of a value that is made first
-times_prefix : (s : Name) (p : TermPlan) (cs : List ℕ)
-    → times_numerals s p cs ≡ record { steps = p.steps ++ (times_numerals s (standing p.placed p.next) cs).steps; placed = (times_numerals s (standing p.placed p.next) cs).placed; next = (times_numerals s (standing p.placed p.next) cs).next }
-times_prefix s p [] = ap (λ l. let q : TermPlan = record { steps = l; placed = p.placed; next = p.next } in q) (sym (append-nil p.steps))
-times_prefix s p (c ∷ cs) =
-    let one : TermPlan = times_numeral s (standing p.placed p.next) c in
-    let rest : TermPlan = times_numerals s (standing one.placed one.next) cs in
-    let whole : TermPlan = times_numerals s one cs in
-    let from : whole ≡ record { steps = one.steps ++ rest.steps; placed = rest.placed; next = rest.next } = times_prefix s one cs in
-    times_prefix s (times_numeral s p c) cs
+scaled_prefix : (s : Name) (p : TermPlan) (cs : List Scaling)
+    → scaled_all s p cs ≡ record { steps = p.steps ++ (scaled_all s (standing p.placed p.next) cs).steps; placed = (scaled_all s (standing p.placed p.next) cs).placed; next = (scaled_all s (standing p.placed p.next) cs).next }
+scaled_prefix s p [] = ap (λ l. let q : TermPlan = record { steps = l; placed = p.placed; next = p.next } in q) (sym (append-nil p.steps))
+scaled_prefix s p (c ∷ cs) =
+    let one : TermPlan = scaled s (standing p.placed p.next) c in
+    let rest : TermPlan = scaled_all s (standing one.placed one.next) cs in
+    let whole : TermPlan = scaled_all s one cs in
+    let from : whole ≡ record { steps = one.steps ++ rest.steps; placed = rest.placed; next = rest.next } = scaled_prefix s one cs in
+    scaled_prefix s (scaled s p c) cs
     ∙ ap (λ l. let q : TermPlan = record { steps = l; placed = rest.placed; next = rest.next } in q) (append_assoc p.steps one.steps rest.steps)
     ∙ sym (ap (λ (w : TermPlan). let q : TermPlan = record { steps = p.steps ++ w.steps; placed = w.placed; next = w.next } in q) from)
 
-pub times_after : (old mid new : Planner) (v w : found.Placed) (s : Name) (p : TermPlan) (cs : List ℕ)
-    → DoesTerm old mid v p → DoesTerm mid new w (times_numerals s (standing (placed_at mid.plans v) mid.next) cs) → DoesTerm old new w (times_numerals s p cs)
-times_after old mid new v w s p cs first second =
-    let later : DoesTerm mid new w (times_numerals s (standing p.placed p.next) cs) =
-    subst (λ l. DoesTerm mid new w (times_numerals s (standing p.placed l) cs)) first.next
-    (subst (λ z. DoesTerm mid new w (times_numerals s (standing z mid.next) cs)) first.placed_is second) in
-    subst (λ r. DoesTerm old new w r) (sym (times_prefix s p cs)) (record {
-      adds = adds_then old.plans mid.plans new.plans p.steps (times_numerals s (standing p.placed p.next) cs).steps first.adds later.adds;
+pub scaled_after : (old mid new : Planner) (v w : found.Placed) (s : Name) (p : TermPlan) (cs : List Scaling)
+    → DoesTerm old mid v p → DoesTerm mid new w (scaled_all s (standing (placed_at mid.plans v) mid.next) cs) → DoesTerm old new w (scaled_all s p cs)
+scaled_after old mid new v w s p cs first second =
+    let later : DoesTerm mid new w (scaled_all s (standing p.placed p.next) cs) =
+    subst (λ l. DoesTerm mid new w (scaled_all s (standing p.placed l) cs)) first.next
+    (subst (λ z. DoesTerm mid new w (scaled_all s (standing z mid.next) cs)) first.placed_is second) in
+    subst (λ r. DoesTerm old new w r) (sym (scaled_prefix s p cs)) (record {
+      adds = adds_then old.plans mid.plans new.plans p.steps (scaled_all s (standing p.placed p.next) cs).steps first.adds later.adds;
       within = later.within;
       placed_is = later.placed_is;
       next = later.next;

@@ -4,12 +4,12 @@ use Rattle.std.proofs.Common.{◌≡◌, ℕ, ◌+◌, ◌<◌, ◌≤◌, Bool,
 use Rattle.std.proofs.lemmas.List.{take_more, take_all, take-append-drop}
 use Rattle.std.proofs.lemmas.List.Sums.{fold-append}
 use Rattle.formula_parse.specs.Tokens.{Name}
-use Rattle.formula_parse.specs.Trees.{Names, no_names, names, Term, variable, numeral, product, sum, Factors, no_factors, factors, times, terms}
+use Rattle.formula_parse.specs.Trees.{Names, no_names, names, Term, variable, numeral, product, sum, Factors, no_factors, factors, times, divided, Factor, terms}
 use Rattle.formula_parse.specs.Views.{names_view, term_view, terms_view, addend_view, addends_view, with_addend}
 use Rattle.formula_parse.specs.declared.tree.Addend as parsed_addend
 use Rattle.formula_parse.specs.declared.tree.Term as parsed
 use Rattle.formula_truth.proofs.ViewLemmas.{addends_more}
-use Rattle.formula_plan.specs.TermPlanning.{other_of}
+use Rattle.formula_plan.specs.TermPlanning.{other_of, term_of}
 use Rattle.formula_plan.specs.OwnNames.{own_names, own_multiplied, own_before, own_among, has_name, has_any, HaveSame}
 use Rattle.formula_plan.proofs.FactsMade.{terms_more}
 use Rattle.formula_plan.proofs.SameNames.{added_none, added_then}
@@ -38,9 +38,14 @@ seen_added r whole seen old new same is = subst (λ t. IfOk r (λ _. HaveSame ne
 pub term_none_added : (whole seen : Term) (old : List Name) → whole ≡ seen → own_names seen ≡ [] → HaveSame old (old ++ own_names whole)
 term_none_added whole seen old same none n = added_none old n ∙ ap (λ l. has_name (old ++ l) n) (sym none) ∙ ap (λ t. has_name (old ++ own_names t) n) (sym same)
 
+-- a divisor has no variables
+pub divisor_none_added : (f : Factor) (c : ℕ) (old : List Name) → f ≡ divided c → HaveSame old (old ++ own_names (term_of f))
+divisor_none_added f c old same n = added_none old n ∙ ap (λ g. has_name (old ++ own_names (term_of g)) n) (sym same)
+
 other_some : (fs : Factors) (t : Term) → other_of fs ≡ Some t → own_multiplied fs ≡ own_names t
 other_some no_factors t is = cc
 other_some (factors fs (times (numeral c))) t is = other_some fs t is
+other_some (factors fs (divided c)) t is = other_some fs t is
 other_some (factors fs (times (variable n))) t is = let same : variable n ≡ t = cc in ap own_names same
 other_some (factors fs (times (product gs))) t is = let same : product gs ≡ t = cc in ap own_names same
 other_some (factors fs (times (sum ss u))) t is = let same : sum ss u ≡ t = cc in ap own_names same
@@ -48,6 +53,7 @@ other_some (factors fs (times (sum ss u))) t is = let same : sum ss u ≡ t = cc
 pub other_none : (fs : Factors) → other_of fs ≡ None → own_multiplied fs ≡ []
 other_none no_factors is = refl
 other_none (factors fs (times (numeral c))) is = other_none fs is
+other_none (factors fs (divided c)) is = other_none fs is
 other_none (factors fs (times (variable n))) is = cc
 other_none (factors fs (times (product gs))) is = cc
 other_none (factors fs (times (sum ss u))) is = cc

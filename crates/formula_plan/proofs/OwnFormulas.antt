@@ -3,13 +3,13 @@ use Rattle.std.specs.Str.{bytes_eq}
 use Rattle.std.proofs.Common.{◌≡◌, ℕ, Bool, true, false, ◌||◌, ◌&&◌, not, if◌then◌else◌, List, [], ◌∷◌, ◌++◌, Option, None, Some, refl, sym, ◌∙◌, ap, subst, append_assoc}
 use Rattle.std.proofs.lemmas.Option.{none-some, same_Some}
 use Rattle.std.proofs.lemmas.Bool.{false≢true}
-use Rattle.formula_parse.specs.Tokens.{Name, Relation, Quantifier, some, every}
+use Rattle.formula_parse.specs.Tokens.{Name, Relation, Quantifier, some, every, infinite}
 use Rattle.formula_parse.specs.Trees.{Names, no_names, names, Term, variable, numeral, product, sum, Terms, no_terms, terms, Fact, compare, words, word_letter, letter_word, call, Formula, atom, negated, chain, quantified, marked, Operands, no_operands, operands}
 use Rattle.formula_plan.specs.Tracks.{Track, own, fresh, same_track, has_track, without}
 use Rattle.formula_plan.specs.Plans.{Plan, compared, called, paired, complement, projected, tracks, Made}
 use Rattle.formula_plan.specs.TermPlans.{Placed, TermPlan, closed, term_plan}
 use Rattle.formula_plan.specs.FactPlans.{Headers, Places, no_places, places, tracks_of, all_places, closed_all, TermPlans, argument_plans, as_variable, is_equal, form_by, named_by, compare_by, fact_plan}
-use Rattle.formula_plan.specs.FormulaPlans.{chained, kept, projected_all, quantified_made, plan_of, operand_plans}
+use Rattle.formula_plan.specs.FormulaPlans.{chained, kept, projected_all, for_every, for_infinitely, for_infinitely_many, quantified_made, plan_of, operand_plans}
 use Rattle.formula_plan.specs.OwnNames.{own_names, own_among, own_there, without_name, without_all, has_name, has_any, own_of, own_operands}
 use Rattle.formula_plan.specs.FormulaPlanning.{AgreeOn}
 use Rattle.formula_plan.proofs.OwnTracks.{or_assoc, or_false, or_comm, has_both, named_both, without_fresh, without_own, without_named, without_none, first_no, second_no, IsClosable, in_relation, closed_own, in_placed, IsOwn, both_closed, term_own}
@@ -158,10 +158,41 @@ projected_same : (ns : List Name) (p q : Plan) → tracks p ≡ tracks q → tra
 projected_same [] p q same = same
 projected_same (n ∷ ns) p q same = projected_same ns (projected (own n) p) (projected (own n) q) (ap (without (own n)) same)
 
-quantified_same : (q : Quantifier) (ns : List Name) (m : Made) → tracks (quantified_made q ns m).last ≡ tracks (projected_all ns m.last)
-quantified_same some ns m = refl
-quantified_same every [] m = refl
-quantified_same every (n ∷ ns) m = projected_same (n ∷ ns) (complement m.last) m.last refl
+every_same : (ns : List Name) (m : Made) → tracks (for_every ns m).last ≡ tracks (projected_all ns m.last)
+every_same [] m = refl
+every_same (n ∷ ns) m = projected_same (n ∷ ns) (complement m.last) m.last refl
+
+-- the fresh bound of `I` goes, and the variable with it
+infinitely_bool : (b h : Bool) → (not b && (h || (false || (b || false)))) ≡ (not b && h)
+infinitely_bool true h = refl
+infinitely_bool false true = refl
+infinitely_bool false false = refl
+
+pub infinitely_agrees : (s n : Name) (m : Made) (ms : List Name) → AgreeOn m.last ms → AgreeOn (for_infinitely s n m).last (without_name n ms)
+infinitely_agrees s n m ms on = record {
+  agree = λ v.
+      without_fresh m.next (without (own n) (tracks m.last ++ (fresh m.next ∷ own n ∷ []))) v
+      ∙ without_own n (tracks m.last ++ (fresh m.next ∷ own n ∷ [])) v
+      ∙ ap (λ b. not (bytes_eq n v) && b) (has_both (tracks m.last) (fresh m.next ∷ own n ∷ []) (own v))
+      ∙ infinitely_bool (bytes_eq n v) (has_track (tracks m.last) (own v))
+      ∙ ap (λ b. not (bytes_eq n v) && b) (on.agree v) ∙ sym (without_named n ms v);
+}
+
+many_agree : (on : Name → Name) (ns : Names) (m : Made) (ms : List Name) → AgreeOn m.last ms → AgreeOn (for_infinitely_many on ns m).last (without_all ns ms)
+many_agree on no_names m ms agree = agree
+many_agree on (names ns n) m ms agree =
+    many_agree on ns (if has_track (tracks m.last) (own n) then for_infinitely (on n) n m else m) (without_name n ms) (by (has_track (tracks m.last) (own n)) refl)
+  where
+    by : (b : Bool) → has_track (tracks m.last) (own n) ≡ b → AgreeOn (if b then for_infinitely (on n) n m else m).last (without_name n ms)
+    by true has = infinitely_agrees (on n) n m ms agree
+    by false none = subst (λ l. AgreeOn m.last l) (sym (without_none n ms (sym (agree.agree n) ∙ none))) agree
+
+quantified_agrees : (q : Quantifier) (on : Name → Name) (ns : Names) (m : Made) (ms : List Name) → AgreeOn m.last ms → AgreeOn (quantified_made q on ns m).last (without_all ns ms)
+quantified_agrees some on ns m ms agree = all_agree ns m.last ms agree
+quantified_agrees every on ns m ms agree =
+    let all = all_agree ns m.last ms agree in
+    record { agree = λ n. ap (λ l. has_track l (own n)) (every_same (kept ns (tracks m.last)) m) ∙ all.agree n }
+quantified_agrees infinite on ns m ms agree = many_agree on ns m ms agree
 
 mutual
   pub formula_own : (h : Headers) (f : Formula) (k : ℕ) → AgreeOn (plan_of h f k).last (own_of f)
@@ -171,9 +202,7 @@ mutual
       let next = (operand_plans h os k).next in
       operands_own h os k (plan_of h f next).last (own_of f) (formula_own h f next)
   formula_own h (quantified q ns f) k =
-      let m : Made = plan_of h f k in
-      let all = all_agree ns m.last (own_of f) (formula_own h f k) in
-      record { agree = λ n. ap (λ l. has_track l (own n)) (quantified_same q (kept ns (tracks m.last)) m) ∙ all.agree n }
+      quantified_agrees q (h.of_variable f) ns (plan_of h f k) (own_of f) (formula_own h f k)
   formula_own h (marked ms f) k = formula_own h f k
 
   operands_own : (h : Headers) (os : Operands) (k : ℕ) (p : Plan) (ms : List Name) → AgreeOn p ms → AgreeOn (chained (operand_plans h os k).operands p) (own_operands os ++ ms)

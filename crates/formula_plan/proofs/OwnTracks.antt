@@ -5,10 +5,10 @@ use Rattle.std.proofs.Common.{◌≡◌, ℕ, zero, suc, ◌+◌, ◌-◌, ◌/�
 use Rattle.std.proofs.lemmas.Slice.Eq.{bytes_eq-Decides}
 use Rattle.std.proofs.lemmas.Bool.{false≢true, false_from_ne_true}
 use Rattle.formula_parse.specs.Tokens.{Name, Sign, plus, minus, equal}
-use Rattle.formula_parse.specs.Trees.{Term, variable, numeral, product, sum, Factors, no_factors, factors, times, Addends, no_addends, addends}
+use Rattle.formula_parse.specs.Trees.{Term, variable, numeral, product, sum, Factors, no_factors, factors, times, divided, Addends, no_addends, addends}
 use Rattle.formula_plan.specs.Tracks.{Track, own, fresh, same_track, has_track, without}
 use Rattle.formula_plan.specs.Plans.{Plan, compared, added, tracks, Made}
-use Rattle.formula_plan.specs.TermPlans.{Placed, TermPlan, closed_by, closed, no_times, linked, multiple, times_numeral, times_numerals, with_addend, numeral_plan, begun, term_plan, factor_plans, sum_plan}
+use Rattle.formula_plan.specs.TermPlans.{Placed, TermPlan, closed_by, closed, no_times, linked, multiple, parted, below, quotient_made, Scaling, by_numeral, by_divisor, scaling_made, scaled, scaled_all, with_addend, numeral_plan, begun, term_plan, factor_plans, sum_plan}
 use Rattle.formula_plan.specs.OwnNames.{own_names, own_multiplied, own_before, without_name, has_name}
 
 pub or_assoc : (a b c : Bool) → ((a || b) || c) ≡ (a || (b || c))
@@ -150,17 +150,43 @@ multiple_own (suc most) s c x j k n =
     (linked_own x n (multiple most s (c / 2) x (fresh k) (k + 1)) k (added s (fresh k) (fresh k) (fresh j)) (multiple_own most s (c / 2) x k (k + 1) n) (or_false (same_track x (own n))))
     (linked_own x n (multiple most s (c - 1) x (fresh k) (k + 1)) k (added s (fresh k) x (fresh j)) (multiple_own most s (c - 1) x k (k + 1) n) (twice (same_track x (own n)))))))
 
-times_own : (s : Name) (p : TermPlan) (c : ℕ) (ms : List Name) → IsOwn p.placed ms → IsOwn (times_numeral s p c).placed ms
-times_own s p c ms is = record {
+-- nor have quotients
+quotient_own : (s : Name) (c : ℕ) (x : Track) (j k : ℕ) (n : Name) → OwnOf x n (quotient_made s c x (fresh j) k)
+quotient_own s c x j k n =
+    pick x n (c == 1) (record { steps = []; last = compared s equal x (fresh j); next = k }) _ (or_false (same_track x (own n)))
+    (without_fresh (k + 1) (tracks small.last ++ tracks whole.last) n ∙ has_both (tracks small.last) (tracks whole.last) (own n)
+    ∙ ap (λ b. b || has_track (tracks whole.last) (own n)) (without_fresh (k + 2) (fresh (k + 2) ∷ fresh (k + 1) ∷ fresh (k + 2) ∷ []) n)
+    ∙ whole_own)
+  where
+    times : Made
+    times = multiple c s c (fresh j) (fresh k) (k + 3)
+
+    whole : Made
+    whole = parted s c x (fresh j) (fresh k) (fresh (k + 1)) (k + 3)
+
+    small : Made
+    small = below s c (fresh (k + 1)) (fresh (k + 2)) whole.next
+
+    whole_own : has_track (tracks whole.last) (own n) ≡ same_track x (own n)
+    whole_own =
+        without_fresh k (tracks times.last ++ (fresh k ∷ fresh (k + 1) ∷ x ∷ [])) n ∙ has_both (tracks times.last) (fresh k ∷ fresh (k + 1) ∷ x ∷ []) (own n)
+        ∙ ap (λ b. b || (same_track x (own n) || false)) (multiple_own c s c (fresh j) k (k + 3) n) ∙ or_false (same_track x (own n))
+
+scaling_own : (s : Name) (f : Scaling) (x : Track) (j k : ℕ) (n : Name) → OwnOf x n (scaling_made s f x (fresh j) k)
+scaling_own s (by_numeral c) x j k n = multiple_own c s c x j k n
+scaling_own s (by_divisor c) x j k n = quotient_own s c x j k n
+
+scaled_own : (s : Name) (p : TermPlan) (f : Scaling) (ms : List Name) → IsOwn p.placed ms → IsOwn (scaled s p f).placed ms
+scaled_own s p f ms is = record {
   closable = tt;
-  has = λ n. closed_own p.placed.track p.placed.relation (multiple c s c p.placed.track (fresh p.next) (p.next + 1)).last n is.closable
-      ∙ ap (λ b. in_relation p.placed.relation n || b) (multiple_own c s c p.placed.track p.next (p.next + 1) n)
+  has = λ n. closed_own p.placed.track p.placed.relation (scaling_made s f p.placed.track (fresh p.next) (p.next + 1)).last n is.closable
+      ∙ ap (λ b. in_relation p.placed.relation n || b) (scaling_own s f p.placed.track p.next (p.next + 1) n)
       ∙ or_comm (in_relation p.placed.relation n) (same_track p.placed.track (own n)) ∙ is.has n;
 }
 
-times_all_own : (s : Name) (p : TermPlan) (cs : List ℕ) (ms : List Name) → IsOwn p.placed ms → IsOwn (times_numerals s p cs).placed ms
-times_all_own s p [] ms is = is
-times_all_own s p (c ∷ cs) ms is = times_all_own s (times_numeral s p c) cs ms (times_own s p c ms is)
+all_scaled_own : (s : Name) (p : TermPlan) (fs : List Scaling) (ms : List Name) → IsOwn p.placed ms → IsOwn (scaled_all s p fs).placed ms
+all_scaled_own s p [] ms is = is
+all_scaled_own s p (f ∷ fs) ms is = all_scaled_own s (scaled s p f) fs ms (scaled_own s p f ms is)
 
 numeral_own : (s : Name) (c k : ℕ) → IsOwn (numeral_plan s c k).placed []
 numeral_own s c k = record { closable = tt; has = λ n. refl }
@@ -216,21 +242,24 @@ abbrev IsOther : Option (ℕ → TermPlan) → List Name → Type 0
 IsOther None ms = ms ≡ []
 IsOther (Some plan) ms = (k : ℕ) → IsOwn (plan k).placed ms
 
-begun_own : (s : Name) (o : Option (ℕ → TermPlan)) (cs : List ℕ) (k : ℕ) (ms : List Name) → IsOther o ms → IsOwn (begun s o cs k).placed ms
-begun_own s (Some plan) cs k ms is = times_all_own s (plan k) cs ms (is k)
+begun_own : (s : Name) (o : Option (ℕ → TermPlan)) (fs : List Scaling) (k : ℕ) (ms : List Name) → IsOther o ms → IsOwn (begun s o fs k).placed ms
+begun_own s (Some plan) fs k ms is = all_scaled_own s (plan k) fs ms (is k)
 begun_own s None [] k ms is = subst (λ l. IsOwn (numeral_plan s 1 k).placed l) (sym is) (numeral_own s 1 k)
-begun_own s None (c ∷ cs) k ms is = subst (λ l. IsOwn (times_numerals s (numeral_plan s c k) cs).placed l) (sym is) (times_all_own s (numeral_plan s c k) cs [] (numeral_own s c k))
+begun_own s None (by_numeral c ∷ fs) k ms is = subst (λ l. IsOwn (scaled_all s (numeral_plan s c k) fs).placed l) (sym is) (all_scaled_own s (numeral_plan s c k) fs [] (numeral_own s c k))
+begun_own s None (by_divisor c ∷ fs) k ms is =
+    subst (λ l. IsOwn (scaled_all s (numeral_plan s 1 k) (by_divisor c ∷ fs)).placed l) (sym is) (all_scaled_own s (numeral_plan s 1 k) (by_divisor c ∷ fs) [] (numeral_own s 1 k))
 
 mutual
   pub term_own : (s : Name) (t : Term) (k : ℕ) → IsOwn (term_plan s t k).placed (own_names t)
   term_own s (variable m) k = record { closable = tt; has = λ n. refl }
   term_own s (numeral c) k = numeral_own s c k
-  term_own s (product fs) k = begun_own s (factor_plans s fs).other (factor_plans s fs).numerals k (own_multiplied fs) (factors_own s fs)
+  term_own s (product fs) k = begun_own s (factor_plans s fs).other (factor_plans s fs).scalings k (own_multiplied fs) (factors_own s fs)
   term_own s (sum ss t) k = addends_own s ss (term_plan s t) (own_names t) (term_own s t) k
 
   factors_own : (s : Name) (fs : Factors) → IsOther (factor_plans s fs).other (own_multiplied fs)
   factors_own s no_factors = refl
   factors_own s (factors fs (times (numeral c))) = factors_own s fs
+  factors_own s (factors fs (divided c)) = factors_own s fs
   factors_own s (factors fs (times (variable n))) = term_own s (variable n)
   factors_own s (factors fs (times (product gs))) = term_own s (product gs)
   factors_own s (factors fs (times (sum ss t))) = term_own s (sum ss t)

@@ -1,13 +1,14 @@
 -- What projections of listed variables mean.
-use Rattle.std.proofs.Common.{◌≡◌, ◌↔◌, ℕ, Bool, true, false, if◌then◌else◌, List, [], ◌∷◌, refl, subst, inl, inr}
-use Rattle.formula_parse.specs.Tokens.{Name, every}
+use Rattle.std.proofs.Common.{◌≡◌, ◌↔◌, ℕ, suc, ◌<◌, Bool, true, false, if◌then◌else◌, List, [], ◌∷◌, refl, sym, subst, inl, inr, arith}
+use Rattle.formula_parse.specs.Tokens.{Name}
 use Rattle.formula_parse.specs.Trees.{Names, no_names, names}
 use Rattle.formula_truth.specs.Assignments.{Assignment, with_value}
-use Rattle.formula_truth.specs.Truth.{Meanings, ForSome, ForEvery}
-use Rattle.formula_plan.specs.Tracks.{own, Numbers, with_number, of_variables, has_track, without}
+use Rattle.formula_truth.specs.Truth.{Meanings, ForSome, ForEvery, ForInfinitely}
+use Rattle.formula_plan.specs.Tracks.{own, fresh, Numbers, with_number, of_variables, has_track, without}
 use Rattle.formula_plan.specs.Plans.{Plan, compared, added, number, called, lettered, renamed, constant, joined, paired, complement, projected, tracks, Made}
-use Rattle.formula_plan.specs.FormulaPlans.{kept, projected_all, quantified_made}
+use Rattle.formula_plan.specs.FormulaPlans.{kept, projected_all, for_every, above_bound, for_infinitely, for_infinitely_many}
 use Rattle.formula_plan.specs.Means.{Means, IsDecided, AreDecided}
+use Rattle.formula_plan.proofs.TrackLemmas.{with_number_here}
 use Rattle.formula_plan.proofs.AgreementLemmas.{unused}
 
 -- the plan means what is said of the variables, or what is denied of them
@@ -117,7 +118,7 @@ stable : (m : Meanings) (p : Plan) → IsDecided m p → (a : Numbers) → ¬ (�
 stable m p decided a denied = elim (decided a) [ inl h ↦ h | inr h ↦ absurd (denied h) ]
 
 every_by : (ns : Names) (m : Meanings) (made : Made) (P : Assignment → Type 0) (ks : List Name) → kept ns (tracks made.last) ≡ ks
-    → AreDecided m (quantified_made every ks made).last → (AreDecided m made.last → Says m made.last P) → Says m (quantified_made every ks made).last (ForEvery ns P)
+    → AreDecided m (for_every ks made).last → (AreDecided m made.last → Says m made.last P) → Says m (for_every ks made).last (ForEvery ns P)
 every_by ns m made P [] none decided says = every_none ns m made.last P none (says decided)
 every_by ns m made P (k ∷ ks) kept_are decided says =
     subst (λ l. Denies m (projected_all l (complement made.last)) (ForEvery ns P)) kept_are (every_denied ns m (complement made.last) P denied)
@@ -128,6 +129,55 @@ every_by ns m made P (k ∷ ks) kept_are decided says =
     denied : Denies m (complement made.last) P
     denied a = (λ denied. (says parts a).0 (stable m made.last (itself m made.last parts) a denied), λ h denied. denied ((says parts a).1 h))
 
-pub every_says : (ns : Names) (m : Meanings) (made : Made) (P : Assignment → Type 0) → AreDecided m (quantified_made every (kept ns (tracks made.last)) made).last
-    → (AreDecided m made.last → Says m made.last P) → Says m (quantified_made every (kept ns (tracks made.last)) made).last (ForEvery ns P)
+pub every_says : (ns : Names) (m : Meanings) (made : Made) (P : Assignment → Type 0) → AreDecided m (for_every (kept ns (tracks made.last)) made).last
+    → (AreDecided m made.last → Says m made.last P) → Says m (for_every (kept ns (tracks made.last)) made).last (ForEvery ns P)
 every_says ns m made P decided says = every_by ns m made P (kept ns (tracks made.last)) refl decided says
+
+-- for infinitely many numbers of one variable
+abbrev one_infinitely : Name → (Assignment → Type 0) → Assignment → Type 0
+one_infinitely n P b = (x : ℕ) → (k : ℕ) × (x < k) × P (with_value n k b)
+
+-- some number above a bound
+above_says : (m : Meanings) (s n : Name) (made : Made) (P : Assignment → Type 0) → Says m made.last P → (x : ℕ) (a : Numbers)
+    → Means m (above_bound s n made).last (with_number (fresh made.next) x a) ↔ ((k : ℕ) × (x < k) × P (with_value n k (of_variables a)))
+above_says m s n made P says x a = (
+  λ h. (
+    h.0,
+    subst (λ (l : ℕ). x < l) (with_number_here (own n) h.0 b) (subst (λ (l : ℕ). l < with_number (own n) h.0 b (own n)) (with_number_here (fresh made.next) x a) h.1.1),
+    (says (with_number (own n) h.0 b)).0 h.1.0,
+  ),
+  λ h. (
+    h.0,
+    (
+      (says (with_number (own n) h.0 b)).1 h.2,
+      subst (λ (l : ℕ). l < with_number (own n) h.0 b (own n)) (sym (with_number_here (fresh made.next) x a)) (subst (λ (l : ℕ). x < l) (sym (with_number_here (own n) h.0 b)) h.1),
+    ),
+  ),
+)
+  where
+    b : Numbers
+    b = with_number (fresh made.next) x a
+
+infinitely_once : (m : Meanings) (s n : Name) (made : Made) (P : Assignment → Type 0) → Says m made.last P → IsDecided m (above_bound s n made).last → Says m (for_infinitely s n made).last (one_infinitely n P)
+infinitely_once m s n made P says decided a = (
+  λ h x. (above_says m s n made P says x a).0 (stable m (above_bound s n made).last decided (with_number (fresh made.next) x a) (λ denied. h (x, denied))),
+  λ h found. found.1 ((above_says m s n made P says found.0 a).1 (h found.0)),
+)
+
+infinitely_unused : (m : Meanings) (p : Plan) (n : Name) (P : Assignment → Type 0) → has_track (tracks p) (own n) ≡ false → Says m p P → Says m p (one_infinitely n P)
+infinitely_unused m p n P none says a = (
+  λ h x. (suc x, omega arith, (says (with_number (own n) (suc x) a)).0 ((unused p m (own n) (suc x) a none).0 h)),
+  λ h. let found = h 0 in (unused p m (own n) found.0 a none).1 ((says (with_number (own n) found.0 a)).1 found.2),
+)
+
+infinitely_step : (m : Meanings) (s n : Name) (made : Made) (P : Assignment → Type 0) → (AreDecided m made.last → Says m made.last P) → (b : Bool) → has_track (tracks made.last) (own n) ≡ b
+    → AreDecided m (if b then for_infinitely s n made else made).last → Says m (if b then for_infinitely s n made else made).last (one_infinitely n P)
+infinitely_step m s n made P says true there decided = infinitely_once m s n made P (says decided.1.1.1.1.1) (itself m (above_bound s n made).last decided.1.1.1)
+infinitely_step m s n made P says false none decided = infinitely_unused m made.last n P none (says decided)
+
+pub infinitely_says : (ns : Names) (on : Name → Name) (m : Meanings) (made : Made) (P : Assignment → Type 0) → AreDecided m (for_infinitely_many on ns made).last
+    → (AreDecided m made.last → Says m made.last P) → Says m (for_infinitely_many on ns made).last (ForInfinitely ns P)
+infinitely_says no_names on m made P decided says = says decided
+infinitely_says (names ns n) on m made P decided says =
+    infinitely_says ns on m (if has_track (tracks made.last) (own n) then for_infinitely (on n) n made else made) (one_infinitely n P) decided
+    (infinitely_step m (on n) n made P says (has_track (tracks made.last) (own n)) refl)

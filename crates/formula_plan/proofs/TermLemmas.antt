@@ -1,20 +1,23 @@
 -- The value of a term is where its plan places it.
 use Rattle.std.proofs.Common.{◌≡◌, ◌↔◌, ℕ, zero, suc, ◌+◌, ◌-◌, ◌*◌, ◌/◌, ◌%◌, ◌==◌, ◌≤◌, Bool, true, false, if◌then◌else◌, List, [], ◌∷◌, ◌++◌, map, slice_index_or, Option, None, Some, refl, sym, ◌∙◌, ap, subst, arith}
+use Rattle.std.specs.Prelude.{⊤}
+use Rattle.std.specs.Option.{option_and_then}
 use Rattle.std.proofs.lemmas.Option.{none-some, same_Some}
 use Rattle.formula_parse.specs.Tokens.{Name, Sign, plus, minus, equal}
-use Rattle.formula_parse.specs.Trees.{Term, variable, numeral, product, sum, Factors, no_factors, factors, times, Terms, no_terms, terms, Addends, no_addends, addends}
+use Rattle.formula_parse.specs.Trees.{Term, variable, numeral, product, sum, Factors, no_factors, factors, times, divided, Terms, no_terms, terms, Addends, no_addends, addends}
 use Rattle.formula_truth.specs.Assignments.{Assignment}
-use Rattle.formula_truth.specs.Values.{both, by_sign, multiplied, value, product_value, sum_value, and_value, values}
+use Rattle.formula_truth.specs.Values.{both, by_sign, multiplied, quotient, value, product_value, sum_value, and_value, values}
 use Rattle.formula_truth.specs.Truth.{Meanings}
 use Rattle.formula_plan.specs.Tracks.{Track, own, fresh, Numbers, of_variables}
 use Rattle.formula_plan.specs.Plans.{Plan, compared, added, Made}
-use Rattle.formula_plan.specs.TermPlans.{TermPlan, no_times, linked, multiple, times_numeral, times_numerals, sum_relation, with_addend, numeral_plan, begun, term_plan, factor_plans, sum_plan}
+use Rattle.formula_plan.specs.TermPlans.{TermPlan, no_times, linked, multiple, parted, below, quotient_made, Scaling, by_numeral, by_divisor, scaling_made, scaled, scaled_all, sum_relation, with_addend, numeral_plan, begun, term_plan, factor_plans, sum_plan}
 use Rattle.formula_plan.specs.FactPlans.{Places, no_places, places, tracks_of, count, argument_plans}
 use Rattle.formula_plan.specs.Linear.{IsLinear, AreLinearFactors, AreLinearAddends, AreLinear, others}
 use Rattle.formula_plan.specs.Means.{Means}
 use Rattle.formula_plan.proofs.OptionLemmas.{both_some, both_at, and_some, difference_there, difference_back}
 use Rattle.formula_plan.proofs.Standing.{Value, IsPlaced, placed_up, Stands, stands_same, Values, no_values, listed, read_all, StandAll, Reads, reads_outside, list_there, list_back}
-use Rattle.formula_plan.proofs.MultipleLemmas.{IsBelow, multiple_is}
+use Rattle.formula_plan.proofs.MultipleLemmas.{IsBelow}
+use Rattle.formula_plan.proofs.QuotientLemmas.{scaled_number, IsScaled, scaling_is}
 
 numeral_stands : (m : Meanings) (s : Name) (c k : ℕ) → Stands m (λ b. Some c) (numeral_plan s c k).placed k (numeral_plan s c k).next
 numeral_stands m s c k = record {
@@ -123,21 +126,47 @@ multiple_next (suc most) s c x y k =
     odd : Made
     odd = linked (multiple most s (c - 1) x (fresh k) (k + 1)) (fresh k) (added s (fresh k) x y)
 
-times_stands : (m : Meanings) (s : Name) (v : Value) (p : TermPlan) (c k : ℕ) → Stands m v p.placed k p.next
-    → Stands m (λ b. both multiplied (v b) (Some c)) (times_numeral s p c).placed k (times_numeral s p c).next
-times_stands m s v p c k stands = record {
+quotient_next : (s : Name) (c : ℕ) (x y : Track) (k : ℕ) → k ≤ (quotient_made s c x y k).next
+quotient_next s c x y k = by (c == 1)
+  where
+    whole : Made
+    whole = parted s c x y (fresh k) (fresh (k + 1)) (k + 3)
+
+    small : Made
+    small = below s c (fresh (k + 1)) (fresh (k + 2)) whole.next
+
+    by : (b : Bool) → k ≤ (if b then record { steps = []; last = compared s equal x y; next = k } else linked (record { steps = whole.steps ++ small.steps; last = small.last; next = small.next }) (fresh (k + 1)) whole.last).next
+    by true = omega arith
+    by false = let up = multiple_next c s c y (fresh k) (k + 3) in omega (arith, up)
+
+scaling_next : (s : Name) (f : Scaling) (x y : Track) (k : ℕ) → k ≤ (scaling_made s f x y k).next
+scaling_next s (by_numeral c) x y k = multiple_next c s c x y k
+scaling_next s (by_divisor c) x y k = quotient_next s c x y k
+
+-- what a scaling makes of a value
+abbrev pub scaled_value : Scaling → Option ℕ → Option ℕ
+scaled_value f x = option_and_then (scaled_number f) x
+
+value_at : (f : Scaling) (x : Option ℕ) (n : ℕ) → x ≡ Some n → scaled_value f x ≡ scaled_number f n
+value_at f x n is = ap (scaled_value f) is
+
+value_of : (f : Scaling) (x : Option ℕ) (z : ℕ) → scaled_value f x ≡ Some z → (n : ℕ) × (x ≡ Some n) × (scaled_number f n ≡ Some z)
+value_of f None z is = absurd (none-some z is)
+value_of f (Some n) z is = (n, refl, is)
+
+scaled_stands : (m : Meanings) (s : Name) (v : Value) (p : TermPlan) (f : Scaling) (k : ℕ) → Stands m v p.placed k p.next
+    → Stands m (λ b. scaled_value f (v b)) (scaled s p f).placed k (scaled s p f).next
+scaled_stands m s v p f k stands = record {
   there = λ a h.
       let read = list_there m vs ps k p.next stand base (Says a) a (says_there a) h in
       let one = read_one v (of_variables a) read.0 read.1 in
-      both_at multiplied (v (of_variables a)) (Some c) one.0 c one.1 refl ∙ ap Some (sym (subst (λ ns. Says a ns) one.2 read.2));
+      value_at f (v (of_variables a)) one.0 one.1 ∙ subst (λ ns. Says a ns) one.2 read.2;
   back = λ a is.
-      let parts = both_some multiplied (v (of_variables a)) (Some c) (a (fresh p.next)) is in
-      let same : c ≡ parts.1 = same_Some c parts.1 parts.3 in
-      list_back m vs ps k p.next stand base (Says a) a (says_back a) (parts.0 ∷ []) (one_read v (of_variables a) parts.0 parts.2)
-      (sym (same_Some (parts.0 * parts.1) (a (fresh p.next)) parts.4) ∙ ap (λ n. parts.0 * n) (sym same));
+      let found = value_of f (v (of_variables a)) (a (fresh p.next)) is in
+      list_back m vs ps k p.next stand base (Says a) a (says_back a) (found.0 ∷ []) (one_read v (of_variables a) found.0 found.1) found.2;
   placed = (
     placed_up p.placed.track p.placed.relation k p.next stands.placed,
-    let up = multiple_next c s c p.placed.track (fresh p.next) (p.next + 1) in omega (arith, up),
+    let up = scaling_next s f p.placed.track (fresh p.next) (p.next + 1) in omega (arith, up),
   );
 }
   where
@@ -148,48 +177,65 @@ times_stands m s v p c k stands = record {
     ps = places no_places p.placed
 
     base : Plan
-    base = (multiple c s c p.placed.track (fresh p.next) (p.next + 1)).last
+    base = (scaling_made s f p.placed.track (fresh p.next) (p.next + 1)).last
 
     stand : StandAll m vs ps k p.next
     stand = (k, omega arith, stands)
 
     Says : Numbers → List ℕ → Type 0
-    Says a ns = a (fresh p.next) ≡ slice_index_or ns 0 0 * c
+    Says a ns = scaled_number f (slice_index_or ns 0 0) ≡ Some (a (fresh p.next))
 
-    base_is : (b : Numbers) → Means m base b ↔ (b (fresh p.next) ≡ b p.placed.track * c)
-    base_is = multiple_is m c s c p.placed.track (fresh p.next) (p.next + 1) (omega arith) (placed_below p.placed.track p.placed.relation k p.next stands.placed) (omega arith)
+    base_is : IsScaled m base p.placed.track (fresh p.next) f
+    base_is = scaling_is m s f p.placed.track (fresh p.next) (p.next + 1) (placed_below p.placed.track p.placed.relation k p.next stands.placed) (omega arith)
 
     says_there : (a b : Numbers) → Reads vs ps a b → Means m base b → Says a (map b (tracks_of ps))
-    says_there a b reads h = sym (reads_outside m vs ps k p.next stand a b reads p.next (omega arith)) ∙ (base_is b).0 h
+    says_there a b reads h = (base_is b).0 h ∙ ap Some (reads_outside m vs ps k p.next stand a b reads p.next (omega arith))
 
     says_back : (a b : Numbers) → Reads vs ps a b → Says a (map b (tracks_of ps)) → Means m base b
-    says_back a b reads h = (base_is b).1 (reads_outside m vs ps k p.next stand a b reads p.next (omega arith) ∙ h)
+    says_back a b reads h = (base_is b).1 (h ∙ ap Some (sym (reads_outside m vs ps k p.next stand a b reads p.next (omega arith))))
 
--- a value times some numbers, in their order
-abbrev pub times_all : Option ℕ → List ℕ → Option ℕ
-times_all x [] = x
-times_all x (c ∷ cs) = times_all (both multiplied x (Some c)) cs
+-- a value scaled several times, in their order
+abbrev pub all_scaled : Option ℕ → List Scaling → Option ℕ
+all_scaled x [] = x
+all_scaled x (f ∷ fs) = all_scaled (scaled_value f x) fs
 
-times_all_more : (x : Option ℕ) (cs : List ℕ) (c : ℕ) → times_all x (cs ++ c ∷ []) ≡ both multiplied (times_all x cs) (Some c)
-times_all_more x [] c = refl
-times_all_more x (d ∷ cs) c = times_all_more (both multiplied x (Some d)) cs c
+all_scaled_more : (x : Option ℕ) (fs : List Scaling) (f : Scaling) → all_scaled x (fs ++ f ∷ []) ≡ scaled_value f (all_scaled x fs)
+all_scaled_more x [] f = refl
+all_scaled_more x (g ∷ fs) f = all_scaled_more (scaled_value g x) fs f
 
-numerals_stand : (m : Meanings) (s : Name) (cs : List ℕ) (v : Value) (p : TermPlan) (k : ℕ) → Stands m v p.placed k p.next
-    → Stands m (λ b. times_all (v b) cs) (times_numerals s p cs).placed k (times_numerals s p cs).next
-numerals_stand m s [] v p k stands = stands
-numerals_stand m s (c ∷ cs) v p k stands = numerals_stand m s cs (λ b. both multiplied (v b) (Some c)) (times_numeral s p c) k (times_stands m s v p c k stands)
+all_stand : (m : Meanings) (s : Name) (fs : List Scaling) (v : Value) (p : TermPlan) (k : ℕ) → Stands m v p.placed k p.next
+    → Stands m (λ b. all_scaled (v b) fs) (scaled_all s p fs).placed k (scaled_all s p fs).next
+all_stand m s [] v p k stands = stands
+all_stand m s (f ∷ fs) v p k stands = all_stand m s fs (λ b. scaled_value f (v b)) (scaled s p f) k (scaled_stands m s v p f k stands)
 
-times_swapped : (n c : ℕ) (x : Option ℕ) → both multiplied (Some (n * c)) x ≡ both multiplied (both multiplied (Some n) x) (Some c)
+-- some numerals
+abbrev AreNumerals : List Scaling → Type 0
+AreNumerals [] = ⊤
+AreNumerals (by_numeral c ∷ fs) = AreNumerals fs
+AreNumerals (by_divisor c ∷ fs) = ⊥
+
+numerals_more : (fs : List Scaling) (c : ℕ) → AreNumerals fs → AreNumerals (fs ++ by_numeral c ∷ [])
+numerals_more [] c are = tt
+numerals_more (by_numeral d ∷ fs) c are = numerals_more fs c are
+numerals_more (by_divisor d ∷ fs) c are = absurd are
+
+times_swapped : (n c : ℕ) (x : Option ℕ) → both multiplied (Some (n * c)) x ≡ scaled_value (by_numeral c) (both multiplied (Some n) x)
 times_swapped n c None = refl
 times_swapped n c (Some x) = ap Some (swapped n c x)
   where
     swapped : (n c x : ℕ) → n * c * x ≡ n * x * c
     swapped n c x = grind arith
 
--- a factor after some numbers may come before them
-times_all_swapped : (cs : List ℕ) (n : ℕ) (x : Option ℕ) → both multiplied (times_all (Some n) cs) x ≡ times_all (both multiplied (Some n) x) cs
-times_all_swapped [] n x = refl
-times_all_swapped (c ∷ cs) n x = times_all_swapped cs (n * c) x ∙ ap (λ y. times_all y cs) (times_swapped n c x)
+-- a factor after some numerals may come before them
+numerals_swapped : (fs : List Scaling) (n : ℕ) (x : Option ℕ) → AreNumerals fs → both multiplied (all_scaled (Some n) fs) x ≡ all_scaled (both multiplied (Some n) x) fs
+numerals_swapped [] n x are = refl
+numerals_swapped (by_numeral c ∷ fs) n x are = numerals_swapped fs (n * c) x are ∙ ap (λ y. all_scaled y fs) (times_swapped n c x)
+numerals_swapped (by_divisor c ∷ fs) n x are = absurd are
+
+-- a numeral multiplies
+times_is : (x : Option ℕ) (c : ℕ) → both multiplied x (Some c) ≡ scaled_value (by_numeral c) x
+times_is None c = refl
+times_is (Some n) c = refl
 
 once : (x : Option ℕ) → both multiplied (Some 1) x ≡ x
 once None = refl
@@ -198,58 +244,74 @@ once (Some x) = ap Some (one x)
     one : (n : ℕ) → 1 * n ≡ n
     one n = omega arith
 
--- the value is that of the other factor, if there is one, times the numerals
-abbrev IsFactored : Meanings → Option (ℕ → TermPlan) → List ℕ → Value → Type 0
-IsFactored m None cs v = (b : Assignment) → v b ≡ times_all (Some 1) cs
-IsFactored m (Some plan) cs v = (w : Value) × ((k : ℕ) → Stands m w (plan k).placed k (plan k).next) × ((b : Assignment) → v b ≡ times_all (w b) cs)
+-- the value is that of the other factor, if there is one, scaled
+abbrev IsFactored : Meanings → Option (ℕ → TermPlan) → List Scaling → Value → Type 0
+IsFactored m None fs v = (b : Assignment) → v b ≡ all_scaled (Some 1) fs
+IsFactored m (Some plan) fs v = (w : Value) × ((k : ℕ) → Stands m w (plan k).placed k (plan k).next) × ((b : Assignment) → v b ≡ all_scaled (w b) fs)
 
-begun_stands : (m : Meanings) (s : Name) (other : Option (ℕ → TermPlan)) (cs : List ℕ) (v : Value) → IsFactored m other cs v
-    → (k : ℕ) → Stands m v (begun s other cs k).placed k (begun s other cs k).next
-begun_stands m s (Some plan) cs v is k =
-    stands_same m (λ b. times_all (is.0 b) cs) v (times_numerals s (plan k) cs).placed k (times_numerals s (plan k) cs).next
-    (λ b. sym (is.2 b)) (numerals_stand m s cs is.0 (plan k) k (is.1 k))
+begun_stands : (m : Meanings) (s : Name) (other : Option (ℕ → TermPlan)) (fs : List Scaling) (v : Value) → IsFactored m other fs v
+    → (k : ℕ) → Stands m v (begun s other fs k).placed k (begun s other fs k).next
+begun_stands m s (Some plan) fs v is k =
+    stands_same m (λ b. all_scaled (is.0 b) fs) v (scaled_all s (plan k) fs).placed k (scaled_all s (plan k) fs).next
+    (λ b. sym (is.2 b)) (all_stand m s fs is.0 (plan k) k (is.1 k))
 begun_stands m s None [] v is k =
     stands_same m (λ b. Some 1) v (numeral_plan s 1 k).placed k (numeral_plan s 1 k).next (λ b. sym (is b)) (numeral_stands m s 1 k)
-begun_stands m s None (c ∷ cs) v is k =
-    stands_same m (λ b. times_all (Some c) cs) v (times_numerals s (numeral_plan s c k) cs).placed k (times_numerals s (numeral_plan s c k) cs).next
-    (λ b. ap (λ x. times_all x cs) (sym (once (Some c))) ∙ sym (is b)) (numerals_stand m s cs (λ b. Some c) (numeral_plan s c k) k (numeral_stands m s c k))
+begun_stands m s None (by_numeral c ∷ fs) v is k =
+    stands_same m (λ b. all_scaled (Some c) fs) v (scaled_all s (numeral_plan s c k) fs).placed k (scaled_all s (numeral_plan s c k) fs).next
+    (λ b. ap (λ x. all_scaled x fs) (sym (once (Some c))) ∙ sym (is b)) (all_stand m s fs (λ b. Some c) (numeral_plan s c k) k (numeral_stands m s c k))
+begun_stands m s None (by_divisor c ∷ fs) v is k =
+    stands_same m (λ b. all_scaled (Some 1) (by_divisor c ∷ fs)) v (scaled_all s (numeral_plan s 1 k) (by_divisor c ∷ fs)).placed k (scaled_all s (numeral_plan s 1 k) (by_divisor c ∷ fs)).next
+    (λ b. sym (is b)) (all_stand m s (by_divisor c ∷ fs) (λ b. Some 1) (numeral_plan s 1 k) k (numeral_stands m s 1 k))
 
-numeral_factored : (m : Meanings) (other : Option (ℕ → TermPlan)) (cs : List ℕ) (v : Value) (c : ℕ) → IsFactored m other cs v
-    → IsFactored m other (cs ++ c ∷ []) (λ b. both multiplied (v b) (Some c))
-numeral_factored m None cs v c is = λ b. ap (λ x. both multiplied x (Some c)) (is b) ∙ sym (times_all_more (Some 1) cs c)
-numeral_factored m (Some plan) cs v c is = (is.0, is.1, λ b. ap (λ x. both multiplied x (Some c)) (is.2 b) ∙ sym (times_all_more (is.0 b) cs c))
+scaling_factored : (m : Meanings) (other : Option (ℕ → TermPlan)) (fs : List Scaling) (v : Value) (f : Scaling) → IsFactored m other fs v
+    → IsFactored m other (fs ++ f ∷ []) (λ b. scaled_value f (v b))
+scaling_factored m None fs v f is = λ b. ap (scaled_value f) (is b) ∙ sym (all_scaled_more (Some 1) fs f)
+scaling_factored m (Some plan) fs v f is = (is.0, is.1, λ b. ap (scaled_value f) (is.2 b) ∙ sym (all_scaled_more (is.0 b) fs f))
+
+value_factored : (m : Meanings) (other : Option (ℕ → TermPlan)) (fs : List Scaling) (v w : Value) → ((b : Assignment) → w b ≡ v b) → IsFactored m other fs v → IsFactored m other fs w
+value_factored m None fs v w same is = λ b. same b ∙ is b
+value_factored m (Some plan) fs v w same is = (is.0, is.1, λ b. same b ∙ is.2 b)
+
+numeral_factored : (m : Meanings) (other : Option (ℕ → TermPlan)) (fs : List Scaling) (v : Value) (c : ℕ) → IsFactored m other fs v
+    → IsFactored m other (fs ++ by_numeral c ∷ []) (λ b. both multiplied (v b) (Some c))
+numeral_factored m other fs v c is =
+    value_factored m other (fs ++ by_numeral c ∷ []) (λ b. scaled_value (by_numeral c) (v b)) (λ b. both multiplied (v b) (Some c)) (λ b. times_is (v b) c)
+    (scaling_factored m other fs v (by_numeral c) is)
 
 -- where all factors are numerals, the next one may be another
-other_factored : (m : Meanings) (other : Option (ℕ → TermPlan)) (cs : List ℕ) (v w : Value) (plan : ℕ → TermPlan) → other ≡ None → IsFactored m other cs v
-    → ((k : ℕ) → Stands m w (plan k).placed k (plan k).next) → IsFactored m (Some plan) cs (λ b. both multiplied (v b) (w b))
-other_factored m None cs v w plan none is stands = (w, stands, λ b. ap (λ x. both multiplied x (w b)) (is b) ∙ times_all_swapped cs 1 (w b) ∙ ap (λ x. times_all x cs) (once (w b)))
-other_factored m (Some other) cs v w plan none is stands = absurd (none-some other (sym none))
+other_factored : (m : Meanings) (other : Option (ℕ → TermPlan)) (fs : List Scaling) (v w : Value) (plan : ℕ → TermPlan) → (other ≡ None) × AreNumerals fs → IsFactored m other fs v
+    → ((k : ℕ) → Stands m w (plan k).placed k (plan k).next) → IsFactored m (Some plan) fs (λ b. both multiplied (v b) (w b))
+other_factored m None fs v w plan none is stands = (w, stands, λ b. ap (λ x. both multiplied x (w b)) (is b) ∙ numerals_swapped fs 1 (w b) none.1 ∙ ap (λ x. all_scaled x fs) (once (w b)))
+other_factored m (Some other) fs v w plan none is stands = absurd (none-some other (sym none.0))
 
-no_other : (s : Name) (fs : Factors) → others fs ≡ 0 → (factor_plans s fs).other ≡ None
-no_other s no_factors none = refl
-no_other s (factors fs (times (numeral c))) none = no_other s fs none
+no_other : (s : Name) (fs : Factors) → others fs ≡ 0 → ((factor_plans s fs).other ≡ None) × AreNumerals (factor_plans s fs).scalings
+no_other s no_factors none = (refl, tt)
+no_other s (factors fs (times (numeral c))) none = let before = no_other s fs none in (before.0, numerals_more (factor_plans s fs).scalings c before.1)
 no_other s (factors fs (times (variable n))) none = absurd (omega (arith, none))
 no_other s (factors fs (times (product gs))) none = absurd (omega (arith, none))
 no_other s (factors fs (times (sum ss t))) none = absurd (omega (arith, none))
+no_other s (factors fs (divided c)) none = absurd (omega (arith, none))
 
 mutual
   pub term_stands : (m : Meanings) (s : Name) (t : Term) → IsLinear t → (k : ℕ) → Stands m (value t) (term_plan s t k).placed k (term_plan s t k).next
   term_stands m s (variable n) linear k = record { there = λ a h. refl; back = λ a is. tt; placed = omega arith }
   term_stands m s (numeral c) linear k = numeral_stands m s c k
-  term_stands m s (product fs) linear k = begun_stands m s (factor_plans s fs).other (factor_plans s fs).numerals (product_value fs) (factors_are m s fs linear.0 linear.1) k
+  term_stands m s (product fs) linear k = begun_stands m s (factor_plans s fs).other (factor_plans s fs).scalings (product_value fs) (factors_are m s fs linear.0 linear.1) k
   term_stands m s (sum ss t) linear k = sum_stands m s ss linear.0 (value t) (term_plan s t) (term_stands m s t linear.1) k
 
-  factors_are : (m : Meanings) (s : Name) (fs : Factors) → others fs ≤ 1 → AreLinearFactors fs → IsFactored m (factor_plans s fs).other (factor_plans s fs).numerals (product_value fs)
+  factors_are : (m : Meanings) (s : Name) (fs : Factors) → others fs ≤ 1 → AreLinearFactors fs → IsFactored m (factor_plans s fs).other (factor_plans s fs).scalings (product_value fs)
   factors_are m s no_factors few linear = λ b. refl
-  factors_are m s (factors fs (times (numeral c))) few linear = numeral_factored m (factor_plans s fs).other (factor_plans s fs).numerals (product_value fs) c (factors_are m s fs few linear.0)
+  factors_are m s (factors fs (times (numeral c))) few linear = numeral_factored m (factor_plans s fs).other (factor_plans s fs).scalings (product_value fs) c (factors_are m s fs few linear.0)
+  factors_are m s (factors fs (divided c)) few linear =
+      scaling_factored m (factor_plans s fs).other (factor_plans s fs).scalings (product_value fs) (by_divisor c) (factors_are m s fs (omega (arith, few)) linear)
   factors_are m s (factors fs (times (variable n))) few linear =
-      other_factored m (factor_plans s fs).other (factor_plans s fs).numerals (product_value fs) (value (variable n)) (term_plan s (variable n)) (no_other s fs (omega (arith, few)))
+      other_factored m (factor_plans s fs).other (factor_plans s fs).scalings (product_value fs) (value (variable n)) (term_plan s (variable n)) (no_other s fs (omega (arith, few)))
       (factors_are m s fs (omega (arith, few)) linear.0) (term_stands m s (variable n) linear.1)
   factors_are m s (factors fs (times (product gs))) few linear =
-      other_factored m (factor_plans s fs).other (factor_plans s fs).numerals (product_value fs) (value (product gs)) (term_plan s (product gs)) (no_other s fs (omega (arith, few)))
+      other_factored m (factor_plans s fs).other (factor_plans s fs).scalings (product_value fs) (value (product gs)) (term_plan s (product gs)) (no_other s fs (omega (arith, few)))
       (factors_are m s fs (omega (arith, few)) linear.0) (term_stands m s (product gs) linear.1)
   factors_are m s (factors fs (times (sum ss t))) few linear =
-      other_factored m (factor_plans s fs).other (factor_plans s fs).numerals (product_value fs) (value (sum ss t)) (term_plan s (sum ss t)) (no_other s fs (omega (arith, few)))
+      other_factored m (factor_plans s fs).other (factor_plans s fs).scalings (product_value fs) (value (sum ss t)) (term_plan s (sum ss t)) (no_other s fs (omega (arith, few)))
       (factors_are m s fs (omega (arith, few)) linear.0) (term_stands m s (sum ss t) linear.1)
 
   sum_stands : (m : Meanings) (s : Name) (ss : Addends) → AreLinearAddends ss → (w : Value) (last : ℕ → TermPlan)

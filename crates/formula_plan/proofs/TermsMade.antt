@@ -1,61 +1,79 @@
 -- Plans of terms, made part by part.
-use Rattle.std.proofs.Common.{◌≡◌, ℕ, ◌+◌, ◌<◌, ◌≤◌, List, [], ◌∷◌, ◌++◌, length, get_or, take, Option, None, Some, Result, Ok, Err, IfOk, refl, sym, ◌∙◌, ap, subst, append-nil}
-use Rattle.std.proofs.lemmas.List.{take_all}
+use Rattle.std.proofs.Common.{◌≡◌, ℕ, ◌+◌, ◌<◌, ◌≤◌, List, [], ◌∷◌, ◌++◌, length, map, get_or, take, Option, None, Some, Result, Ok, Err, IfOk, refl, sym, ◌∙◌, ap, subst, append-nil, arith}
+use Rattle.std.specs.Option.{option_map}
+use Rattle.std.proofs.lemmas.List.{take_all, map-append}
 use Rattle.std.proofs.lemmas.Option.{none-some, same_Some}
 use Rattle.formula_parse.specs.Tokens.{Name}
-use Rattle.formula_parse.specs.Trees.{Term, variable, numeral, product, sum, Factors, no_factors, factors, Factor, times, Addends}
+use Rattle.formula_parse.specs.Trees.{Term, variable, numeral, product, sum, Factors, no_factors, factors, Factor, times, divided, Addends}
 use Rattle.formula_parse.specs.Views.{term_view, factor_view, factors_view, addend_view, addends_view, with_addend as addend_added, sign_view}
 use Rattle.formula_parse.specs.declared.tree.Factor as parsed
 use Rattle.formula_parse.specs.declared.tree.Addend as parsed_addend
 use Rattle.formula_truth.proofs.ViewLemmas.{factors_more, addends_more}
 use Rattle.formula_plan.specs.Tracks.{own, fresh}
 use Rattle.formula_plan.specs.Plans.{Plan}
-use Rattle.formula_plan.specs.TermPlans.{Placed, TermPlan, closed, closing, begun, factor_plans, with_addend, sum_plan, sum_relation, term_plan, numeral_plan, times_numerals}
+use Rattle.formula_plan.specs.TermPlans.{Placed, TermPlan, closed, closing, begun, factor_plans, with_addend, sum_plan, sum_relation, term_plan, numeral_plan, Scaling, by_numeral, by_divisor, scaled_all}
 use Rattle.formula_plan.specs.Makings.{plan_at}
 use Rattle.formula_plan.specs.Planning.{Adds, Does, DoesTerm, base_made, closed_made, standing, placed_at, IsWithin}
-use Rattle.formula_plan.specs.TermPlanning.{term_of, numeral_in, other_of, sum_of, IsSumSoFar}
+use Rattle.formula_plan.specs.TermPlanning.{term_of, scaling_in, scaling_view, Begins, other_of, sum_of, IsSumSoFar}
 use Rattle.formula_plan.specs.declared.planner.Planner.{Planner}
 use Rattle.formula_plan.specs.declared.planner.Placed as found
+use Rattle.formula_plan.specs.declared.multiples.Scaling as parsed_scaling
+use Rattle.formula_plan.specs.declared.multiples.Scaling.TheVariants as scalings
 use Rattle.formula_plan.specs.declared.terms.Before.{Before}
 use Rattle.formula_plan.proofs.PlanningLemmas.{adds_none, adds_then, placed_later}
-use Rattle.formula_plan.proofs.MultiplesMade.{times_after}
+use Rattle.formula_plan.proofs.MultiplesMade.{scaled_after}
 
-numerals_new : (s : Name) (fs : Factors) (f : Factor) (c : ℕ) → numeral_in f ≡ Some c → (factor_plans s (factors fs f)).numerals ≡ (factor_plans s fs).numerals ++ c ∷ []
-numerals_new s fs (times (numeral d)) c is = ap (λ x. (factor_plans s fs).numerals ++ x ∷ []) (same_Some d c is)
-numerals_new s fs (times (variable n)) c is = absurd (none-some c is)
-numerals_new s fs (times (product gs)) c is = absurd (none-some c is)
-numerals_new s fs (times (sum ss t)) c is = absurd (none-some c is)
+scalings_new : (s : Name) (fs : Factors) (f : Factor) (x : Scaling) → scaling_in f ≡ Some x → (factor_plans s (factors fs f)).scalings ≡ (factor_plans s fs).scalings ++ x ∷ []
+scalings_new s fs (times (numeral d)) x is = ap (λ y. (factor_plans s fs).scalings ++ y ∷ []) (same_Some (by_numeral d) x is)
+scalings_new s fs (times (variable n)) x is = absurd (none-some x is)
+scalings_new s fs (times (product gs)) x is = absurd (none-some x is)
+scalings_new s fs (times (sum ss t)) x is = absurd (none-some x is)
+scalings_new s fs (divided d) x is = ap (λ y. (factor_plans s fs).scalings ++ y ∷ []) (same_Some (by_divisor d) x is)
 
-numerals_kept : (s : Name) (fs : Factors) (f : Factor) → numeral_in f ≡ None → (factor_plans s (factors fs f)).numerals ≡ (factor_plans s fs).numerals
-numerals_kept s fs (times (numeral d)) is = absurd (none-some d (sym is))
-numerals_kept s fs (times (variable n)) is = refl
-numerals_kept s fs (times (product gs)) is = refl
-numerals_kept s fs (times (sum ss t)) is = refl
+scalings_kept : (s : Name) (fs : Factors) (f : Factor) → scaling_in f ≡ None → (factor_plans s (factors fs f)).scalings ≡ (factor_plans s fs).scalings
+scalings_kept s fs (times (numeral d)) is = absurd (none-some (by_numeral d) (sym is))
+scalings_kept s fs (times (variable n)) is = refl
+scalings_kept s fs (times (product gs)) is = refl
+scalings_kept s fs (times (sum ss t)) is = refl
+scalings_kept s fs (divided d) is = absurd (none-some (by_divisor d) (sym is))
 
-pub numerals_more : (s : Name) (fs : List parsed.Factor) (i c : ℕ) (f : parsed.Factor) (ns ms : List ℕ) → i < length fs → f ≡ get_or fs i f → numeral_in (factor_view f) ≡ Some c
-    → (factor_plans s (factors_view (take i fs))).numerals ≡ ns → ms ≡ ns ++ c ∷ [] → (factor_plans s (factors_view (take (i + 1) fs))).numerals ≡ ms
-numerals_more s fs i c f ns ms within at is so_far more =
-    ap (λ gs. (factor_plans s gs).numerals) (factors_more fs i f within ∙ ap (λ g. factors (factors_view (take i fs)) (factor_view g)) (sym at))
-    ∙ numerals_new s (factors_view (take i fs)) (factor_view f) c is ∙ ap (λ l. l ++ c ∷ []) so_far ∙ sym more
+pub scalings_more : (s : Name) (fs : List parsed.Factor) (i : ℕ) (x : parsed_scaling.Scaling) (f : parsed.Factor) (xs ys : List parsed_scaling.Scaling) → i < length fs → f ≡ get_or fs i f → scaling_in (factor_view f) ≡ Some (scaling_view x)
+    → (factor_plans s (factors_view (take i fs))).scalings ≡ map scaling_view xs → ys ≡ xs ++ x ∷ [] → (factor_plans s (factors_view (take (i + 1) fs))).scalings ≡ map scaling_view ys
+scalings_more s fs i x f xs ys within at is so_far more =
+    ap (λ gs. (factor_plans s gs).scalings) (factors_more fs i f within ∙ ap (λ g. factors (factors_view (take i fs)) (factor_view g)) (sym at))
+    ∙ scalings_new s (factors_view (take i fs)) (factor_view f) (scaling_view x) is ∙ ap (λ l. l ++ scaling_view x ∷ []) so_far
+    ∙ sym (map-append scaling_view xs (x ∷ [])) ∙ ap (map scaling_view) (sym more)
 
-pub numerals_same : (s : Name) (fs : List parsed.Factor) (i : ℕ) (f : parsed.Factor) (ns : List ℕ) → i < length fs → f ≡ get_or fs i f → numeral_in (factor_view f) ≡ None
-    → (factor_plans s (factors_view (take i fs))).numerals ≡ ns → (factor_plans s (factors_view (take (i + 1) fs))).numerals ≡ ns
-numerals_same s fs i f ns within at is so_far =
-    ap (λ gs. (factor_plans s gs).numerals) (factors_more fs i f within ∙ ap (λ g. factors (factors_view (take i fs)) (factor_view g)) (sym at))
-    ∙ numerals_kept s (factors_view (take i fs)) (factor_view f) is ∙ so_far
+pub scalings_same : (s : Name) (fs : List parsed.Factor) (i : ℕ) (f : parsed.Factor) (xs : List parsed_scaling.Scaling) → i < length fs → f ≡ get_or fs i f → scaling_in (factor_view f) ≡ None
+    → (factor_plans s (factors_view (take i fs))).scalings ≡ map scaling_view xs → (factor_plans s (factors_view (take (i + 1) fs))).scalings ≡ map scaling_view xs
+scalings_same s fs i f xs within at is so_far =
+    ap (λ gs. (factor_plans s gs).scalings) (factors_more fs i f within ∙ ap (λ g. factors (factors_view (take i fs)) (factor_view g)) (sym at))
+    ∙ scalings_kept s (factors_view (take i fs)) (factor_view f) is ∙ so_far
 
 -- the index so far
 abbrev pub IsOtherSoFar : List parsed.Factor → ℕ → Option ℕ → Type 0
 IsOtherSoFar fs i None = other_of (factors_view (take i fs)) ≡ None
 IsOtherSoFar fs i (Some j) = (j < length fs) × ((d : parsed.Factor) → other_of (factors_view (take i fs)) ≡ Some (term_of (factor_view (get_or fs j d))))
 
--- a product of numerals
-pub begun_answers : {E : Type 0} (r : Result found.Placed E) (old mid new : Planner) (v : found.Placed) (s : Name) (ns cs : List ℕ) (c : ℕ) → ns ≡ c ∷ cs
-    → DoesTerm old mid v (numeral_plan s c old.next) → IfOk r (λ w. DoesTerm mid new w (times_numerals s (standing (placed_at mid.plans v) mid.next) cs))
-    → IfOk r (λ w. DoesTerm old new w (begun s None ns old.next))
-begun_answers (Ok w) old mid new v s ns cs c same first second =
-    subst (λ l. DoesTerm old new w (begun s None l old.next)) (sym same) (times_after old mid new v w s (numeral_plan s c old.next) cs first second)
-begun_answers (Err e) old mid new v s ns cs c same first second = second
+-- what a product without another factor begins with
+pub begins_none : (all : List parsed_scaling.Scaling) → length all ≡ 0 → Begins all 1 all
+begins_none [] none s k = refl
+begins_none (x ∷ xs) none s k = absurd (omega (arith, none))
+
+pub begins_numeral : (all rest : List parsed_scaling.Scaling) (x : parsed_scaling.Scaling) (c : ℕ) → all ≡ x ∷ rest → x ≡ scalings.Times c → Begins all c rest
+begins_numeral all rest x c is numeral_is s k = ap (λ l. begun s None (map scaling_view l) k) (is ∙ ap (λ y. y ∷ rest) numeral_is)
+
+pub begins_divisor : (all rest : List parsed_scaling.Scaling) (x : parsed_scaling.Scaling) (c : ℕ) → all ≡ x ∷ rest → x ≡ scalings.Over c → Begins all 1 all
+begins_divisor all rest x c is divisor_is s k =
+    let same : all ≡ scalings.Over c ∷ rest = is ∙ ap (λ y. y ∷ rest) divisor_is in
+    ap (λ l. begun s None (map scaling_view l) k) same ∙ sym (ap (λ l. scaled_all s (numeral_plan s 1 k) (map scaling_view l)) same)
+
+pub begun_answers : {E : Type 0} (r : Result found.Placed E) (old mid new : Planner) (v : found.Placed) (s : Name) (all rest : List parsed_scaling.Scaling) (c : ℕ) → Begins all c rest
+    → DoesTerm old mid v (numeral_plan s c old.next) → IfOk r (λ w. DoesTerm mid new w (scaled_all s (standing (placed_at mid.plans v) mid.next) (map scaling_view rest)))
+    → IfOk r (λ w. DoesTerm old new w (begun s None (map scaling_view all) old.next))
+begun_answers (Ok w) old mid new v s all rest c begins first second =
+    subst (λ p. DoesTerm old new w p) (sym (begins s old.next)) (scaled_after old mid new v w s (numeral_plan s c old.next) (map scaling_view rest) first second)
+begun_answers (Err e) old mid new v s all rest c begins first second = second
 
 -- two values joined
 pub sum_does : (old taken one two new : Planner) (b : Before) (v w : found.Placed) (i j k r : ℕ) (s : Name) → IsWithin old.plans b.sum.relation → IsWithin old.plans v.relation
@@ -153,6 +171,12 @@ pub seen_answers : {E : Type 0} (r : Result found.Placed E) (s : Name) (whole se
 seen_answers (Ok w) s whole seen old new same does = subst (λ x. DoesTerm old new w (term_plan s x old.next)) (sym same) does
 seen_answers (Err e) s whole seen old new same does = does
 
+-- the numeral of a divisor
+pub divisor_does : {E : Type 0} (r : Result found.Placed E) (s : Name) (f : Factor) (c : ℕ) (old new : Planner) → f ≡ divided c → IfOk r (λ w. DoesTerm old new w (numeral_plan s c old.next))
+    → IfOk r (λ w. DoesTerm old new w (term_plan s (term_of f) old.next))
+divisor_does (Ok w) s f c old new same does = subst (λ g. DoesTerm old new w (term_plan s (term_of g) old.next)) (sym same) does
+divisor_does (Err e) s f c old new same does = does
+
 -- the plan of the factor that is no numeral
 abbrev plan_of_other : Name → Option Term → Option (ℕ → TermPlan)
 plan_of_other s None = None
@@ -161,21 +185,22 @@ plan_of_other s (Some t) = Some (term_plan s t)
 other_plan : (s : Name) (fs : Factors) → (factor_plans s fs).other ≡ plan_of_other s (other_of fs)
 other_plan s no_factors = refl
 other_plan s (factors fs (times (numeral c))) = other_plan s fs
+other_plan s (factors fs (divided c)) = other_plan s fs
 other_plan s (factors fs (times (variable n))) = refl
 other_plan s (factors fs (times (product gs))) = refl
 other_plan s (factors fs (times (sum ss t))) = refl
 
-pub product_answers : {E : Type 0} (r : Result found.Placed E) (s : Name) (fs : Factors) (t : Term) (ns : List ℕ) (old mid new : Planner) (v : found.Placed)
-    → DoesTerm old mid v (term_plan s t old.next) → other_of fs ≡ Some t → (factor_plans s fs).numerals ≡ ns
-    → IfOk r (λ w. DoesTerm mid new w (times_numerals s (standing (placed_at mid.plans v) mid.next) ns)) → IfOk r (λ w. DoesTerm old new w (term_plan s (product fs) old.next))
-product_answers (Ok w) s fs t ns old mid new v first other numbers second =
-    subst (λ o. DoesTerm old new w (begun s o (factor_plans s fs).numerals old.next)) (sym (other_plan s fs ∙ ap (plan_of_other s) other))
-    (subst (λ l. DoesTerm old new w (begun s (Some (term_plan s t)) l old.next)) (sym numbers) (times_after old mid new v w s (term_plan s t old.next) ns first second))
-product_answers (Err e) s fs t ns old mid new v first other numbers second = second
+pub product_answers : {E : Type 0} (r : Result found.Placed E) (s : Name) (fs : Factors) (t : Term) (xs : List Scaling) (old mid new : Planner) (v : found.Placed)
+    → DoesTerm old mid v (term_plan s t old.next) → other_of fs ≡ Some t → (factor_plans s fs).scalings ≡ xs
+    → IfOk r (λ w. DoesTerm mid new w (scaled_all s (standing (placed_at mid.plans v) mid.next) xs)) → IfOk r (λ w. DoesTerm old new w (term_plan s (product fs) old.next))
+product_answers (Ok w) s fs t xs old mid new v first other found_are second =
+    subst (λ o. DoesTerm old new w (begun s o (factor_plans s fs).scalings old.next)) (sym (other_plan s fs ∙ ap (plan_of_other s) other))
+    (subst (λ l. DoesTerm old new w (begun s (Some (term_plan s t)) l old.next)) (sym found_are) (scaled_after old mid new v w s (term_plan s t old.next) xs first second))
+product_answers (Err e) s fs t xs old mid new v first other found_are second = second
 
-pub numerals_answers : {E : Type 0} (r : Result found.Placed E) (s : Name) (fs : Factors) (ns : List ℕ) (old new : Planner)
-    → other_of fs ≡ None → (factor_plans s fs).numerals ≡ ns → IfOk r (λ w. DoesTerm old new w (begun s None ns old.next)) → IfOk r (λ w. DoesTerm old new w (term_plan s (product fs) old.next))
-numerals_answers (Ok w) s fs ns old new other numbers does =
-    subst (λ o. DoesTerm old new w (begun s o (factor_plans s fs).numerals old.next)) (sym (other_plan s fs ∙ ap (plan_of_other s) other))
-    (subst (λ l. DoesTerm old new w (begun s None l old.next)) (sym numbers) does)
-numerals_answers (Err e) s fs ns old new other numbers does = does
+pub numerals_answers : {E : Type 0} (r : Result found.Placed E) (s : Name) (fs : Factors) (xs : List Scaling) (old new : Planner)
+    → other_of fs ≡ None → (factor_plans s fs).scalings ≡ xs → IfOk r (λ w. DoesTerm old new w (begun s None xs old.next)) → IfOk r (λ w. DoesTerm old new w (term_plan s (product fs) old.next))
+numerals_answers (Ok w) s fs xs old new other found_are does =
+    subst (λ o. DoesTerm old new w (begun s o (factor_plans s fs).scalings old.next)) (sym (other_plan s fs ∙ ap (plan_of_other s) other))
+    (subst (λ l. DoesTerm old new w (begun s None l old.next)) (sym found_are) does)
+numerals_answers (Err e) s fs xs old new other found_are does = does

@@ -1,6 +1,7 @@
 -- Atoms part by part: the sides of a short equation, and the plans of several terms.
 use Rattle.std.specs.Prelude.{◌≡◌, ◌⊎◌, ℕ, [], Option, None, Some}
 use Rattle.std.specs.Borrow.{Bor}
+use Rattle.std.specs.Option.{unwrap_or}
 use Rattle.formula_parse.specs.Tokens.{Name}
 use Rattle.formula_parse.specs.Trees.{Terms, Index}
 use Rattle.formula_parse.specs.declared.tree.Term as parsed
@@ -8,11 +9,12 @@ use Rattle.formula_plan.specs.Plans.{called, Made}
 use Rattle.formula_plan.specs.FactPlans.{Form, long, variable_left, variable_right, tracks_of, TermPlans, over_terms, argument_plans}
 use Rattle.formula_plan.specs.declared.comparisons.Short.{Short}
 use Rattle.formula_resolve.specs.Headers as resolved
+use Rattle.formula_resolve.specs.FreeOccurrences.{free_system}
 use Rattle.formula_plan.specs.FactPlans as plans
 
--- the systems of tracks, as headers say them
+-- the systems of tracks and of variables, as headers say them
 abbrev pub headers_of : resolved.Headers → plans.Headers
-headers_of h = record { of_automaton = resolved.automaton_tracks h; of_word = resolved.word_tracks h }
+headers_of h = record { of_automaton = resolved.automaton_tracks h; of_word = resolved.word_tracks h; of_variable = λ f n. unwrap_or (free_system h f n) [] }
 
 -- the same name, or none
 abbrev pub IsNameOf : Option Name → Option (Bor Name) → Type 0

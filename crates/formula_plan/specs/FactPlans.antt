@@ -1,15 +1,16 @@
 -- The plans of what atoms say.
 use Rattle.std.specs.Prelude.{ℕ, ℤ, suc, Bool, true, false, List, [], ◌∷◌, ◌++◌, Option, None, Some, slice_index_or}
 use Rattle.formula_parse.specs.Tokens.{Name, Relation, equal, unequal, less, greater, at_most, at_least}
-use Rattle.formula_parse.specs.Trees.{Term, variable, numeral, product, sum, Terms, no_terms, terms, Index, Fact, compare, words, word_letter, letter_word, call}
+use Rattle.formula_parse.specs.Trees.{Term, variable, numeral, product, sum, Terms, no_terms, terms, Index, Fact, compare, words, word_letter, letter_word, call, Formula}
 use Rattle.formula_plan.specs.Tracks.{Track, own}
 use Rattle.formula_plan.specs.Plans.{Plan, compared, called, lettered, renamed, paired, Made}
 use Rattle.formula_plan.specs.TermPlans.{Placed, TermPlan, closed, closing, term_plan}
 
--- the systems of the tracks of each automaton and of each word
+-- the systems of the tracks of each automaton and of each word, and that of a variable where it occurs first in a formula, free
 pub record Headers : Type 0 where
   pub of_automaton : Name → List Name
   pub of_word : Name → List Name
+  pub of_variable : Formula → Name → Name
 
 -- where the values of some terms are placed, in their order
 pub data Places : Type 0 where

@@ -6,7 +6,7 @@ use Rattle.formula_parse.specs.Trees.{Joint}
 use Rattle.formula_parse.specs.Views.{connective_view}
 use Rattle.formula_plan.specs.Tracks.{own, has_track}
 use Rattle.formula_plan.specs.Plans.{Plan, joined, projected, tracks, Made}
-use Rattle.formula_plan.specs.FormulaPlans.{MadeOperands, none_made, made, chained, chaining, OperandPlans}
+use Rattle.formula_plan.specs.FormulaPlans.{MadeOperands, none_made, made, chained, chaining, OperandPlans, for_infinitely}
 use Rattle.formula_plan.specs.Makings.{plan_at}
 use Rattle.formula_plan.specs.OwnNames.{has_name}
 use Rattle.formula_plan.specs.Planning.{Adds, Does}
@@ -63,3 +63,8 @@ pub record AgreeOn (p : Plan) (ms : List Name) : Type 0 where
 abbrev pub projected_where : Bool → Name → Plan → ℕ → Made
 projected_where true n p k = record { steps = projected (own n) p ∷ []; last = projected (own n) p; next = k }
 projected_where false n p k = record { steps = []; last = p; next = k }
+
+-- infinitely many numbers of a variable, where it is to be
+abbrev pub infinitely_if : Bool → Name → Name → Plan → ℕ → Made
+infinitely_if true s n p k = for_infinitely s n (record { steps = []; last = p; next = k })
+infinitely_if false s n p k = record { steps = []; last = p; next = k }

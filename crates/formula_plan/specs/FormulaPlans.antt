@@ -1,9 +1,10 @@
 -- The plans of formulas.
-use Rattle.std.specs.Prelude.{ℕ, List, [], ◌∷◌, ◌++◌, if◌then◌else◌}
-use Rattle.formula_parse.specs.Tokens.{Name, Quantifier, some, every}
+use Rattle.std.specs.Prelude.{ℕ, ◌+◌, List, [], ◌∷◌, ◌++◌, if◌then◌else◌}
+use Rattle.formula_parse.specs.Tokens.{Name, Quantifier, some, every, infinite, less}
 use Rattle.formula_parse.specs.Trees.{Names, no_names, names, Joint, Formula, atom, negated, chain, quantified, marked, Operands, no_operands, operands}
-use Rattle.formula_plan.specs.Tracks.{Track, own, has_track, without}
-use Rattle.formula_plan.specs.Plans.{Plan, joined, complement, projected, tracks, Made}
+use Rattle.formula_plan.specs.Tracks.{Track, own, fresh, has_track, without}
+use Rattle.formula_plan.specs.Plans.{Plan, compared, joined, complement, projected, tracks, Made}
+use Rattle.formula_plan.specs.TermPlans.{linked}
 use Rattle.formula_plan.specs.FactPlans.{Headers, fact_plan}
 
 -- a step after others, which makes this
@@ -55,9 +56,27 @@ for_every (n ∷ ns) m =
     let projected_inside = for_some (n ∷ ns) inside in
     and_step projected_inside (complement projected_inside.last)
 
-abbrev pub quantified_made : Quantifier → List Name → Made → Made
-quantified_made some ns m = for_some ns m
-quantified_made every ns m = for_every ns m
+-- for some number above a bound, which is on a fresh track
+abbrev pub above_bound : Name → Name → Made → Made
+above_bound s n m = linked (record { steps = m.steps; last = m.last; next = m.next + 1 }) (own n) (compared s less (fresh m.next) (own n))
+
+-- for infinitely many numbers of a variable in a system: there is no bound above which there is none
+abbrev pub for_infinitely : Name → Name → Made → Made
+for_infinitely s n m =
+    let none_above = and_step (above_bound s n m) (complement (above_bound s n m).last) in
+    let bounded = and_step none_above (projected (fresh m.next) none_above.last) in
+    and_step bounded (complement bounded.last)
+
+-- for several variables, from the last to the first, each left out where it is no track
+abbrev pub for_infinitely_many : (Name → Name) → Names → Made → Made
+for_infinitely_many on no_names m = m
+for_infinitely_many on (names ns n) m = for_infinitely_many on ns (if has_track (tracks m.last) (own n) then for_infinitely (on n) n m else m)
+
+-- a quantifier with its variables, which are in these systems
+abbrev pub quantified_made : Quantifier → (Name → Name) → Names → Made → Made
+quantified_made some on ns m = for_some (kept ns (tracks m.last)) m
+quantified_made every on ns m = for_every (kept ns (tracks m.last)) m
+quantified_made infinite on ns m = for_infinitely_many on ns m
 
 abbrev mutual
   -- the steps of a formula, with fresh tracks from a number on
@@ -68,7 +87,7 @@ abbrev mutual
       let ps = operand_plans h os k in
       let m = plan_of h f ps.next in
       record { steps = ps.steps ++ (m.steps ++ chaining ps.operands m.last); last = chained ps.operands m.last; next = m.next }
-  plan_of h (quantified q ns f) k = let m = plan_of h f k in quantified_made q (kept ns (tracks m.last)) m
+  plan_of h (quantified q ns f) k = quantified_made q (h.of_variable f) ns (plan_of h f k)
   plan_of h (marked ms f) k = plan_of h f k
 
   -- all operands before the last, in their order

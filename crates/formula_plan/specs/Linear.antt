@@ -1,6 +1,6 @@
--- Formulas whose products have at most one factor that is no numeral.
-use Rattle.std.specs.Prelude.{ℕ, suc, ◌≤◌, ⊤}
-use Rattle.formula_parse.specs.Trees.{Term, variable, numeral, product, sum, Factors, no_factors, factors, times, Terms, no_terms, terms, Addends, no_addends, addends, Fact, compare, words, word_letter, letter_word, call, Formula, atom, negated, chain, quantified, marked, Operands, no_operands, operands}
+-- Formulas whose products have at most one factor that is no numeral; a quotient is such a factor.
+use Rattle.std.specs.Prelude.{ℕ, suc, ◌-◌, ◌≤◌, ⊤}
+use Rattle.formula_parse.specs.Trees.{Term, variable, numeral, product, sum, Factors, no_factors, factors, times, divided, Terms, no_terms, terms, Addends, no_addends, addends, Fact, compare, words, word_letter, letter_word, call, Formula, atom, negated, chain, quantified, marked, Operands, no_operands, operands}
 
 -- one more, if the term is no numeral
 abbrev pub one_more_unless : Term → ℕ → ℕ
@@ -9,10 +9,11 @@ one_more_unless (variable x) n = suc n
 one_more_unless (product fs) n = suc n
 one_more_unless (sum ss t) n = suc n
 
--- how many factors are no numerals
+-- How many factors are no numerals. A divisor makes all that is before it one quotient.
 abbrev pub others : Factors → ℕ
 others no_factors = 0
 others (factors fs (times t)) = one_more_unless t (others fs)
+others (factors fs (divided c)) = suc (others fs - 1)
 
 abbrev mutual
   pub IsLinear : Term → Type 0
@@ -24,6 +25,7 @@ abbrev mutual
   pub AreLinearFactors : Factors → Type 0
   AreLinearFactors no_factors = ⊤
   AreLinearFactors (factors fs (times t)) = AreLinearFactors fs × IsLinear t
+  AreLinearFactors (factors fs (divided c)) = AreLinearFactors fs
 
   pub AreLinearAddends : Addends → Type 0
   AreLinearAddends no_addends = ⊤

@@ -3,7 +3,7 @@
 use Rattle.std.specs.Prelude.{◌≡◌, Bool, false, ◌||◌, List, [], ◌∷◌, ◌++◌, not, filter}
 use Rattle.std.specs.Str.{bytes_eq}
 use Rattle.formula_parse.specs.Tokens.{Name}
-use Rattle.formula_parse.specs.Trees.{Names, no_names, names, Term, variable, numeral, product, sum, Factors, no_factors, factors, times, Terms, no_terms, terms, Addends, no_addends, addends, Fact, compare, words, word_letter, letter_word, call, Formula, atom, negated, chain, quantified, marked, Operands, no_operands, operands}
+use Rattle.formula_parse.specs.Trees.{Names, no_names, names, Term, variable, numeral, product, sum, Factors, no_factors, factors, times, divided, Terms, no_terms, terms, Addends, no_addends, addends, Fact, compare, words, word_letter, letter_word, call, Formula, atom, negated, chain, quantified, marked, Operands, no_operands, operands}
 
 abbrev mutual
   pub own_names : Term → List Name
@@ -15,6 +15,7 @@ abbrev mutual
   pub own_multiplied : Factors → List Name
   own_multiplied no_factors = []
   own_multiplied (factors fs (times (numeral c))) = own_multiplied fs
+  own_multiplied (factors fs (divided c)) = own_multiplied fs
   own_multiplied (factors fs (times t)) = own_names t
 
   pub own_before : Addends → List Name

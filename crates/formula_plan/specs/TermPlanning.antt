@@ -1,29 +1,43 @@
--- Terms part by part: the factor that is no numeral, and a sum so far.
-use Rattle.std.specs.Prelude.{◌≡◌, ℕ, ◌<◌, List, length, Option, None, Some, slice_index_or, ⊤}
+-- Terms part by part: the factor that is no numeral, the numerals and divisors, and a sum so far.
+use Rattle.std.specs.Prelude.{◌≡◌, ℕ, ◌<◌, List, map, length, Option, None, Some, slice_index_or, ⊤}
 use Rattle.formula_parse.specs.Tokens.{Name}
-use Rattle.formula_parse.specs.Trees.{Term, variable, numeral, product, sum, Factors, no_factors, factors, Factor, times, Addends, no_addends}
+use Rattle.formula_parse.specs.Trees.{Term, variable, numeral, product, sum, Factors, no_factors, factors, Factor, times, divided, Addends, no_addends}
 use Rattle.formula_parse.specs.Views.{factor_view, factors_view, sign_view}
 use Rattle.formula_parse.specs.declared.tree.Factor as parsed
 use Rattle.formula_plan.specs.Plans.{Plan}
-use Rattle.formula_plan.specs.TermPlans.{Placed, TermPlan, with_addend, sum_plan}
+use Rattle.formula_plan.specs.TermPlans.{Placed, TermPlan, Scaling, by_numeral, by_divisor, scaled_all, numeral_plan, begun, with_addend, sum_plan}
 use Rattle.formula_plan.specs.Planning.{IsWithin, placed_at, standing, DoesTerm}
 use Rattle.formula_plan.specs.declared.planner.Planner.{Planner}
 use Rattle.formula_plan.specs.declared.terms.Before.{Before}
+use Rattle.formula_plan.specs.declared.multiples.Scaling as parsed_scaling
+use Rattle.formula_plan.specs.declared.multiples.Scaling.TheVariants as scalings
 
--- the term that a factor multiplies by
+-- the term that a factor multiplies by; of a divisor, any
 abbrev pub term_of : Factor → Term
 term_of (times t) = t
+term_of (divided c) = numeral c
 
-abbrev pub numeral_in : Factor → Option ℕ
-numeral_in (times (numeral c)) = Some c
-numeral_in (times (variable n)) = None
-numeral_in (times (product fs)) = None
-numeral_in (times (sum ss t)) = None
+-- the scaling that a factor is, if it is a numeral or a divisor
+abbrev pub scaling_in : Factor → Option Scaling
+scaling_in (times (numeral c)) = Some (by_numeral c)
+scaling_in (times (variable n)) = None
+scaling_in (times (product fs)) = None
+scaling_in (times (sum ss t)) = None
+scaling_in (divided c) = Some (by_divisor c)
+
+abbrev pub scaling_view : parsed_scaling.Scaling → Scaling
+scaling_view (scalings.Times c) = by_numeral c
+scaling_view (scalings.Over c) = by_divisor c
+
+-- a product without another factor begins with this numeral, which these scale
+abbrev pub Begins : List parsed_scaling.Scaling → ℕ → List parsed_scaling.Scaling → Type 0
+Begins all c rest = (s : Name) (k : ℕ) → begun s None (map scaling_view all) k ≡ scaled_all s (numeral_plan s c k) (map scaling_view rest)
 
 -- the last term among some factors that is no numeral
 abbrev pub other_of : Factors → Option Term
 other_of no_factors = None
 other_of (factors fs (times (numeral c))) = other_of fs
+other_of (factors fs (divided c)) = other_of fs
 other_of (factors fs (times (variable n))) = Some (variable n)
 other_of (factors fs (times (product gs))) = Some (product gs)
 other_of (factors fs (times (sum ss t))) = Some (sum ss t)

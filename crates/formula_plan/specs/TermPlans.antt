@@ -1,7 +1,7 @@
 -- The plans of terms: a track on which a term's value is, and where it is fresh, the relation of the term's variables and its value.
 use Rattle.std.specs.Prelude.{ℕ, zero, suc, ◌+◌, ◌-◌, ◌/◌, ◌%◌, ◌==◌, List, [], ◌∷◌, ◌++◌, Option, None, Some, if◌then◌else◌}
-use Rattle.formula_parse.specs.Tokens.{Name, Sign, plus, minus, equal}
-use Rattle.formula_parse.specs.Trees.{Term, variable, numeral, product, sum, Factors, no_factors, factors, times, Addends, no_addends, addends, and}
+use Rattle.formula_parse.specs.Tokens.{Name, Sign, plus, minus, equal, less}
+use Rattle.formula_parse.specs.Trees.{Term, variable, numeral, product, sum, Factors, no_factors, factors, times, divided, Addends, no_addends, addends, and}
 use Rattle.formula_plan.specs.Tracks.{Track, own, fresh}
 use Rattle.formula_plan.specs.Plans.{Plan, compared, added, number, constant, joined, projected, Made}
 
@@ -58,20 +58,46 @@ multiple (suc most) s c x y k =
     else if c % 2 == 0 then linked (multiple most s (c / 2) x (fresh k) (k + 1)) (fresh k) (added s (fresh k) (fresh k) y)
     else linked (multiple most s (c - 1) x (fresh k) (k + 1)) (fresh k) (added s (fresh k) x y)
 
--- a value times a numeral
-abbrev pub times_numeral : Name → TermPlan → ℕ → TermPlan
-times_numeral s p c =
-    let m = multiple c s c p.placed.track (fresh p.next) (p.next + 1) in
+-- c times a number, and what is left, are x, and the number is y
+abbrev pub parted : Name → ℕ → Track → Track → Track → Track → ℕ → Made
+parted s c x y part rest k = linked (multiple c s c y part k) part (added s part rest x)
+
+-- what is left is below c
+abbrev pub below : Name → ℕ → Track → Track → ℕ → Made
+below s c rest bound k = linked (record { steps = constant s c bound ∷ []; last = constant s c bound; next = k }) bound (compared s less rest bound)
+
+-- y is the greatest number that, times c, is at most x
+abbrev pub quotient_made : Name → ℕ → Track → Track → ℕ → Made
+quotient_made s c x y k =
+    if c == 1 then record { steps = []; last = compared s equal x y; next = k }
+    else
+    let whole = parted s c x y (fresh k) (fresh (k + 1)) (k + 3) in
+    let small = below s c (fresh (k + 1)) (fresh (k + 2)) whole.next in
+    linked (record { steps = whole.steps ++ small.steps; last = small.last; next = small.next }) (fresh (k + 1)) whole.last
+
+-- by what the value that a product begins with is multiplied, or divided
+pub data Scaling : Type 0 where
+  by_numeral : ℕ → Scaling
+  by_divisor : ℕ → Scaling
+
+abbrev pub scaling_made : Name → Scaling → Track → Track → ℕ → Made
+scaling_made s (by_numeral c) x y k = multiple c s c x y k
+scaling_made s (by_divisor c) x y k = quotient_made s c x y k
+
+-- a value scaled
+abbrev pub scaled : Name → TermPlan → Scaling → TermPlan
+scaled s p f =
+    let m = scaling_made s f p.placed.track (fresh p.next) (p.next + 1) in
     record {
       steps = p.steps ++ (m.steps ++ closing p.placed m.last);
       placed = record { track = fresh p.next; relation = Some (closed p.placed m.last) };
       next = m.next;
     }
 
--- and times several, in their order
-abbrev pub times_numerals : Name → TermPlan → List ℕ → TermPlan
-times_numerals s p [] = p
-times_numerals s p (c ∷ cs) = times_numerals s (times_numeral s p c) cs
+-- and scaled several times, in their order
+abbrev pub scaled_all : Name → TermPlan → List Scaling → TermPlan
+scaled_all s p [] = p
+scaled_all s p (f ∷ fs) = scaled_all s (scaled s p f) fs
 
 -- two values and their sum, or their difference
 abbrev pub sum_relation : Name → Sign → Track → Track → Track → Plan
@@ -94,33 +120,36 @@ numeral_plan s c k = record {
   next = k + 1;
 }
 
--- the factors of a product: the plan of the one that is no numeral, if there is one, and the numerals in their order
+-- the factors of a product: the plan of the one that is no numeral, if there is one, and the numerals and divisors in their order
 pub record FactorPlans : Type 0 where
   pub other : Option (ℕ → TermPlan)
-  pub numerals : List ℕ
+  pub scalings : List Scaling
 
-abbrev pub with_numeral : FactorPlans → ℕ → FactorPlans
-with_numeral ps c = record { other = ps.other; numerals = ps.numerals ++ c ∷ [] }
+abbrev pub with_scaling : FactorPlans → Scaling → FactorPlans
+with_scaling ps f = record { other = ps.other; scalings = ps.scalings ++ f ∷ [] }
 
 abbrev pub with_other : FactorPlans → (ℕ → TermPlan) → FactorPlans
-with_other ps plan = record { other = Some plan; numerals = ps.numerals }
+with_other ps plan = record { other = Some plan; scalings = ps.scalings }
 
--- a product begins with the factor that is no numeral, or else with its first one
-abbrev pub begun : Name → Option (ℕ → TermPlan) → List ℕ → ℕ → TermPlan
-begun s (Some plan) cs k = times_numerals s (plan k) cs
+-- A product begins with the factor that is no numeral, or else with its first numeral, or 1. Where it has divisors, each
+-- divides all that is before it, and the factor that is no numeral is before the first of them.
+abbrev pub begun : Name → Option (ℕ → TermPlan) → List Scaling → ℕ → TermPlan
+begun s (Some plan) fs k = scaled_all s (plan k) fs
 begun s None [] k = numeral_plan s 1 k
-begun s None (c ∷ cs) k = times_numerals s (numeral_plan s c k) cs
+begun s None (by_numeral c ∷ fs) k = scaled_all s (numeral_plan s c k) fs
+begun s None (by_divisor c ∷ fs) k = scaled_all s (numeral_plan s 1 k) (by_divisor c ∷ fs)
 
 abbrev mutual
   pub term_plan : Name → Term → ℕ → TermPlan
   term_plan s (variable n) k = record { steps = []; placed = record { track = own n; relation = None }; next = k }
   term_plan s (numeral c) k = numeral_plan s c k
-  term_plan s (product fs) k = let ps = factor_plans s fs in begun s ps.other ps.numerals k
+  term_plan s (product fs) k = let ps = factor_plans s fs in begun s ps.other ps.scalings k
   term_plan s (sum ss t) k = sum_plan s ss (term_plan s t) k
 
   pub factor_plans : Name → Factors → FactorPlans
-  factor_plans s no_factors = record { other = None; numerals = [] }
-  factor_plans s (factors fs (times (numeral c))) = with_numeral (factor_plans s fs) c
+  factor_plans s no_factors = record { other = None; scalings = [] }
+  factor_plans s (factors fs (times (numeral c))) = with_scaling (factor_plans s fs) (by_numeral c)
+  factor_plans s (factors fs (divided c)) = with_scaling (factor_plans s fs) (by_divisor c)
   factor_plans s (factors fs (times t)) = with_other (factor_plans s fs) (term_plan s t)
 
   -- the addends, read from the left, and then the last one, which has this plan

@@ -12,7 +12,7 @@ use crate::facts::stated;
 use crate::free_names::FreeNames;
 use crate::names::add_fact;
 use crate::planner::Planner;
-use crate::quantifiers::{complement, quantified};
+use crate::quantifiers::{Binding, complement, quantified};
 use digit_tuple::faults::OutOfMemory;
 use formula_parse::tree::Formula;
 use formula_resolve::Headers;
@@ -55,7 +55,13 @@ pub(crate) fn planned(
         Formula::Quantified(quantifier, variables, inside) => {
             let mut inner = FreeNames::new(planner.alloc);
             let place = planned(planner, headers, inside, &mut inner)?;
-            let closed = quantified(planner, *quantifier, variables, place, &mut inner)?;
+            let binding = Binding {
+                quantifier: *quantifier,
+                variables,
+                formula: inside,
+                headers,
+            };
+            let closed = quantified(planner, binding, place, &mut inner)?;
             free.add_all(inner)?;
             Ok(closed)
         }

@@ -17,7 +17,7 @@ mod planner;
 // plans that are made of no others
 mod bases;
 
-// numbers and their multiples
+// numbers, their multiples and their quotients
 mod multiples;
 
 // terms

@@ -1,7 +1,8 @@
-//! Plans of numbers, and of their multiples by doubling.
+//! Plans of numbers, of their multiples by doubling, and of their quotients.
 
-ghost use Rattle.std.specs.Prelude.{◌≡◌, ℕ, ◌≤◌, ◌<◌, length, IfOk};
-ghost use Rattle.formula_plan.specs.TermPlans.{numeral_plan, no_times, multiple as multiple_plan, times_numeral, times_numerals};
+ghost use Rattle.std.specs.Prelude.{◌≡◌, ℕ, ◌≤◌, ◌<◌, map, length, IfOk};
+ghost use Rattle.formula_plan.specs.TermPlans.{numeral_plan, no_times, multiple as multiple_plan, parted as parted_plan, below as below_plan, quotient_made, scaling_made, scaled as scaled_plan, scaled_all};
+ghost use Rattle.formula_plan.specs.TermPlanning.{scaling_view};
 ghost use Rattle.formula_plan.specs.Makings.{track_view, plan_at};
 ghost use Rattle.formula_plan.specs.Planning.{Does, DoesTerm, IsWithin, placed_at, standing};
 
@@ -12,7 +13,14 @@ use digit_tuple::faults::OutOfMemory;
 use digit_tuple::name::Name;
 use formula_parse::tree::{Connective, Relation};
 
-/// Two tracks of a system, the second for a multiple of the number on the first.
+/// By what a value is multiplied, or divided.
+#[derive(Clone, Copy)]
+pub(crate) enum Scaling {
+    Times(u64),
+    Over(u64),
+}
+
+/// Two tracks of a system, the second for a multiple of the number on the first, or for a quotient.
 #[derive(Clone, Copy)]
 struct Scale<'a> {
     system: &'a Name,
@@ -77,15 +85,82 @@ fn multiple(planner: &mut Planner, scale: Scale<'_>, times: u64) -> Result<usize
     }
 }
 
-/// A value times a number, on a fresh track.
-fn multiplied(
+/// The number on the first track, parted: its quotient on the second, times the divisor, and what is left.
+fn parted(
+    planner: &mut Planner,
+    scale: Scale<'_>,
+    divisor: u64,
+    part: &Track,
+    rest: &Track,
+) -> Result<usize, OutOfMemory>
+    ensures { IfOk result (λ place. Does planner.old planner.new place (parted_plan scale.entry.system.now divisor (track_view scale.entry.value.now) (track_view scale.entry.product.now) (track_view part.now) (track_view rest.now) planner.old.next)) }
+{
+    let back = Scale {
+        system: scale.system,
+        value: scale.product,
+        product: part,
+    };
+    let times = multiple(planner, back, divisor)?;
+    let sum = planner.added(scale.system, part, rest, scale.value)?;
+    let linked = planner.link(times, sum, part)?;
+    Ok(linked)
+}
+
+/// A number below the divisor.
+fn below(
+    planner: &mut Planner,
+    system: &Name,
+    divisor: u64,
+    rest: &Track,
+    bound: &Track,
+) -> Result<usize, OutOfMemory>
+    ensures { IfOk result (λ place. Does planner.old planner.new place (below_plan system.now divisor (track_view rest.now) (track_view bound.now) planner.old.next)) }
+{
+    let constant = planner.constant(system, divisor, bound)?;
+    let less = planner.compared(system, Relation::Less, rest, bound)?;
+    let linked = planner.link(constant, less, bound)?;
+    Ok(linked)
+}
+
+/// The quotient of a number by a divisor, on the second track.
+fn quotient(planner: &mut Planner, scale: Scale<'_>, divisor: u64) -> Result<usize, OutOfMemory>
+    ensures { IfOk result (λ place. Does planner.old planner.new place (quotient_made scale.entry.system.now divisor (track_view scale.entry.value.now) (track_view scale.entry.product.now) planner.old.next)) }
+{
+    if divisor == 1 {
+        return planner.compared(scale.system, Relation::Equal, scale.value, scale.product);
+    }
+    let part = Track::Fresh(planner.fresh()?);
+    let rest = Track::Fresh(planner.fresh()?);
+    let bound = Track::Fresh(planner.fresh()?);
+    let whole = parted(planner, scale, divisor, &part, &rest)?;
+    let small = below(planner, scale.system, divisor, &rest, &bound)?;
+    let linked = planner.link(small, whole, &rest)?;
+    Ok(linked)
+}
+
+/// The second number made of the first.
+fn make_scaled(
+    planner: &mut Planner,
+    scale: Scale<'_>,
+    scaling: Scaling,
+) -> Result<usize, OutOfMemory>
+    ensures { IfOk result (λ place. Does planner.old planner.new place (scaling_made scale.entry.system.now (scaling_view scaling) (track_view scale.entry.value.now) (track_view scale.entry.product.now) planner.old.next)) }
+{
+    match scaling {
+        Scaling::Times(times) => multiple(planner, scale, times),
+        Scaling::Over(divisor) => quotient(planner, scale, divisor),
+    }
+}
+
+/// A value times a number, or over one, on a fresh track.
+fn scaled(
     planner: &mut Planner,
     system: &Name,
     value: &Placed,
-    times: u64,
+    factor: Scaling,
 ) -> Result<Placed, OutOfMemory>
     requires { IsWithin planner.old.plans value.now.relation }
-    ensures { IfOk result (λ placed. DoesTerm planner.old planner.new placed (times_numeral system.now (standing (placed_at planner.old.plans value.now) planner.old.next) times)) }
+    ensures { IfOk result (λ placed. DoesTerm planner.old planner.new placed (scaled_plan system.now (standing (placed_at planner.old.plans value.now) planner.old.next) (scaling_view factor))) }
 {
     let track = Track::Fresh(planner.fresh()?);
     let scale = Scale {
@@ -93,27 +168,27 @@ fn multiplied(
         value: &value.track,
         product: &track,
     };
-    let multiple = multiple(planner, scale, times)?;
-    let closed = planner.close(value, multiple)?;
+    let made = make_scaled(planner, scale, factor)?;
+    let closed = planner.close(value, made)?;
     Ok(Placed {
         track,
         relation: Some(closed),
     })
 }
 
-/// A value times some numbers, in their order.
-pub(crate) fn multiplied_by_all(
+/// A value times some numbers, and over others, in their order.
+pub(crate) fn scaled_by_all(
     planner: &mut Planner,
     system: &Name,
     value: Placed,
-    numbers: &[u64],
+    scalings: &[Scaling],
 ) -> Result<Placed, OutOfMemory>
     requires { IsWithin planner.old.plans value.relation }
-    ensures { IfOk result (λ placed. DoesTerm planner.old planner.new placed (times_numerals system.now (standing (placed_at planner.old.plans value) planner.old.next) numbers.now)) }
+    ensures { IfOk result (λ placed. DoesTerm planner.old planner.new placed (scaled_all system.now (standing (placed_at planner.old.plans value) planner.old.next) (map scaling_view scalings.now))) }
 {
     let mut product = value;
-    for number in numbers {
-        product = multiplied(planner, system, &product, *number)?;
+    for scaling in scalings {
+        product = scaled(planner, system, &product, *scaling)?;
     }
     Ok(product)
 }

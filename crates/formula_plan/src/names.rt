@@ -11,13 +11,14 @@ use digit_tuple::faults::OutOfMemory;
 use formula_parse::tree::{Fact, Factor, Term};
 
 /// Adds the variables of the term that a factor multiplies by.
-#[tactic(auto, using(formula_parse::proofs::ViewSteps::view_times))]
+#[tactic(auto, using(formula_parse::proofs::ViewSteps::view_times, formula_parse::proofs::ViewSteps::view_divided))]
 #[cycle(names)]
 fn add_factor(free: &mut FreeNames, factor: &Factor) -> Result<(), OutOfMemory>
     ensures { IfOk result (λ _. HaveSame free.new (free.old ++ own_names (term_of (factor_view factor.now)))) }
 {
     match factor {
         Factor::Times(inside) => add_term(free, inside),
+        Factor::Divided(_) => Ok(()),
     }
 }
 

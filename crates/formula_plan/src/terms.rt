@@ -1,14 +1,15 @@
 //! Plans of terms.
 
-ghost use Rattle.std.specs.Prelude.{◌≡◌, ℕ, List, None, IfOk};
+ghost use Rattle.std.specs.Prelude.{◌≡◌, ℕ, List, map, None, IfOk};
+ghost use Rattle.std.specs.Option.{option_map};
 ghost use Rattle.formula_parse.specs.Tokens.{Name as Named};
 ghost use Rattle.formula_parse.specs.Views.{term_view, factor_view, factors_view, sign_view};
 ghost use Rattle.formula_plan.specs.TermPlans.{begun, factor_plans, sum_relation, term_plan};
 ghost use Rattle.formula_plan.specs.Makings.{track_view};
 ghost use Rattle.formula_plan.specs.Planning.{Does, DoesTerm, IsWithin, base_made, placed_at};
-ghost use Rattle.formula_plan.specs.TermPlanning.{numeral_in, IsOther, IsSumWithin, sum_of, term_of};
+ghost use Rattle.formula_plan.specs.TermPlanning.{scaling_in, scaling_view, Begins, IsOther, IsSumWithin, sum_of, term_of};
 
-use crate::multiples::{multiplied_by_all, numeral};
+use crate::multiples::{Scaling, numeral, scaled_by_all};
 use crate::planner::{Placed, Planner};
 use crate::track::Track;
 use digit_tuple::faults::OutOfMemory;
@@ -23,58 +24,70 @@ pub(crate) struct Before {
     pub sign: Sign,
 }
 
-/// The numeral that a factor is, if it is one.
-#[tactic(auto, using(formula_parse::proofs::ViewSteps::view_times, formula_parse::proofs::ViewSteps::view_numeral, formula_parse::proofs::ViewSteps::view_variable, formula_parse::proofs::ViewSteps::view_product, formula_parse::proofs::ViewSteps::view_sum))]
-fn numeral_of(factor: &Factor) -> Option<u64>
-    ensures { numeral_in (factor_view factor.now) ≡ result }
+/// The scaling that a factor is, if it is a numeral or a divisor.
+#[tactic(auto, using(formula_parse::proofs::ViewSteps::view_times, formula_parse::proofs::ViewSteps::view_divided, formula_parse::proofs::ViewSteps::view_numeral, formula_parse::proofs::ViewSteps::view_variable, formula_parse::proofs::ViewSteps::view_product, formula_parse::proofs::ViewSteps::view_sum))]
+fn scaling_of(factor: &Factor) -> Option<Scaling>
+    ensures { scaling_in (factor_view factor.now) ≡ option_map scaling_view result }
 {
     match factor {
-        Factor::Times(Term::Numeral(number)) => Some(*number),
+        Factor::Divided(divisor) => Some(Scaling::Over(*divisor)),
+        Factor::Times(Term::Numeral(number)) => Some(Scaling::Times(*number)),
         Factor::Times(Term::Variable(_)) => None,
         Factor::Times(Term::Product(_)) => None,
         Factor::Times(Term::Sum(..)) => None,
     }
 }
 
-/// The index of the factor that is no numeral; of the last one, where there are several.
+/// The index of the factor that is neither a numeral nor a divisor; of the last one, where there are several.
 pub(crate) fn other_factor(factors: &[Factor]) -> Option<usize>
     ensures { IsOther factors.now result }
 {
     let mut other = None;
     for (i, factor) in factors.iter().enumerate() {
-        if numeral_of(factor).is_none() {
+        if scaling_of(factor).is_none() {
             other = Some(i);
         }
     }
     other
 }
 
-/// The numerals among the factors, in their order.
-fn numerals(alloc: Global, factors: &[Factor]) -> Result<Vec<u64>, OutOfMemory>
-    ensures { IfOk result (λ numbers. (s : Named) → (factor_plans s (factors_view factors.now)).numerals ≡ numbers.items) }
+/// The numerals and divisors among the factors, in their order.
+fn scalings(alloc: Global, factors: &[Factor]) -> Result<Vec<Scaling>, OutOfMemory>
+    ensures { IfOk result (λ found. (s : Named) → (factor_plans s (factors_view factors.now)).scalings ≡ map scaling_view found.items) }
 {
-    let mut numbers = Vec::new(alloc);
+    let mut found = Vec::new(alloc);
     for factor in factors {
-        if let Some(number) = numeral_of(factor) {
-            numbers.push(number)?;
+        if let Some(scaling) = scaling_of(factor) {
+            found.push(scaling)?;
         }
     }
-    Ok(numbers)
+    Ok(found)
 }
 
-/// The product of numerals, of which the first is placed; 1, where there are none.
+/// The numeral that a product without another factor begins with, and what scales it: its first numeral, or 1.
+fn first_numeral(scalings: &[Scaling]) -> (u64, &[Scaling])
+    ensures { Begins scalings.now result.0 result.1.now }
+{
+    let Some((first, rest)) = scalings.split_first() else {
+        return (1, scalings);
+    };
+    match first {
+        Scaling::Times(number) => (*number, rest),
+        Scaling::Over(_) => (1, scalings),
+    }
+}
+
+/// A product without another factor: it begins with its first numeral, or with 1.
 fn numeral_product(
     planner: &mut Planner,
     system: &Name,
-    numbers: &[u64],
+    scalings: &[Scaling],
 ) -> Result<Placed, OutOfMemory>
-    ensures { IfOk result (λ placed. DoesTerm planner.old planner.new placed (begun system.now None numbers.now planner.old.next)) }
+    ensures { IfOk result (λ placed. DoesTerm planner.old planner.new placed (begun system.now None (map scaling_view scalings.now) planner.old.next)) }
 {
-    let Some((first, rest)) = numbers.split_first() else {
-        return numeral(planner, system, 1);
-    };
-    let value = numeral(planner, system, *first)?;
-    multiplied_by_all(planner, system, value, rest)
+    let (first, rest) = first_numeral(scalings);
+    let value = numeral(planner, system, first)?;
+    scaled_by_all(planner, system, value, rest)
 }
 
 /// Two tracks and the track of their sum, or of their difference.
@@ -117,8 +130,8 @@ fn added(
     })
 }
 
-/// The plan of the term that a factor multiplies by.
-#[tactic(auto, using(formula_parse::proofs::ViewSteps::view_times))]
+/// The plan of the term that a factor multiplies by; of a divisor that of its numeral.
+#[tactic(auto, using(formula_parse::proofs::ViewSteps::view_times, formula_parse::proofs::ViewSteps::view_divided))]
 #[cycle(terms)]
 fn term_of_factor(
     planner: &mut Planner,
@@ -129,6 +142,7 @@ fn term_of_factor(
 {
     match factor {
         Factor::Times(inside) => term(planner, system, inside),
+        Factor::Divided(divisor) => numeral(planner, system, *divisor),
     }
 }
 
@@ -151,13 +165,13 @@ pub(crate) fn term(
         }
         Term::Numeral(number) => numeral(planner, system, *number),
         Term::Product(factors) => {
-            let numbers = numerals(planner.alloc, factors)?;
+            let found = scalings(planner.alloc, factors)?;
             match other_factor(factors) {
                 Some(i) => {
                     let first = term_of_factor(planner, system, &factors[i])?;
-                    multiplied_by_all(planner, system, first, &numbers)
+                    scaled_by_all(planner, system, first, &found)
                 }
-                None => numeral_product(planner, system, &numbers),
+                None => numeral_product(planner, system, &found),
             }
         }
         Term::Sum(addends, last) => {

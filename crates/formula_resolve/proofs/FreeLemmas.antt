@@ -5,7 +5,7 @@ use Rattle.std.proofs.lemmas.List.Elements.{filter-append}
 use Rattle.std.proofs.lemmas.Bool.{le-ltb}
 use Rattle.std.specs.List.{filter}
 use Rattle.formula_parse.specs.Tokens.{Name}
-use Rattle.formula_parse.specs.Trees.{Term, variable, numeral, product, sum, Factors, Factor, no_factors, factors, times, Terms, no_terms, terms, Addends, no_addends, addends, Fact, compare, words, word_letter, letter_word, call, Formula, atom, negated, chain, quantified, marked, Operands, no_operands, operands}
+use Rattle.formula_parse.specs.Trees.{Term, variable, numeral, product, sum, Factors, Factor, no_factors, factors, times, divided, Terms, no_terms, terms, Addends, no_addends, addends, Fact, compare, words, word_letter, letter_word, call, Formula, atom, negated, chain, quantified, marked, Operands, no_operands, operands}
 use Rattle.formula_resolve.specs.Headers.{Headers, automaton_tracks, word_tracks}
 use Rattle.formula_resolve.specs.Mentions.{count}
 use Rattle.formula_resolve.specs.Occurrences.{Binders, unbound, is_listed, bound_by, term_occurrences, factor_occurrences, factor_of, addend_occurrences, track_occurrences, place_occurrences, fact_occurrences, occurrences, occurrences_among}
@@ -13,7 +13,7 @@ use Rattle.formula_resolve.specs.FreeOccurrences.{named, passing, free_in, free_
 use Rattle.formula_resolve.specs.Laws.{FreeIsUnbound}
 use Rattle.formula_resolve.specs.declared.occurrence.Occurrence.{Occurrence}
 
-passing-append : (p : Occurrence → Bool) (xs ys : List Occurrence) → passing p (xs ++ ys) ≡ passing p xs ++ passing p ys
+pub passing-append : (p : Occurrence → Bool) (xs ys : List Occurrence) → passing p (xs ++ ys) ≡ passing p xs ++ passing p ys
 passing-append p xs ys = ap (map named) (filter-append p xs ys) ∙ map-append named (filter p xs) (filter p ys)
 
 both : (p q : Occurrence → Bool) (xs ys vs ws : List Occurrence) → passing p xs ≡ passing q vs → passing p ys ≡ passing q ws → passing p (xs ++ ys) ≡ passing q (vs ++ ws)
@@ -44,6 +44,7 @@ module _ (s : Name) (b : Binders) (k : ℕ) where
 
     factor_free : (f : Factor) → passing (below k) (factor_of s b f) ≡ passing (unbound_below k b) (factor_of s unbound f)
     factor_free (times t) = term_free t
+    factor_free (divided c) = refl
 
     addends_free : (ss : Addends) → passing (below k) (addend_occurrences s b ss) ≡ passing (unbound_below k b) (addend_occurrences s unbound ss)
     addends_free no_addends = refl

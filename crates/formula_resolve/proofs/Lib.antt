@@ -9,4 +9,5 @@ pub mod ClashLemmas
 pub mod VariableLemmas
 pub mod FirstLemmas
 pub mod FreeLemmas
+pub mod FreeSystemLemmas
 pub mod ConsistentLemmas

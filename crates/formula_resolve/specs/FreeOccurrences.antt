@@ -1,6 +1,7 @@
 -- The free occurrences of variables, by cases on the syntax.
-use Rattle.std.specs.Prelude.{Bool, not, ◌&&◌, List, [], ◌++◌, map}
+use Rattle.std.specs.Prelude.{Bool, true, not, ◌&&◌, List, [], ◌∷◌, ◌++◌, map, Option, None, Some, if◌then◌else◌}
 use Rattle.std.specs.List.{filter}
+use Rattle.std.specs.Str.{bytes_eq}
 use Rattle.formula_parse.specs.Tokens.{Name}
 use Rattle.formula_parse.specs.Trees.{Formula, atom, negated, chain, quantified, marked, Operands, no_operands, operands}
 use Rattle.formula_resolve.specs.Headers.{Headers}
@@ -27,3 +28,12 @@ abbrev mutual
   pub free_among : Headers → (Name → Bool) → Operands → List (Name × Name)
   free_among h test no_operands = []
   free_among h test (operands os f j) = free_among h test os ++ free_in h test f
+
+-- the system of the first of this name
+abbrev pub system_among : List (Name × Name) → Name → Option Name
+system_among [] n = None
+system_among (p ∷ ps) n = if bytes_eq n p.0 then Some p.1 else system_among ps n
+
+-- the system at the first free occurrence of a variable, where it occurs free
+abbrev pub free_system : Headers → Formula → Name → Option Name
+free_system h f n = system_among (free_in h (λ m. true) f) n

@@ -3,7 +3,7 @@ use Rattle.std.specs.Prelude.{ℕ, ◌+◌, nat_lt, Bool, false, ◌||◌, List,
 use Rattle.std.specs.List.{filter}
 use Rattle.std.specs.Str.{bytes_eq}
 use Rattle.formula_parse.specs.Tokens.{Name}
-use Rattle.formula_parse.specs.Trees.{Names, no_names, names, Term, variable, numeral, product, sum, Factors, Factor, no_factors, factors, times, Terms, no_terms, terms, Addends, no_addends, addends, Fact, compare, words, word_letter, letter_word, call, Formula, atom, negated, chain, quantified, marked, Operands, no_operands, operands}
+use Rattle.formula_parse.specs.Trees.{Names, no_names, names, Term, variable, numeral, product, sum, Factors, Factor, no_factors, factors, times, divided, Terms, no_terms, terms, Addends, no_addends, addends, Fact, compare, words, word_letter, letter_word, call, Formula, atom, negated, chain, quantified, marked, Operands, no_operands, operands}
 use Rattle.formula_resolve.specs.Headers.{Headers, automaton_tracks, word_tracks}
 use Rattle.formula_resolve.specs.Mentions.{count}
 use Rattle.formula_resolve.specs.declared.occurrence.Occurrence.{Occurrence}
@@ -37,6 +37,7 @@ abbrev mutual
 
   pub factor_of : Name → Binders → Factor → List Occurrence
   factor_of s b (times t) = term_occurrences s b t
+  factor_of s b (divided c) = []
 
   pub addend_occurrences : Name → Binders → Addends → List Occurrence
   addend_occurrences s b no_addends = []

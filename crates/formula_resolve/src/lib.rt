@@ -1,6 +1,6 @@
 //! Which names, systems and directions a formula may have.
 //!
-//! `resolve` gives the free variables of a formula in byte order with their systems, or its one fault: an automaton over
+//! `free_system` gives the system of a variable in a part of a formula. `resolve` gives the free variables of a formula in byte order with their systems, or its one fault: an automaton over
 //! sets that is called, a name with another number of tracks than it is given, a variable over two systems under one
 //! binding, or two directions in one chain or between two words. `mentions` gives what a formula mentions from left to
 //! right; `first_files` and `first_systems` what is to be read and known before it is resolved, in the order of its first
@@ -65,5 +65,5 @@ pub use first_mentions::{first_files, first_systems};
 pub use headers::Headers;
 pub use laws::{free_is_unbound, no_clash_is_consistent, one_resolution};
 pub use mention::{Mention, mentions};
-pub use resolution::{Resolved, resolve};
+pub use resolution::{Resolved, free_system, resolve};
 pub use variable::Variable;

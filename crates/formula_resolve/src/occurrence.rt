@@ -88,7 +88,7 @@ fn add_places(
 }
 
 /// Adds the occurrences in a factor over a system.
-#[tactic(auto, using(formula_parse::proofs::ViewSteps::view_times))]
+#[tactic(auto, using(formula_parse::proofs::ViewSteps::view_times, formula_parse::proofs::ViewSteps::view_divided))]
 #[cycle(occurring)]
 fn add_factor(
     alloc: Global,
@@ -104,6 +104,7 @@ fn add_factor(
             add_term(alloc, term, system, scope, found)?;
             Ok(())
         }
+        Factor::Divided(_) => Ok(()),
     }
 }
 

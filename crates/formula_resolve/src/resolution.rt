@@ -7,6 +7,7 @@ ghost use Rattle.formula_parse.specs.Views.{formula_view};
 ghost use Rattle.formula_resolve.specs.Answers.{Reports};
 ghost use Rattle.formula_resolve.specs.Occurrences.{all_occurrences};
 ghost use Rattle.formula_resolve.specs.Directions.{first_conflict};
+ghost use Rattle.formula_resolve.specs.FreeOccurrences.{free_system as free_system_of};
 ghost use Rattle.formula_resolve.specs.Resolving.{direction_fault, Resolves};
 
 use crate::arity::check_uses;
@@ -16,9 +17,10 @@ use crate::fault::ResolveFault;
 use crate::headers::Headers;
 use crate::mention::mentions;
 use crate::scope::Scope;
-use crate::variable::{Variable, free_variables};
+use crate::variable::{Variable, first_free, free_variables};
 use crate::walk::{Walk, walk_formula};
 use digit_tuple::faults::OutOfMemory;
+use digit_tuple::name::Name;
 use formula_parse::tree::Formula;
 use std::alloc::Global;
 
@@ -59,6 +61,28 @@ pub fn resolve(
     check_directions(conflict)?;
     let variables = free_variables(alloc, &occurrences)?;
     Ok(Resolved { variables })
+}
+
+/// The system at the first free occurrence of a variable of a formula, from the left; none where the variable does not
+/// occur free. A name without a header has no tracks.
+///
+/// It takes the time of `resolve`.
+///
+/// # Errors
+/// None apart from out of memory.
+pub fn free_system(
+    alloc: Global,
+    formula: &Formula,
+    headers: &Headers,
+    variable: &Name,
+) -> Result<Option<Name>, OutOfMemory>
+    ensures { IfOk result (λ system. system ≡ free_system_of headers.now (formula_view formula.now) variable.now) }
+{
+    let walk = walk_whole(alloc, formula, headers)?;
+    match first_free(&walk.occurrences, variable) {
+        Some(system) => Ok(Some(system.copy(alloc)?)),
+        None => Ok(None),
+    }
 }
 
 /// The walk through a whole formula.

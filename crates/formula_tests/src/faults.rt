@@ -13,7 +13,7 @@ fn fault(alloc: Global, text: &[u8]) -> Option<ParseFault> {
     }
 }
 
-static FAULTS: [(&[u8], ParseFault); 62] = [
+static FAULTS: [(&[u8], ParseFault); 94] = [
     (b"x=1 | y=2 & z=3", ParseFault::MixedChain(10)),
     (b"x*y=2", ParseFault::NotLinear(1)),
     (b"18446744073709551616=x", ParseFault::Number(0)),
@@ -50,7 +50,13 @@ static FAULTS: [(&[u8], ParseFault); 62] = [
     (b"Ex,y", ParseFault::Syntax(4)),
     (b"E1 x=1", ParseFault::Syntax(1)),
     (b"Ex (y),z=1", ParseFault::Syntax(6)),
-    (b"Ix x=1", ParseFault::Syntax(0)),
+    (b"I", ParseFault::Syntax(1)),
+    (b"Ix", ParseFault::Syntax(2)),
+    (b"I1 x=1", ParseFault::Syntax(1)),
+    (b"Ix,y x=y", ParseFault::Syntax(2)),
+    (b"Ex,Iy x=y", ParseFault::Syntax(3)),
+    (b"Ix (y),z=1", ParseFault::Syntax(6)),
+    (b"Ix[0]=@1", ParseFault::Syntax(2)),
     (b"~", ParseFault::Syntax(1)),
     (b"x=~1", ParseFault::Syntax(2)),
     (b"x==1", ParseFault::Syntax(2)),
@@ -76,6 +82,34 @@ static FAULTS: [(&[u8], ParseFault); 62] = [
     (b"x=1 | y=2 ^ z*w=3", ParseFault::MixedChain(10)),
     (b"z*w=3 & x=1 | y=2 ^ z=1", ParseFault::NotLinear(1)),
     (b"x*(y*z)=1", ParseFault::NotLinear(1)),
+    // Divisors: numerals above 0.
+    (b"x/0=1", ParseFault::Syntax(2)),
+    (b"6/0=x", ParseFault::Syntax(2)),
+    (b"6/00=x", ParseFault::Syntax(2)),
+    (b"x/ 000000000000000000000=1", ParseFault::Syntax(3)),
+    (b"x/2/0=1", ParseFault::Syntax(4)),
+    (b"x*y/0=1", ParseFault::Syntax(4)),
+    (b"T[x/0]=@1", ParseFault::Syntax(4)),
+    (b"$f(y,x/0)", ParseFault::Syntax(7)),
+    (b"x/", ParseFault::Syntax(2)),
+    (b"x/y=1", ParseFault::Syntax(2)),
+    (b"x/(2)=1", ParseFault::Syntax(2)),
+    (b"x/@2=1", ParseFault::Syntax(2)),
+    (b"x//2=1", ParseFault::Syntax(2)),
+    (b"x/2 3=1", ParseFault::Syntax(4)),
+    (b"x/2^y=1", ParseFault::Syntax(3)),
+    (b"/2=x", ParseFault::Syntax(0)),
+    (b"(x=1)/2=1", ParseFault::Syntax(5)),
+    (b"T[0]/2=1", ParseFault::Syntax(4)),
+    (b"x/18446744073709551616=1", ParseFault::Number(2)),
+    (b"x/2/99999999999999999999*y=1", ParseFault::Number(4)),
+    // A quotient is a factor that is no numeral.
+    (b"6/2*x=3", ParseFault::NotLinear(3)),
+    (b"(6/2)*x=3", ParseFault::NotLinear(5)),
+    (b"x*(6/2)=3", ParseFault::NotLinear(1)),
+    (b"2*x/3*y=1", ParseFault::NotLinear(5)),
+    (b"x*y/2=1", ParseFault::NotLinear(1)),
+    (b"x/2*3/4*y/5=1", ParseFault::NotLinear(7)),
 ];
 
 #[test]
@@ -85,9 +119,9 @@ fn texts_have_these_faults(rt: HostRuntime) {
     }
 }
 
-// The fault of an equation in so many parentheses, if it has one.
-fn fault_of_nesting(alloc: Global, depth: usize) -> Option<ParseFault> {
-    match repeated(alloc, "(", depth, "x=1", ")") {
+// The fault of an equation within so many openings, each closed by a part, if it has one.
+fn fault_within(alloc: Global, opening: &str, depth: usize, closing: &str) -> Option<ParseFault> {
+    match repeated(alloc, opening, depth, "x=1", closing) {
         Ok(text) => fault(alloc, text.as_bytes()),
         Err(_) => Some(ParseFault::Memory),
     }
@@ -96,6 +130,28 @@ fn fault_of_nesting(alloc: Global, depth: usize) -> Option<ParseFault> {
 #[test]
 fn parentheses_nest_128_deep(rt: HostRuntime) {
     let deepest = Some(ParseFault::Depth(128));
-    expect(&rt, b"128", &fault_of_nesting(rt.alloc(), 128), &None);
-    expect(&rt, b"129", &fault_of_nesting(rt.alloc(), 129), &deepest);
+    expect(&rt, b"128", &fault_within(rt.alloc(), "(", 128, ")"), &None);
+    expect(
+        &rt,
+        b"129",
+        &fault_within(rt.alloc(), "(", 129, ")"),
+        &deepest,
+    );
+}
+
+#[test]
+fn quantifiers_nest_128_deep(rt: HostRuntime) {
+    let deepest = Some(ParseFault::Depth(384));
+    expect(
+        &rt,
+        b"128",
+        &fault_within(rt.alloc(), "Ix ", 128, ""),
+        &None,
+    );
+    expect(
+        &rt,
+        b"129",
+        &fault_within(rt.alloc(), "Ix ", 129, ""),
+        &deepest,
+    );
 }

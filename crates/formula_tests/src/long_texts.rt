@@ -28,31 +28,34 @@ pub(crate) fn string_of(alloc: Global, bytes: &[u8]) -> Result<String, AllocErro
     Ok(text)
 }
 
-// How many operands come before a chain's last, or addends before the last of an atom's left side.
+// How many operands come before a chain's last, addends before the last of an atom's left side, or factors and divisors are
+// on its right.
 pub(crate) fn parts_in(formula: &Formula) -> usize {
     match formula {
         Formula::Chain(operands, _) => operands.len(),
-        Formula::Atom(atom) => addends_of(&atom.fact),
+        Formula::Atom(atom) => terms_in(&atom.fact),
         _ => 0,
     }
 }
 
-// How many addends come before the last of a fact's left side.
-fn addends_of(fact: &Fact) -> usize {
+// How many addends come before the last of a fact's left side, or factors and divisors are on its right.
+fn terms_in(fact: &Fact) -> usize {
     match fact {
         Fact::Compare(Term::Sum(addends, _), _, _) => addends.len(),
+        Fact::Compare(_, _, Term::Product(factors)) => factors.len(),
         _ => 0,
     }
 }
 
-// A chain and a sum, each with how many parts come before its last.
-static LONG: [Repeated; 2] = [
+// A chain and a sum, each with how many parts come before its last, and a product with how many it has.
+static LONG: [Repeated; 3] = [
     ("x=1&", 16383, "x=12", "", "65536 bytes: 16383"),
     ("x+", 32766, "x=12", "", "65536 bytes: 32766"),
+    ("", 32766, "12=x", "/2", "65536 bytes: 32767"),
 ];
 
 #[test]
-fn chains_and_sums_of_65536_bytes(rt: HostRuntime) {
+fn chains_sums_and_products_of_65536_bytes(rt: HostRuntime) {
     expect_repeated(&rt, rt.alloc(), Asked::Parts, &LONG);
 }
 

@@ -9,7 +9,7 @@ use formula_resolve::Headers;
 use std::alloc::{AllocError, Global};
 
 // Terms and comparisons.
-static TERMS: [(&str, &str); 22] = [
+static TERMS: [(&str, &str); 26] = [
     ("x=x", ""),
     ("x!=y", ""),
     ("x-1=y", "const 1 #0, product, project #0"),
@@ -55,6 +55,19 @@ static TERMS: [(&str, &str); 22] = [
     ("x!=1", "const 1 #0, product, project #0"),
     ("1<x", "const 1 #0, product, project #0"),
     ("x+y-z=u", "product, project #0"),
+    ("x/1=y", ""),
+    (
+        "x/2=y",
+        "product, project #1, const 2 #3, product, project #3, product, project #2",
+    ),
+    (
+        "6/2=x",
+        "const 6 #0, product, project #2, const 2 #4, product, project #4, product, project #3, product, project #0",
+    ),
+    (
+        "2*x/3*4=y",
+        "product, project #5, product, project #2, const 3 #4, product, project #4, product, project #3, product, project #0, product, project #7, product, project #1",
+    ),
     (
         "0*(x-1)=0 & x=0",
         "const 1 #0, product, project #0, const 0 #2, product, product, project #1, const 0 #3, product, project #2, product, project #3, const 0 #4, product",
@@ -62,7 +75,7 @@ static TERMS: [(&str, &str); 22] = [
 ];
 
 // Chains, negations and quantifiers.
-static FORMULAS: [(&str, &str); 20] = [
+static FORMULAS: [(&str, &str); 23] = [
     (
         "Ex x+x=0",
         "const 0 #1, product, project #0, product, project #1, project x",
@@ -88,6 +101,15 @@ static FORMULAS: [(&str, &str); 20] = [
     ("Ex y=1", "const 1 #0"),
     ("Ax Ey y>x", "project y, complement, project x, complement"),
     ("?lsd_2 Ex x=2", "const 2 #0, project x"),
+    (
+        "Ix x<y",
+        "product, project x, complement, project #0, complement",
+    ),
+    ("Ix y=1", "const 1 #0"),
+    (
+        "~Ix Ey x=2*y",
+        "project y, product, project x, complement, project #1, complement, complement",
+    ),
     (
         "(Ex x=1) & (?lsd_3 Ex x=2)",
         "const 1 #0, project x, const 2 #1, project x, product",

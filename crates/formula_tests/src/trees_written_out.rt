@@ -45,6 +45,7 @@ fn quantifier_text(quantifier: Quantifier) -> &'static str {
     match quantifier {
         Quantifier::Exists => "(E",
         Quantifier::ForAll => "(A",
+        Quantifier::Infinite => "(I",
     }
 }
 
@@ -71,9 +72,14 @@ fn write_term(alloc: Global, term: &Term, out: &mut String) -> Result<(), AllocE
         }
         Term::Product(factors) => {
             let mut before = '(';
-            for Factor::Times(factor) in factors {
-                out.push(before)?;
-                write_term(alloc, factor, out)?;
+            for factor in factors {
+                match factor {
+                    Factor::Times(term) => {
+                        out.push(before)?;
+                        write_term(alloc, term, out)?;
+                    }
+                    Factor::Divided(divisor) => write_divisor(alloc, *divisor, out)?,
+                }
                 before = '*';
             }
             out.push(')')
@@ -93,6 +99,12 @@ fn write_term(alloc: Global, term: &Term, out: &mut String) -> Result<(), AllocE
             out.push(')')
         }
     }
+}
+
+fn write_divisor(alloc: Global, divisor: u64, out: &mut String) -> Result<(), AllocError> {
+    let digits = divisor.to_string(alloc)?;
+    out.push('/')?;
+    out.push_str(&digits)
 }
 
 fn write_index(alloc: Global, index: &Index, out: &mut String) -> Result<(), AllocError> {
@@ -202,7 +214,7 @@ pub(crate) fn tree_of(alloc: Global, tree: &Formula) -> Result<String, NoAnswer>
     Ok(written)
 }
 
-static TREES: [(&str, &str); 50] = [
+static TREES: [(&str, &str); 69] = [
     // A quantifier takes all that follows.
     ("Ax Ey x=y+y", "(Ax (Ey {msd_2 x=(y+y)}))"),
     (
@@ -289,6 +301,33 @@ static TREES: [(&str, &str); 50] = [
     ("2*(x+y)=z", "{msd_2 (2*(x+y))=z}"),
     ("(x+y)*2=z", "{msd_2 ((x+y)*2)=z}"),
     ("2*x*3=z", "{msd_2 (2*x*3)=z}"),
+    // Divisors, from the left.
+    ("x/3=y", "{msd_2 (x/3)=y}"),
+    ("x/1=y", "{msd_2 (x/1)=y}"),
+    ("2*x/3*4=y", "{msd_2 (2*x/3*4)=y}"),
+    ("x/2/003=y", "{msd_2 (x/2/3)=y}"),
+    ("6/2=y", "{msd_2 (6/2)=y}"),
+    ("2/3*4=y", "{msd_2 (2/3*4)=y}"),
+    ("(x+y)/2=z", "{msd_2 ((x+y)/2)=z}"),
+    ("(x-1) / 2=z", "{msd_2 ((x-1)/2)=z}"),
+    ("x-1/2=z", "{msd_2 (x-(1/2))=z}"),
+    ("3*(x/2)=z", "{msd_2 (3*(x/2))=z}"),
+    ("(x/2)/3=z", "{msd_2 ((x/2)/3)=z}"),
+    ("T[x/2]=@1", "{msd_2 T[(x/2)]=@1}"),
+    ("$f(x/2,y)", "{msd_2 $f((x/2),y)}"),
+    (
+        "x/18446744073709551615=0",
+        "{msd_2 (x/18446744073709551615)=0}",
+    ),
+    // For infinitely many.
+    ("Ix x=1", "(Ix {msd_2 x=1})"),
+    ("Ix Ey x=2*y", "(Ix (Ey {msd_2 x=(2*y)}))"),
+    (
+        "x=1 & Iy y=2 & z=3",
+        "({msd_2 x=1} & (Iy ({msd_2 y=2} & {msd_2 z=3})))",
+    ),
+    ("~?lsd_2 ~Ix x=1", "(~(?lsd_2 (~(Ix {lsd_2 x=1}))))"),
+    ("IaI aI=1", "(IaI {msd_2 aI=1})"),
     // Letters, words and calls.
     ("@-1!=T[0][1]", "{msd_2 @-1!=T[0][1]}"),
     ("@ - 1 != T[0][1]", "{msd_2 @-1!=T[0][1]}"),

@@ -8,7 +8,7 @@ use formula_truth::{Given, holds_below};
 use std::alloc::Global;
 
 // Texts, their free variables, and the numbers below 6 for these for which they are true, a digit for each variable: comparisons of terms.
-static TERMS: [(&str, &str, &str); 22] = [
+static TERMS: [(&str, &str, &str); 28] = [
     ("x=3", "x", "3"),
     ("x!=3", "x", "0 1 2 4 5"),
     ("x<3", "x", "0 1 2"),
@@ -44,6 +44,12 @@ static TERMS: [(&str, &str, &str); 22] = [
     ("2*x=y", "xy", "00 12 24"),
     ("2*x*2=y", "xy", "00 14"),
     ("2*3=x", "x", ""),
+    ("x/2=y", "xy", "00 10 21 31 42 52"),
+    ("x/1=y", "xy", "00 11 22 33 44 55"),
+    ("x/2/2=y", "xy", "00 10 20 30 41 51"),
+    ("2*x/3*4=y", "xy", "00 10 24"),
+    ("6/4=x", "x", "1"),
+    ("(x-1)/2=0", "x", "1 2"),
     ("3*x+1=2*y", "xy", "12 35"),
     ("x+y=5", "xy", "05 14 23 32 41 50"),
     (

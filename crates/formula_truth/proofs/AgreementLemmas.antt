@@ -1,9 +1,9 @@
 -- Truth depends on the numbers of the free variables alone.
-use Rattle.std.proofs.Common.{◌≡◌, ℕ, ℤ, Bool, true, false, not, ◌||◌, ◌&&◌, IsTrue, if◌then◌else◌, refl, sym, ◌∙◌, bytes_eq}
-use Rattle.formula_parse.specs.Tokens.{Name, some, every}
+use Rattle.std.proofs.Common.{◌≡◌, ℕ, ◌<◌, ℤ, Bool, true, false, not, ◌||◌, ◌&&◌, IsTrue, if◌then◌else◌, refl, sym, ◌∙◌, bytes_eq}
+use Rattle.formula_parse.specs.Tokens.{Name, some, every, infinite}
 use Rattle.formula_parse.specs.Trees.{Names, no_names, names, Index, Fact, compare, words, word_letter, letter_word, call, Formula, atom, negated, chain, quantified, marked, Operands, no_operands, operands}
 use Rattle.formula_truth.specs.Assignments.{Assignment, with_value}
-use Rattle.formula_truth.specs.Truth.{Meanings, HasLetterAt, FactHolds, ForSome, ForEvery, Holds, ChainHolds}
+use Rattle.formula_truth.specs.Truth.{Meanings, HasLetterAt, FactHolds, ForSome, ForEvery, ForInfinitely, Holds, ChainHolds}
 use Rattle.formula_truth.specs.FreeVariables.{is_listed, occurs_in, occurs_among, occurs_there, is_free, is_free_among}
 use Rattle.formula_truth.specs.Tests.{tested}
 use Rattle.formula_truth.specs.Laws.{FreeVariablesMatter}
@@ -52,6 +52,14 @@ every_moves (names ns n) test P moves a b agree h =
     (λ c d same held k. moves (with_value n k c) (with_value n k d) (with_value_agrees n k test c d same) (held k))
     a b (outside_more ns n test a b agree) h
 
+infinitely_moves : (ns : Names) (test : Name → Bool) (P : Assignment → Type 0) → Moves test P → Moves (outside ns test) (ForInfinitely ns P)
+infinitely_moves no_names test P moves a b agree h = moves a b agree h
+infinitely_moves (names ns n) test P moves a b agree h =
+    infinitely_moves ns (apart_from n test) (λ c. (m : ℕ) → (k : ℕ) × (m < k) × P (with_value n k c))
+    (λ c d same held m. let found = held m in
+    (found.0, found.1, moves (with_value n found.0 c) (with_value n found.0 d) (with_value_agrees n found.0 test c d same) found.2))
+    a b (outside_more ns n test a b agree) h
+
 letter_moves : (m : Meanings) (x : Index) (l : ℤ) → Moves (λ n. occurs_among n x.places) (λ a. HasLetterAt m x a l)
 letter_moves m x l a b agree h = (h.0, sym (values_agree x.places a b agree) ∙ h.1, h.2)
 
@@ -86,6 +94,7 @@ mutual
       h
   truth_moves (quantified some ns f) m a b agree h = some_moves ns (λ n. is_free n f) (Holds m f) (truth_moves f m) a b agree h
   truth_moves (quantified every ns f) m a b agree h = every_moves ns (λ n. is_free n f) (Holds m f) (truth_moves f m) a b agree h
+  truth_moves (quantified infinite ns f) m a b agree h = infinitely_moves ns (λ n. is_free n f) (Holds m f) (truth_moves f m) a b agree h
   truth_moves (marked ms f) m a b agree h = truth_moves f m a b agree h
 
   chain_moves : (os : Operands) (m : Meanings) (a b : Assignment) (P Q : Type 0) → Agree (λ n. is_free_among n os) a b → (P → Q) → (Q → P) → ChainHolds m os a P → ChainHolds m os b Q

@@ -1,5 +1,5 @@
 -- Formulas decided part by part.
-use Rattle.std.proofs.Common.{◌≡◌, ◌↔◌, ℕ, ◌+◌, ◌<◌, ◌≤◌, Bool, true, false, not, IsTrue, List, ◌∷◌, length, take, get_or, Option, Result, IfOk, refl, sym, ◌∙◌, ap, subst}
+use Rattle.std.proofs.Common.{◌≡◌, ◌↔◌, ℕ, ◌+◌, ◌<◌, ◌≤◌, Bool, true, false, not, IsTrue, List, ◌∷◌, length, take, get_or, Option, Some, Result, IfOk, refl, sym, ◌∙◌, ap, subst}
 use Rattle.std.specs.Bool.{beq}
 use Rattle.std.proofs.lemmas.List.{take_all}
 use Rattle.std.proofs.lemmas.Bool.{false≢true}
@@ -63,12 +63,11 @@ trial_tells bound f q ns ms g h a r same names inside tells =
 
 -- a number that decides
 pub found_is : (bound : ℕ) (q : Quantifier) (ms ns : List Name) (n : Name) (f : trees.Formula) (a b : Assignment) (k : ℕ) (is wanted : Bool)
-    → ms ≡ n ∷ ns → wanted ≡ wants q → k < bound → b ≡ with_value n k a → IsTrue is ↔ Holds nothing (each_below q ns bound f) b → is ≡ wanted
+    → ms ≡ n ∷ ns → Some wanted ≡ wants q → k < bound → b ≡ with_value n k a → IsTrue is ↔ Holds nothing (each_below q ns bound f) b → is ≡ wanted
     → IsTrue wanted ↔ Holds nothing (each_below q ms bound f) a
 found_is bound q ms ns n f a b k is wanted names kind within given says same =
     subst (λ l. IsTrue wanted ↔ Holds nothing (each_below q l bound f) a) (sym names)
-    (subst (λ w. IsTrue w ↔ Holds nothing (each_below q (n ∷ ns) bound f) a) (sym kind)
-    (found_says q n bound (each_below q ns bound f) a k is within (subst (λ c. IsTrue is ↔ Holds nothing (each_below q ns bound f) c) given says) (same ∙ kind)))
+    (found_says q n bound (each_below q ns bound f) a k is wanted within (subst (λ c. IsTrue is ↔ Holds nothing (each_below q ns bound f) c) given says) kind same)
 
 pub same_truths : (is wanted : Bool) → beq is wanted ≡ true → is ≡ wanted
 same_truths true true same = refl

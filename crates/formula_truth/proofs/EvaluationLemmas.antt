@@ -7,7 +7,7 @@ use Rattle.formula_parse.specs.declared.tree.Term.{Term}
 use Rattle.formula_parse.specs.declared.tree.Factor.{Factor}
 use Rattle.formula_parse.specs.declared.tree.Addend.{Addend}
 use Rattle.formula_truth.specs.Assignments.{Assignment}
-use Rattle.formula_truth.specs.Values.{both, multiplied, value, product_value, sum_value}
+use Rattle.formula_truth.specs.Values.{both, multiplied, value, product_value, with_factor, sum_value}
 use Rattle.formula_truth.specs.Given.{after_sum}
 use Rattle.formula_truth.specs.declared.evaluation.Before.{Before}
 use Rattle.formula_truth.specs.declared.fault.Undecided.{Undecided}
@@ -18,11 +18,21 @@ pub value_at : (t : Term) (seen : trees.Term) (a : Assignment) (r : Option ℕ) 
 value_at t seen a r view is = is ∙ sym (ap (λ s. value s a) view)
 
 -- one factor more
-pub product_more : (fs : List Factor) (i : ℕ) (f : Factor) (t : trees.Term) (a : Assignment) (product more x : Option ℕ) → i < length fs → f ≡ get_or fs i f → factor_view f ≡ trees.times t
-    → product_value (factors_view (take i fs)) a ≡ product → x ≡ value t a → more ≡ both multiplied product x → product_value (factors_view (take (i + 1) fs)) a ≡ more
-product_more fs i f t a product more x within at view so_far here is =
-    ap (λ gs. product_value gs a) (factors_more fs i f within ∙ ap (λ g. trees.factors (factors_view (take i fs)) g) (ap factor_view (sym at) ∙ view))
-    ∙ ap (λ p. both multiplied p (value t a)) so_far ∙ ap (λ y. both multiplied product y) (sym here) ∙ sym is
+pub product_more : (fs : List Factor) (i : ℕ) (f : Factor) (a : Assignment) (product more : Option ℕ) → i < length fs → f ≡ get_or fs i f
+    → product_value (factors_view (take i fs)) a ≡ product → more ≡ with_factor (factor_view f) a product → product_value (factors_view (take (i + 1) fs)) a ≡ more
+product_more fs i f a product more within at so_far is =
+    ap (λ gs. product_value gs a) (factors_more fs i f within ∙ ap (λ g. trees.factors (factors_view (take i fs)) (factor_view g)) (sym at))
+    ∙ ap (with_factor (factor_view f) a) so_far ∙ sym is
+
+-- what a factor that is seen so makes of a product
+pub factor_at : (f : Factor) (seen : trees.Factor) (a : Assignment) (product r : Option ℕ) → factor_view f ≡ seen → r ≡ with_factor seen a product → r ≡ with_factor (factor_view f) a product
+factor_at f seen a product r view is = is ∙ sym (ap (λ g. with_factor g a product) view)
+
+-- a term that a product is multiplied by
+pub factor_answers : (f : Factor) (t : Term) (x : Option ℕ) (a : Assignment) (product : Option ℕ) (r : Result (Option ℕ) Undecided) → factor_view f ≡ trees.times (term_view t) → x ≡ value (term_view t) a
+    → IfOk r (λ z. z ≡ both multiplied product x) → IfOk r (λ z. z ≡ with_factor (factor_view f) a product)
+factor_answers f t x a product (Ok z) view here is = factor_at f (trees.times (term_view t)) a product z view (is ∙ ap (both multiplied product) here)
+factor_answers f t x a product (Err e) view here is = is
 
 -- all factors
 pub product_end : (fs gs : List Factor) (i : ℕ) (a : Assignment) (product : Option ℕ) → gs ≡ fs → length gs ≤ i → product_value (factors_view (take i gs)) a ≡ product → product ≡ value (trees.product (factors_view fs)) a

@@ -1,9 +1,9 @@
 -- Truth depends on what names mean.
-use Rattle.std.proofs.Common.{◌↔◌, ℕ, ℤ, List, sym, ◌∙◌, inl, inr}
-use Rattle.formula_parse.specs.Tokens.{Name, some, every}
+use Rattle.std.proofs.Common.{◌↔◌, ℕ, ◌<◌, ℤ, List, sym, ◌∙◌, inl, inr}
+use Rattle.formula_parse.specs.Tokens.{Name, some, every, infinite}
 use Rattle.formula_parse.specs.Trees.{Names, no_names, names, Index, Fact, compare, words, word_letter, letter_word, call, Joint, and, or, xor, implies, iff, Formula, atom, negated, chain, quantified, marked, Operands, no_operands, operands}
 use Rattle.formula_truth.specs.Assignments.{Assignment, with_value}
-use Rattle.formula_truth.specs.Truth.{Meanings, HasLetterAt, FactHolds, Joins, ForSome, ForEvery, Holds, ChainHolds}
+use Rattle.formula_truth.specs.Truth.{Meanings, HasLetterAt, FactHolds, Joins, ForSome, ForEvery, ForInfinitely, Holds, ChainHolds}
 use Rattle.formula_truth.specs.Tests.{tested}
 use Rattle.formula_truth.specs.Laws.{MeaningsMatter}
 
@@ -38,6 +38,12 @@ pub every_moved : (ns : Names) (P Q : Assignment → Type 0) → ((b : Assignmen
 every_moved no_names P Q move a h = move a h
 every_moved (names ns n) P Q move a h = every_moved ns (λ b. (k : ℕ) → P (with_value n k b)) (λ b. (k : ℕ) → Q (with_value n k b)) (λ b x k. move (with_value n k b) (x k)) a h
 
+pub infinitely_moved : (ns : Names) (P Q : Assignment → Type 0) → ((b : Assignment) → P b → Q b) → (a : Assignment) → ForInfinitely ns P a → ForInfinitely ns Q a
+infinitely_moved no_names P Q move a h = move a h
+infinitely_moved (names ns n) P Q move a h =
+    infinitely_moved ns (λ b. (m : ℕ) → (k : ℕ) × (m < k) × P (with_value n k b)) (λ b. (m : ℕ) → (k : ℕ) × (m < k) × Q (with_value n k b))
+    (λ b x m. let found = x m in (found.0, found.1, move (with_value n found.0 b) found.2)) a h
+
 letter_moved : (m n : Meanings) → MeanTheSame m n → (x : Index) (a : Assignment) (b : ℤ) → HasLetterAt m x a b → HasLetterAt n x a b
 letter_moved m n same x a b h = (h.0, h.1, same.letter_there x.word h.0 b h.2)
 
@@ -55,6 +61,7 @@ mutual
   moved (chain os f) m n same a h = chain_moved os m n same a (Holds m f a) (Holds n f a) (moved f m n same a) (moved f n m (other_direction m n same) a) h
   moved (quantified some ns f) m n same a h = some_moved ns (Holds m f) (Holds n f) (moved f m n same) a h
   moved (quantified every ns f) m n same a h = every_moved ns (Holds m f) (Holds n f) (moved f m n same) a h
+  moved (quantified infinite ns f) m n same a h = infinitely_moved ns (Holds m f) (Holds n f) (moved f m n same) a h
   moved (marked ms f) m n same a h = moved f m n same a h
 
   chain_moved : (os : Operands) (m n : Meanings) → MeanTheSame m n → (a : Assignment) (P Q : Type 0) → (P → Q) → (Q → P) → ChainHolds m os a P → ChainHolds n os a Q

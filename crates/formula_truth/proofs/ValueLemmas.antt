@@ -1,10 +1,11 @@
 -- The value of a term depends on the numbers of its variables alone.
 use Rattle.std.proofs.Common.{◌≡◌, ℕ, Bool, true, false, ◌||◌, IsTrue, List, Option, Some, refl, sym, ◌∙◌, ap}
+use Rattle.std.specs.Option.{option_and_then}
 use Rattle.std.proofs.lemmas.Slice.Eq.{bytes_eq-Decides}
 use Rattle.formula_parse.specs.Tokens.{Name}
-use Rattle.formula_parse.specs.Trees.{Term, variable, numeral, product, sum, Factors, no_factors, factors, times, Terms, no_terms, terms, Addends, no_addends, addends}
+use Rattle.formula_parse.specs.Trees.{Term, variable, numeral, product, sum, Factors, no_factors, factors, times, divided, Terms, no_terms, terms, Addends, no_addends, addends}
 use Rattle.formula_truth.specs.Assignments.{Assignment}
-use Rattle.formula_truth.specs.Values.{both, by_sign, multiplied, value, product_value, sum_value, and_value, values}
+use Rattle.formula_truth.specs.Values.{both, by_sign, multiplied, quotient, value, product_value, sum_value, and_value, values}
 use Rattle.formula_truth.specs.FreeVariables.{occurs_in, occurs_multiplied, occurs_before, occurs_among}
 
 pub or_left : (p q : Bool) → IsTrue p → IsTrue (p || q)
@@ -50,6 +51,7 @@ mutual
       both_same multiplied (product_value fs a) (product_value fs b) (value t a) (value t b)
       (product_agrees fs a b (agree_left (λ n. occurs_multiplied n fs) (λ n. occurs_in n t) a b agree))
       (value_agrees t a b (agree_right (λ n. occurs_multiplied n fs) (λ n. occurs_in n t) a b agree))
+  product_agrees (factors fs (divided c)) a b agree = ap (option_and_then (quotient c)) (product_agrees fs a b agree)
 
   sum_agrees : (ss : Addends) (a b : Assignment) (x y : Option ℕ) → Agree (λ n. occurs_before n ss) a b → x ≡ y → sum_value ss a x ≡ sum_value ss b y
   sum_agrees no_addends a b x y agree same = same

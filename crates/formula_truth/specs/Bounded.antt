@@ -1,6 +1,6 @@
--- Formulas whose quantifiers range over the numbers below a bound.
+-- Formulas whose quantifiers range over the numbers below a bound; `I` ranges over all numbers still.
 use Rattle.std.specs.Prelude.{ℕ, List, [], ◌∷◌, ◌++◌, false, Option, None, Some, IsTrue}
-use Rattle.formula_parse.specs.Tokens.{Name, Quantifier, some, every, less}
+use Rattle.formula_parse.specs.Tokens.{Name, Quantifier, some, every, infinite, less}
 use Rattle.formula_parse.specs.Trees.{Names, no_names, names, variable, numeral, compare, and, implies, Formula, atom, negated, chain, quantified, marked, Operands, no_operands, operands}
 use Rattle.formula_parse.specs.Views.{connective_view}
 use Rattle.formula_truth.specs.Truth.{Meanings, Joins}
@@ -15,10 +15,11 @@ nothing = tested (record { passes = λ n ns. false; letter = λ n ns. None })
 abbrev pub is_below : Name → ℕ → Formula
 is_below n bound = atom (record { system = []; fact = compare (variable n) less (numeral bound) })
 
--- for some number below the bound, and for every one
+-- for some number below the bound, and for every one; for infinitely many numbers, below the bound or not
 abbrev pub one_below : Quantifier → Name → ℕ → Formula → Formula
 one_below some n bound f = quantified some (names no_names n) (chain (operands no_operands (is_below n bound) and) f)
 one_below every n bound f = quantified every (names no_names n) (chain (operands no_operands (is_below n bound) implies) f)
+one_below infinite n bound f = quantified infinite (names no_names n) f
 
 -- for several variables, the first of them outermost
 abbrev pub each_below : Quantifier → List Name → ℕ → Formula → Formula
@@ -30,7 +31,7 @@ list_of no_names = []
 list_of (names ns n) = list_of ns ++ n ∷ []
 
 abbrev mutual
-  -- the formula with each quantifier ranging over the numbers below the bound
+  -- the formula with each `E` and `A` ranging over the numbers below the bound
   pub bounded : ℕ → Formula → Formula
   bounded bound (atom x) = atom x
   bounded bound (negated f) = negated (bounded bound f)

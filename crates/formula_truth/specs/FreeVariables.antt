@@ -2,7 +2,7 @@
 use Rattle.std.specs.Prelude.{Bool, false, ◌||◌, ◌&&◌, not}
 use Rattle.std.specs.Str.{bytes_eq}
 use Rattle.formula_parse.specs.Tokens.{Name}
-use Rattle.formula_parse.specs.Trees.{Names, no_names, names, Term, variable, numeral, product, sum, Factors, no_factors, factors, times, Terms, no_terms, terms, Addends, no_addends, addends, Fact, compare, words, word_letter, letter_word, call, Formula, atom, negated, chain, quantified, marked, Operands, no_operands, operands}
+use Rattle.formula_parse.specs.Trees.{Names, no_names, names, Term, variable, numeral, product, sum, Factors, no_factors, factors, times, divided, Terms, no_terms, terms, Addends, no_addends, addends, Fact, compare, words, word_letter, letter_word, call, Formula, atom, negated, chain, quantified, marked, Operands, no_operands, operands}
 
 -- whether the name is in the list
 abbrev pub is_listed : Name → Names → Bool
@@ -20,6 +20,7 @@ abbrev mutual
   pub occurs_multiplied : Name → Factors → Bool
   occurs_multiplied m no_factors = false
   occurs_multiplied m (factors fs (times t)) = occurs_multiplied m fs || occurs_in m t
+  occurs_multiplied m (factors fs (divided c)) = occurs_multiplied m fs
 
   pub occurs_before : Name → Addends → Bool
   occurs_before m no_addends = false

@@ -1,6 +1,6 @@
 -- The truth of formulas over the natural numbers.
 use Rattle.std.specs.Prelude.{◌≡◌, ◌≢◌, ◌↔◌, ◌⊎◌, ℕ, ◌<◌, ◌≤◌, ℤ, ◌<ℤ◌, ◌≤ℤ◌, List, Some}
-use Rattle.formula_parse.specs.Tokens.{Name, Relation, equal, unequal, less, greater, at_most, at_least, some, every}
+use Rattle.formula_parse.specs.Tokens.{Name, Relation, equal, unequal, less, greater, at_most, at_least, some, every, infinite}
 use Rattle.formula_parse.specs.Trees.{Names, no_names, names, Index, Fact, compare, words, word_letter, letter_word, call, Joint, and, or, xor, implies, iff, Formula, atom, negated, chain, quantified, marked, Operands, no_operands, operands}
 use Rattle.formula_truth.specs.Assignments.{Assignment, with_value}
 use Rattle.formula_truth.specs.Values.{value, values}
@@ -48,7 +48,7 @@ Joins xor P Q = (P × ¬ Q) ⊎ (¬ P × Q)
 Joins implies P Q = P → Q
 Joins iff P Q = P ↔ Q
 
--- for some numbers, one for each variable of a list, and for all
+-- for some numbers, one for each variable of a list, for all, and for infinitely many
 abbrev pub ForSome : Names → (Assignment → Type 0) → Assignment → Type 0
 ForSome no_names P a = P a
 ForSome (names ns n) P a = ForSome ns (λ b. (k : ℕ) × P (with_value n k b)) a
@@ -57,6 +57,11 @@ abbrev pub ForEvery : Names → (Assignment → Type 0) → Assignment → Type 
 ForEvery no_names P a = P a
 ForEvery (names ns n) P a = ForEvery ns (λ b. (k : ℕ) → P (with_value n k b)) a
 
+-- above every number there is one
+abbrev pub ForInfinitely : Names → (Assignment → Type 0) → Assignment → Type 0
+ForInfinitely no_names P a = P a
+ForInfinitely (names ns n) P a = ForInfinitely ns (λ b. (m : ℕ) → (k : ℕ) × (m < k) × P (with_value n k b)) a
+
 abbrev mutual
   pub Holds : Meanings → Formula → Assignment → Type 0
   Holds m (atom x) a = FactHolds m x.fact a
@@ -64,6 +69,7 @@ abbrev mutual
   Holds m (chain os f) a = ChainHolds m os a (Holds m f a)
   Holds m (quantified some ns f) a = ForSome ns (Holds m f) a
   Holds m (quantified every ns f) a = ForEvery ns (Holds m f) a
+  Holds m (quantified infinite ns f) a = ForInfinitely ns (Holds m f) a
   Holds m (marked ms f) a = Holds m f a
 
   -- the operands, read from the left, and then the last one, which says this

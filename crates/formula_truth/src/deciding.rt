@@ -36,7 +36,8 @@ struct Trial<'a> {
 /// that is given no number has 0. Slow: each list of numbers below the bound is tried.
 ///
 /// # Errors
-/// `Large` where a sum or a product passes 64 bits, `Deep` past 1,000 levels; no contract says so.
+/// `Large` where a sum or a product passes 64 bits, `Endless` where the quantifier `I` is met, `Deep` past 1,000
+/// levels; no contract says so.
 pub fn holds_below(
     alloc: Global,
     formula: &Formula,
@@ -121,7 +122,11 @@ fn tried(
         names: rest,
         ..trial
     };
-    let wanted = matches!(trial.quantifier, Quantifier::Exists);
+    let wanted = match trial.quantifier {
+        Quantifier::Exists => true,
+        Quantifier::ForAll => false,
+        Quantifier::Infinite => return Err(Undecided::Endless),
+    };
     for number in 0..bound {
         let more = with_number(alloc, given, name, number)?;
         let is = tried(alloc, inside, &more, bound, levels - 1)?;

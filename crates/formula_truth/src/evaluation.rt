@@ -1,9 +1,9 @@
 //! The values of terms.
 
 ghost use Rattle.std.specs.Prelude.{◌≡◌, IfOk};
-ghost use Rattle.formula_parse.specs.Trees.{times as times_of};
+ghost use Rattle.std.specs.Option.{option_and_then};
 ghost use Rattle.formula_parse.specs.Views.{term_view, factor_view, sign_view};
-ghost use Rattle.formula_truth.specs.Values.{both, multiplied as multiplied_numbers, by_sign, value};
+ghost use Rattle.formula_truth.specs.Values.{both, multiplied as multiplied_numbers, quotient, by_sign, value, with_factor as with_factor_of};
 ghost use Rattle.formula_truth.specs.Given.{assigned, after_sum};
 
 use crate::fault::Undecided;
@@ -27,6 +27,16 @@ fn multiplied(x: Option<u64>, y: Option<u64>) -> Result<Option<u64>, Undecided>
             None => Err(Undecided::Large),
         },
         _ => Ok(None),
+    }
+}
+
+/// The quotient of a value by a divisor, rounded down; there is none by 0.
+fn divided(x: Option<u64>, divisor: u64) -> Option<u64>
+    ensures { result ≡ option_and_then (quotient divisor) x }
+{
+    match x {
+        Some(a) => a.checked_div(divisor),
+        None => None,
     }
 }
 
@@ -56,13 +66,22 @@ fn added(before: Option<Before>, value: Option<u64>) -> Result<Option<u64>, Unde
     }
 }
 
-/// The term that a factor multiplies by.
-#[tactic(auto, using(formula_parse::proofs::ViewSteps::view_times))]
-fn times(factor: &Factor) -> &Term
-    ensures { factor_view factor.now ≡ times_of (term_view result.now) }
+/// A product so far with one more factor, where so many levels may be gone down.
+#[cycle(evaluation)]
+fn with_factor(
+    product: Option<u64>,
+    factor: &Factor,
+    given: &[Given],
+    levels: u32,
+) -> Result<Option<u64>, Undecided>
+    ensures { IfOk result (λ x. x ≡ with_factor_of (factor_view factor.now) (assigned given.now) product) }
 {
     match factor {
-        Factor::Times(term) => term,
+        Factor::Times(term) => {
+            let value = value_of(term, given, levels)?;
+            multiplied(product, value)
+        }
+        Factor::Divided(divisor) => Ok(divided(product, *divisor)),
     }
 }
 
@@ -80,8 +99,7 @@ pub(crate) fn value_of(term: &Term, given: &[Given], levels: u32) -> Result<Opti
         Term::Product(factors) => {
             let mut product = Some(1);
             for factor in factors {
-                let value = value_of(times(factor), given, levels - 1)?;
-                product = multiplied(product, value)?;
+                product = with_factor(product, factor, given, levels - 1)?;
             }
             Ok(product)
         }

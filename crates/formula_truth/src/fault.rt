@@ -8,6 +8,8 @@ use std::alloc::{AllocError, AllocFailed};
 pub enum Undecided {
     /// A sum or a product is 2^64 or more.
     Large,
+    /// The quantifier `I` ranges over all numbers: trying some of them does not decide it.
+    Endless,
     /// The formula has more levels than may be gone down.
     Deep,
     /// There was not enough memory.

@@ -66,11 +66,11 @@ returns-in_ok-product-in-Chain-clause-names t c =
 
 pub returns-in_ok-add_all-in-Quantified-clause-plan : goal.returns-in_ok-add_all-in-Quantified-clause-plan
 returns-in_ok-add_all-in-Quantified-clause-plan t c =
-    quantified_does (headers_of c.args.headers.now) (formula_view c.args.formula.now) (formula_view c.deref-in-Quantified.result.now) (quantifier_view c.in-Quantified.quantifier) c.in-Quantified.variables.items c.deref-in-Quantified-2.result.now
+    quantified_does (headers_of c.args.headers.now) (formula_view c.args.formula.now) (formula_view c.deref-in-Quantified.result.now) (formula_view c.deref-in-Quantified-3.result.now) (quantifier_view c.in-Quantified.quantifier) c.in-Quantified.variables.items c.deref-in-Quantified-2.result.now
     c.args.planner.now c.planned-in-Quantified.new.planner c.quantified.new.planner c.in_ok-place-in-Quantified.place c.in_ok-closed-in-Quantified.closed
     (ap formula_view c.in-Quantified.is ∙ view_quantified c.in-Quantified.quantifier c.in-Quantified.variables c.in-Quantified.inside
     ∙ ap (λ f. trees.quantified (quantifier_view c.in-Quantified.quantifier) (names_view c.in-Quantified.variables.items) (formula_view f)) (sym c.deref-in-Quantified.ensures))
-    c.deref-in-Quantified-2.ensures.value c.in_ok-place-in-Quantified.ensures.plan c.in_ok-closed-in-Quantified.ensures.plan
+    c.deref-in-Quantified-2.ensures.value (ap formula_view (c.deref-in-Quantified-3.ensures ∙ sym c.deref-in-Quantified.ensures)) c.in_ok-place-in-Quantified.ensures.plan c.in_ok-closed-in-Quantified.ensures.plan
 
 pub returns-in_ok-add_all-in-Quantified-clause-names : goal.returns-in_ok-add_all-in-Quantified-clause-names
 returns-in_ok-add_all-in-Quantified-clause-names t c =

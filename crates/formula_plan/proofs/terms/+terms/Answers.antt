@@ -1,13 +1,18 @@
-use Rattle.std.proofs.Common.{arith, Some, get_or, ap, ◌∙◌, None, refl, sym}
+use Rattle.std.proofs.Common.{arith, map, Some, get_or, ap, ◌∙◌, None, refl, sym}
 use Rattle.formula_parse.specs.Trees as trees
 use Rattle.formula_parse.specs.Views.{term_view, factor_view, factors_view, addends_view}
-use Rattle.formula_parse.proofs.ViewSteps.{view_variable, view_numeral, view_product, view_sum}
+use Rattle.formula_parse.proofs.ViewSteps.{view_variable, view_numeral, view_product, view_sum, view_divided}
 use Rattle.formula_plan.specs.Tracks as tracks
 use Rattle.formula_plan.specs.TermPlans.{Placed, factor_plans}
-use Rattle.formula_plan.specs.TermPlanning.{other_of, term_of}
+use Rattle.formula_plan.specs.TermPlanning.{other_of, term_of, scaling_view}
 use Rattle.formula_plan.specs.declared.track.Track.TheVariants.{Own}
-use Rattle.formula_plan.proofs.TermsMade.{variable_does, seen_answers, product_answers, numerals_answers, sum_more, sum_answers_all}
+use Rattle.formula_plan.proofs.TermsMade.{divisor_does, variable_does, seen_answers, product_answers, numerals_answers, sum_more, sum_answers_all}
 use Rattle.formula_plan.proofs.terms.+terms.Goals as goal
+
+pub term_of_factor-returns-in-Divided : goal.term_of_factor-returns-in-Divided
+term_of_factor-returns-in-Divided t c =
+    divisor_does c.numeral.result c.args.system.now (factor_view c.args.factor.now) c.in-Divided.divisor c.args.planner.now c.numeral.new.planner
+    (ap factor_view c.in-Divided.is ∙ view_divided c.in-Divided.divisor) c.numeral.ensures
 
 pub term-returns-in-Variable : goal.term-returns-in-Variable
 term-returns-in-Variable t c =
@@ -22,22 +27,22 @@ term-returns-in-Numeral t c =
 
 pub term-returns-in-Some : goal.term-returns-in-Some
 term-returns-in-Some t c =
-    seen_answers c.multiplied_by_all.result c.args.system.now (term_view c.args.whole.now) (trees.product (factors_view c.in-Product.factors.items)) c.args.planner.now c.multiplied_by_all.new.planner
+    seen_answers c.scaled_by_all.result c.args.system.now (term_view c.args.whole.now) (trees.product (factors_view c.in-Product.factors.items)) c.args.planner.now c.scaled_by_all.new.planner
     (ap term_view c.in-Product.is ∙ view_product c.in-Product.factors)
-    (product_answers c.multiplied_by_all.result c.args.system.now (factors_view c.in-Product.factors.items) (term_of (factor_view c.index.result.now)) c.deref-in-Some.result.now c.args.planner.now c.term_of_factor.new.planner c.multiplied_by_all.new.planner
+    (product_answers c.scaled_by_all.result c.args.system.now (factors_view c.in-Product.factors.items) (term_of (factor_view c.index.result.now)) (map scaling_view c.deref-in-Some.result.now) c.args.planner.now c.term_of_factor.new.planner c.scaled_by_all.new.planner
     c.in_ok-first-in-Some.first c.in_ok-first-in-Some.ensures
     (ap (λ fs. other_of (factors_view fs)) (sym c.deref-in-Product.ensures.value) ∙ c.in-Some.ensures.1 c.index.result.now
     ∙ ap (λ fs. Some (term_of (factor_view (get_or fs c.in-Some.i c.index.result.now)))) c.deref-in-Product.ensures.value ∙ ap (λ f. Some (term_of (factor_view f))) (sym c.index.ensures))
-    (ap (λ fs. (factor_plans c.args.system.now (factors_view fs)).numerals) (sym c.deref.ensures.value) ∙ c.in_ok-numbers-in-Product.ensures c.args.system.now ∙ sym c.deref-in-Some.ensures.value)
-    c.multiplied_by_all.ensures)
+    (ap (λ fs. (factor_plans c.args.system.now (factors_view fs)).scalings) (sym c.deref.ensures.value) ∙ c.in_ok-found-in-Product.ensures c.args.system.now ∙ ap (map scaling_view) (sym c.deref-in-Some.ensures.value))
+    c.scaled_by_all.ensures)
 
 pub term-returns-in-Product : goal.term-returns-in-Product
 term-returns-in-Product t c =
     seen_answers c.numeral_product.result c.args.system.now (term_view c.args.whole.now) (trees.product (factors_view c.in-Product.factors.items)) c.args.planner.now c.numeral_product.new.planner
     (ap term_view c.in-Product.is ∙ view_product c.in-Product.factors)
-    (numerals_answers c.numeral_product.result c.args.system.now (factors_view c.in-Product.factors.items) c.deref-in-None.result.now c.args.planner.now c.numeral_product.new.planner
+    (numerals_answers c.numeral_product.result c.args.system.now (factors_view c.in-Product.factors.items) (map scaling_view c.deref-in-None.result.now) c.args.planner.now c.numeral_product.new.planner
     (ap (λ fs. other_of (factors_view fs)) (sym c.deref-in-Product.ensures.value) ∙ c.in-None.ensures)
-    (ap (λ fs. (factor_plans c.args.system.now (factors_view fs)).numerals) (sym c.deref.ensures.value) ∙ c.in_ok-numbers-in-Product.ensures c.args.system.now ∙ sym c.deref-in-None.ensures.value)
+    (ap (λ fs. (factor_plans c.args.system.now (factors_view fs)).scalings) (sym c.deref.ensures.value) ∙ c.in_ok-found-in-Product.ensures c.args.system.now ∙ ap (map scaling_view) (sym c.deref-in-None.ensures.value))
     c.numeral_product.ensures)
 
 pub term-loop-addend-preserved : goal.term-loop-addend-preserved

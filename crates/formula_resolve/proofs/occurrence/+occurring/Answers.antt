@@ -1,9 +1,9 @@
 use Rattle.std.proofs.Common.{◌≡◌, ap, sym, subst, ◌∙◌, ◌++◌, ◌∷◌, [], OnOk}
 use Rattle.std.proofs.lemmas.List.{take_all, append-nil}
 use Rattle.formula_parse.specs.Trees as trees
-use Rattle.formula_parse.specs.Views.{term_view, factors_view, addends_view}
-use Rattle.formula_parse.proofs.ViewSteps.{view_variable, view_numeral, view_product, view_sum}
-use Rattle.formula_resolve.specs.Occurrences.{term_occurrences, factor_occurrences, addend_occurrences}
+use Rattle.formula_parse.specs.Views.{term_view, factor_view, factors_view, addends_view}
+use Rattle.formula_parse.proofs.ViewSteps.{view_variable, view_numeral, view_product, view_sum, view_divided}
+use Rattle.formula_resolve.specs.Occurrences.{term_occurrences, factor_of, factor_occurrences, addend_occurrences}
 use Rattle.formula_resolve.specs.Scopes.{binders_of}
 use Rattle.formula_resolve.proofs.ListLemmas.{added_twice}
 use Rattle.formula_resolve.proofs.occurrence.+occurring.Goals as goal
@@ -33,3 +33,8 @@ add_term-returns-after-loop-addend t c =
     (addend_occurrences c.args.system.now (binders_of c.args.scope.now) (addends_view c.in-Sum.addends.items)) (term_occurrences c.args.system.now (binders_of c.args.scope.now) (term_view c.deref.result.now))
     (c.loop-addend.invariant ∙ ap (λ ss. c.args.found.now.items ++ addend_occurrences c.args.system.now (binders_of c.args.scope.now) (addends_view ss)) (take_all c.loop-addend.addend-index c.deref-addend-items.result.now c.loop-addend-test.false ∙ c.deref-addend-items.ensures.value))
     c.add_term-in-Sum.ensures)
+
+pub add_factor-returns-in-Divided : goal.add_factor-returns-in-Divided
+add_factor-returns-in-Divided t c =
+    sym (append-nil c.args.found.now.items)
+    ∙ ap (λ f. c.args.found.now.items ++ factor_of c.args.system.now (binders_of c.args.scope.now) f) (sym (ap factor_view c.in-Divided.is ∙ view_divided c.in-Divided.field-0))

@@ -1,4 +1,4 @@
-use Rattle.std.proofs.Common.{ap, sym, ◌∙◌, arith}
+use Rattle.std.proofs.Common.{Some, ap, sym, ◌∙◌, arith}
 use Rattle.formula_parse.specs.Trees as trees
 use Rattle.formula_parse.specs.Views.{formula_view, operands_view, names_view, atom_view, quantifier_view}
 use Rattle.formula_parse.proofs.ViewSteps.{view_atom, view_negated, view_chain, view_quantified, view_marked}
@@ -7,7 +7,7 @@ use Rattle.formula_truth.specs.Bounded.{bounded}
 use Rattle.formula_truth.proofs.DecidingLemmas.{tells_seen, negated_is, operand_more, chain_is, trial_tells, found_is, same_truths}
 use Rattle.formula_truth.proofs.TrialLemmas.{wants}
 use Rattle.formula_truth.proofs.deciding.+deciding.Goals as goal
-use Rattle.formula_truth.proofs.deciding.+deciding.Goals.{tried-in-Exists, tried-in_default-matches}
+use Rattle.formula_truth.proofs.deciding.+deciding.Goals.{tried-in-Exists, tried-in-ForAll}
 
 pub holds-loop-operand-preserved : goal.holds-loop-operand-preserved
 holds-loop-operand-preserved t c =
@@ -43,13 +43,13 @@ holds-returns-in-Marked t c = tells_seen c.args.bound (formula_view c.args.formu
 pub tried-returns-then-is-wanted : goal.tried-returns-then-is-wanted
 tried-returns-then-is-wanted t c =
     found_is c.args.bound (quantifier_view c.args.trial.quantifier) c.args.trial.names.now c.in-Some.rest.now c.in-Some.name.now (bounded c.args.bound (formula_view c.args.trial.formula.now))
-    (assigned c.args.given.now) (assigned c.deref.result.now) c.loop-number.number c.in_ok-is.is' c.match-matches.matches
+    (assigned c.args.given.now) (assigned c.deref.result.now) c.loop-number.number c.in_ok-is.is' c.match-trial.wanted
     c.in-Some.ensures.cases.0
-    (elim c.match-matches.branch [
-      | tried-in-Exists w ↦ w.matches-is ∙ ap (λ q. wants (quantifier_view q)) (sym w.in-Exists.is)
-      | tried-in_default-matches w ↦ w.matches-is ∙ ap (λ q. wants (quantifier_view q)) (sym w.in_default-matches.is)
+    (elim c.match-trial.branch [
+      | tried-in-Exists w ↦ ap Some w.wanted-is ∙ ap (λ q. wants (quantifier_view q)) (sym w.in-Exists.is)
+      | tried-in-ForAll w ↦ ap Some w.wanted-is ∙ ap (λ q. wants (quantifier_view q)) (sym w.in-ForAll.is)
     ])
     (omega (arith, c.loop-number-test.true))
     (ap assigned c.deref.ensures.value ∙ c.in_ok-more.ensures)
     c.in_ok-is.ensures
-    (same_truths c.in_ok-is.is' c.match-matches.matches c.if-is-wanted.true)
+    (same_truths c.in_ok-is.is' c.match-trial.wanted c.if-is-wanted.true)
