@@ -116,20 +116,20 @@ module _ (sizes : List ℕ) (languages : List Automaton) (fit : AllFitTracks siz
       ap (λ (n : ℕ). drop n (accepted parts w ++ flags)) (sym (length-map parts (λ (part : PartValue). accepts_of part.relation.automaton w)))
       ∙ drop-append_seam (accepted parts w) flags
 
-  module _ (parts : List PartValue) (are : All (IsOverSizes sizes) parts) (some : 0 < length languages) where
-    -- the letter of a word: where it is valid, the value of the first relation that accepts
+  module _ (rest : Option ℤ) (parts : List PartValue) (are : All (IsOverSizes sizes) parts) (some : 0 < length languages) where
+    -- the letter of a word: where it is valid, the value of the first relation that accepts, or the rest
     abbrev pub letter_here : List ℕ → Option ℤ
-    letter_here w = if is_valid sizes languages w then Some (first_held parts (accepted parts w)) else None
+    letter_here w = if is_valid sizes languages w then first_held rest parts (accepted parts w) else None
 
-    held : (w : List ℕ) → IsWord (product sizes) w → held_letter parts (beside parts) (tuple_after (beside parts) w) ≡ letter_here w
+    held : (w : List ℕ) → IsWord (product sizes) w → held_letter rest parts (beside parts) (tuple_after (beside parts) w) ≡ letter_here w
     held w over =
         let suffix : List Bool = flags_of tracks w in
         let flags : flags_at (beside parts) (tuple_after (beside parts) w) ≡ accepted parts w ++ suffix =
         ap (flags_at (beside parts)) (sym (tuple_after-lead (beside parts) w)) ∙ flags_at-lead (beside parts) w ∙ flags_joined parts are w over in
-        ap (λ (fs : List Bool). if all_true (drop (length parts) fs) then Some (first_held parts fs) else None) flags
-        ∙ ap (λ (fs : List Bool). if all_true fs then Some (first_held parts (accepted parts w ++ suffix)) else None) (drop_accepted parts w suffix)
-        ∙ ap (λ (b : Bool). if b then Some (first_held parts (accepted parts w ++ suffix)) else None) (all_true-valid sizes languages w over)
-        ∙ ap (λ (x : ℤ). if is_valid sizes languages w then Some x else None) (first_held-append parts (λ (part : PartValue). accepts_of part.relation.automaton w) suffix)
+        ap (λ (fs : List Bool). if all_true (drop (length parts) fs) then first_held rest parts fs else None) flags
+        ∙ ap (λ (fs : List Bool). if all_true fs then first_held rest parts (accepted parts w ++ suffix) else None) (drop_accepted parts w suffix)
+        ∙ ap (λ (b : Bool). if b then first_held rest parts (accepted parts w ++ suffix) else None) (all_true-valid sizes languages w over)
+        ∙ ap (λ (x : Option ℤ). if is_valid sizes languages w then x else None) (first_held-append rest parts (λ (part : PartValue). accepts_of part.relation.automaton w) suffix)
 
     -- the first track's language comes after the relations
     after_within : length parts < length (beside parts)
@@ -143,21 +143,21 @@ module _ (sizes : List ℕ) (languages : List Automaton) (fit : AllFitTracks siz
         )
 
     -- where all are led to their sinks there is no letter
-    none_at_sinks : (w : List ℕ) → are_sinks (beside parts) (tuple_after (beside parts) w) ≡ true → held_letter parts (beside parts) (tuple_after (beside parts) w) ≡ None
+    none_at_sinks : (w : List ℕ) → are_sinks (beside parts) (tuple_after (beside parts) w) ≡ true → held_letter rest parts (beside parts) (tuple_after (beside parts) w) ≡ None
     none_at_sinks w sinks =
         let key : List ℕ = tuple_after (beside parts) w in
         let at = are_sinks-at (beside parts) key (length parts) after_within sinks in
         let refuses : accepting_of (reading_at (beside parts) (length parts)).automaton (state_at key (length parts)) ≡ false =
         not_accepting_past (reading_at (beside parts) (length parts)).automaton (state_at key (length parts)) (omega (arith, at)) in
-        let rest : Bool = all_true (drop (length parts + 1) (flags_at (beside parts) key)) in
-        ap (λ (b : Bool). if b then Some (first_held parts (flags_at (beside parts) key)) else None)
-        (all_true_more (beside parts) key (length parts) after_within ∙ ap (λ (b : Bool). b && rest) refuses)
+        let after : Bool = all_true (drop (length parts + 1) (flags_at (beside parts) key)) in
+        ap (λ (b : Bool). if b then first_held rest parts (flags_at (beside parts) key) else None)
+        (all_true_more (beside parts) key (length parts) after_within ∙ ap (λ (b : Bool). b && after) refuses)
 
     pub letters_held : (keys : List (List ℕ)) (e : Automaton) → AreTuples (product sizes) (beside parts) keys e
-        → (w : List ℕ) → IsWord (product sizes) w → letter_led e (held_letters parts (beside parts) keys) w ≡ letter_here w
+        → (w : List ℕ) → IsWord (product sizes) w → letter_led e (held_letters rest parts (beside parts) keys) w ≡ letter_here w
     letters_held keys e tuples w over = by (run_of e 0 w) (tuples.leads w over) ∙ held w over
       where
         by : (o : Option ℕ) → MatchOption o (are_sinks (beside parts) (tuple_after (beside parts) w) ≡ true) (λ q. (q < states_of e) × (key_at keys q ≡ tuple_after (beside parts) w))
-            → option_and_then (λ q. letter_at (held_letters parts (beside parts) keys) q) o ≡ held_letter parts (beside parts) (tuple_after (beside parts) w)
+            → option_and_then (λ q. letter_at (held_letters rest parts (beside parts) keys) q) o ≡ held_letter rest parts (beside parts) (tuple_after (beside parts) w)
         by None sinks = sym (none_at_sinks w sinks)
-        by (Some q) some = get_or-map (held_letter parts (beside parts)) keys q [] None (omega (arith, some.0, tuples.count)) ∙ ap (held_letter parts (beside parts)) some.1
+        by (Some q) some = get_or-map (held_letter rest parts (beside parts)) keys q [] None (omega (arith, some.0, tuples.count)) ∙ ap (held_letter rest parts (beside parts)) some.1

@@ -1,5 +1,5 @@
 -- The step that combines relations, by the tuples of states that words lead to.
-use Rattle.std.proofs.Common.{◌≡◌, ℕ, ◌<◌, ◌≤◌, List, length, sym, ap, ◌∙◌, arith}
+use Rattle.std.proofs.Common.{◌≡◌, ℕ, ℤ, ◌<◌, ◌≤◌, List, Option, length, sym, ap, ◌∙◌, arith}
 use Rattle.std.specs.List.{All, AllByRecursion}
 use Rattle.std.proofs.lemmas.List.{length-append, length-map}
 use Rattle.digit_tuple.specs.Deterministic.{Automaton}
@@ -74,10 +74,10 @@ module _ (parts : List PartValue) (systems : List SystemValue) (sealed : AllByRe
     apart_combine k = HasApart-same (LeadToOne beside) (CombineAlike parts systems) (product sizes) k tuple_from_alike
 
     -- the letters of the tuples are those of the word
-    pub word_of_tuples : (f : LetterFunctionValue) (keys : List (List ℕ)) (e : Automaton) → IsLetterFunction f → f.automaton.sizes ≡ sizes → AreTuples (product sizes) beside keys e
-        → ((w : List ℕ) → IsWord (product sizes) w → letter_after f w ≡ letter_led e (held_letters parts beside keys) w)
-        → IsCombination parts systems (record { systems = systems; function = f })
-    word_of_tuples f keys e is sizes_are tuples letters =
+    pub word_of_tuples : (rest : Option ℤ) (f : LetterFunctionValue) (keys : List (List ℕ)) (e : Automaton) → IsLetterFunction f → f.automaton.sizes ≡ sizes → AreTuples (product sizes) beside keys e
+        → ((w : List ℕ) → IsWord (product sizes) w → letter_after f w ≡ letter_led e (held_letters rest parts beside keys) w)
+        → IsCombination rest parts systems (record { systems = systems; function = f })
+    word_of_tuples rest f keys e is sizes_are tuples letters =
         let some : 0 < length languages = omega (arith, length-map systems (λ (s : SystemValue). s.language), some_track parts systems given shape) in
-        combination_is parts systems (some_track parts systems given shape) sealed (one_direction parts systems given are) fit f is sizes_are
-        (λ w over_w. letters w over_w ∙ letters_held sizes languages languages_on_tracks parts over some keys e tuples w over_w)
+        combination_is rest parts systems (some_track parts systems given shape) sealed (one_direction parts systems given are) fit f is sizes_are
+        (λ w over_w. letters w over_w ∙ letters_held sizes languages languages_on_tracks rest parts over some keys e tuples w over_w)

@@ -1,5 +1,5 @@
 -- The step that combines relations to a word.
-use Rattle.std.specs.Prelude.{◌≡◌, ℕ, List, Result, Ok, Err}
+use Rattle.std.specs.Prelude.{◌≡◌, ℕ, ℤ, List, Option, Result, Ok, Err}
 use Rattle.std.specs.List.{All}
 use Rattle.digit_tuple.specs.Steps.{StepLog}
 use Rattle.digit_tuple.specs.declared.kind.Kind.TheVariants as kinds
@@ -22,15 +22,15 @@ pub record CombineAlike (parts : List PartValue) (systems : List SystemValue) (w
   pub tracks : TracksAlike (sizes_of (systems_of systems)) (languages_of systems) w v
 
 -- the step
-abbrev pub combine_step : List PartValue → List SystemValue → Making WordValue
-combine_step parts systems = record {
+abbrev pub combine_step : Option ℤ → List PartValue → List SystemValue → Making WordValue
+combine_step rest parts systems = record {
   step = record { kind = kinds.Combine; sizes = sizes_of (systems_of systems); alike = CombineAlike parts systems };
   automaton_of = λ word. word.function.automaton;
-  IsMade = IsCombination parts systems;
+  IsMade = IsCombination rest parts systems;
 }
 
 -- the relations have one shape, and the step is done or refused; or they have not, and no step is made
-abbrev pub DoesCombine : List PartValue → List SystemValue → StepLog → Result WordValue CombineFault → StepLog → Type 0
-DoesCombine parts systems old (Ok word) new = HaveOneShape parts × DoesStep (combine_step parts systems) old (Ok word) new
-DoesCombine parts systems old (Err (Step fault)) new = HaveOneShape parts × DoesStep (combine_step parts systems) old (Err fault) new
-DoesCombine parts systems old (Err (Shape first other)) new = IsShapeFault parts first other × (new ≡ old)
+abbrev pub DoesCombine : Option ℤ → List PartValue → List SystemValue → StepLog → Result WordValue CombineFault → StepLog → Type 0
+DoesCombine rest parts systems old (Ok word) new = HaveOneShape parts × DoesStep (combine_step rest parts systems) old (Ok word) new
+DoesCombine rest parts systems old (Err (Step fault)) new = HaveOneShape parts × DoesStep (combine_step rest parts systems) old (Err fault) new
+DoesCombine rest parts systems old (Err (Shape first other)) new = IsShapeFault parts first other × (new ≡ old)

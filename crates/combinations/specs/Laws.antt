@@ -1,5 +1,5 @@
 -- Laws of the words that relations make together.
-use Rattle.std.specs.Prelude.{◌≡◌, ℕ, ℤ, List}
+use Rattle.std.specs.Prelude.{◌≡◌, ℕ, ℤ, List, Option, Some}
 use Rattle.std.specs.List.{All}
 use Rattle.digit_tuple.specs.declared.step_fault.StepFault.TheVariants.{Memory}
 use Rattle.num_system.specs.Sealed.{SystemValue}
@@ -10,14 +10,14 @@ use Rattle.combinations.specs.Combined.{IsCombined}
 use Rattle.combinations.specs.CombineSteps.{DoesCombine}
 use Rattle.combinations.specs.declared.combine_fault.CombineFault.TheVariants.{Step}
 
--- relations have a combined letter at each tuple of numbers
+-- relations have a combined letter at each tuple of numbers, where there is one for the rest
 abbrev pub TuplesHaveCombinedLetters : Type 0
-TuplesHaveCombinedLetters = (parts : List PartValue) (ns : List ℕ) → All (λ (part : PartValue). IsRelation part.relation) parts → (letter : ℤ) × IsCombined parts ns letter
+TuplesHaveCombinedLetters = (rest : ℤ) (parts : List PartValue) (ns : List ℕ) → All (λ (part : PartValue). IsRelation part.relation) parts → (letter : ℤ) × IsCombined (Some rest) parts ns letter
 
--- and one alone
+-- and one at most
 abbrev pub TuplesHaveOneCombinedLetter : Type 0
-TuplesHaveOneCombinedLetter = (parts : List PartValue) (ns : List ℕ) (b c : ℤ) → IsCombined parts ns b → IsCombined parts ns c → b ≡ c
+TuplesHaveOneCombinedLetter = (rest : Option ℤ) (parts : List PartValue) (ns : List ℕ) (b c : ℤ) → IsCombined rest parts ns b → IsCombined rest parts ns c → b ≡ c
 
 -- relations make one word, or are refused by one fault
 abbrev pub CombinationsHaveOneOutcome : Type 0
-CombinationsHaveOneOutcome = (parts : List PartValue) (systems : List SystemValue) → HasOneAnswer (Step Memory) (DoesCombine parts systems)
+CombinationsHaveOneOutcome = (rest : Option ℤ) (parts : List PartValue) (systems : List SystemValue) → HasOneAnswer (Step Memory) (DoesCombine rest parts systems)

@@ -35,8 +35,8 @@ use word_output::letter_function::LetterFunction;
 use word_output::word::Word;
 
 /// The word whose letter at each tuple of numbers is the value of the first listed relation that holds of
-/// it, and 0 where none holds, by the step `combine` as the next one. The systems are those of the first
-/// relation; without one there is at least one system, and all have one direction. Tracks are matched by
+/// it, by the step `combine` as the next one. Where none holds its letter is `rest`, and without that it has
+/// none. The systems are those of the first relation; without one there is at least one system, and all have one direction. Tracks are matched by
 /// their places, and their names do not count. A relation may be listed more than once. The width is that
 /// of tuples of what follows a word in each relation and in the language of each track. Time and memory
 /// follow the width and the letters by which some residual of a tuple leads to one that is not empty.
@@ -49,14 +49,15 @@ pub fn combine(
     alloc: Global,
     parts: &[Part],
     systems: &[Rc<System>],
+    rest: Option<i32>,
     steps: &mut Steps,
 ) -> Result<Word, CombineFault>
     requires { AreSystemsFor parts.now (map rc_value systems.now) }
-    ensures { DoesCombine parts.now (map rc_value systems.now) steps.old result steps.new }
+    ensures { DoesCombine rest parts.now (map rc_value systems.now) steps.old result steps.new }
 {
     match shape_fault(parts) {
         Some((first, other)) => Err(CombineFault::Shape(first, other)),
-        None => Ok(combine_step(alloc, parts, systems, steps)?),
+        None => Ok(combine_step(alloc, parts, systems, rest, steps)?),
     }
 }
 
@@ -65,14 +66,15 @@ fn combine_step(
     alloc: Global,
     parts: &[Part],
     systems: &[Rc<System>],
+    rest: Option<i32>,
     steps: &mut Steps,
 ) -> Result<Word, StepFault>
     requires systems { AreSystemsFor parts.now (map rc_value systems.now) }
     requires shape { HaveOneShape parts.now }
-    ensures { DoesStep (the_step parts.now (map rc_value systems.now)) steps.old result steps.new }
+    ensures { DoesStep (the_step rest parts.now (map rc_value systems.now)) steps.old result steps.new }
 {
     let kept = shared(alloc, systems)?;
-    match combined(alloc, parts, systems, steps.limit()) {
+    match combined(alloc, parts, systems, rest, steps.limit()) {
         Ok(Stepped { result, width }) => {
             steps.done(Kind::Combine, width, result.dfa().states())?;
             Ok(Word::from_parts(result, kept))
@@ -88,17 +90,18 @@ fn combined(
     alloc: Global,
     parts: &[Part],
     systems: &[Rc<System>],
+    rest: Option<i32>,
     limit: u32,
 ) -> Result<Stepped<LetterFunction>, OpFault>
     requires systems { AreSystemsFor parts.now (map rc_value systems.now) }
     requires shape { HaveOneShape parts.now }
-    ensures combination { IfOk result (λ stepped. IsCombination parts.now (map rc_value systems.now) (record { systems = map rc_value systems.now; function = stepped.result })) }
+    ensures combination { IfOk result (λ stepped. IsCombination rest parts.now (map rc_value systems.now) (record { systems = map rc_value systems.now; function = stepped.result })) }
     ensures alphabet { OnOk result (IsAlphabet (sizes_of (systems_of (map rc_value systems.now)))) }
     ensures width { IfOk result (λ stepped. HasWidth (CombineAlike parts.now (map rc_value systems.now)) (letters_in (systems_of (map rc_value systems.now))) stepped.width) }
     ensures size { IfOk result (λ stepped. states_of stepped.result.automaton ≤ stepped.width) }
     ensures within { IfOk result (λ stepped. stepped.width ≤ limit) }
     ensures letters { IsErrOf result OpFault.Letters → IsTooLarge (sizes_of (systems_of (map rc_value systems.now))) }
-    ensures states { IsErrOf result OpFault.States → ExceedsWidth limit (the_step parts.now (map rc_value systems.now)).step }
+    ensures states { IsErrOf result OpFault.States → ExceedsWidth limit (the_step rest parts.now (map rc_value systems.now)).step }
 {
     are_sealed(systems);
     are_relations(parts);
@@ -108,7 +111,7 @@ fn combined(
     let readers = combined_readers(alloc, &alphabet, parts, &languages)?;
     let Stepped { result, width } = explore_tuples(alloc, alphabet, &readers, limit)?;
     let Explored { dfa, keys } = result;
-    let letters = tuple_letters(alloc, parts, &readers, &keys)?;
+    let letters = tuple_letters(alloc, rest, parts, &readers, &keys)?;
     let function = LetterFunction::of_states(alloc, &dfa, &letters)?;
     Ok(Stepped {
         result: function,

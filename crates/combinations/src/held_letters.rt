@@ -39,44 +39,55 @@ pub(crate) fn combined_readers<'a>(
 /// The letter of each tuple of states.
 pub(crate) fn tuple_letters(
     alloc: Global,
+    rest: Option<i32>,
     parts: &[Part],
     readers: &[Reader<'_>],
     keys: &Numbering,
 ) -> Result<Vec<Option<i32>>, OutOfMemory>
     requires enough { length parts.now ≤ length readers.now }
     requires keys { All (λ key. length key ≡ length readers.now) keys.now }
-    ensures { IfOk result (λ letters. letters.items ≡ held_letters parts.now (readings_in readers.now) keys.now) }
+    ensures { IfOk result (λ letters. letters.items ≡ held_letters rest parts.now (readings_in readers.now) keys.now) }
 {
     let mut letters = Vec::with_capacity(alloc, keys.len())?;
     for number in 0..keys.len() {
-        letters.push(tuple_letter(parts, readers, keys.key(number)))?;
+        letters.push(tuple_letter(rest, parts, readers, keys.key(number)))?;
     }
     Ok(letters)
 }
 
-// The value of the first relation that accepts at the tuple, where the languages accept.
-fn tuple_letter(parts: &[Part], readers: &[Reader<'_>], key: &[u32]) -> Option<i32>
+// The value of the first relation that accepts at the tuple, or the rest, where the languages accept.
+fn tuple_letter(
+    rest: Option<i32>,
+    parts: &[Part],
+    readers: &[Reader<'_>],
+    key: &[u32],
+) -> Option<i32>
     requires enough { length parts.now ≤ length readers.now }
     requires key { length key.now ≡ length readers.now }
-    ensures { result ≡ held_letter parts.now (readings_in readers.now) key.now }
+    ensures { result ≡ held_letter rest parts.now (readings_in readers.now) key.now }
 {
     if all_accept(readers, key, parts.len()) {
-        Some(first_value(parts, readers, key))
+        first_value(rest, parts, readers, key)
     } else {
         None
     }
 }
 
-// The value of the first relation that accepts at the tuple, and 0 where none does.
-fn first_value(parts: &[Part], readers: &[Reader<'_>], key: &[u32]) -> i32
+// The value of the first relation that accepts at the tuple, and the rest where none does.
+fn first_value(
+    rest: Option<i32>,
+    parts: &[Part],
+    readers: &[Reader<'_>],
+    key: &[u32],
+) -> Option<i32>
     requires enough { length parts.now ≤ length readers.now }
     requires key { length key.now ≡ length readers.now }
-    ensures { result ≡ first_held parts.now (flags_at (readings_in readers.now) key.now) }
+    ensures { result ≡ first_held rest parts.now (flags_at (readings_in readers.now) key.now) }
 {
     for (place, part) in parts.iter().enumerate() {
         if readers[place].accepts(key[place]) {
-            return part.value();
+            return Some(part.value());
         }
     }
-    0
+    rest
 }

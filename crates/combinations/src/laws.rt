@@ -2,7 +2,7 @@
 
 ghost use Rattle.combinations.specs.Laws.{CombinationsHaveOneOutcome, TuplesHaveCombinedLetters, TuplesHaveOneCombinedLetter};
 
-/// Relations have one combined letter at each tuple of numbers.
+/// Relations have one combined letter at most at each tuple of numbers, and one where there is a letter for the rest.
 pub fn tuples_have_one_combined_letter()
     ensures some { TuplesHaveCombinedLetters }
     ensures one { TuplesHaveOneCombinedLetter }

@@ -1,5 +1,5 @@
 //! The word that several relations make together: its letter at numbers is the value of the first relation
-//! in a list that holds of them, and 0 where none does.
+//! in a list that holds of them. Where none does, it is one letter that is given, or there is no letter.
 #![tactic(auto)]
 
 /// Relations in a list, each with its letter.

@@ -4,6 +4,7 @@ use Rattle.std.proofs.lemmas.Bool.{eqb-false}
 use Rattle.dfa_reading.specs.Headers.{Header, has_states}
 use Rattle.dfa_reading.specs.Lines.{line_after, lines_of}
 use Rattle.dfa_reading.specs.Listed.{Listed}
+use Rattle.dfa_reading.specs.declared.outputs.Outputs.TheVariants.{Numbers}
 use Rattle.dfa_reading.specs.Reading.{Draft, add_lines, add_lines_by, finish, finish_with, lists, no_draft, placed_lines, relation_of, then_read}
 use Rattle.dfa_reading.specs.WordFiles.{add_word_line, word_of}
 use Rattle.definitions.specs.TableSteps.{IsTable}
@@ -41,7 +42,7 @@ finished_with after (Some header) draft listed h = finished after header draft l
 pub file_is_table : FilesAreTables
 unfolding relation_of
 file_is_table text listed h =
-    let found = then_ok (add_lines 1 no_draft (lines_of text)) (finish (line_after (lines_of text))) listed h in
+    let found = then_ok (add_lines Numbers 1 no_draft (lines_of text)) (finish (line_after (lines_of text))) listed h in
     finished_with (line_after (lines_of text)) found.0.header found.0 listed found.1
 
 pub word_has_states : (text : List ℕ) (listed : Listed) → word_of text ≡ Ok listed → IsTable listed

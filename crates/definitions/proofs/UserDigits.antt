@@ -14,6 +14,7 @@ use Rattle.dfa_reading.specs.Lines.{◌>>=◌, parts_of, lines_of, line_after}
 use Rattle.dfa_reading.specs.Listed.{Listed}
 use Rattle.dfa_reading.specs.Numbers.{integer_of}
 use Rattle.text_grammar.specs.Numbers.{is_number, is_short, number_of}
+use Rattle.dfa_reading.specs.declared.outputs.Outputs.TheVariants.{Numbers}
 use Rattle.dfa_reading.specs.Reading.{Draft, no_draft, add_line, add_lines_by, placed_lines, lists, finish_with, finish}
 use Rattle.dfa_reading.specs.Systems.{systems_of}
 use Rattle.dfa_reading.proofs.Drafts.{then_ok}
@@ -101,10 +102,10 @@ header_small line sets h =
 -- the header of a language is that of a line
 headed_line : (at : ℕ) (draft next : Draft) (line : List ℕ) → add_headed_line is_language_header at draft line ≡ Some next → IsHeaded draft → IsHeaded next
 headed_line at draft next line h is =
-    let added = bind_some (add_line at draft line) (kept_headed is_language_header) next h in
+    let added = bind_some (add_line Numbers at draft line) (kept_headed is_language_header) next h in
     let kept = cond_some-then (is_headed is_language_header added.0.header) (Some added.0) next added.2 in
     let same : added.0 ≡ next = let e : Some added.0 ≡ Some next = kept.1 in cc in
-    subst IsHeaded same (line_headed at draft added.0 line added.1 is)
+    subst IsHeaded same (line_headed Numbers at draft added.0 line added.1 is)
 
 listed_header : (header : Header) (draft : Draft) (listed : Listed) → lists header draft ≡ Ok listed → listed.header ≡ header
 listed_header header draft listed h =

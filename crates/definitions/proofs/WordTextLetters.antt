@@ -1,19 +1,19 @@
 -- The text of a word, read as a word's file, has the letters of the word.
-use Rattle.std.proofs.Common.{◌≡◌, ◌↔◌, ℕ, zero, suc, ◌-◌, ◌<◌, ◌≤◌, List, [], ◌∷◌, length, map, get_or, ℤ, pos, Option, None, Some, unwrap_or, Ok, refl, sym, ap, ◌∙◌, subst, arith}
+use Rattle.std.proofs.Common.{◌≡◌, ◌↔◌, ℕ, zero, suc, ◌-◌, ◌<◌, ◌≤◌, List, [], ◌∷◌, length, map, get_or, ℤ, pos, Option, None, Some, Ok, refl, sym, ap, ◌∙◌, subst, arith}
 use Rattle.std.specs.Int.{w32}
 use Rattle.std.specs.List.{All, AllZip}
 use Rattle.std.specs.Option.{option_map_or}
-use Rattle.std.specs.Prelude.{FitsSigned}
+use Rattle.std.specs.Prelude.{FitsSigned, IfSome}
 use Rattle.std.proofs.lemmas.List.{length-map, get_or-map}
 use Rattle.std.proofs.lemmas.List.Elements.{All-get_or, All-map}
-use Rattle.std.proofs.lemmas.Option.{none-some, same_Some}
+use Rattle.std.proofs.lemmas.Option.{none-some}
 use Rattle.digit_tuple.specs.Deterministic.{Automaton, IsTable, letters_of, states_of, run_of}
 use Rattle.digit_tuple.specs.Letters.{IsWord}
 use Rattle.digit_tuple.specs.Paddings.{in_order, strip}
 use Rattle.digit_tuple.specs.declared.direction.Direction.{Direction}
 use Rattle.digit_tuple.specs.declared.header.Header.{Header}
 use Rattle.dfa_reading.specs.Branching.{IsLetterOfDigits}
-use Rattle.dfa_reading.specs.Listed.{Listed, MovesAlong, output_of}
+use Rattle.dfa_reading.specs.Listed.{Listed, MovesAlong}
 use Rattle.dfa_reading.specs.WordFiles.{word_of}
 use Rattle.dfa_reading.proofs.TupleWords.{tuples_of, word_of_tuples}
 use Rattle.dfa_text.specs.Lists.{word_listed, AreOutputs}
@@ -22,7 +22,7 @@ use Rattle.dfa_text.proofs.ListedPaths.{runs_listed}
 use Rattle.dfa_text.proofs.PrintedWords.{text_lists_word}
 use Rattle.minimise.specs.Classes.{class_of}
 use Rattle.minimise.proofs.RunLemmas.{run_within}
-use Rattle.num_system.proofs.HoldLemmas.{represented_count, representation_of}
+use Rattle.num_system.proofs.HoldLemmas.{one_tuple, representation_of}
 use Rattle.numeration.specs.Representation.{Represents, letters_in, sizes_of}
 use Rattle.numeration.specs.Systems.{AreSystems, System}
 use Rattle.numeration.proofs.RepresentLemmas.{represents-without_zeros}
@@ -41,28 +41,28 @@ use Rattle.definitions.proofs.WordLetters.{file_letter}
 
 module _ (f : LetterFunctionValue) (is : IsLetterFunction f) where
   -- the letter of a class fits where those of the function do
-  class_fits : All (λ letter. FitsSigned w32 letter) f.letters → (class : ℕ) → class ≤ length f.letters → FitsSigned w32 (unwrap_or (letter_in f.letters class) (pos 0))
-  class_fits fits zero small = omega arith
+  class_fits : All (λ letter. FitsSigned w32 letter) f.letters → (class : ℕ) → class ≤ length f.letters → IfSome (letter_in f.letters class) (FitsSigned w32)
+  class_fits fits zero small = tt
   class_fits fits (suc class) small =
       let place : suc class - 1 ≡ class = omega arith in
       let read : letter_in f.letters (suc class) ≡ Some (get_or f.letters class (pos 0)) = letter_in-class f.letters (suc class) (omega arith) ∙ ap (λ (k : ℕ). Some (get_or f.letters k (pos 0))) place in
-      subst (λ (o : Option ℤ). FitsSigned w32 (unwrap_or o (pos 0))) (sym read) (All-get_or (λ letter. FitsSigned w32 letter) f.letters class (pos 0) (omega (arith, small)) fits)
+      subst (λ (o : Option ℤ). IfSome o (FitsSigned w32)) (sym read) (All-get_or (λ letter. FitsSigned w32 letter) f.letters class (pos 0) (omega (arith, small)) fits)
 
   -- so the outputs are those of an automaton
   pub outputs_fit : All (λ letter. FitsSigned w32 letter) f.letters → AreOutputs f.automaton (outputs_of f)
   outputs_fit fits = record {
-    count = length-map f.classes (λ class. unwrap_or (letter_in f.letters class) (pos 0)) ∙ is.canonical.count;
-    fits = All-map (λ letter. FitsSigned w32 letter) (λ class. unwrap_or (letter_in f.letters class) (pos 0)) f.classes (λ q d within. class_fits fits (get_or f.classes q d) (is.within q d within));
+    count = length-map f.classes (λ class. letter_in f.letters class) ∙ is.canonical.count;
+    fits = All-map (λ output. IfSome output (FitsSigned w32)) (λ class. letter_in f.letters class) f.classes (λ q d within. class_fits fits (get_or f.classes q d) (is.within q d within));
   }
 
-  output_at : (q : ℕ) → q < states_of f.automaton → get_or (outputs_of f) q (pos 0) ≡ unwrap_or (letter_in f.letters (class_of f.classes q)) (pos 0)
-  output_at q within = get_or-map (λ class. unwrap_or (letter_in f.letters class) (pos 0)) f.classes q 0 (pos 0) (omega (arith, within, is.canonical.count))
+  output_at : (q : ℕ) → q < states_of f.automaton → get_or (outputs_of f) q None ≡ letter_in f.letters (class_of f.classes q)
+  output_at q within = get_or-map (λ class. letter_in f.letters class) f.classes q 0 None (omega (arith, within, is.canonical.count))
 
-  -- a word with a letter leads to a state with this output
-  led_output : (w : List ℕ) (q : ℕ) (letter : ℤ) → run_of f.automaton 0 w ≡ Some q → letter_after f w ≡ Some letter → get_or (outputs_of f) q (pos 0) ≡ letter
-  led_output w q letter leads has =
-      let class : letter_in f.letters (class_of f.classes q) ≡ Some letter = sym (ap (λ (o : Option ℕ). letter_in f.letters (option_map_or (λ p. class_of f.classes p) o 0)) leads) ∙ has in
-      output_at q (run_within f.automaton w 0 q is.canonical.table is.canonical.table.initial leads) ∙ ap (λ (o : Option ℤ). unwrap_or o (pos 0)) class
+  -- the output of the state that a word leads to is the word's letter
+  led_output : (w : List ℕ) (q : ℕ) → run_of f.automaton 0 w ≡ Some q → get_or (outputs_of f) q None ≡ letter_after f w
+  led_output w q leads =
+      output_at q (run_within f.automaton w 0 q is.canonical.table is.canonical.table.initial leads)
+      ∙ sym (ap (λ (o : Option ℕ). letter_in f.letters (option_map_or (λ p. class_of f.classes p) o 0)) leads)
 
   led_state : (w : List ℕ) (letter : ℤ) → letter_after f w ≡ Some letter → (q : ℕ) × (run_of f.automaton 0 w ≡ Some q)
   led_state w letter has = by (run_of f.automaton 0 w) has
@@ -111,11 +111,11 @@ module _ (custom : Custom) (direction : Direction) (named : List NamedSystem) (H
   letter_from_listed : (ns : List ℕ) (letter : ℤ) → HasListedLetterAt direction ss listed ns letter → HasLetter ns letter
   letter_from_listed ns letter h =
       let over : IsWord (letters_in ss) h.word = word_of_tuples (sizes_of ss) h.tuples h.word h.letters in
-      let own = is.everywhere ns (represented_count ss (in_order direction h.word) ns h.represents ∙ count_of) in
       let q : ℕ = h.letter_is.0 in
       let leads : run_of d 0 h.word ≡ Some q = (moved h.tuples h.word q h.letters).0 h.letter_is.1 in
-      let output : get_or (outputs_of is.function) q (pos 0) ≡ own.0 = led_output is.function is.canonical h.word q own.0 leads ((is.letters h.word over own.0).1 (ns, h.represents, own.1)) in
-      subst (λ (z : ℤ). HasLetter ns z) (sym output ∙ h.letter_is.2) own.1
+      let after : letter_after is.function h.word ≡ Some letter = sym (led_output is.function is.canonical h.word q leads) ∙ h.letter_is.2 in
+      let (ms, represents, has) = (is.letters h.word over letter).0 after in
+      subst (λ (xs : List ℕ). HasLetter xs letter) (one_tuple ss (in_order direction h.word) ms ns represents h.represents) has
 
   -- and the letter of a place is listed at its representation without leading zeros
   listed_from_letter : (ns : List ℕ) (letter : ℤ) → length ns ≡ length named → HasLetter ns letter → HasListedLetterAt direction ss listed ns letter
@@ -134,7 +134,7 @@ module _ (custom : Custom) (direction : Direction) (named : List NamedSystem) (H
         letters = tuples.1;
         represents = represents;
         shortest = strip-twice direction found.0;
-        letter_is = (state.0, (moved tuples.0 w state.0 tuples.1).1 state.1, led_output is.function is.canonical w state.0 letter state.1 after);
+        letter_is = (state.0, (moved tuples.0 w state.0 tuples.1).1 state.1, led_output is.function is.canonical w state.0 state.1 ∙ after);
       }
 
   -- so the text of a word has the letters of the word

@@ -24,7 +24,7 @@ use Rattle.system_names.specs.Names.{system_name}
 use Rattle.system_names.specs.declared.system_kind.SystemKind.TheVariants.{Base}
 use Rattle.word_output.specs.LetterFunctions.{letter_after, outputs_of}
 use Rattle.word_output.specs.Words.{HasLetter, IsWordValue, RepresentsPlace, WordValue}
-use Rattle.word_output.proofs.PlaceLaws.{letter_of_place, place_of_letter, some_letter}
+use Rattle.word_output.proofs.PlaceLaws.{letter_of_place, place_of_letter}
 use Rattle.system_files.specs.SystemFiles.{Custom}
 use Rattle.definitions.specs.Tracks.{NamedSystem, OverSystems, systems_of, header_of}
 use Rattle.definitions.specs.Trees.{Tree, Fixed, Image, Combine, Parts}
@@ -79,15 +79,11 @@ module _ (custom : Custom) (read_direction : Direction) (named : List NamedSyste
   letter_there : (w : List ℕ) (letter : ℤ) → IsWord (letters_in (systems_of named)) w → (ns : List ℕ) × Represents (systems_of named) (in_order read_direction w) ns × HasIt ns letter → letter_after v.function w ≡ Some letter
   letter_there w letter over (ns, represents, has) = letter_of_place v ns w letter is.word (to_place w ns over represents) ((says ns letter (represented_long w ns represents)).1 has)
 
-  letter_everywhere : (ns : List ℕ) → length ns ≡ length named → (letter : ℤ) × HasIt ns letter
-  letter_everywhere ns long = let own = some_letter v ns is.word (long ∙ count) in (own.0, (says ns own.0 long).0 own.1)
-
   -- the text of a word is the text of what has its letters
   pub word_value_text : IsWordText custom read_direction named HasIt (text_of_word read_direction named v)
   word_value_text = record {
     some = omega (arith, is.word.some, count);
     are = is.are;
-    everywhere = letter_everywhere;
     function = v.function;
     canonical = is.word.function;
     fits = is.fits;
@@ -153,4 +149,14 @@ combined_word_text custom read_direction named parts v is says =
 
 -- images are those of the same word where the letters are the same
 pub same_image : (rules : Rules) (P Q : ℕ → ℤ → Type 0) → ((n : ℕ) (letter : ℤ) → P n letter → Q n letter) → (place : ℕ) (letter : ℤ) → IsImageLetter rules P place letter → IsImageLetter rules Q place letter
-same_image rules P Q same place letter is = record { prefix = is.prefix; letters = λ n within. same n _ (is.letters n within); letter_is = is.letter_is }
+same_image rules P Q same place letter is = record {
+  k = is.k;
+  uniform = is.uniform;
+  q = is.q;
+  r = is.r;
+  small = is.small;
+  place_is = is.place_is;
+  of_word = is.of_word;
+  has = same is.q is.of_word is.has;
+  letter_is = is.letter_is;
+}

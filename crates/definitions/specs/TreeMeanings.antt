@@ -51,9 +51,9 @@ abbrev mutual
   bound_holds custom unbound folder name ns = ⊥
   bound_holds custom (bound bindings at under tree) folder name ns = chosen (same_file at under folder name) (tree_holds custom tree ns) (bound_holds custom bindings folder name ns)
 
-  -- A file has the letters that it lists; an expression and a formula are no words. A fixed point has its letters, the image of a word those
-  -- of the images of the word's letters, one after another, and definitions in a list make their letter at each tuple of numbers, one for
-  -- each system.
+  -- A file has the letters that it lists; an expression and a formula are no words. A fixed point has its letters, and the image of a word
+  -- those of the images of the word's letters, with none where the word has none. Definitions in a list make their letter at each tuple of
+  -- numbers, one for each system.
   pub tree_letter : Custom → Tree → List ℕ → ℤ → Type 0
   tree_letter custom (File bytes) ns letter = FileLetter custom bytes ns letter
   tree_letter custom (Regex tracks expression) ns letter = ⊥

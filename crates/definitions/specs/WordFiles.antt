@@ -1,4 +1,4 @@
--- What a word's file means: the letter at each place, which is a tuple of numbers.
+-- What a word's file means: the letters at places, which are tuples of numbers. A place has none where no listed path leads to a letter.
 use Rattle.std.specs.Prelude.{◌≡◌, ℕ, ℤ, List, Ok}
 use Rattle.digit_tuple.specs.declared.direction.Direction.{Direction}
 use Rattle.dfa_reading.specs.Headers.{Header, Truth, Systems, Sets}

@@ -1,4 +1,4 @@
--- The texts of words: the automaton that gives each representation of a place its letter.
+-- The texts of words: the automaton that gives each representation of a place its letter, if it has one.
 use Rattle.std.specs.Prelude.{◌≡◌, ◌↔◌, ℕ, ◌<◌, ℤ, FitsSigned, List, length, Some}
 use Rattle.std.specs.Int.{w32}
 use Rattle.std.specs.List.{All}
@@ -20,13 +20,11 @@ use Rattle.definitions.specs.Named.{AreNamed}
 abbrev pub msd_base : ℕ → NamedSystem
 msd_base k = record { name = system_name Msd (Base k); system = base k }
 
--- The text of a word with these letters, over systems that are those that their names mean. Each tuple of numbers has a letter. It is the text of
--- the one canonical automaton that gives each representation of numbers their letter, and no letter to any other word. Letters are numbers of 32
--- bits.
+-- The text of a word with these letters, over systems that are those that their names mean. It is the text of the one canonical automaton that
+-- gives each representation of numbers their letter, if they have one, and no letter to any other word. Letters are numbers of 32 bits.
 pub record IsWordText (custom : Custom) (direction : Direction) (named : List NamedSystem) (HasLetter : List ℕ → ℤ → Type 0) (text : List ℕ) : Type 0 where
   pub some : 0 < length named
   pub are : AreNamed custom direction named
-  pub everywhere : (ns : List ℕ) → length ns ≡ length named → (letter : ℤ) × HasLetter ns letter
   pub function : LetterFunctionValue
   pub canonical : IsLetterFunction function
   pub fits : All (λ letter. FitsSigned w32 letter) function.letters

@@ -9,8 +9,8 @@ use Rattle.digit_tuple.proofs.AllLemmas.{all_weaker}
 use Rattle.dfa_reading.specs.Lines.{◌>>=◌, is_passed, parts_of, arrow_at, each_of}
 use Rattle.dfa_reading.specs.Headers.{Header, Digits, digits_in, has_states, header_of}
 use Rattle.dfa_reading.specs.Listed.{ListedLine, IsListedLine, IsListed}
-use Rattle.dfa_reading.specs.Entries.{Entry, State, Line, digit_of, digits_of, targets_of, state_number, state_of, entry_by, entry_of}
-use Rattle.dfa_reading.specs.Numbers.{integer_of}
+use Rattle.dfa_reading.specs.Entries.{Entry, State, Line, digit_of, digits_of, targets_of, state_number, output_by, state_of, entry_by, entry_of}
+use Rattle.dfa_reading.specs.declared.outputs.Outputs.{Outputs}
 use Rattle.dfa_reading.specs.Reading.{Draft, with_header, with_state, with_line, has_number, add_entry, add_to, add_line, then_read, state_at, placed_line, placed_lines, tracks_in, IsDraftLine, IsDraft}
 use Rattle.dfa_reading.proofs.Options.{bind_some, map_some, cond_some, cond_some-then, each_holds}
 
@@ -25,26 +25,26 @@ digits_length (track ∷ tracks) (part ∷ parts) digits h =
     let is : first.0 ∷ rest.0 ≡ digits = let e : Some (first.0 ∷ rest.0) ≡ Some digits = rest.2 in cc in
     omega (arith, digits_length tracks parts rest.0 rest.1, ap length is)
 
-state_no_line : (parts : List (List ℕ)) (digits : List (Option ℕ)) (targets : List ℕ) → state_of parts ≡ Some (Line digits targets) → ⊥
-state_no_line [] digits targets h = cc
-state_no_line (a ∷ []) digits targets h = cc
-state_no_line (a ∷ b ∷ []) digits targets h =
-    let number = bind_some (state_number a) (λ n. integer_of b >>= (λ z. Some (State n z))) (Line digits targets) h in
-    let output = bind_some (integer_of b) (λ z. Some (State number.0 z)) (Line digits targets) number.2 in
+state_no_line : (o : Outputs) (parts : List (List ℕ)) (digits : List (Option ℕ)) (targets : List ℕ) → state_of o parts ≡ Some (Line digits targets) → ⊥
+state_no_line o [] digits targets h = cc
+state_no_line o (a ∷ []) digits targets h = cc
+state_no_line o (a ∷ b ∷ []) digits targets h =
+    let number = bind_some (state_number a) (λ n. output_by o b >>= (λ z. Some (State n z))) (Line digits targets) h in
+    let output = bind_some (output_by o b) (λ z. Some (State number.0 z)) (Line digits targets) number.2 in
     let other : Some (State number.0 output.0) ≡ Some (Line digits targets) = output.2 in cc
-state_no_line (a ∷ b ∷ d ∷ parts) digits targets h = cc
+state_no_line o (a ∷ b ∷ d ∷ parts) digits targets h = cc
 
-entry_digits-by : (tracks : List Digits) (line : List ℕ) (arrow : Option (List ℕ × List ℕ)) (digits : List (Option ℕ)) (targets : List ℕ) → entry_by tracks line arrow ≡ Some (Line digits targets) → length digits ≡ length tracks
-entry_digits-by tracks line None digits targets h = absurd (state_no_line (parts_of line) digits targets h)
-entry_digits-by tracks line (Some p) digits targets h =
+entry_digits-by : (o : Outputs) (tracks : List Digits) (line : List ℕ) (arrow : Option (List ℕ × List ℕ)) (digits : List (Option ℕ)) (targets : List ℕ) → entry_by o tracks line arrow ≡ Some (Line digits targets) → length digits ≡ length tracks
+entry_digits-by o tracks line None digits targets h = absurd (state_no_line o (parts_of line) digits targets h)
+entry_digits-by o tracks line (Some p) digits targets h =
     let first = bind_some (digits_of tracks (parts_of p.0)) (λ ds. targets_of (parts_of p.1) >>= (λ ts. Some (Line ds ts))) (Line digits targets) h in
     let second = bind_some (targets_of (parts_of p.1)) (λ ts. Some (Line first.0 ts)) (Line digits targets) first.2 in
     let is : first.0 ≡ digits = let e : Some (Line first.0 second.0) ≡ Some (Line digits targets) = second.2 in cc in
     ap length (sym is) ∙ digits_length tracks (parts_of p.0) first.0 first.1
 
-entry_digits : (tracks : List Digits) (line : List ℕ) (digits : List (Option ℕ)) (targets : List ℕ) → entry_of tracks line ≡ Some (Line digits targets) → length digits ≡ length tracks
+entry_digits : (o : Outputs) (tracks : List Digits) (line : List ℕ) (digits : List (Option ℕ)) (targets : List ℕ) → entry_of o tracks line ≡ Some (Line digits targets) → length digits ≡ length tracks
 unfolding entry_of
-entry_digits tracks line digits targets h = entry_digits-by tracks line (arrow_at line) digits targets h
+entry_digits o tracks line digits targets h = entry_digits-by o tracks line (arrow_at line) digits targets h
 
 all_push : {X : Type 0} (P : X → Type 0) (xs : List X) (x : X) → AllByRecursion P xs → P x → AllByRecursion P (xs ++ x ∷ [])
 all_push P [] x h k = (k, tt)
@@ -59,7 +59,7 @@ header_kept draft header none is = record {
 }
 
 -- a state was read
-state_kept : (draft : Draft) (n : ℕ) (output : ℤ) → IsDraft draft → IsDraft (with_state draft n output)
+state_kept : (draft : Draft) (n : ℕ) (output : Option ℤ) → IsDraft draft → IsDraft (with_state draft n output)
 state_kept draft n output is = record {
   numbers = omega (arith, length_push draft.numbers n, length_push draft.outputs output, is.numbers);
   lines = all_weaker (IsDraftLine (tracks_in draft.header) (length draft.outputs)) (IsDraftLine (tracks_in draft.header) (length (draft.outputs ++ output ∷ [])))
@@ -88,22 +88,22 @@ entry_kept at draft next header (Line digits targets) there long h is =
     let same : with_line at draft digits targets ≡ next = let e : Some (with_line at draft digits targets) ≡ Some next = added.1 in cc in
     subst IsDraft same (line_kept at draft header digits targets there (long digits targets refl) added.0 is)
 
-to_kept : (at : ℕ) (draft next : Draft) (line : List ℕ) (header : Option Header) → draft.header ≡ header → add_to at draft line header ≡ Some next → IsDraft draft → IsDraft next
-to_kept at draft next line None there h is =
+to_kept : (o : Outputs) (at : ℕ) (draft next : Draft) (line : List ℕ) (header : Option Header) → draft.header ≡ header → add_to o at draft line header ≡ Some next → IsDraft draft → IsDraft next
+to_kept o at draft next line None there h is =
     let read = map_some (header_of line) (with_header draft) next h in
     subst IsDraft read.2 (header_kept draft read.0 there is)
-to_kept at draft next line (Some header) there h is =
-    let below = cond_some-then (has_states header) (entry_of (digits_in header) line >>= add_entry at draft) next h in
-    let read = bind_some (entry_of (digits_in header) line) (add_entry at draft) next below.1 in
-    entry_kept at draft next header read.0 there (λ digits targets e. entry_digits (digits_in header) line digits targets (read.1 ∙ ap Some e)) read.2 is
+to_kept o at draft next line (Some header) there h is =
+    let below = cond_some-then (has_states header) (entry_of o (digits_in header) line >>= add_entry at draft) next h in
+    let read = bind_some (entry_of o (digits_in header) line) (add_entry at draft) next below.1 in
+    entry_kept at draft next header read.0 there (λ digits targets e. entry_digits o (digits_in header) line digits targets (read.1 ∙ ap Some e)) read.2 is
 
-pub line_read-kept : (at : ℕ) (draft next : Draft) (line : List ℕ) → add_line at draft line ≡ Some next → IsDraft draft → IsDraft next
+pub line_read-kept : (o : Outputs) (at : ℕ) (draft next : Draft) (line : List ℕ) → add_line o at draft line ≡ Some next → IsDraft draft → IsDraft next
 unfolding add_line
-line_read-kept at draft next line h is = by (is_passed line) h
+line_read-kept o at draft next line h is = by (is_passed line) h
   where
-    by : (b : Bool) → cond b (Some draft) (add_to at draft line draft.header) ≡ Some next → IsDraft next
+    by : (b : Bool) → cond b (Some draft) (add_to o at draft line draft.header) ≡ Some next → IsDraft next
     by true e = let same : draft ≡ next = let f : Some draft ≡ Some next = e in cc in subst IsDraft same is
-    by false e = to_kept at draft next line draft.header refl e is
+    by false e = to_kept o at draft next line draft.header refl e is
 
 -- what a file lists
 pub then_ok : {A B : Type 0} (r : Result A ℕ) (f : A → Result B ℕ) (y : B) → then_read r f ≡ Ok y → (x : A) × (r ≡ Ok x) × (f x ≡ Ok y)

@@ -7,14 +7,15 @@ use Rattle.dfa_reading.specs.Listed.{ListedLine}
 use Rattle.dfa_reading.specs.declared.draft.DraftLine.{DraftLine}
 use Rattle.dfa_reading.specs.DraftViews.{draft_line_view, draft_lines_in}
 use Rattle.dfa_reading.specs.Lines.{lines_of, line_after}
+use Rattle.dfa_reading.specs.declared.outputs.Outputs.{Outputs}
 use Rattle.dfa_reading.specs.Reading.{Draft, add_line, add_lines_by, add_lines, then_read, placed_line, placed_lines}
 use Rattle.dfa_reading.proofs.Splits.{split_some}
 
 pub add_lines_by-step : (add : ℕ → Draft → List ℕ → Option Draft) (at : ℕ) (d next : Draft) (line : List ℕ) (lines : List (List ℕ)) → add at d line ≡ Some next → add_lines_by add at d (line ∷ lines) ≡ add_lines_by add (at + 1) next lines
 add_lines_by-step add at d next line lines h = ap (λ r. then_read (ok_or r at) (λ n. add_lines_by add (at + 1) n lines)) h
 
-pub add_lines-step : (at : ℕ) (d next : Draft) (line : List ℕ) (lines : List (List ℕ)) → add_line at d line ≡ Some next → add_lines at d (line ∷ lines) ≡ add_lines (at + 1) next lines
-add_lines-step at d next line lines h = add_lines_by-step add_line at d next line lines h
+pub add_lines-step : (o : Outputs) (at : ℕ) (d next : Draft) (line : List ℕ) (lines : List (List ℕ)) → add_line o at d line ≡ Some next → add_lines o at d (line ∷ lines) ≡ add_lines o (at + 1) next lines
+add_lines-step o at d next line lines h = add_lines_by-step (add_line o) at d next line lines h
 
 -- one line more
 line_after-more : (line : List ℕ) (lines : List (List ℕ)) → 0 < length lines → line_after (line ∷ lines) ≡ line_after lines + 1

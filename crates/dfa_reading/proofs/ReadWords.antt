@@ -9,6 +9,8 @@ use Rattle.dfa_reading.specs.Systems.{system_of, directs_as, of_one_direction, s
 use Rattle.dfa_reading.specs.Headers.{Header, Truth, Systems, Sets, has_states, digits_in, or_else, truth_of, sets_of, header_of}
 use Rattle.dfa_reading.specs.Entries.{Entry, State, Line, entry_of}
 use Rattle.dfa_reading.specs.Listed.{ListedLine, Listed, Takes}
+use Rattle.dfa_reading.specs.declared.outputs.Outputs.{Outputs}
+use Rattle.dfa_reading.specs.declared.outputs.Outputs.TheVariants.{Letters}
 use Rattle.dfa_reading.specs.Reading.{Draft, no_draft, with_header, with_state, with_line, has_number, add_entry, add_to, add_line, add_lines_by, then_read, state_at, placed_line, placed_lines, lists, finish_with, finish}
 use Rattle.dfa_reading.specs.Conflicts.{are_without_conflict}
 use Rattle.dfa_reading.specs.WordFiles.{is_of_systems, are_of_systems, is_word, kept_word, add_word_line, word_of, IsFunctional, IsWordListed, WordFilesListWords}
@@ -38,23 +40,23 @@ entry_headed at draft next (Line digits targets) h is =
     let same : with_line at draft digits targets ≡ next = let e : Some (with_line at draft digits targets) ≡ Some next = added.1 in cc in
     subst IsHeaded same is
 
-to_headed : (at : ℕ) (draft next : Draft) (line : List ℕ) (header : Option Header) → add_to at draft line header ≡ Some next → IsHeaded draft → IsHeaded next
-to_headed at draft next line None h is =
+to_headed : (o : Outputs) (at : ℕ) (draft next : Draft) (line : List ℕ) (header : Option Header) → add_to o at draft line header ≡ Some next → IsHeaded draft → IsHeaded next
+to_headed o at draft next line None h is =
     let read = map_some (header_of line) (with_header draft) next h in
     let first : IsHeaded (with_header draft read.0) = λ other there. let same : read.0 ≡ other = let e : Some read.0 ≡ Some other = there in cc in (line, read.1 ∙ ap Some same) in
     subst IsHeaded read.2 first
-to_headed at draft next line (Some header) h is =
-    let below = cond_some-then (has_states header) (entry_of (digits_in header) line >>= add_entry at draft) next h in
-    let read = bind_some (entry_of (digits_in header) line) (add_entry at draft) next below.1 in
+to_headed o at draft next line (Some header) h is =
+    let below = cond_some-then (has_states header) (entry_of o (digits_in header) line >>= add_entry at draft) next h in
+    let read = bind_some (entry_of o (digits_in header) line) (add_entry at draft) next below.1 in
     entry_headed at draft next read.0 read.2 is
 
-pub line_headed : (at : ℕ) (draft next : Draft) (line : List ℕ) → add_line at draft line ≡ Some next → IsHeaded draft → IsHeaded next
+pub line_headed : (o : Outputs) (at : ℕ) (draft next : Draft) (line : List ℕ) → add_line o at draft line ≡ Some next → IsHeaded draft → IsHeaded next
 unfolding add_line
-line_headed at draft next line h is = by (is_passed line) h
+line_headed o at draft next line h is = by (is_passed line) h
   where
-    by : (b : Bool) → cond b (Some draft) (add_to at draft line draft.header) ≡ Some next → IsHeaded next
+    by : (b : Bool) → cond b (Some draft) (add_to o at draft line draft.header) ≡ Some next → IsHeaded next
     by true e = let same : draft ≡ next = let f : Some draft ≡ Some next = e in cc in subst IsHeaded same is
-    by false e = to_headed at draft next line draft.header e is
+    by false e = to_headed o at draft next line draft.header e is
 
 -- a header of systems is a line of them, at least one
 pub or_else_some : {A : Type 0} (o other : Option A) (x : A) (P : Type 0) → (o ≡ Some x → P) → (other ≡ Some x → P) → or_else o other ≡ Some x → P
@@ -122,7 +124,7 @@ placed_from numbers (line ∷ lines) placed one h there =
     ]
 
 -- lines without conflict are functional where their targets are placed
-pub functional_lines : (numbers : List ℕ) (lines : List (ℕ × ListedLine)) (header : Header) (outputs : List ℤ) (placed : List ListedLine) → are_without_conflict lines ≡ true → placed_lines numbers lines ≡ Ok placed
+pub functional_lines : (numbers : List ℕ) (lines : List (ℕ × ListedLine)) (header : Header) (outputs : List (Option ℤ)) (placed : List ListedLine) → are_without_conflict lines ≡ true → placed_lines numbers lines ≡ Ok placed
     → (sizes : List ℕ) → IsFunctional sizes (record { header = header; outputs = outputs; lines = placed })
 functional_lines numbers lines header outputs placed apart h sizes p tuple q r (line, among, from, takes, to) (other, among', from', takes', to') =
     let (read, there, is) = placed_from numbers lines placed line h among in
@@ -135,10 +137,10 @@ functional_lines numbers lines header outputs placed apart h sizes p tuple q r (
     cc
 
 -- the drafts of a word's file
-word_kept : (at : ℕ) (draft next : Draft) (line : List ℕ) → add_word_line at draft line ≡ Some next → (add_line at draft line ≡ Some next) × (is_word next ≡ true)
+word_kept : (at : ℕ) (draft next : Draft) (line : List ℕ) → add_word_line at draft line ≡ Some next → (add_line Letters at draft line ≡ Some next) × (is_word next ≡ true)
 unfolding add_word_line
 word_kept at draft next line h =
-    let added = bind_some (add_line at draft line) kept_word next h in
+    let added = bind_some (add_line Letters at draft line) kept_word next h in
     let kept = cond_some-then (is_word added.0) (Some added.0) next added.2 in
     let same : added.0 ≡ next = let e : Some added.0 ≡ Some next = kept.1 in cc in
     (added.1 ∙ ap Some same, subst (λ d. is_word d ≡ true) same kept.0)
@@ -149,7 +151,7 @@ pub record IsWordDraft (draft : Draft) : Type 0 where
   pub headed : IsHeaded draft
 
 pub word_line_kept : (at : ℕ) (draft next : Draft) (line : List ℕ) → add_word_line at draft line ≡ Some next → IsWordDraft draft → IsWordDraft next
-word_line_kept at draft next line h is = let (added, word) = word_kept at draft next line h in record { word = word; headed = line_headed at draft next line added is.headed }
+word_line_kept at draft next line h is = let (added, word) = word_kept at draft next line h in record { word = word; headed = line_headed Letters at draft next line added is.headed }
 
 no_word_draft : IsWordDraft no_draft
 no_word_draft = record { word = refl; headed = λ header none. let e : None ≡ Some header = none in absurd (cc) }

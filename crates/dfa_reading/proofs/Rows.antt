@@ -1,5 +1,5 @@
 -- The rows of listed states are the branching automaton of what is listed.
-use Rattle.std.proofs.Common.{◌≡◌, ◌≢◌, ℕ, zero, suc, ◌+◌, ◌<◌, Bool, true, false, not, List, [], ◌∷◌, ◌++◌, map, set, length, get_or, ℤ, pos, ◌↔◌, ◌⊎◌, inl, inr, refl, sym, ap, ◌∙◌, subst, true≢false, arith, get_or-set_same, get_or-set_other, length-set}
+use Rattle.std.proofs.Common.{◌≡◌, ◌≢◌, ℕ, zero, suc, ◌+◌, ◌<◌, Bool, true, false, not, List, [], ◌∷◌, ◌++◌, map, set, length, get_or, ℤ, pos, Option, None, Some, ◌↔◌, ◌⊎◌, inl, inr, refl, sym, ap, ◌∙◌, subst, true≢false, arith, get_or-set_same, get_or-set_other, length-set}
 use Rattle.std.specs.List.{All, AllPairs, Contains}
 use Rattle.std.specs.Ordering.{int_eq}
 use Rattle.std.proofs.lemmas.Bool.{cases_order}
@@ -14,7 +14,7 @@ use Rattle.digit_tuple.proofs.MemberLemmas.{Contains-head, Contains-tail, Contai
 use Rattle.dfa_reading.specs.Listed.{ListedLine, Listed, IsListedLine, Moves, output_of}
 use Rattle.dfa_reading.specs.LineLetters.{letters_taken, transition_to, transitions_of_line}
 use Rattle.dfa_reading.specs.Branching.{IsBranching}
-use Rattle.dfa_reading.specs.BranchRows.{bare_row, with_transitions, with_line, rows_after, AreInOrder, AreRowsOf}
+use Rattle.dfa_reading.specs.BranchRows.{is_accepting_output, bare_row, with_transitions, with_line, rows_after, AreInOrder, AreRowsOf}
 use Rattle.dfa_reading.proofs.Letters.{tuple_of_letter, letter_of_tuple, letter_below}
 
 -- one more row in order
@@ -136,12 +136,12 @@ transition_of sizes line letter target among at =
     Contains-flat_map (λ t. map (transition_to t) (letters_taken sizes line.digits)) line.targets target (transition_to target letter) at (Contains-map (transition_to target) (letters_taken sizes line.digits) letter among)
 
 -- a bare row has no transition, and accepts as listed
-bare_transitions : (outputs : List ℤ) (q : ℕ) → (branch_at (map bare_row outputs) q).transitions ≡ []
+bare_transitions : (outputs : List (Option ℤ)) (q : ℕ) → (branch_at (map bare_row outputs) q).transitions ≡ []
 bare_transitions [] q = refl
 bare_transitions (o ∷ outputs) zero = refl
 bare_transitions (o ∷ outputs) (suc q) = bare_transitions outputs q
 
-bare_accepting : (outputs : List ℤ) (q : ℕ) → (branch_at (map bare_row outputs) q).accepting ≡ not (int_eq (get_or outputs q (pos 0)) (pos 0))
+bare_accepting : (outputs : List (Option ℤ)) (q : ℕ) → (branch_at (map bare_row outputs) q).accepting ≡ is_accepting_output (get_or outputs q None)
 bare_accepting [] q = refl
 bare_accepting (o ∷ outputs) zero = refl
 bare_accepting (o ∷ outputs) (suc q) = bare_accepting outputs q
@@ -156,6 +156,13 @@ not_zero z = (
     by true e h = absurd (h ((Decides-int_eq z (pos 0)).0 e))
     by false e h = refl
 
+accepts_if_not_zero : (o : Option ℤ) → (is_accepting_output o ≡ true) ↔ ((output : ℤ) × (o ≡ Some output) × (output ≢ pos 0))
+accepts_if_not_zero None = ((λ h. absurd (true≢false (sym h))), λ h. let e : None ≡ Some h.0 = h.1 in absurd (cc))
+accepts_if_not_zero (Some z) = (
+  (λ h. (z, refl, (not_zero z).0 h)),
+  (λ h. let same : z ≡ h.0 = let e : Some z ≡ Some h.0 = h.1 in cc in (not_zero z).1 (subst (λ (y : ℤ). y ≢ pos 0) (sym same) h.2)),
+)
+
 -- the rows of the listed states
 module _ (sizes : List ℕ) (listed : Listed) (rows : List Branch) (are : AreRowsOf sizes listed rows) where
   inside : All (λ line. line.state < length (map bare_row listed.outputs)) listed.lines
@@ -164,7 +171,7 @@ module _ (sizes : List ℕ) (listed : Listed) (rows : List Branch) (are : AreRow
   pub rows-size : length rows ≡ length listed.outputs
   rows-size = are.ordered.size ∙ length-rows_after sizes (map bare_row listed.outputs) listed.lines ∙ length-map listed.outputs bare_row
 
-  rows-accepting : (q : ℕ) → (branch_at rows q).accepting ≡ not (int_eq (output_of listed q) (pos 0))
+  rows-accepting : (q : ℕ) → (branch_at rows q).accepting ≡ is_accepting_output (output_of listed q)
   rows-accepting q = (are.ordered.same q).accepting ∙ accepting_after sizes (map bare_row listed.outputs) listed.lines q inside ∙ bare_accepting listed.outputs q
 
   transition_listed : (q : ℕ) (e : Transition) → Contains (branch_at rows q).transitions e → IsTransitionOf sizes listed.lines q e
@@ -196,7 +203,7 @@ module _ (sizes : List ℕ) (listed : Listed) (rows : List Branch) (are : AreRow
   IsBranching-rows = record {
     sizes_are = refl;
     states = rows-size;
-    accepting = λ q. ((λ yes. (not_zero (output_of listed q)).0 (sym (rows-accepting q) ∙ yes)), (λ h. rows-accepting q ∙ (not_zero (output_of listed q)).1 h));
+    accepting = λ q. ((λ yes. (accepts_if_not_zero (output_of listed q)).0 (sym (rows-accepting q) ∙ yes)), (λ h. rows-accepting q ∙ (accepts_if_not_zero (output_of listed q)).1 h));
     leads = λ p letter q. (transition_moves p letter q, λ h. moves_transition p letter q h.0 h.1 h.2);
   }
 

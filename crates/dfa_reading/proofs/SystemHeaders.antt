@@ -18,6 +18,7 @@ use Rattle.dfa_reading.specs.Lines.{◌>>=◌, lines_of, line_after, each_of}
 use Rattle.dfa_reading.specs.Headers.{Header, Truth, Systems, Sets, has_states, has_member, with_member, with_members, member_of, numbers_of, members_of, open_set_of, sets_between, sets_of, truth_of, or_else, header_of}
 use Rattle.dfa_reading.specs.Systems.{systems_of}
 use Rattle.dfa_reading.specs.Listed.{ListedLine, Listed}
+use Rattle.dfa_reading.specs.declared.outputs.Outputs.TheVariants.{Numbers}
 use Rattle.dfa_reading.specs.Reading.{Draft, no_draft, add_line, add_lines_by, placed_lines, lists, finish_with, finish}
 use Rattle.dfa_reading.specs.SystemFiles.{is_same_set, is_language_header, is_adder_header, is_headed, kept_headed, add_headed_line, headed_of, language_of, adder_of, IsLanguageListed, LanguageFilesListLanguages, IsAdderListed, AdderFilesListAdders}
 use Rattle.dfa_reading.proofs.Options.{bind_some, map_some, cond_some, cond_some-then}
@@ -40,9 +41,9 @@ same_set-refl [] = refl
 same_set-refl (m ∷ set) = rw ((Decides-int_eq m m).1 refl, same_set-refl set) refl
 
 -- the line of a header that is keeps it
-header_stays : (at : ℕ) (draft next : Draft) (line : List ℕ) (header : Header) → add_line at draft line ≡ Some next → draft.header ≡ Some header → next.header ≡ Some header
+header_stays : (at : ℕ) (draft next : Draft) (line : List ℕ) (header : Header) → add_line Numbers at draft line ≡ Some next → draft.header ≡ Some header → next.header ≡ Some header
 header_stays at draft next line header h there =
-    line_cases (λ n. n.header ≡ Some header) at draft next line h there (λ other none. let e : None ≡ Some header = sym none ∙ there in absurd (cc)) (λ n output. there) (λ digits targets. there)
+    line_cases Numbers (λ n. n.header ≡ Some header) at draft next line h there (λ other none. let e : None ≡ Some header = sym none ∙ there in absurd (cc)) (λ n output. there) (λ digits targets. there)
 
 pub apart_sets : (set other : List ℤ) → (set ≡ other → ⊥) → is_same_set set other ≡ false
 apart_sets set other apart = by (is_same_set set other) refl
@@ -65,20 +66,20 @@ no_digit set digits k count within apart same =
     apart (ap (λ (l : List ℤ). get_or l k (pos 0)) same ∙ get_or-map-range_with_len pos 0 digits k k (pos 0) (omega (arith, count, within)) (omega arith))
 
 -- what a line of a headed file adds
-pub headed_added : (may_be : Header → Bool) (at : ℕ) (draft next : Draft) (line : List ℕ) (b : Bool) → add_line at draft line ≡ Some next → is_headed may_be next.header ≡ b → cond b (Some next) None ≡ add_headed_line may_be at draft line
+pub headed_added : (may_be : Header → Bool) (at : ℕ) (draft next : Draft) (line : List ℕ) (b : Bool) → add_line Numbers at draft line ≡ Some next → is_headed may_be next.header ≡ b → cond b (Some next) None ≡ add_headed_line may_be at draft line
 headed_added may_be at draft next line b h headed = ap (λ c. cond c (Some next) None) (sym headed) ∙ sym (ap (λ o. o >>= kept_headed may_be) h)
 
 -- a header that was there may be still
-pub headed_still : (may_be : Header → Bool) (at : ℕ) (draft next : Draft) (line : List ℕ) → add_line at draft line ≡ Some next → IsSome draft.header → is_headed may_be draft.header ≡ true → is_headed may_be next.header ≡ true
+pub headed_still : (may_be : Header → Bool) (at : ℕ) (draft next : Draft) (line : List ℕ) → add_line Numbers at draft line ≡ Some next → IsSome draft.header → is_headed may_be draft.header ≡ true → is_headed may_be next.header ≡ true
 headed_still may_be at draft next line h some headed = by draft.header refl some headed
   where
     by : (o : Option Header) → draft.header ≡ o → IsSome o → is_headed may_be o ≡ true → is_headed may_be next.header ≡ true
     by None e some headed = search rules
     by (Some header) e some headed = ap (is_headed may_be) (header_stays at draft next line header h e) ∙ headed
 
-headed_kept : (may_be : Header → Bool) (at : ℕ) (draft next : Draft) (line : List ℕ) → add_headed_line may_be at draft line ≡ Some next → (add_line at draft line ≡ Some next) × (is_headed may_be next.header ≡ true)
+headed_kept : (may_be : Header → Bool) (at : ℕ) (draft next : Draft) (line : List ℕ) → add_headed_line may_be at draft line ≡ Some next → (add_line Numbers at draft line ≡ Some next) × (is_headed may_be next.header ≡ true)
 headed_kept may_be at draft next line h =
-    let added = bind_some (add_line at draft line) (kept_headed may_be) next h in
+    let added = bind_some (add_line Numbers at draft line) (kept_headed may_be) next h in
     let kept = cond_some-then (is_headed may_be added.0.header) (Some added.0) next added.2 in
     let same : added.0 ≡ next = let e : Some added.0 ≡ Some next = kept.1 in cc in
     (added.1 ∙ ap Some same, subst (λ (d : Draft). is_headed may_be d.header ≡ true) same kept.0)
@@ -89,7 +90,7 @@ record IsHeadedDraft (may_be : Header → Bool) (draft : Draft) : Type 0 where
   line : IsHeaded draft
 
 headed_line_kept : (may_be : Header → Bool) (at : ℕ) (draft next : Draft) (line : List ℕ) → add_headed_line may_be at draft line ≡ Some next → IsHeadedDraft may_be draft → IsHeadedDraft may_be next
-headed_line_kept may_be at draft next line h is = let (added, may) = headed_kept may_be at draft next line h in record { may = may; line = line_headed at draft next line added is.line }
+headed_line_kept may_be at draft next line h is = let (added, may) = headed_kept may_be at draft next line h in record { may = may; line = line_headed Numbers at draft next line added is.line }
 
 no_headed_draft : (may_be : Header → Bool) → IsHeadedDraft may_be no_draft
 no_headed_draft may_be = record { may = refl; line = λ header none. let e : None ≡ Some header = none in absurd (cc) }
@@ -204,7 +205,7 @@ unfolding sets_of
 some_in_line line sets h = some_between (slice_split (λ b. eqb b 125) line) sets h
 
 -- a header that a language may have
-language_listed : (header : Header) (outputs : List ℤ) (lines : List ListedLine) → IsHeadedListed is_language_header (record { header = header; outputs = outputs; lines = lines }) → IsLanguageListed (record { header = header; outputs = outputs; lines = lines })
+language_listed : (header : Header) (outputs : List (Option ℤ)) (lines : List ListedLine) → IsHeadedListed is_language_header (record { header = header; outputs = outputs; lines = lines }) → IsLanguageListed (record { header = header; outputs = outputs; lines = lines })
 language_listed (Truth value) outputs lines is = absurd (true≢false (sym is.may))
 language_listed (Systems names) outputs lines is = absurd (true≢false (sym is.may))
 language_listed (Sets []) outputs lines is = absurd (true≢false (sym is.may))
@@ -235,7 +236,7 @@ three_sets digits sets h =
     by : (some : List (List ℤ)) → list_all (λ set. is_same_set set (digit_set digits)) some ≡ true → length some ≡ 3 → some ≡ digit_set digits ∷ digit_set digits ∷ digit_set digits ∷ []
     by some e count = all_same some e ∙ ap (λ n. replicate n (digit_set digits)) count
 
-adder_listed : (digits : ℕ) (header : Header) (outputs : List ℤ) (lines : List ListedLine) → IsHeadedListed (is_adder_header digits) (record { header = header; outputs = outputs; lines = lines }) → IsAdderListed digits (record { header = header; outputs = outputs; lines = lines })
+adder_listed : (digits : ℕ) (header : Header) (outputs : List (Option ℤ)) (lines : List ListedLine) → IsHeadedListed (is_adder_header digits) (record { header = header; outputs = outputs; lines = lines }) → IsAdderListed digits (record { header = header; outputs = outputs; lines = lines })
 adder_listed digits (Truth value) outputs lines is = absurd (true≢false (sym is.may))
 adder_listed digits (Systems names) outputs lines is = absurd (true≢false (sym is.may))
 adder_listed digits (Sets sets) outputs lines is = record { header = ap Sets (three_sets digits sets is.may); some_state = is.some_state refl }

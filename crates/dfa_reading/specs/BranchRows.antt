@@ -1,5 +1,5 @@
 -- The rows of listed states, as they are built.
-use Rattle.std.specs.Prelude.{◌≡◌, ℕ, ◌<◌, ◌^◌, true, not, ℤ, pos, List, [], ◌∷◌, ◌++◌, map, length, slice_set}
+use Rattle.std.specs.Prelude.{◌≡◌, ℕ, ◌<◌, ◌^◌, Bool, true, false, not, ℤ, pos, List, [], ◌∷◌, ◌++◌, map, length, slice_set, Option, None, Some}
 use Rattle.std.specs.List.{All, AllPairs}
 use Rattle.std.specs.Ordering.{int_eq}
 use Rattle.digit_tuple.specs.Automaton.{Branch, IsBefore}
@@ -9,9 +9,14 @@ use Rattle.digit_tuple.specs.declared.transitions.Transition.{Transition}
 use Rattle.dfa_reading.specs.Listed.{ListedLine, Listed, IsListedLine}
 use Rattle.dfa_reading.specs.LineLetters.{transitions_of_line}
 
+-- an output other than 0 accepts
+abbrev pub is_accepting_output : Option ℤ → Bool
+is_accepting_output None = false
+is_accepting_output (Some output) = not (int_eq output (pos 0))
+
 -- a state with an output, without transitions
-abbrev pub bare_row : ℤ → Branch
-bare_row output = record { accepting = not (int_eq output (pos 0)); transitions = [] }
+abbrev pub bare_row : Option ℤ → Branch
+bare_row output = record { accepting = is_accepting_output output; transitions = [] }
 
 -- a state with further transitions
 abbrev pub with_transitions : Branch → List Transition → Branch

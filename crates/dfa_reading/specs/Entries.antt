@@ -4,10 +4,12 @@ use Rattle.std.specs.Ordering.{int_eq}
 use Rattle.dfa_reading.specs.Numbers.{number_below, integer_of}
 use Rattle.dfa_reading.specs.Lines.{◌>>=◌, parts_of, arrow_at, each_of}
 use Rattle.dfa_reading.specs.Headers.{Digits, Members, Below}
+use Rattle.dfa_reading.specs.declared.outputs.Outputs.{Outputs}
+use Rattle.dfa_reading.specs.declared.outputs.Outputs.TheVariants.{Numbers, Letters}
 
--- a state with its output, or transitions by these digits (`None` is `*`) to the states of these numbers
+-- a state with its output (`None` is `-`), or transitions by these digits (`None` is `*`) to the states of these numbers
 pub data Entry : Type 0 where
-  State : ℕ → ℤ → Entry
+  State : ℕ → Option ℤ → Entry
   Line : List (Option ℕ) → List ℕ → Entry
 
 abbrev pub is_star : List ℕ → Bool
@@ -46,13 +48,22 @@ abbrev pub targets_of : List (List ℕ) → Option (List ℕ)
 targets_of [] = None
 targets_of (part ∷ parts) = each_of state_number (part ∷ parts)
 
+abbrev pub is_dash : List ℕ → Bool
+is_dash (b ∷ []) = b == 45
+is_dash _ = false
+
+-- an output: a number, or where outputs are letters also `-`, which is no letter
+abbrev pub output_by : Outputs → List ℕ → Option (Option ℤ)
+output_by Numbers part = option_map Some (integer_of part)
+output_by Letters part = if is_dash part then Some None else option_map Some (integer_of part)
+
 -- a state's number and its output
-abbrev pub state_of : List (List ℕ) → Option Entry
-state_of (number ∷ output ∷ []) = do
+abbrev pub state_of : Outputs → List (List ℕ) → Option Entry
+state_of outputs (number ∷ output ∷ []) = do
   n ← state_number number
-  z ← integer_of output
-  Some (State n z)
-state_of _ = None
+  letter ← output_by outputs output
+  Some (State n letter)
+state_of outputs _ = None
 
 -- digits and targets
 abbrev pub line_of : List Digits → List (List ℕ) → List (List ℕ) → Option Entry
@@ -62,9 +73,9 @@ line_of tracks digits targets = do
   Some (Line ds ts)
 
 -- a line with `->` has transitions, and any other a state
-abbrev pub entry_by : List Digits → List ℕ → Option (List ℕ × List ℕ) → Option Entry
-entry_by tracks line None = state_of (parts_of line)
-entry_by tracks line (Some p) = line_of tracks (parts_of p.0) (parts_of p.1)
+abbrev pub entry_by : Outputs → List Digits → List ℕ → Option (List ℕ × List ℕ) → Option Entry
+entry_by outputs tracks line None = state_of outputs (parts_of line)
+entry_by outputs tracks line (Some p) = line_of tracks (parts_of p.0) (parts_of p.1)
 
-unfoldable pub entry_of : List Digits → List ℕ → Option Entry
-entry_of tracks line = entry_by tracks line (arrow_at line)
+unfoldable pub entry_of : Outputs → List Digits → List ℕ → Option Entry
+entry_of outputs tracks line = entry_by outputs tracks line (arrow_at line)

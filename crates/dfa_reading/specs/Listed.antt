@@ -10,10 +10,10 @@ pub record ListedLine : Type 0 where
   pub digits : List (Option ℕ)
   pub targets : List ℕ
 
--- the tracks, the output of each state, of which the first is initial, and the transitions
+-- the tracks, the output of each state, of which the first is initial, and the transitions; an output `None` is no letter
 pub record Listed : Type 0 where
   pub header : Header
-  pub outputs : List ℤ
+  pub outputs : List (Option ℤ)
   pub lines : List ListedLine
 
 -- a digit takes itself, and `*` takes each
@@ -36,13 +36,13 @@ abbrev pub MovesAlong : List ℕ → Listed → ℕ → List (List ℕ) → ℕ 
 MovesAlong sizes listed p [] q = p ≡ q
 MovesAlong sizes listed p (tuple ∷ word) q = (r : ℕ) × Moves sizes listed p tuple r × MovesAlong sizes listed r word q
 
--- the output of a state, 0 where there is no such state
-abbrev pub output_of : Listed → ℕ → ℤ
-output_of listed q = slice_index_or listed.outputs q (pos 0)
+-- the output of a state, if there is such a state and its output is a letter
+abbrev pub output_of : Listed → ℕ → Option ℤ
+output_of listed q = slice_index_or listed.outputs q None
 
 -- an output other than 0 accepts
 abbrev pub IsAccepting : Listed → ℕ → Type 0
-IsAccepting listed q = output_of listed q ≢ pos 0
+IsAccepting listed q = (output : ℤ) × (output_of listed q ≡ Some output) × (output ≢ pos 0)
 
 -- some path by the letters of the word leads from the initial state to an accepting state
 abbrev pub ListedAccepts : List ℕ → Listed → List (List ℕ) → Type 0

@@ -5,13 +5,15 @@ use Rattle.dfa_reading.specs.Lines.{◌>>=◌, lines_of, line_after, is_passed, 
 use Rattle.dfa_reading.specs.Listed.{ListedLine, Listed}
 use Rattle.dfa_reading.specs.Headers.{Header, has_states, digits_in, header_of}
 use Rattle.dfa_reading.specs.Entries.{Entry, State, Line, entry_of}
+use Rattle.dfa_reading.specs.declared.outputs.Outputs.{Outputs}
+use Rattle.dfa_reading.specs.declared.outputs.Outputs.TheVariants.{Numbers}
 
 -- What was read so far: the header, the numbers and the outputs of the states, and the transitions, each with the number of its
 -- line and with its targets as the file has them: by their numbers.
 pub record Draft : Type 0 where
   pub header : Option Header
   pub numbers : List ℕ
-  pub outputs : List ℤ
+  pub outputs : List (Option ℤ)
   pub lines : List (ℕ × ListedLine)
 
 abbrev pub no_draft : Draft
@@ -24,7 +26,7 @@ has_number numbers n = list_any (λ m. n == m) numbers
 abbrev pub with_header : Draft → Header → Draft
 with_header draft header = record draft { header = Some header }
 
-abbrev pub with_state : Draft → ℕ → ℤ → Draft
+abbrev pub with_state : Draft → ℕ → Option ℤ → Draft
 with_state draft n output = record draft { numbers = draft.numbers ++ n ∷ []; outputs = draft.outputs ++ output ∷ [] }
 
 -- transitions of the state that was listed last, at a line
@@ -37,17 +39,17 @@ add_entry at draft (State n output) = if has_number draft.numbers n then None el
 add_entry at draft (Line digits targets) = if length draft.outputs == 0 then None else Some (with_line at draft digits targets)
 
 -- below `true` and `false` is nothing, and below another header an entry
-abbrev pub add_below : ℕ → Draft → List ℕ → Header → Option Draft
-add_below at draft line header = if has_states header then entry_of (digits_in header) line >>= add_entry at draft else None
+abbrev pub add_below : Outputs → ℕ → Draft → List ℕ → Header → Option Draft
+add_below outputs at draft line header = if has_states header then entry_of outputs (digits_in header) line >>= add_entry at draft else None
 
 -- the first line is the header
-abbrev pub add_to : ℕ → Draft → List ℕ → Option Header → Option Draft
-add_to at draft line None = option_map (with_header draft) (header_of line)
-add_to at draft line (Some header) = add_below at draft line header
+abbrev pub add_to : Outputs → ℕ → Draft → List ℕ → Option Header → Option Draft
+add_to outputs at draft line None = option_map (with_header draft) (header_of line)
+add_to outputs at draft line (Some header) = add_below outputs at draft line header
 
 -- one line more; none where the line breaks the format
-unfoldable pub add_line : ℕ → Draft → List ℕ → Option Draft
-add_line at draft line = if is_passed line then Some draft else add_to at draft line draft.header
+unfoldable pub add_line : Outputs → ℕ → Draft → List ℕ → Option Draft
+add_line outputs at draft line = if is_passed line then Some draft else add_to outputs at draft line draft.header
 
 -- what follows a step that did not fail
 abbrev pub then_read : {A B : Type 0} → Result A ℕ → (A → Result B ℕ) → Result B ℕ
@@ -59,8 +61,8 @@ abbrev pub add_lines_by : (ℕ → Draft → List ℕ → Option Draft) → ℕ 
 add_lines_by add at draft [] = Ok draft
 add_lines_by add at draft (line ∷ lines) = then_read (ok_or (add at draft line) at) (λ next. add_lines_by add (at + 1) next lines)
 
-abbrev pub add_lines : ℕ → Draft → List (List ℕ) → Result Draft ℕ
-add_lines at draft lines = add_lines_by add_line at draft lines
+abbrev pub add_lines : Outputs → ℕ → Draft → List (List ℕ) → Result Draft ℕ
+add_lines outputs at draft lines = add_lines_by (add_line outputs) at draft lines
 
 -- the place of the state with a number
 abbrev pub state_at : List ℕ → ℕ → Option ℕ
@@ -90,7 +92,7 @@ finish after draft = finish_with after draft.header draft
 
 -- what the bytes list
 unfoldable pub relation_of : List ℕ → Result Listed ℕ
-relation_of text = then_read (add_lines 1 no_draft (lines_of text)) (finish (line_after (lines_of text)))
+relation_of text = then_read (add_lines Numbers 1 no_draft (lines_of text)) (finish (line_after (lines_of text)))
 
 -- how many tracks a header has
 abbrev pub tracks_in : Option Header → ℕ

@@ -9,6 +9,7 @@ use Rattle.dfa_reading.specs.Headers.{Header, Sets}
 use Rattle.dfa_reading.specs.Listed.{Listed}
 use Rattle.dfa_reading.specs.declared.system_part.SystemPart.{SystemPart}
 use Rattle.dfa_reading.specs.declared.system_part.SystemPart.TheVariants.{Language, Adder}
+use Rattle.dfa_reading.specs.declared.outputs.Outputs.TheVariants.{Numbers}
 use Rattle.dfa_reading.specs.Reading.{Draft, no_draft, add_line, add_lines_by, then_read, finish}
 
 -- whether two sets, each in ascending order, have the same members
@@ -41,7 +42,7 @@ kept_headed may_be draft = if is_headed may_be draft.header then Some draft else
 
 -- one line more; none where the line breaks the format, or is another header
 abbrev pub add_headed_line : (Header → Bool) → ℕ → Draft → List ℕ → Option Draft
-add_headed_line may_be at draft line = add_line at draft line >>= kept_headed may_be
+add_headed_line may_be at draft line = add_line Numbers at draft line >>= kept_headed may_be
 
 -- what the bytes list under a header that may be, or the line of the first fault
 abbrev pub headed_of : (Header → Bool) → List ℕ → Result Listed ℕ

@@ -1,10 +1,11 @@
 -- Files of automatic words: what the bytes list, or the line of the first fault. The format is that of a relation's file, but that the
--- tracks are of systems, that a state's output is its letter, and that from a state a tuple leads to one state at most.
+-- tracks are of systems, that a state's output is its letter, or `-` for none, and that from a state a tuple leads to one state at most.
 use Rattle.std.specs.Prelude.{◌≡◌, ℕ, ◌<◌, Bool, true, false, ◌&&◌, if◌then◌else◌, List, length, Option, None, Some, Result, Ok}
 use Rattle.dfa_reading.specs.Lines.{◌>>=◌, lines_of, line_after}
 use Rattle.dfa_reading.specs.Headers.{Header, Systems}
 use Rattle.dfa_reading.specs.Listed.{Listed, Moves}
 use Rattle.dfa_reading.specs.Conflicts.{are_without_conflict}
+use Rattle.dfa_reading.specs.declared.outputs.Outputs.TheVariants.{Letters}
 use Rattle.dfa_reading.specs.Reading.{Draft, no_draft, add_line, add_lines_by, then_read, finish}
 
 -- the tracks that were read are of systems
@@ -25,7 +26,7 @@ kept_word draft = if is_word draft then Some draft else None
 
 -- one line more; none where the line breaks the format
 unfoldable pub add_word_line : ℕ → Draft → List ℕ → Option Draft
-add_word_line at draft line = add_line at draft line >>= kept_word
+add_word_line at draft line = add_line Letters at draft line >>= kept_word
 
 -- what the bytes list
 unfoldable pub word_of : List ℕ → Result Listed ℕ

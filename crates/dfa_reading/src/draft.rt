@@ -12,6 +12,7 @@ use crate::fault::FileFault;
 use crate::header::FileHeader;
 use crate::line_reader::LineReader;
 use crate::listed::{Listed, ListedLine};
+use crate::outputs::Outputs;
 use crate::read_entries::{Entry, read_entry};
 use crate::read_header::header;
 use crate::read_lines::is_passed;
@@ -33,7 +34,7 @@ pub struct DraftLine {
 pub struct Draft {
     pub header: Option<FileHeader>,
     pub numbers: IndexSet<u32>,
-    pub outputs: Vec<i32>,
+    pub outputs: Vec<Option<i32>>,
     pub lines: Vec<DraftLine>,
 }
 
@@ -50,10 +51,16 @@ impl Draft {
         }
     }
 
-    /// Adds a line, and says whether it has the format's form there.
+    /// Adds a line, and says whether it has the form of a format with these outputs there.
     #[tactic(auto, unfolding(crate::specs::Reading::add_line))]
-    pub fn add_line(&mut self, alloc: Global, at: u64, line: &[u8]) -> Result<bool, OutOfMemory>
-        ensures { IfOk result (λ added. (if added then Some (draft_view self.new) else None) ≡ line_added at (draft_view self.old) line.now) }
+    pub fn add_line(
+        &mut self,
+        alloc: Global,
+        outputs: Outputs,
+        at: u64,
+        line: &[u8],
+    ) -> Result<bool, OutOfMemory>
+        ensures { IfOk result (λ added. (if added then Some (draft_view self.new) else None) ≡ line_added outputs at (draft_view self.old) line.now) }
     {
         if is_passed(line) {
             return Ok(true);
@@ -64,7 +71,7 @@ impl Draft {
         if !header.has_states() {
             return Ok(false);
         }
-        match read_entry(alloc, header, line)? {
+        match read_entry(alloc, header, outputs, line)? {
             None => Ok(false),
             Some(entry) => self.add_entry(at, entry),
         }
@@ -135,16 +142,17 @@ impl Draft {
 
 impl LineReader for Draft {
     ghost use Rattle.dfa_reading.specs.Reading.{add_line, IsDraft};
+    ghost use Rattle.dfa_reading.specs.declared.outputs.Outputs.TheVariants.{Numbers};
     ghost use Rattle.dfa_reading.specs.DraftViews.{draft_view};
 
     ghost was_read = { draft_view };
 
-    ghost adds = { λ _. add_line };
+    ghost adds = { λ _. add_line Numbers };
 
     ghost is_prefix = { λ d. IsDraft (draft_view d) };
 
     fn add_line(&mut self, alloc: Global, at: u64, line: &[u8]) -> Result<bool, OutOfMemory> {
-        Draft::add_line(self, alloc, at, line)
+        Draft::add_line(self, alloc, Outputs::Numbers, at, line)
     }
 
     fn finish(self, alloc: Global, after: u64) -> Result<Listed, FileFault> {

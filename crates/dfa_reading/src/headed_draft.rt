@@ -10,6 +10,7 @@ use crate::fault::FileFault;
 use crate::header::FileHeader;
 use crate::line_reader::LineReader;
 use crate::listed::Listed;
+use crate::outputs::Outputs;
 use crate::system_part::SystemPart;
 use digit_tuple::faults::OutOfMemory;
 use digit_tuple::letter_set::LetterSet;
@@ -54,7 +55,7 @@ impl LineReader for HeadedDraft {
 
     fn add_line(&mut self, alloc: Global, at: u64, line: &[u8]) -> Result<bool, OutOfMemory> {
         let headed = self.draft.header.is_some();
-        if !self.draft.add_line(alloc, at, line)? {
+        if !self.draft.add_line(alloc, Outputs::Numbers, at, line)? {
             return Ok(false);
         }
         Ok(headed || heads(self.part, &self.draft.header))

@@ -13,6 +13,8 @@ mod system_name;
 mod header;
 // headers read from a file
 mod read_header;
+// the outputs that a format has
+mod outputs;
 // the lines below a header
 mod read_entries;
 // what a file lists

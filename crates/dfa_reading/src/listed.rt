@@ -12,12 +12,13 @@ pub struct ListedLine {
     pub targets: Vec<usize>,
 }
 
-/// What a file lists: its header, the output of each state, of which the first is initial, and the transitions. A state's
-/// output 0 rejects, and every other accepts. Each line is of listed states, and has a digit for each track.
+/// What a file lists: its header, the output of each state, of which the first is initial, and the transitions. In a
+/// relation's file a state's output 0 rejects, and every other accepts. In a word's file the output is the state's letter, and None
+/// is no letter. Each line is of listed states, and has a digit for each track.
 #[derive(Drop)]
 pub struct Listed {
     header: FileHeader,
-    outputs: Vec<i32>,
+    outputs: Vec<Option<i32>>,
     lines: Vec<ListedLine>,
 }
 
@@ -40,7 +41,7 @@ impl Listed {
     ghost use Rattle.dfa_reading.specs.LineViews.{lines_in};
 
     /// The automaton with these tracks, states and transitions.
-    pub fn new(header: FileHeader, outputs: Vec<i32>, lines: Vec<ListedLine>) -> Self
+    pub fn new(header: FileHeader, outputs: Vec<Option<i32>>, lines: Vec<ListedLine>) -> Self
         requires { IsListed (record { header = header_view header; outputs = outputs.items; lines = lines_in lines.items }) }
         ensures { result ≡ record { header = header_view header; outputs = outputs.items; lines = lines_in lines.items } }
     {
@@ -66,8 +67,8 @@ impl Listed {
         self.outputs.len()
     }
 
-    /// The output of each state.
-    pub fn outputs(&self) -> &[i32]
+    /// The output of each state, where None is no letter.
+    pub fn outputs(&self) -> &[Option<i32>]
         ensures { result.now ≡ self.now.outputs }
     {
         &self.outputs

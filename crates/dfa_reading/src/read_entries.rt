@@ -9,6 +9,7 @@ ghost use Rattle.dfa_reading.specs.HeaderViews.{header_view};
 ghost use Rattle.dfa_reading.specs.EntryViews.{entry_view};
 
 use crate::header::FileHeader;
+use crate::outputs::Outputs;
 use crate::read_lines::{cut_arrow, next_part};
 use crate::read_numbers::{integer, number_below};
 use digit_tuple::faults::OutOfMemory;
@@ -21,8 +22,8 @@ const STATE_LIMIT: u64 = 4294967296;
 /// What a line below the header lists.
 #[derive(Drop)]
 pub enum Entry {
-    /// A state, and its output.
-    State(u32, i32),
+    /// A state, and its output, where None is no letter.
+    State(u32, Option<i32>),
     /// Transitions by these digits, where None is `*`, to the states of these numbers.
     Line(Vec<Option<u32>>, Vec<u32>),
 }
@@ -32,12 +33,13 @@ pub enum Entry {
 pub fn read_entry(
     alloc: Global,
     header: &FileHeader,
+    outputs: Outputs,
     line: &[u8],
 ) -> Result<Option<Entry>, OutOfMemory>
-    ensures { IfOk result (λ entry. option_map entry_view entry ≡ entry_of (digits_in (header_view header.now)) line.now) }
+    ensures { IfOk result (λ entry. option_map entry_view entry ≡ entry_of outputs (digits_in (header_view header.now)) line.now) }
 {
     let Some((before, after)) = cut_arrow(line) else {
-        return Ok(state_entry(line));
+        return Ok(state_entry(outputs, line));
     };
     let Some(digits) = digits(alloc, header, before)? else {
         return Ok(None);
@@ -49,8 +51,8 @@ pub fn read_entry(
 }
 
 // A state's number and its output.
-fn state_entry(line: &[u8]) -> Option<Entry>
-    ensures { option_map entry_view result ≡ state_of (parts_of line.now) }
+fn state_entry(outputs: Outputs, line: &[u8]) -> Option<Entry>
+    ensures { option_map entry_view result ≡ state_of outputs (parts_of line.now) }
 {
     let (number, rest) = next_part(line)?;
     let (output, rest) = next_part(rest)?;
@@ -58,7 +60,7 @@ fn state_entry(line: &[u8]) -> Option<Entry>
         return None;
     }
     let number = state_number(number)?;
-    let output = integer(output)?;
+    let output = outputs.read(output)?;
     Some(Entry::State(number, output))
 }
 

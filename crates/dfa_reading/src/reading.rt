@@ -31,7 +31,7 @@ pub fn read_relation(alloc: Global, text: &[u8]) -> Result<Listed, FileFault>
     read_lines(alloc, Draft::new(alloc), text)
 }
 
-/// What the file of an automatic word lists: the output of a state is its letter. The tracks are of systems, and from a state a
+/// What the file of an automatic word lists: the output of a state is its letter, or `-` for none. The tracks are of systems, and from a state a
 /// tuple leads to one state at most. Each line of transitions takes two look-ups by hash for each set of tracks on which lines of
 /// its state have `*`, so the time is in proportion to the bytes and the number of these sets, which is 1 where there is no `*`.
 ///

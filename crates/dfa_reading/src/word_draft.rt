@@ -13,6 +13,7 @@ use crate::fault::FileFault;
 use crate::header::FileHeader;
 use crate::line_reader::LineReader;
 use crate::listed::Listed;
+use crate::outputs::Outputs;
 use crate::transitions::Transitions;
 use digit_tuple::faults::OutOfMemory;
 use std::alloc::Global;
@@ -72,7 +73,7 @@ impl LineReader for WordDraft {
     fn add_line(&mut self, alloc: Global, at: u64, line: &[u8]) -> Result<bool, OutOfMemory> {
         let states = self.draft.outputs.len();
         let lines = self.draft.lines.len();
-        if !self.draft.add_line(alloc, at, line)? {
+        if !self.draft.add_line(alloc, Outputs::Letters, at, line)? {
             return Ok(false);
         }
         if !are_systems(&self.draft.header) {

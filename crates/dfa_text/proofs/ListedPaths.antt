@@ -65,9 +65,12 @@ takes_only (s ∷ sizes) (d ∷ digits) [] h = absurd h
 takes_only (s ∷ sizes) (d ∷ digits) (e ∷ other) h = ap (λ x. x ∷ other) h.1.0 ∙ ap (λ t. d ∷ t) (takes_only sizes digits other h.1.1)
 
 -- outputs
-output_accepts : (b : Bool) → (output_listed b ≢ pos 0) ↔ (b ≡ true)
-output_accepts true = ((λ h. refl), (λ h e. let one : pos 1 ≡ pos 0 = e in cc))
-output_accepts false = ((λ h. absurd (h refl)), (λ h. absurd (let bad : false ≡ true = h in cc)))
+abbrev Accepts : Option ℤ → Type 0
+Accepts o = (output : ℤ) × (o ≡ Some output) × (output ≢ pos 0)
+
+output_accepts : (b : Bool) → Accepts (output_listed b) ↔ (b ≡ true)
+output_accepts true = ((λ h. refl), (λ h. (pos 1, refl, λ e. let one : pos 1 ≡ pos 0 = e in cc)))
+output_accepts false = ((λ h. absurd (h.2 (sym (same_Some (pos 0) h.0 h.1)))), (λ h. absurd (let bad : false ≡ true = h in cc)))
 
 module _ (header : Header) (d : Automaton) (table : IsTable (letters_of d) d.states) where
   step_from_move : (p : ℕ) (tuple : List ℕ) (q : ℕ) → Moves d.sizes (automaton_listed header d) p tuple q → step_of d p (code_of d.sizes tuple) ≡ Some q
@@ -96,12 +99,12 @@ module _ (header : Header) (d : Automaton) (table : IsTable (letters_of d) d.sta
       (line, among, refl, subst (λ (t : List ℕ). Takes d.sizes (map Some digits) t) same (takes_itself d.sizes digits coded.0), Contains-head q [])
 
   output_is : (q : ℕ) → q < states_of d → output_of (automaton_listed header d) q ≡ output_listed (accepting_of d q)
-  output_is q within = get_or-map-range_with_len (λ p. output_listed (accepting_of d p)) 0 (states_of d) q q (pos 0) within (omega arith)
+  output_is q within = get_or-map-range_with_len (λ p. output_listed (accepting_of d p)) 0 (states_of d) q q None within (omega arith)
 
   accepting_listed : (q : ℕ) → IsAccepting (automaton_listed header d) q → accepting_of d q ≡ true
   accepting_listed q h = elim (cases_lt q (states_of d)) [
-    | inl within ↦ (output_accepts (accepting_of d q)).0 (subst (λ (z : ℤ). z ≢ pos 0) (output_is q within) h)
-    | inr past ↦ absurd (h (get_or_past (map (λ p. output_listed (accepting_of d p)) (range_with_len 0 (states_of d))) q (pos 0) (omega (arith, length-map-range_with_len (λ p. output_listed (accepting_of d p)) 0 (states_of d)))))
+    | inl within ↦ (output_accepts (accepting_of d q)).0 (subst Accepts (output_is q within) h)
+    | inr past ↦ absurd (none-some h.0 (sym (get_or_past (map (λ p. output_listed (accepting_of d p)) (range_with_len 0 (states_of d))) q None (omega (arith, length-map-range_with_len (λ p. output_listed (accepting_of d p)) 0 (states_of d)))) ∙ h.1))
   ]
 
   accepted_from_moves : (word : List (List ℕ)) (letters : List ℕ) (p q : ℕ) → AllZip (IsLetterOfDigits d.sizes) word letters → MovesAlong d.sizes (automaton_listed header d) p word q → IsAccepting (automaton_listed header d) q
@@ -114,7 +117,7 @@ module _ (header : Header) (d : Automaton) (table : IsTable (letters_of d) d.sta
 
   moves_from_accepted : (word : List (List ℕ)) (letters : List ℕ) (p : ℕ) → p < states_of d → AllZip (IsLetterOfDigits d.sizes) word letters → accepts_from d p letters ≡ true
       → (q : ℕ) × MovesAlong d.sizes (automaton_listed header d) p word q × IsAccepting (automaton_listed header d) q
-  moves_from_accepted [] [] p within codes h = (p, refl, subst (λ (z : ℤ). z ≢ pos 0) (sym (output_is p within)) ((output_accepts (accepting_of d p)).1 h))
+  moves_from_accepted [] [] p within codes h = (p, refl, subst Accepts (sym (output_is p within)) ((output_accepts (accepting_of d p)).1 h))
   moves_from_accepted [] (a ∷ letters) p within codes h = absurd codes
   moves_from_accepted (tuple ∷ word) [] p within codes h = absurd codes
   moves_from_accepted (tuple ∷ word) (a ∷ letters) p within codes h =
@@ -134,14 +137,14 @@ module _ (header : Header) (d : Automaton) (table : IsTable (letters_of d) d.sta
   )
 
   -- whatever the outputs are, a listed path leads where the word of letters leads
-  run_from_moves : (outputs : List ℤ) (word : List (List ℕ)) (letters : List ℕ) (p q : ℕ) → AllZip (IsLetterOfDigits d.sizes) word letters → MovesAlong d.sizes (word_listed header d outputs) p word q → run_of d p letters ≡ Some q
+  run_from_moves : (outputs : List (Option ℤ)) (word : List (List ℕ)) (letters : List ℕ) (p q : ℕ) → AllZip (IsLetterOfDigits d.sizes) word letters → MovesAlong d.sizes (word_listed header d outputs) p word q → run_of d p letters ≡ Some q
   run_from_moves outputs [] [] p q codes h = ap Some h
   run_from_moves outputs [] (a ∷ letters) p q codes h = absurd codes
   run_from_moves outputs (tuple ∷ word) [] p q codes h = absurd codes
   run_from_moves outputs (tuple ∷ word) (a ∷ letters) p q codes (r, move, more) =
       ap (λ (o : Option ℕ). option_and_then (λ k. run_of d k letters) o) (ap (step_of d p) codes.0.letter_is ∙ step_from_move p tuple r move) ∙ run_from_moves outputs word letters r q codes.1 more
 
-  moves_from_run : (outputs : List ℤ) (word : List (List ℕ)) (letters : List ℕ) (p q : ℕ) → p < states_of d → AllZip (IsLetterOfDigits d.sizes) word letters → run_of d p letters ≡ Some q → MovesAlong d.sizes (word_listed header d outputs) p word q
+  moves_from_run : (outputs : List (Option ℤ)) (word : List (List ℕ)) (letters : List ℕ) (p q : ℕ) → p < states_of d → AllZip (IsLetterOfDigits d.sizes) word letters → run_of d p letters ≡ Some q → MovesAlong d.sizes (word_listed header d outputs) p word q
   moves_from_run outputs [] [] p q within codes h = same_Some p q h
   moves_from_run outputs [] (a ∷ letters) p q within codes h = absurd codes
   moves_from_run outputs (tuple ∷ word) [] p q within codes h = absurd codes
@@ -154,5 +157,5 @@ module _ (header : Header) (d : Automaton) (table : IsTable (letters_of d) d.sta
             (r, move_from_step p tuple r within codes.0.fit (sym (ap (step_of d p) codes.0.letter_is) ∙ is), rest)
       ]
 
-  pub runs_listed : (outputs : List ℤ) (word : List (List ℕ)) (letters : List ℕ) (q : ℕ) → AllZip (IsLetterOfDigits d.sizes) word letters → MovesAlong d.sizes (word_listed header d outputs) 0 word q ↔ (run_of d 0 letters ≡ Some q)
+  pub runs_listed : (outputs : List (Option ℤ)) (word : List (List ℕ)) (letters : List ℕ) (q : ℕ) → AllZip (IsLetterOfDigits d.sizes) word letters → MovesAlong d.sizes (word_listed header d outputs) 0 word q ↔ (run_of d 0 letters ≡ Some q)
   runs_listed outputs word letters q codes = (run_from_moves outputs word letters 0 q codes, moves_from_run outputs word letters 0 q table.initial codes)

@@ -1,5 +1,6 @@
 -- Printed lines of states and of tuples, read again.
-use Rattle.std.proofs.Common.{◌≡◌, ℕ, ◌^◌, ◌<◌, Bool, false, eqb, List, [], ◌∷◌, ◌++◌, map, ℤ, refl, ap, ◌∙◌, arith, append_assoc, codes, decimal}
+use Rattle.std.proofs.Common.{◌≡◌, ℕ, ◌^◌, ◌<◌, Bool, false, eqb, List, [], ◌∷◌, ◌++◌, map, ℤ, Option, None, Some, refl, ap, ◌∙◌, arith, append_assoc, codes, decimal}
+use Rattle.std.specs.Prelude.{⊤}
 use Rattle.std.specs.Fmt.{signed_decimal}
 use Rattle.std.specs.List.{AllByRecursion, flat_map, join_by}
 use Rattle.std.proofs.lemmas.List.{append-nil}
@@ -9,8 +10,10 @@ use Rattle.text_grammar.specs.Bytes.{is_line_end}
 use Rattle.digit_tuple.proofs.AllLemmas.{all_weaker}
 use Rattle.dfa_reading.specs.Lines.{parts_of, is_passed}
 use Rattle.dfa_reading.specs.Entries.{is_star}
+use Rattle.dfa_reading.specs.declared.outputs.Outputs.{Outputs}
+use Rattle.dfa_reading.specs.declared.outputs.Outputs.TheVariants.{Numbers, Letters}
 use Rattle.dfa_reading.proofs.Splits.{parts_of-append}
-use Rattle.dfa_text.specs.Parts.{state_text}
+use Rattle.dfa_text.specs.Parts.{output_text, state_text}
 use Rattle.dfa_text.proofs.PrintedParts.{Avoids, Avoids-append, Spares, spares_byte, avoids_decimal, avoids_signed, IsPart, part_decimal, part_signed, parts_of-one, parts_of-joined, not_passed_part}
 
 -- a target, after a blank
@@ -20,17 +23,31 @@ target_text target = codes " " ++ decimal target
 pub fits_wide : (n : ℕ) → n < 2 ^ 32 → n < 2 ^ 64
 fits_wide n h = omega arith
 
+-- an output that a format has
+abbrev pub IsOutput : Outputs → Option ℤ → Type 0
+IsOutput o (Some z) = SFits w32 z
+IsOutput Numbers None = ⊥
+IsOutput Letters None = ⊤
+
+part_output : (o : Outputs) (output : Option ℤ) → IsOutput o output → IsPart (output_text output)
+part_output o (Some z) f = part_signed z f
+part_output o None f = record { some = omega arith; whole = (refl, tt) }
+
+output_avoids : (p : ℕ → Bool) → Spares p → (o : Outputs) (output : Option ℤ) → IsOutput o output → Avoids p (output_text output)
+output_avoids p s o (Some z) f = avoids_signed p s z f
+output_avoids p s o None f = (s.minus, tt)
+
 -- the line of a state
-pub parts_of-state : (q : ℕ) (z : ℤ) → q < 2 ^ 32 → SFits w32 z → parts_of (state_text q z) ≡ decimal q ∷ signed_decimal z ∷ []
-parts_of-state q z h f =
-    parts_of-append (decimal q) 32 (signed_decimal z) refl ∙ ap (λ t. t ++ parts_of (signed_decimal z)) (parts_of-one (decimal q) (part_decimal q (fits_wide q h)))
-    ∙ ap (λ t. decimal q ∷ t) (parts_of-one (signed_decimal z) (part_signed z f))
+pub parts_of-state : (o : Outputs) (q : ℕ) (z : Option ℤ) → q < 2 ^ 32 → IsOutput o z → parts_of (state_text q z) ≡ decimal q ∷ output_text z ∷ []
+parts_of-state o q z h f =
+    parts_of-append (decimal q) 32 (output_text z) refl ∙ ap (λ t. t ++ parts_of (output_text z)) (parts_of-one (decimal q) (part_decimal q (fits_wide q h)))
+    ∙ ap (λ t. decimal q ∷ t) (parts_of-one (output_text z) (part_output o z f))
 
-pub state_stands : (q : ℕ) (z : ℤ) → q < 2 ^ 32 → is_passed (state_text q z) ≡ false
-state_stands q z h = not_passed_part (decimal q) (codes " " ++ signed_decimal z) (part_decimal q (fits_wide q h)) (avoids_decimal (λ c. eqb c 35) (spares_byte 35 refl refl) q (fits_wide q h))
+pub state_stands : (q : ℕ) (z : Option ℤ) → q < 2 ^ 32 → is_passed (state_text q z) ≡ false
+state_stands q z h = not_passed_part (decimal q) (codes " " ++ output_text z) (part_decimal q (fits_wide q h)) (avoids_decimal (λ c. eqb c 35) (spares_byte 35 refl refl) q (fits_wide q h))
 
-pub state_avoids : (p : ℕ → Bool) → Spares p → p 32 ≡ false → (q : ℕ) (z : ℤ) → q < 2 ^ 32 → SFits w32 z → Avoids p (state_text q z)
-state_avoids p s blank q z h f = Avoids-append p (decimal q) (codes " " ++ signed_decimal z) (avoids_decimal p s q (fits_wide q h)) (blank, avoids_signed p s z f)
+pub state_avoids : (p : ℕ → Bool) → Spares p → p 32 ≡ false → (o : Outputs) (q : ℕ) (z : Option ℤ) → q < 2 ^ 32 → IsOutput o z → Avoids p (state_text q z)
+state_avoids p s blank o q z h f = Avoids-append p (decimal q) (codes " " ++ output_text z) (avoids_decimal p s q (fits_wide q h)) (blank, output_avoids p s o z f)
 
 pub no_star : (bytes : List ℕ) → Avoids (λ b. eqb b 42) bytes → is_star bytes ≡ false
 no_star [] h = refl

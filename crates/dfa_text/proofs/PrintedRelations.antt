@@ -11,8 +11,6 @@ use Rattle.std.proofs.lemmas.List.Elements.{recursion_from_All}
 use Rattle.std.proofs.lemmas.List.FromFn.{length-range_with_len, get_or-range_with_len, length-map-range_with_len, get_or-map-range_with_len}
 use Rattle.std.proofs.lemmas.List.Sums.{position_or_len_is}
 use Rattle.std.proofs.Math.Bool.{and-false}
-use mir.Val.{SFits}
-use mir.Syntax.{w32}
 use Rattle.text_grammar.specs.Bytes.{is_line_end}
 use Rattle.digit_tuple.specs.Deterministic.{Automaton, letters_of, states_of, transitions_of, accepting_of, step_of}
 use Rattle.digit_tuple.specs.Headers.{sets_of}
@@ -31,6 +29,8 @@ use Rattle.dfa_reading.specs.Headers.{Digits, Members, Below, digits_in, has_sta
 use Rattle.dfa_reading.specs.Systems.{digit_limit}
 use Rattle.dfa_reading.specs.Listed.{ListedLine, Listed}
 use Rattle.dfa_reading.specs.Entries.{State}
+use Rattle.dfa_reading.specs.declared.outputs.Outputs.{Outputs}
+use Rattle.dfa_reading.specs.declared.outputs.Outputs.TheVariants.{Numbers}
 use Rattle.dfa_reading.specs.Reading.{no_draft, add_line, then_read, add_lines, state_at, placed_lines, lists, finish, relation_of}
 use Rattle.dfa_reading.proofs.ReadDrafts.{add_lines-step}
 use Rattle.dfa_text.specs.Meaning.{IsTrackSet}
@@ -43,7 +43,7 @@ use Rattle.dfa_text.proofs.PrintedDrafts.{draft, lines_in, passed_line, header_l
 use Rattle.dfa_text.proofs.PrintedParts.{Avoids, spares_byte, passed_empty}
 use Rattle.dfa_text.proofs.PrintedHeaders.{IsPrintable, header_avoids, header_stands}
 use Rattle.dfa_text.proofs.PrintedNames.{sets_read, systems_read, names_stand, names_avoid}
-use Rattle.dfa_text.proofs.PrintedEntries.{tuple_text, state_stands, state_avoids, tuple_stands, tuple_line_avoids}
+use Rattle.dfa_text.proofs.PrintedEntries.{IsOutput, tuple_text, state_stands, state_avoids, tuple_stands, tuple_line_avoids}
 use Rattle.dfa_text.proofs.PrintedTracks.{IsReadable, readable_set, readable_system, members_fit, digits_read, state_read, IsReadAs, step_read}
 use Rattle.dfa_text.proofs.PrintedTuples.{lines_of-text}
 use Rattle.dfa_text.proofs.TupleSteps.{tuple_of_code, length-members}
@@ -77,45 +77,45 @@ pub record IsPrinted (header : Header) (d : Automaton) : Type 0 where
   pub steps : (q letter : ℕ) → q < states_of d → IfSome (step_of d q letter) (λ t. t < states_of d)
 
 -- the lines of the text
-abbrev pub printed_lines : Header → Automaton → List ℤ → List (List ℕ)
+abbrev pub printed_lines : Header → Automaton → List (Option ℤ) → List (List ℕ)
 printed_lines header d outputs = header_line header ∷ flat_map (state_lines (sets_of header) d outputs) (range_with_len 0 (states_of d))
 
 -- the text has these lines, and they are read as a draft that lists the automaton
-pub record IsDrafted (header : Header) (d : Automaton) (outputs : List ℤ) : Type 0 where
+pub record IsDrafted (o : Outputs) (header : Header) (d : Automaton) (outputs : List (Option ℤ)) : Type 0 where
   pub numbered : List (ℕ × ListedLine)
   pub lines : slice_split is_line_end (text_of_lines (printed_lines header d outputs)) ≡ printed_lines header d outputs ++ [] ∷ []
-  pub read : add_lines 1 no_draft (printed_lines header d outputs ++ [] ∷ []) ≡ Ok (draft (header_listed header) (range_with_len 0 (states_of d)) outputs numbered)
+  pub read : add_lines o 1 no_draft (printed_lines header d outputs ++ [] ∷ []) ≡ Ok (draft (header_listed header) (range_with_len 0 (states_of d)) outputs numbered)
   pub lists : lines_in numbered ≡ flat_map (steps_listed d) (range_with_len 0 (states_of d))
 
--- an output for each state
-pub record ArePrinted (d : Automaton) (outputs : List ℤ) : Type 0 where
+-- an output for each state, which the format has
+pub record ArePrinted (o : Outputs) (d : Automaton) (outputs : List (Option ℤ)) : Type 0 where
   pub count : length outputs ≡ states_of d
-  pub fit : (q : ℕ) → q < states_of d → SFits w32 (get_or outputs q (pos 0))
+  pub fit : (q : ℕ) → q < states_of d → IsOutput o (get_or outputs q None)
 
-module _ (fh : file.Header) (states : has_states fh ≡ true) (ns : List ℕ) (os : List ℤ) (q : ℕ) (long : length os ≡ suc q) where
-  read_step : (tuple : List ℤ) (digits : List ℕ) (o : Option ℕ) → IsReadAs (digits_in fh) tuple digits → Fits32 o → (lines : List (ℕ × ListedLine)) (at : ℕ) (rest : List (List ℕ)) → HasRead fh ns os lines at (step_lines tuple o) rest ns os (step_listed q digits o)
-  read_step tuple digits None h k lines at rest = read_none fh ns os lines at rest
+module _ (o : Outputs) (fh : file.Header) (states : has_states fh ≡ true) (ns : List ℕ) (os : List (Option ℤ)) (q : ℕ) (long : length os ≡ suc q) where
+  read_step : (tuple : List ℤ) (digits : List ℕ) (to : Option ℕ) → IsReadAs (digits_in fh) tuple digits → Fits32 to → (lines : List (ℕ × ListedLine)) (at : ℕ) (rest : List (List ℕ)) → HasRead o fh ns os lines at (step_lines tuple to) rest ns os (step_listed q digits to)
+  read_step tuple digits None h k lines at rest = read_none o fh ns os lines at rest
   read_step [] digits (Some t) h k lines at rest = absurd (omega (arith, h.some))
   read_step (m ∷ ms) digits (Some t) h k lines at rest =
-      subst (λ (line : List ℕ). HasRead fh ns os lines at (line ∷ []) rest ns os (step_listed q digits (Some t))) (step_text (m ∷ ms) t)
-      (read_entry fh ns os q lines at (tuple_text (m ∷ ms) (t ∷ [])) (map Some digits) (t ∷ []) rest states long (tuple_stands m ms (t ∷ []) h.fits) (step_read (digits_in fh) m ms digits t h k))
+      subst (λ (line : List ℕ). HasRead o fh ns os lines at (line ∷ []) rest ns os (step_listed q digits (Some t))) (step_text (m ∷ ms) t)
+      (read_entry o fh ns os q lines at (tuple_text (m ∷ ms) (t ∷ [])) (map Some digits) (t ∷ []) rest states long (tuple_stands m ms (t ∷ []) h.fits) (step_read o (digits_in fh) m ms digits t h k))
 
   -- the lines of numbers, one after another
-  read_each : (f : ℕ → List (List ℕ)) (g : ℕ → List ListedLine) → (a n : ℕ) → ((i : ℕ) → i < a + n → (lines : List (ℕ × ListedLine)) (at : ℕ) (rest : List (List ℕ)) → HasRead fh ns os lines at (f i) rest ns os (g i))
-      → (lines : List (ℕ × ListedLine)) (at : ℕ) (rest : List (List ℕ)) → HasRead fh ns os lines at (flat_map f (range_with_len a n)) rest ns os (flat_map g (range_with_len a n))
-  read_each f g a zero h lines at rest = read_none fh ns os lines at rest
+  read_each : (f : ℕ → List (List ℕ)) (g : ℕ → List ListedLine) → (a n : ℕ) → ((i : ℕ) → i < a + n → (lines : List (ℕ × ListedLine)) (at : ℕ) (rest : List (List ℕ)) → HasRead o fh ns os lines at (f i) rest ns os (g i))
+      → (lines : List (ℕ × ListedLine)) (at : ℕ) (rest : List (List ℕ)) → HasRead o fh ns os lines at (flat_map f (range_with_len a n)) rest ns os (flat_map g (range_with_len a n))
+  read_each f g a zero h lines at rest = read_none o fh ns os lines at rest
   read_each f g a (suc n) h lines at rest =
       let first = h a (omega arith) lines at (flat_map f (range_with_len (a + 1) n) ++ rest) in
-      read_more fh ns ns ns os os os lines at (f a) (flat_map f (range_with_len (a + 1) n)) rest (g a) (flat_map g (range_with_len (a + 1) n)) first
+      read_more o fh ns ns ns os os os lines at (f a) (flat_map f (range_with_len (a + 1) n)) rest (g a) (flat_map g (range_with_len (a + 1) n)) first
       (read_each f g (a + 1) n (λ i lt. h i (omega arith)) (lines ++ first.numbered) first.next rest)
 
-module _ (header : Header) (d : Automaton) (outputs : List ℤ) (over : IsPrinted header d) (are : ArePrinted d outputs) where
+module _ (o : Outputs) (header : Header) (d : Automaton) (outputs : List (Option ℤ)) (over : IsPrinted header d) (are : ArePrinted o d outputs) where
   fits : (q letter : ℕ) → q < states_of d → Fits32 (step_of d q letter)
   fits q letter within = let small : states_of d ≤ 2 ^ 32 = omega (arith, over.small) in weaker (step_of d q letter) (states_of d) (2 ^ 32) small (over.steps q letter within)
 
   -- a blank line, a state and its lines
   read_state : (lines : List (ℕ × ListedLine)) (at q : ℕ) (rest : List (List ℕ)) → q < states_of d
-      → HasRead (header_listed header) (range_with_len 0 q) (take q outputs) lines at (state_lines (sets_of header) d outputs q) rest (range_with_len 0 (q + 1)) (take (q + 1) outputs) (steps_listed d q)
+      → HasRead o (header_listed header) (range_with_len 0 q) (take q outputs) lines at (state_lines (sets_of header) d outputs q) rest (range_with_len 0 (q + 1)) (take (q + 1) outputs) (steps_listed d q)
   read_state lines at q rest within =
       let fh = header_listed header in
       let sets = sets_of header in
@@ -123,39 +123,39 @@ module _ (header : Header) (d : Automaton) (outputs : List ℤ) (over : IsPrinte
       let ns = range_with_len 0 q in
       let os = take q outputs in
       let long : length (take (q + 1) outputs) ≡ suc q = omega (arith, length-take-le (q + 1) outputs (omega (arith, within, are.count))) in
-      let z = get_or outputs q (pos 0) in
+      let z = get_or outputs q None in
       let z_fits = are.fit q within in
-      let more : take (q + 1) outputs ≡ take q outputs ++ z ∷ [] = take_more outputs q (pos 0) (omega (arith, within, are.count)) in
-      let steps = read_each fh over.states (range_with_len 0 (q + 1)) (take (q + 1) outputs) q long (λ letter. step_lines (tuple_of sets letter) (step_of d q letter)) (λ letter. step_listed q (digits_of_letter d.sizes letter) (step_of d q letter)) 0 (letters_of d)
-      (λ letter lt. let inside : letter < letters_of d = omega arith in read_step fh over.states (range_with_len 0 (q + 1)) (take (q + 1) outputs) q long (tuple_of sets letter) (digits_of_letter d.sizes letter) (step_of d q letter) (over.tuples letter inside) (fits q letter within)) lines (at + 1 + 1) rest in
+      let more : take (q + 1) outputs ≡ take q outputs ++ z ∷ [] = take_more outputs q None (omega (arith, within, are.count)) in
+      let steps = read_each o fh over.states (range_with_len 0 (q + 1)) (take (q + 1) outputs) q long (λ letter. step_lines (tuple_of sets letter) (step_of d q letter)) (λ letter. step_listed q (digits_of_letter d.sizes letter) (step_of d q letter)) 0 (letters_of d)
+      (λ letter lt. let inside : letter < letters_of d = omega arith in read_step o fh over.states (range_with_len 0 (q + 1)) (take (q + 1) outputs) q long (tuple_of sets letter) (digits_of_letter d.sizes letter) (step_of d q letter) (over.tuples letter inside) (fits q letter within)) lines (at + 1 + 1) rest in
       let text = state_text q z in
       let below = steps_lines sets d q ++ rest in
-      let blank : add_lines at (draft fh ns os lines) ([] ∷ text ∷ below) ≡ add_lines (at + 1) (draft fh ns os lines) (text ∷ below) =
-      add_lines-step at (draft fh ns os lines) (draft fh ns os lines) [] (text ∷ below) (passed_line at (draft fh ns os lines) [] passed_empty) in
-      let added : add_line (at + 1) (draft fh ns os lines) text ≡ Some (draft fh (range_with_len 0 (q + 1)) (take (q + 1) outputs) lines) =
-      entry_line (at + 1) fh ns os lines text (State q z) over.states (state_stands q z small) (state_read (digits_in fh) q z small z_fits)
+      let blank : add_lines o at (draft fh ns os lines) ([] ∷ text ∷ below) ≡ add_lines o (at + 1) (draft fh ns os lines) (text ∷ below) =
+      add_lines-step o at (draft fh ns os lines) (draft fh ns os lines) [] (text ∷ below) (passed_line o at (draft fh ns os lines) [] passed_empty) in
+      let added : add_line o (at + 1) (draft fh ns os lines) text ≡ Some (draft fh (range_with_len 0 (q + 1)) (take (q + 1) outputs) lines) =
+      entry_line o (at + 1) fh ns os lines text (State q z) over.states (state_stands q z small) (state_read o (digits_in fh) q z small z_fits)
       ∙ ap (λ b. cond b None (Some (draft fh (ns ++ q ∷ []) (os ++ z ∷ []) lines))) (new_number 0 q q (omega arith))
-      ∙ ap (λ n. Some (draft fh n (os ++ z ∷ []) lines)) (sym (numbers_more q)) ∙ ap (λ o. Some (draft fh (range_with_len 0 (q + 1)) o lines)) (sym more) in
+      ∙ ap (λ n. Some (draft fh n (os ++ z ∷ []) lines)) (sym (numbers_more q)) ∙ ap (λ os'. Some (draft fh (range_with_len 0 (q + 1)) os' lines)) (sym more) in
       record {
         numbered = steps.numbered;
         next = steps.next;
-        read = blank ∙ add_lines-step (at + 1) (draft fh ns os lines) (draft fh (range_with_len 0 (q + 1)) (take (q + 1) outputs) lines) text below added ∙ steps.read;
+        read = blank ∙ add_lines-step o (at + 1) (draft fh ns os lines) (draft fh (range_with_len 0 (q + 1)) (take (q + 1) outputs) lines) text below added ∙ steps.read;
         lists = steps.lists;
       }
 
   read_states : (lines : List (ℕ × ListedLine)) (at q n : ℕ) (rest : List (List ℕ)) → q + n ≤ states_of d
-      → HasRead (header_listed header) (range_with_len 0 q) (take q outputs) lines at (flat_map (state_lines (sets_of header) d outputs) (range_with_len q n)) rest (range_with_len 0 (q + n)) (take (q + n) outputs) (flat_map (steps_listed d) (range_with_len q n))
+      → HasRead o (header_listed header) (range_with_len 0 q) (take q outputs) lines at (flat_map (state_lines (sets_of header) d outputs) (range_with_len q n)) rest (range_with_len 0 (q + n)) (take (q + n) outputs) (flat_map (steps_listed d) (range_with_len q n))
   read_states lines at q zero rest within =
       let same : q ≡ q + 0 = omega arith in
-      subst (λ (m : ℕ). HasRead (header_listed header) (range_with_len 0 q) (take q outputs) lines at [] rest (range_with_len 0 m) (take m outputs) []) same (read_none (header_listed header) (range_with_len 0 q) (take q outputs) lines at rest)
+      subst (λ (m : ℕ). HasRead o (header_listed header) (range_with_len 0 q) (take q outputs) lines at [] rest (range_with_len 0 m) (take m outputs) []) same (read_none o (header_listed header) (range_with_len 0 q) (take q outputs) lines at rest)
   read_states lines at q (suc n) rest within =
       let fh = header_listed header in
       let f = state_lines (sets_of header) d outputs in
       let same : q + 1 + n ≡ q + suc n = omega arith in
       let first = read_state lines at q (flat_map f (range_with_len (q + 1) n) ++ rest) (omega arith) in
       let more = read_states (lines ++ first.numbered) first.next (q + 1) n rest (omega arith) in
-      subst (λ (m : ℕ). HasRead fh (range_with_len 0 q) (take q outputs) lines at (flat_map f (range_with_len q (suc n))) rest (range_with_len 0 m) (take m outputs) (flat_map (steps_listed d) (range_with_len q (suc n)))) same
-      (read_more fh (range_with_len 0 q) (range_with_len 0 (q + 1)) (range_with_len 0 (q + 1 + n)) (take q outputs) (take (q + 1) outputs) (take (q + 1 + n) outputs) lines at (f q) (flat_map f (range_with_len (q + 1) n)) rest (steps_listed d q) (flat_map (steps_listed d) (range_with_len (q + 1) n)) first more)
+      subst (λ (m : ℕ). HasRead o fh (range_with_len 0 q) (take q outputs) lines at (flat_map f (range_with_len q (suc n))) rest (range_with_len 0 m) (take m outputs) (flat_map (steps_listed d) (range_with_len q (suc n)))) same
+      (read_more o fh (range_with_len 0 q) (range_with_len 0 (q + 1)) (range_with_len 0 (q + 1 + n)) (take q outputs) (take (q + 1) outputs) (take (q + 1 + n) outputs) lines at (f q) (flat_map f (range_with_len (q + 1) n)) rest (steps_listed d q) (flat_map (steps_listed d) (range_with_len (q + 1) n)) first more)
 
 -- the number of a state is its place
 own_place : (n t : ℕ) → t < n → state_at (range_with_len 0 n) t ≡ Some t
@@ -186,22 +186,22 @@ step_below : (count q : ℕ) (digits : List ℕ) (o : Option ℕ) → IfSome o (
 step_below count q digits None h = tt
 step_below count q digits (Some t) h = ((h, tt), tt)
 
-finished : (after : ℕ) (fh : file.Header) (numbers : List ℕ) (outputs : List ℤ) (lines : List (ℕ × ListedLine)) → 0 < length outputs → placed_lines numbers lines ≡ Ok (lines_in lines) → finish after (draft fh numbers outputs lines) ≡ Ok (record { header = fh; outputs = outputs; lines = lines_in lines })
+finished : (after : ℕ) (fh : file.Header) (numbers : List ℕ) (outputs : List (Option ℤ)) (lines : List (ℕ × ListedLine)) → 0 < length outputs → placed_lines numbers lines ≡ Ok (lines_in lines) → finish after (draft fh numbers outputs lines) ≡ Ok (record { header = fh; outputs = outputs; lines = lines_in lines })
 finished after fh numbers outputs lines some placed =
     ap (λ b. cond (has_states fh && b) (Err after) (lists fh (draft fh numbers outputs lines))) (ne_eqb (length outputs) 0 (λ e. absurd (omega arith)))
     ∙ ap (λ b. cond b (Err after) (lists fh (draft fh numbers outputs lines))) (and-false (has_states fh))
     ∙ ap (λ r. then_read r (λ ls. Ok (let l : Listed = record { header = fh; outputs = outputs; lines = ls } in l))) placed
 
-module _ (header : Header) (d : Automaton) (outputs : List ℤ) (over : IsPrinted header d) (are : ArePrinted d outputs) where
+module _ (o : Outputs) (header : Header) (d : Automaton) (outputs : List (Option ℤ)) (over : IsPrinted header d) (are : ArePrinted o d outputs) where
   avoids : AllByRecursion (Avoids is_line_end) (flat_map (state_lines (sets_of header) d outputs) (range_with_len 0 (states_of d)))
   avoids = all_numbers (Avoids is_line_end) (state_lines (sets_of header) d outputs) 0 (states_of d) (λ q lt.
       let within : q < states_of d = omega arith in (
         tt,
         (
-          state_avoids is_line_end (spares_byte 10 refl refl) refl q (get_or outputs q (pos 0)) (omega (arith, over.small)) (are.fit q within),
+          state_avoids is_line_end (spares_byte 10 refl refl) refl o q (get_or outputs q None) (omega (arith, over.small)) (are.fit q within),
           all_numbers (Avoids is_line_end) (λ letter. step_lines (tuple_of (sets_of header) letter) (step_of d q letter)) 0 (letters_of d) (λ letter low.
               let inside : letter < letters_of d = omega arith in
-              step_avoids (digits_in (header_listed header)) (tuple_of (sets_of header) letter) (digits_of_letter d.sizes letter) (step_of d q letter) (over.tuples letter inside) (fits header d outputs over are q letter within)),
+              step_avoids (digits_in (header_listed header)) (tuple_of (sets_of header) letter) (digits_of_letter d.sizes letter) (step_of d q letter) (over.tuples letter inside) (fits o header d outputs over are q letter within)),
         ),
       ))
 
@@ -211,23 +211,23 @@ module _ (header : Header) (d : Automaton) (outputs : List ℤ) (over : IsPrinte
       all_numbers (λ (line : ListedLine). AllByRecursion (λ t. t < states_of d) line.targets) (λ letter. step_listed q (digits_of_letter d.sizes letter) (step_of d q letter)) 0 (letters_of d) (λ letter low. step_below (states_of d) q (digits_of_letter d.sizes letter) (step_of d q letter) (over.steps q letter within)))
 
   -- the printed lines are read as this draft, which lists the automaton
-  pub drafted : IsDrafted header d outputs
+  pub drafted : IsDrafted o header d outputs
   drafted =
       let fh = header_listed header in
       let n = states_of d in
       let numbers = range_with_len 0 n in
       let body = flat_map (state_lines (sets_of header) d outputs) (range_with_len 0 n) in
-      let read = read_states header d outputs over are [] 2 0 n ([] ∷ []) (omega arith) in
+      let read = read_states o header d outputs over are [] 2 0 n ([] ∷ []) (omega arith) in
       let zero_more : 0 + n ≡ n = omega arith in
-      let reached : add_lines 2 (draft fh [] [] []) (body ++ [] ∷ []) ≡ add_lines read.next (draft fh numbers (take n outputs) read.numbered) ([] ∷ []) =
-      read.read ∙ ap (λ (m : ℕ). add_lines read.next (draft fh (range_with_len 0 m) (take m outputs) read.numbered) ([] ∷ [])) zero_more in
-      let last : add_lines read.next (draft fh numbers (take n outputs) read.numbered) ([] ∷ []) ≡ Ok (draft fh numbers (take n outputs) read.numbered) =
-      add_lines-step read.next (draft fh numbers (take n outputs) read.numbered) (draft fh numbers (take n outputs) read.numbered) [] [] (passed_line read.next (draft fh numbers (take n outputs) read.numbered) [] passed_empty) in
+      let reached : add_lines o 2 (draft fh [] [] []) (body ++ [] ∷ []) ≡ add_lines o read.next (draft fh numbers (take n outputs) read.numbered) ([] ∷ []) =
+      read.read ∙ ap (λ (m : ℕ). add_lines o read.next (draft fh (range_with_len 0 m) (take m outputs) read.numbered) ([] ∷ [])) zero_more in
+      let last : add_lines o read.next (draft fh numbers (take n outputs) read.numbered) ([] ∷ []) ≡ Ok (draft fh numbers (take n outputs) read.numbered) =
+      add_lines-step o read.next (draft fh numbers (take n outputs) read.numbered) (draft fh numbers (take n outputs) read.numbered) [] [] (passed_line o read.next (draft fh numbers (take n outputs) read.numbered) [] passed_empty) in
       let all : take n outputs ≡ outputs = take_all n outputs (omega (arith, are.count)) in
       record {
         numbered = read.numbered;
         lines = lines_of-text (printed_lines header d outputs) (over.whole, avoids);
-        read = add_lines-step 1 no_draft (draft fh [] [] []) (header_line header) (body ++ [] ∷ []) (header_line-added (header_line header) fh over.stands over.read) ∙ reached ∙ last
+        read = add_lines-step o 1 no_draft (draft fh [] [] []) (header_line header) (body ++ [] ∷ []) (header_line-added o (header_line header) fh over.stands over.read) ∙ reached ∙ last
             ∙ ap (λ os. Ok (draft fh numbers os read.numbered)) all;
         lists = read.lists;
       }
@@ -240,14 +240,14 @@ module _ (header : Header) (d : Automaton) (outputs : List ℤ) (over : IsPrinte
       finished after fh (range_with_len 0 n) outputs numbered (omega (arith, over.some, are.count)) placed
       ∙ ap (λ ls. Ok (let l : Listed = record { header = fh; outputs = outputs; lines = ls } in l)) lists
 
-  pub relation_of-printed : relation_of (word_text header d outputs) ≡ Ok (word_listed header d outputs)
-  unfolding relation_of word_text
-  relation_of-printed =
-      let text = printed_lines header d outputs in
-      let is = drafted in
-      ap (λ ls. then_read (add_lines 1 no_draft ls) (finish (line_after ls))) is.lines
-      ∙ ap (λ r. then_read r (finish (line_after (text ++ [] ∷ [])))) is.read
-      ∙ finish_printed (line_after (text ++ [] ∷ [])) is.numbered is.lists
+relation_of-printed : (header : Header) (d : Automaton) (outputs : List (Option ℤ)) → IsPrinted header d → ArePrinted Numbers d outputs → relation_of (word_text header d outputs) ≡ Ok (word_listed header d outputs)
+unfolding relation_of word_text
+relation_of-printed header d outputs over are =
+    let text = printed_lines header d outputs in
+    let is = drafted Numbers header d outputs over are in
+    ap (λ ls. then_read (add_lines Numbers 1 no_draft ls) (finish (line_after ls))) is.lines
+    ∙ ap (λ r. then_read r (finish (line_after (text ++ [] ∷ [])))) is.read
+    ∙ finish_printed Numbers header d outputs over are (line_after (text ++ [] ∷ [])) is.numbered is.lists
 
 -- the digits of a letter
 pub letter_digits : (sizes : List ℕ) (letter : ℕ) → letter < product sizes → AreDigits sizes (digits_of_letter sizes letter) × (code_of sizes (digits_of_letter sizes letter) ≡ letter)
@@ -328,14 +328,14 @@ printed_under header d over = record {
         })
 
 -- the outputs of states that accept or not
-output_fits : (accepting : Bool) → SFits w32 (output_listed accepting)
+output_fits : (accepting : Bool) → IsOutput Numbers (output_listed accepting)
 output_fits true = record { sfits = omega arith }
 output_fits false = record { sfits = omega arith }
 
-outputs_printed : (d : Automaton) → ArePrinted d (outputs_of d)
+outputs_printed : (d : Automaton) → ArePrinted Numbers d (outputs_of d)
 outputs_printed d = record {
   count = length-map-range_with_len (λ p. output_listed (accepting_of d p)) 0 (states_of d);
-  fit = λ q within. subst (SFits w32) (sym (get_or-map-range_with_len (λ p. output_listed (accepting_of d p)) 0 (states_of d) q q (pos 0) within (omega arith))) (output_fits (accepting_of d q));
+  fit = λ q within. subst (IsOutput Numbers) (sym (get_or-map-range_with_len (λ p. output_listed (accepting_of d p)) 0 (states_of d) q q None within (omega arith))) (output_fits (accepting_of d q));
 }
 
 pub text_lists : TextListsAutomaton

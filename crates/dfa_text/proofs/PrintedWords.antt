@@ -1,11 +1,11 @@
 -- The text of an automaton with outputs over systems, read again as a word's file: it lists the automaton with these outputs.
-use Rattle.std.proofs.Common.{◌≡◌, ℕ, ◌<◌, Bool, true, false, ◌&&◌, not, eqb, List, [], ◌∷◌, ◌++◌, map, ℤ, pos, Option, None, Some, Ok, inl, inr, refl, sym, ap, ◌∙◌, subst, true≢false, ◌+◌, length, arith}
+use Rattle.std.proofs.Common.{◌≡◌, ℕ, ◌<◌, Bool, true, false, ◌&&◌, not, eqb, List, [], ◌∷◌, ◌++◌, map, ℤ, get_or, Option, None, Some, Ok, inl, inr, refl, sym, ap, ◌∙◌, subst, true≢false, ◌+◌, length, arith}
+use Rattle.std.specs.Prelude.{FitsSigned, IfSome}
 use Rattle.std.specs.List.{Contains, flat_map, range_with_len}
 use Rattle.std.proofs.lemmas.Bool.{and_parts, eqb-true, eq-eqb}
 use Rattle.std.proofs.lemmas.List.Elements.{All-contains, All-get_or, Contains-get_or}
 use Rattle.std.proofs.lemmas.List.FromFn.{length-range_with_len, get_or-range_with_len}
-use mir.Val.{SFits}
-use mir.Syntax.{w32}
+use Rattle.std.specs.Int.{w32}
 use Rattle.digit_tuple.specs.Deterministic.{Automaton, letters_of, states_of, step_of}
 use Rattle.digit_tuple.specs.Letters.{product, code_of}
 use Rattle.digit_tuple.specs.declared.header.Header.TheVariants.{Systems}
@@ -14,6 +14,7 @@ use Rattle.digit_tuple.proofs.RangeLemmas.{All-range}
 use Rattle.dfa_reading.specs.Lines.{line_after}
 use Rattle.dfa_reading.specs.Listed.{ListedLine, Listed}
 use Rattle.dfa_reading.specs.Conflicts.{share_tuple, are_one, are_in_conflict, are_without_conflict}
+use Rattle.dfa_reading.specs.declared.outputs.Outputs.TheVariants.{Letters}
 use Rattle.dfa_reading.specs.Reading.{no_draft, then_read, add_lines_by, finish}
 use Rattle.dfa_reading.specs.WordFiles.{add_word_line, word_of}
 use Rattle.dfa_reading.proofs.WordLines.{without_conflict_from}
@@ -21,6 +22,7 @@ use Rattle.dfa_reading.proofs.WordSteps.{word_lines}
 use Rattle.dfa_text.specs.RelationText.{word_text}
 use Rattle.dfa_text.specs.Lists.{digits_of_letter, step_listed, steps_listed, word_listed, AreOutputs, TextListsWord, EqualTextsHaveEqualWords}
 use Rattle.dfa_text.proofs.PrintedDrafts.{lines_in}
+use Rattle.dfa_text.proofs.PrintedEntries.{IsOutput}
 use Rattle.dfa_text.proofs.PrintedRelations.{letter_digits, printed_lines, ArePrinted, printed_under, drafted, finish_printed}
 
 -- a listed line is of a state, by a letter, to a state
@@ -83,8 +85,15 @@ clear_lines d numbered lists =
     is : (l : ℕ × ListedLine) → Contains numbered l → IsStepLine d l.1
     is l there = listed_line_is d l.1 (subst (λ (ls : List ListedLine). Contains ls l.1) lists (Contains-map (λ (line : ℕ × ListedLine). line.1) numbered l there))
 
-outputs_are : (d : Automaton) (outputs : List ℤ) → AreOutputs d outputs → ArePrinted d outputs
-outputs_are d outputs are = record { count = are.count; fit = λ q within. All-get_or (SFits w32) outputs q (pos 0) (subst (λ (n : ℕ). q < n) (sym are.count) within) are.fits }
+output_is : (output : Option ℤ) → IfSome output (FitsSigned w32) → IsOutput Letters output
+output_is None fits = tt
+output_is (Some z) fits = fits
+
+outputs_are : (d : Automaton) (outputs : List (Option ℤ)) → AreOutputs d outputs → ArePrinted Letters d outputs
+outputs_are d outputs are = record {
+  count = are.count;
+  fit = λ q within. output_is (get_or outputs q None) (All-get_or (λ output. IfSome output (FitsSigned w32)) outputs q None (subst (λ (n : ℕ). q < n) (sym are.count) within) are.fits);
+}
 
 pub text_lists_word : TextListsWord
 unfolding word_of word_text
@@ -93,11 +102,11 @@ text_lists_word systems d outputs over are =
     let printed = printed_under header d over in
     let outputs_printed = outputs_are d outputs are in
     let text = printed_lines header d outputs in
-    let is = drafted header d outputs printed outputs_printed in
+    let is = drafted Letters header d outputs printed outputs_printed in
     let read = (word_lines 1 no_draft _ (text ++ [] ∷ []) is.read (clear_lines d is.numbered is.lists)).1 in
     ap (λ ls. then_read (add_lines_by add_word_line 1 no_draft ls) (finish (line_after ls))) is.lines
     ∙ ap (λ r. then_read r (finish (line_after (text ++ [] ∷ [])))) read
-    ∙ finish_printed header d outputs printed outputs_printed (line_after (text ++ [] ∷ [])) is.numbered is.lists
+    ∙ finish_printed Letters header d outputs printed outputs_printed (line_after (text ++ [] ∷ [])) is.numbered is.lists
 
 -- the text determines the outputs and where letters lead
 contains_number : (n i : ℕ) → i < n → Contains (range_with_len 0 n) i

@@ -1,5 +1,5 @@
 -- What the text of an automaton lists.
-use Rattle.std.specs.Prelude.{◌≡◌, ℕ, ◌/◌, ◌%◌, ◌<◌, ◌≤◌, true, ℤ, FitsSigned, List, [], ◌∷◌, map, length, Option, None, Some, Ok}
+use Rattle.std.specs.Prelude.{◌≡◌, ℕ, ◌/◌, ◌%◌, ◌<◌, ◌≤◌, true, ℤ, FitsSigned, List, [], ◌∷◌, map, length, Option, None, Some, IfSome, Ok}
 use Rattle.std.specs.Int.{w32}
 use Rattle.std.specs.List.{All, flat_map, range_with_len}
 use Rattle.digit_tuple.specs.Deterministic.{Automaton, IsTable, letters_of, states_of, step_of}
@@ -42,7 +42,7 @@ abbrev pub steps_listed : Automaton → ℕ → List ListedLine
 steps_listed d q = flat_map (λ letter. step_listed q (digits_of_letter d.sizes letter) (step_of d q letter)) (range_with_len 0 (letters_of d))
 
 -- the automaton with outputs: its header, the outputs of its states, and its transitions
-abbrev pub word_listed : Header → Automaton → List ℤ → Listed
+abbrev pub word_listed : Header → Automaton → List (Option ℤ) → Listed
 word_listed header d outputs = record {
   header = header_listed header;
   outputs = outputs;
@@ -75,19 +75,19 @@ pub record IsAutomatonUnder (header : Header) (d : Automaton) : Type 0 where
   pub sizes : d.sizes ≡ sizes_of (sets_of header)
   pub table : IsTable (letters_of d) d.states
 
--- an output for each state, each a number of 32 bits
-pub record AreOutputs (d : Automaton) (outputs : List ℤ) : Type 0 where
+-- an output for each state, each a number of 32 bits or no letter
+pub record AreOutputs (d : Automaton) (outputs : List (Option ℤ)) : Type 0 where
   pub count : length outputs ≡ states_of d
-  pub fits : All (λ output. FitsSigned w32 output) outputs
+  pub fits : All (λ output. IfSome output (FitsSigned w32)) outputs
 
 -- the text of an automaton with outputs over systems, read again as a word's file, lists the automaton with these outputs
 abbrev pub TextListsWord : Type 0
-TextListsWord = (systems : List SystemTrack) (d : Automaton) (outputs : List ℤ) → IsAutomatonUnder (Systems systems) d → AreOutputs d outputs
+TextListsWord = (systems : List SystemTrack) (d : Automaton) (outputs : List (Option ℤ)) → IsAutomatonUnder (Systems systems) d → AreOutputs d outputs
     → word_of (word_text (Systems systems) d outputs) ≡ Ok (word_listed (Systems systems) d outputs)
 
 -- over the same systems automata with outputs have the same text only where the outputs are the same and letters lead alike
 abbrev pub EqualTextsHaveEqualWords : Type 0
-EqualTextsHaveEqualWords = (systems : List SystemTrack) (d e : Automaton) (outputs others : List ℤ) → IsAutomatonUnder (Systems systems) d → IsAutomatonUnder (Systems systems) e → AreOutputs d outputs → AreOutputs e others
+EqualTextsHaveEqualWords = (systems : List SystemTrack) (d e : Automaton) (outputs others : List (Option ℤ)) → IsAutomatonUnder (Systems systems) d → IsAutomatonUnder (Systems systems) e → AreOutputs d outputs → AreOutputs e others
     → word_text (Systems systems) d outputs ≡ word_text (Systems systems) e others → (outputs ≡ others) × ((q letter : ℕ) → q < states_of d → letter < letters_of d → step_of d q letter ≡ step_of e q letter)
 
 -- the text of an automaton, read again, lists the automaton

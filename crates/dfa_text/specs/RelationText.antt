@@ -41,18 +41,18 @@ abbrev pub steps_lines : List (List ℤ) → Automaton → ℕ → List (List �
 steps_lines sets d q = flat_map (λ letter. step_lines (tuple_of sets letter) (step_of d q letter)) (range_with_len 0 (letters_of d))
 
 -- a blank line, the state's number and output, and the lines of its letters
-abbrev pub state_lines : List (List ℤ) → Automaton → List ℤ → ℕ → List (List ℕ)
-state_lines sets d outputs q = [] ∷ state_text q (slice_index_or outputs q (pos 0)) ∷ steps_lines sets d q
+abbrev pub state_lines : List (List ℤ) → Automaton → List (Option ℤ) → ℕ → List (List ℕ)
+state_lines sets d outputs q = [] ∷ state_text q (slice_index_or outputs q None) ∷ steps_lines sets d q
 
 -- the text of an automaton whose states have these outputs: the header, and then the states in order
-unfoldable pub word_text : Header → Automaton → List ℤ → List ℕ
+unfoldable pub word_text : Header → Automaton → List (Option ℤ) → List ℕ
 word_text header d outputs = text_of_lines (header_line header ∷ flat_map (state_lines (sets_of header) d outputs) (range_with_len 0 (states_of d)))
 
-abbrev pub output_listed : Bool → ℤ
-output_listed accepting = if accepting then pos 1 else pos 0
+abbrev pub output_listed : Bool → Option ℤ
+output_listed accepting = if accepting then Some (pos 1) else Some (pos 0)
 
 -- 1 for each accepting state, and 0 for each other
-abbrev pub outputs_of : Automaton → List ℤ
+abbrev pub outputs_of : Automaton → List (Option ℤ)
 outputs_of d = map (λ q. output_listed (accepting_of d q)) (range_with_len 0 (states_of d))
 
 -- the text of an automaton that accepts words

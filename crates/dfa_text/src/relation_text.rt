@@ -40,7 +40,7 @@ pub fn print_within(
 }
 
 // 1 for each accepting state, and 0 for each other.
-fn outputs(alloc: Global, d: &Dfa) -> Result<Vec<i32>, OutOfMemory>
+fn outputs(alloc: Global, d: &Dfa) -> Result<Vec<Option<i32>>, OutOfMemory>
     ensures { IfOk result (λ outputs. outputs.items ≡ outputs_of d.now) }
 {
     let mut outputs = Vec::with_capacity(alloc, d.states() as usize)?;
@@ -50,8 +50,8 @@ fn outputs(alloc: Global, d: &Dfa) -> Result<Vec<i32>, OutOfMemory>
     Ok(outputs)
 }
 
-fn output(accepting: bool) -> i32
+fn output(accepting: bool) -> Option<i32>
     ensures { result ≡ output_listed accepting }
 {
-    if accepting { 1 } else { 0 }
+    if accepting { Some(1) } else { Some(0) }
 }

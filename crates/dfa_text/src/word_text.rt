@@ -1,13 +1,13 @@
 //! The text of a deterministic automaton whose states have outputs.
 
-ghost use Rattle.std.specs.Prelude.{◌≡◌, ◌<◌, ◌≤◌, ◌↔◌, [], ◌∷◌, ◌++◌, length, OnOk, IfOk, IsSome, IfSome};
+ghost use Rattle.std.specs.Prelude.{◌≡◌, ◌<◌, ◌≤◌, ◌↔◌, [], ◌∷◌, ◌++◌, codes, length, None, slice_index_or, OnOk, IfOk, IsSome, IfSome};
 ghost use Rattle.std.specs.List.{All, flat_map};
 ghost use Rattle.digit_tuple.specs.Deterministic.{states_of};
 ghost use Rattle.digit_tuple.specs.Letters.{product};
 ghost use Rattle.digit_tuple.specs.Sets.{sizes_of};
 ghost use Rattle.digit_tuple.specs.Headers.{sets_of};
 ghost use Rattle.dfa_text.specs.LinePrefixes.{prefixes_of, target_text, fronted_text};
-ghost use Rattle.dfa_text.specs.Parts.{state_text, text_of_lines};
+ghost use Rattle.dfa_text.specs.Parts.{output_text, state_text, text_of_lines};
 ghost use Rattle.dfa_text.specs.RelationText.{transition_text, steps_lines, word_text};
 
 use crate::header_text::push_header;
@@ -23,13 +23,13 @@ use digit_tuple::transitions::Transition;
 use std::alloc::Global;
 
 /// The text of an automaton whose tracks are those of the header, and whose states have these outputs: the header, and all states
-/// in order, each with its output and a line for each letter that leads anywhere. Out of memory gives no text.
+/// in order, each with its output, which is `-` for None, and a line for each letter that leads anywhere. Out of memory gives no text.
 #[tactic(auto, unfolding(crate::specs::RelationText::word_text))]
 pub fn print_word(
     alloc: Global,
     header: &Header,
     d: &Dfa,
-    outputs: &[i32],
+    outputs: &[Option<i32>],
 ) -> Result<Vec<u8>, OutOfMemory>
     requires sizes { d.now.sizes ≡ sizes_of (sets_of header.now) }
     requires outputs { length outputs.now ≡ states_of d.now }
@@ -39,7 +39,7 @@ pub fn print_word(
     push_header(&mut out, header)?;
     let mut scratch = Scratch::new(alloc, header, d)?;
     for state in 0..d.states() {
-        push_output(&mut out, state, outputs[state as usize])?;
+        push_output(&mut out, state, output_at(outputs, state))?;
         push_lines(&mut out, header, d, &mut scratch, state)?;
     }
     Ok(out)
@@ -52,7 +52,7 @@ pub fn print_word_within(
     alloc: Global,
     header: &Header,
     d: &Dfa,
-    outputs: &[i32],
+    outputs: &[Option<i32>],
     most: usize,
 ) -> Result<Option<Vec<u8>>, OutOfMemory>
     requires sizes { d.now.sizes ≡ sizes_of (sets_of header.now) }
@@ -67,7 +67,7 @@ pub fn print_word_within(
         if out.len() > most {
             return Ok(None);
         }
-        push_output(&mut out, state, outputs[state as usize])?;
+        push_output(&mut out, state, output_at(outputs, state))?;
         push_lines(&mut out, header, d, &mut scratch, state)?;
     }
     Ok(if out.len() > most { None } else { Some(out) })
@@ -114,15 +114,38 @@ fn prefixes_unless_few(
     Ok(Some(LinePrefixes::new(alloc, header, d.alphabet())?))
 }
 
+// The output of a state.
+fn output_at(outputs: &[Option<i32>], state: u32) -> Option<i32>
+    ensures { result ≡ slice_index_or outputs.now state None }
+{
+    match outputs.get(state as usize) {
+        Some(output) => *output,
+        None => None,
+    }
+}
+
 // A blank line, and the state's number and output.
-fn push_output(out: &mut Vec<u8>, state: u32, output: i32) -> Result<(), OutOfMemory>
+fn push_output(out: &mut Vec<u8>, state: u32, output: Option<i32>) -> Result<(), OutOfMemory>
     ensures { OnOk result (out.new.items ≡ out.old.items ++ text_of_lines ([] ∷ state_text state output ∷ [])) }
 {
     out.push(b'\n')?;
     push_number(out, state)?;
-    push_after(out, b' ', output)?;
+    push_letter(out, output)?;
     out.push(b'\n')?;
     Ok(())
+}
+
+// A blank, and an output.
+fn push_letter(out: &mut Vec<u8>, output: Option<i32>) -> Result<(), OutOfMemory>
+    ensures { OnOk result (out.new.items ≡ out.old.items ++ (codes " " ++ output_text output)) }
+{
+    match output {
+        Some(number) => push_after(out, b' ', number),
+        None => {
+            out.extend_from_slice(b" -")?;
+            Ok(())
+        }
+    }
 }
 
 // A line for each letter that leads anywhere.

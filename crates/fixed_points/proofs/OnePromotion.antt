@@ -1,13 +1,10 @@
 -- The promotion of a morphism has one outcome.
-use Rattle.std.proofs.Common.{◌≡◌, ℕ, ◌*◌, List, [], ◌∷◌, length, ℤ, Some, inl, inr, Result, Ok, Err, sym, ap, ◌∙◌, subst, arith}
+use Rattle.std.proofs.Common.{◌≡◌, ℕ, List, [], ◌∷◌, length, ℤ, inl, inr, Result, Ok, Err, sym, ap, ◌∙◌, subst, arith}
 use Rattle.std.specs.List.{AllByRecursion}
-use Rattle.digit_tuple.specs.Deterministic.{letters_of}
-use Rattle.digit_tuple.specs.Letters.{IsWord, product}
 use Rattle.digit_tuple.specs.Steps.{StepLog}
 use Rattle.digit_tuple.specs.declared.step_fault.StepFault.{StepFault}
 use Rattle.digit_tuple.specs.declared.step_fault.StepFault.TheVariants.{Memory}
 use Rattle.digit_tuple.proofs.WidthLemmas.{IsEquivalence-facts}
-use Rattle.numeration.specs.Representation.{sizes_of}
 use Rattle.numeration.specs.Systems.{System}
 use Rattle.base_k.specs.Positional.{RankIsPositional, base, value}
 use Rattle.num_system.specs.Sealed.{IsSealed, SystemValue, system_of}
@@ -17,10 +14,9 @@ use Rattle.automaton_steps.specs.Makings.{DoesStep}
 use Rattle.automaton_steps.specs.OneAnswers.{AreOneAnswer}
 use Rattle.automaton_steps.proofs.AnswerCases.{memory_alone, one_value, raised_one}
 use Rattle.automaton_steps.proofs.StepAnswers.{step_one}
-use Rattle.word_output.specs.LetterFunctions.{letter_after}
 use Rattle.word_output.specs.Words.{HasLetter, WordValue}
 use Rattle.word_output.proofs.LetterEquality.{letter_functions}
-use Rattle.word_output.proofs.OptionLemmas.{some_value}
+use Rattle.word_output.proofs.PlaceLaws.{told_by_letters}
 use Rattle.morph_words.specs.Rules.{Rules}
 use Rattle.morph_words.specs.FixedPoint.{IsLetterAt}
 use Rattle.morph_words.specs.MorphismKinds.{HasFixedPoint}
@@ -29,8 +25,7 @@ use Rattle.fixed_points.specs.Promotion.{DoesPromote, IsFixedWord, promote_step}
 use Rattle.fixed_points.specs.declared.promote_fault.PromoteFault.{PromoteFault}
 use Rattle.fixed_points.specs.declared.promote_fault.PromoteFault.TheVariants.{Morphism, Step}
 use Rattle.fixed_points.proofs.KindLemmas.{apart, one_base, one_kind}
-use Rattle.fixed_points.proofs.PowerLemmas.{one_letter}
-use Rattle.fixed_points.proofs.WordLemmas.{value_represented}
+use Rattle.fixed_points.proofs.WordLemmas.{represented_value}
 
 head_same : (s t : System) (ss ts : List System) → s ∷ ss ≡ t ∷ ts → s ≡ t
 head_same s t ss ts same = cc
@@ -44,30 +39,20 @@ one_track k (s ∷ u ∷ a) (t ∷ b) first second one two directions = let long
 one_track k (s ∷ []) (t ∷ u ∷ b) first second one two directions = let long : length (systems_of (t ∷ u ∷ b)) ≡ 1 = ap length two in absurd (omega (arith, long))
 
 module _ (positional : RankIsPositional) (rules : Rules) (k : ℕ) (has : HasFixedPoint rules k) (v u : WordValue) (first : IsFixedWord rules k v) (second : IsFixedWord rules k u) where
-  sizes_are : (w : WordValue) → IsFixedWord rules k w → w.function.automaton.sizes ≡ k ∷ []
-  sizes_are w is = is.word_is.sizes ∙ ap sizes_of is.system
+  -- a place of a letter is one number
+  one_number : (x : WordValue) → IsFixedWord rules k x → (ns : List ℕ) (letter : ℤ) → HasLetter x ns letter → (place : ℕ) × (ns ≡ place ∷ [])
+  one_number x is ns letter (w, represented, there) = (value k w, represented_value positional x.systems k has.base.0 is.system is.direction ns w represented)
 
-  -- the letter of a word of digits is that of its value
-  letter_at : (x : WordValue) → IsFixedWord rules k x → (w : List ℕ) → IsWord k w → (letter : ℤ) × (letter_after x.function w ≡ Some letter) × HasLetter x (value k w ∷ []) letter
-  letter_at x is w over =
-      let represented = value_represented positional x.systems k has.base.0 is.system is.direction w over in
-      let found = some_value (letter_after x.function w) ((is.word_is.everywhere w represented.over).1 (value k w ∷ [], represented)) in
-      (found.0, found.1, (w, represented, found.1))
-
-  same_letters : (w : List ℕ) → IsWord (letters_of v.function.automaton) w → letter_after v.function w ≡ letter_after u.function w
-  same_letters w over =
-      let one_times : k * 1 ≡ k = omega arith in
-      let digits : IsWord k w = subst (λ n. IsWord n w) one_times (subst (λ sizes. IsWord (product sizes) w) (sizes_are v first) over) in
-      let here = letter_at v first w digits in
-      let there = letter_at u second w digits in
-      let same = one_letter rules (value k w) here.0 there.0 ((first.letters (value k w) here.0).0 here.2) ((second.letters (value k w) there.0).0 there.2) in
-      here.1 ∙ ap Some same ∙ sym there.1
+  -- a letter of the one word is one of the other
+  carried : (x y : WordValue) → IsFixedWord rules k x → IsFixedWord rules k y → (ns : List ℕ) (letter : ℤ) → HasLetter x ns letter → HasLetter y ns letter
+  carried x y one two ns letter has_letter =
+      let (place, is) = one_number x one ns letter has_letter in
+      subst (λ ms. HasLetter y ms letter) (sym is) ((two.letters place letter).1 ((one.letters place letter).0 (subst (λ ms. HasLetter x ms letter) is has_letter)))
 
   pub one_word : v ≡ u
   one_word =
-      let systems : v.systems ≡ u.systems = one_track k v.systems u.systems first.word_is.sealed second.word_is.sealed first.system second.system (first.direction ∙ sym second.direction) in
-      let functions : v.function ≡ u.function = letter_functions v.function u.function first.word_is.function second.word_is.function (sizes_are v first ∙ sym (sizes_are u second)) same_letters in
-      λ i. record { systems = systems i; function = functions i }
+      told_by_letters letter_functions v u first.word_is second.word_is (one_track k v.systems u.systems first.word_is.sealed second.word_is.sealed first.system second.system (first.direction ∙ sym second.direction))
+      (λ ns letter. (carried v u first second ns letter, carried u v second first ns letter))
 
 module _ (positional : RankIsPositional) (rules : Rules) where
   -- the step has one answer, and a morphism one base

@@ -20,7 +20,6 @@ use Rattle.word_output.specs.LetterFunctions.{IsLetterFunction, LetterFunctionVa
 use Rattle.word_output.specs.StateLetters.{letter_led}
 use Rattle.word_output.specs.Words.{HasLetter, RepresentsPlace, WordValue}
 use Rattle.word_output.proofs.LsdLetterLemmas.{letter_led-explored}
-use Rattle.word_output.proofs.OptionLemmas.{some_there}
 use Rattle.morph_words.specs.Rules.{Rules}
 use Rattle.morph_words.specs.FixedPoint.{IsLetterAt}
 use Rattle.fixed_points.specs.LetterGraph.{IsLetterGraph, key_after, key_of, letter_of, letters_at, reached}
@@ -89,10 +88,7 @@ fixed_word positional rules k systems f has are direction sealed function sizes 
     sealed = sealed;
     shared_direction = one_of_one systems (base k) are;
     sizes = sizes ∙ ap sizes_of (sym are);
-    everywhere = λ w over. (
-      (λ there. (value k w ∷ [], value_represented positional systems k has.base.0 are direction w (digits w over))),
-      (λ place. some_there (letter_after f w) (reached rules (pos 0) w) (letters w (digits w over))),
-    );
+    represents = λ w over there. (value k w ∷ [], value_represented positional systems k has.base.0 are direction w (digits w over));
     one = λ ns w u first second.
         let there : value k u ≡ value k w = first_same (value k u) (value k w) (sym (value_of ns u second) ∙ value_of ns w first) in
         letters w (digits w first.over)

@@ -99,7 +99,7 @@ fn word_text(
     alloc: Global,
     header: &Header,
     line: &str,
-    outputs: &[i32],
+    outputs: &[Option<i32>],
 ) -> Result<String, RowFault> {
     let alphabet = Alphabet::of_header(alloc, header)?;
     let dfa = listed(alloc, line)?;
@@ -111,16 +111,19 @@ fn word_text(
 }
 
 // The same over base 2 and base 12.
-fn word_over_bases(alloc: Global, line: &str, outputs: &[i32]) -> Result<String, RowFault> {
+fn word_over_bases(alloc: Global, line: &str, outputs: &[Option<i32>]) -> Result<String, RowFault> {
     word_text(alloc, &header_of_bases(alloc)?, line, outputs)
 }
 
 #[test]
 fn automata_with_outputs_have_their_letters(rt: HostRuntime) {
     let line = "x:2 y:12 = / 0>0 23>1/!";
-    let text = word_over_bases(rt.alloc(), line, &[-3, 2147483647]);
+    let text = word_over_bases(rt.alloc(), line, &[Some(-3), Some(2147483647)]);
     let wanted = "msd_2 msd_12\n\n0 -3\n0 0 -> 0\n1 11 -> 1\n\n1 2147483647\n";
     expect(&rt, "outputs", &text, wanted);
+    let text = word_over_bases(rt.alloc(), line, &[None, Some(0)]);
+    let wanted = "msd_2 msd_12\n\n0 -\n0 0 -> 0\n1 11 -> 1\n\n1 0\n";
+    expect(&rt, "no letter", &text, wanted);
 }
 
 // A file as it is printed, and one as it may be written by hand.

@@ -48,11 +48,12 @@ fn word_of(
     alloc: Global,
     parts: &[Part],
     systems: &[Rc<System>],
+    rest: Option<i32>,
     steps: &mut Steps,
 ) -> Result<Result<Word, CombineFault>, RowFault> {
     match (parts, systems) {
-        ([first, ..], _) => Ok(combine(alloc, parts, first.relation().systems(), steps)),
-        ([], [_]) => Ok(combine(alloc, parts, systems, steps)),
+        ([first, ..], _) => Ok(combine(alloc, parts, first.relation().systems(), rest, steps)),
+        ([], [_]) => Ok(combine(alloc, parts, systems, rest, steps)),
         _ => Err(RowFault::Form),
     }
 }
@@ -66,30 +67,26 @@ fn letters_of(alloc: Global, word: &Word, words: &[&[u32]]) -> Result<String, Ro
     Ok(text)
 }
 
-// A name, relations with their letters, the system where there is none, the limit, words of digits, and what is given: the line of the
-// step and the letters of these words, or the fault after no line.
+// A name, relations with their letters, the system where there is none, the letter where none holds, the limit, words of digits, and what
+// is given: the line of the step and the letters of these words, or the fault after no line.
+#[derive(Drop)]
 struct Row {
     name: &'static str,
     list: &'static [(Listed, i32)],
     system: Base,
+    rest: Option<i32>,
     limit: u32,
     words: &'static [&'static [u32]],
     wanted: &'static str,
 }
 
 // The lines of the steps and the letters of some words, or the lines and the fault.
-fn combined(
-    alloc: Global,
-    list: &[(Listed, i32)],
-    system: Base,
-    limit: u32,
-    words: &[&[u32]],
-) -> Result<String, RowFault> {
-    let parts = parts_of(alloc, list)?;
-    let systems = systems_for(alloc, &[system], Direction::Msd)?;
-    let mut steps = Steps::new(alloc, limit);
-    let answer = match word_of(alloc, &parts, &systems, &mut steps)? {
-        Ok(word) => letters_of(alloc, &word, words)?,
+fn combined(alloc: Global, row: &Row) -> Result<String, RowFault> {
+    let parts = parts_of(alloc, row.list)?;
+    let systems = systems_for(alloc, &[row.system], Direction::Msd)?;
+    let mut steps = Steps::new(alloc, row.limit);
+    let answer = match word_of(alloc, &parts, &systems, row.rest, &mut steps)? {
+        Ok(word) => letters_of(alloc, &word, row.words)?,
         Err(fault) => format!(in alloc; "{fault:?}")?,
     };
     let lines = lines_of(alloc, &steps)?;
@@ -137,12 +134,13 @@ const NUMBERS: &[&[u32]] = &[
 // The representations of (0, 0), (0, 1), (1, 0), (2, 3), (3, 2) and (1, 2).
 const PAIRS: &[&[u32]] = &[&[], &[1], &[2], &[3, 1], &[3, 2], &[1, 2]];
 
-static WORDS: [Row; 9] = [
+static WORDS: [Row; 12] = [
     // the first that holds decides, also where its letter is 0
     Row {
         name: "below 3, below 5",
         list: &[(BELOW_3, 7), (BELOW_5, 9)],
         system: None,
+        rest: Some(0),
         limit: 5,
         words: NUMBERS,
         wanted: "combine 5 5,  7 7 7 9 9 0 0",
@@ -151,6 +149,7 @@ static WORDS: [Row; 9] = [
         name: "below 3 once more",
         list: &[(BELOW_3, 7), (BELOW_5, 9), (BELOW_3, 8)],
         system: None,
+        rest: Some(0),
         limit: 5,
         words: NUMBERS,
         wanted: "combine 5 5,  7 7 7 9 9 0 0",
@@ -159,6 +158,7 @@ static WORDS: [Row; 9] = [
         name: "below 5, below 3",
         list: &[(BELOW_5, 9), (BELOW_3, 7)],
         system: None,
+        rest: Some(0),
         limit: 5,
         words: NUMBERS,
         wanted: "combine 5 5,  9 9 9 9 9 0 0",
@@ -167,6 +167,7 @@ static WORDS: [Row; 9] = [
         name: "the letter 0",
         list: &[(BELOW_3, 0), (BELOW_5, -9)],
         system: None,
+        rest: Some(0),
         limit: 5,
         words: NUMBERS,
         wanted: "combine 5 5,  0 0 0 -9 -9 0 0",
@@ -176,6 +177,7 @@ static WORDS: [Row; 9] = [
         name: "one letter",
         list: &[(BELOW_3, 0)],
         system: None,
+        rest: Some(0),
         limit: 4,
         words: NUMBERS,
         wanted: "combine 4 1,  0 0 0 0 0 0 0",
@@ -185,6 +187,7 @@ static WORDS: [Row; 9] = [
         name: "less",
         list: &[(LESS, 5)],
         system: None,
+        rest: Some(0),
         limit: 3,
         words: PAIRS,
         wanted: "combine 3 3,  0 5 0 5 0 5",
@@ -194,6 +197,7 @@ static WORDS: [Row; 9] = [
         name: "any number in msd_fib",
         list: &[(IN_MSD_FIB, 4)],
         system: None,
+        rest: Some(0),
         limit: 3,
         words: NUMBERS,
         wanted: "combine 3 2,  4 4 4 - 4 4 -",
@@ -203,6 +207,7 @@ static WORDS: [Row; 9] = [
         name: "none over msd_2",
         list: &[],
         system: Some(2),
+        rest: Some(0),
         limit: 1,
         words: NUMBERS,
         wanted: "combine 1 1,  0 0 0 0 0 0 0",
@@ -211,16 +216,45 @@ static WORDS: [Row; 9] = [
         name: "none over msd_fib",
         list: &[],
         system: None,
+        rest: Some(0),
         limit: 3,
         words: NUMBERS,
         wanted: "combine 3 2,  0 0 0 - 0 0 -",
+    },
+    // another letter where none holds, and none
+    Row {
+        name: "below 3, else -4",
+        list: &[(BELOW_3, 7)],
+        system: None,
+        rest: Some(-4),
+        limit: 4,
+        words: NUMBERS,
+        wanted: "combine 4 4,  7 7 7 -4 -4 -4 -4",
+    },
+    Row {
+        name: "below 3, else none",
+        list: &[(BELOW_3, 7)],
+        system: None,
+        rest: None,
+        limit: 4,
+        words: NUMBERS,
+        wanted: "combine 4 3,  7 7 7 - - - -",
+    },
+    Row {
+        name: "no letter at all",
+        list: &[],
+        system: Some(2),
+        rest: None,
+        limit: 1,
+        words: NUMBERS,
+        wanted: "combine 1 1,  - - - - - - -",
     },
 ];
 
 #[test]
 fn words_have_the_letter_of_the_first_relation_that_holds(rt: HostRuntime) {
     for row in &WORDS {
-        let found = combined(rt.alloc(), row.list, row.system, row.limit, row.words);
+        let found = combined(rt.alloc(), row);
         expect(&rt, row.name, &found, row.wanted);
     }
 }
@@ -289,8 +323,17 @@ static REFUSED: [(&str, &[(Listed, i32)], u32, &str); 11] = [
 
 #[test]
 fn relations_of_several_shapes_and_words_past_the_limit_are_refused(rt: HostRuntime) {
-    for (row, list, limit, wanted) in &REFUSED {
-        let found = combined(rt.alloc(), list, Some(2), *limit, NUMBERS);
-        expect(&rt, row, &found, wanted);
+    for (name, list, limit, wanted) in &REFUSED {
+        let row = Row {
+            name: *name,
+            list: *list,
+            system: Some(2),
+            rest: Some(0),
+            limit: *limit,
+            words: NUMBERS,
+            wanted: *wanted,
+        };
+        let found = combined(rt.alloc(), &row);
+        expect(&rt, row.name, &found, row.wanted);
     }
 }

@@ -140,7 +140,7 @@ fn files_are_read(rt: HostRuntime) {
 
 // Files that break the format, and the line at which each does: the first that is out of form, where there is none the first
 // with a target that is no state, and for a file that ends too early the line after its last.
-static BROKEN: [(&[u8], u64); 124] = [
+static BROKEN: [(&[u8], u64); 126] = [
     // files that end too early
     (b"", 1),
     (b"\n", 2),
@@ -241,6 +241,9 @@ static BROKEN: [(&[u8], u64); 124] = [
     (b"msd_2\n0x0 1\n", 2),
     (b"msd_2\n4294967296 1\n", 2),
     (b"msd_2\n0 2147483648\n", 2),
+    // no letter, as words may have, also after another state and over sets
+    (b"msd_2\n0 1\n1 -\n", 3),
+    (b"{0,1}\n0 -\n", 2),
     (b"msd_2\n0 -2147483649\n", 2),
     (b"msd_2\n1000000000000000000000000000000000000000 1\n", 2),
     (b"msd_2\n0 1000000000000000000000000000000000000000\n", 2),

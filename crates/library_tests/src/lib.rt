@@ -73,6 +73,10 @@ mod projections;
 #[cfg(test)]
 mod renamings;
 
+// operations on languages
+#[cfg(test)]
+mod languages;
+
 // orders and equalities of numbers
 #[cfg(test)]
 mod orders;
@@ -113,6 +117,10 @@ mod system_files;
 #[cfg(test)]
 mod word_files;
 
+// walks through listed words
+#[cfg(test)]
+mod walks;
+
 // the branching automata of files, and the steps of their relations
 #[cfg(test)]
 mod reading_steps;
@@ -144,3 +152,11 @@ mod in_memory;
 // the adapters over the system
 #[cfg(test)]
 mod adapters;
+
+// the words of the command line
+#[cfg(test)]
+mod command_lines;
+
+// generated scripts
+#[cfg(test)]
+mod made_scripts;

@@ -21,7 +21,7 @@ fn read_of(alloc: Global, part: SystemPart, text: &[u8]) -> Option<(usize, u64)>
 }
 
 // Languages, and what is read of each.
-static LANGUAGES: [(&str, (usize, u64)); 28] = [
+static LANGUAGES: [(&str, (usize, u64)); 29] = [
     // one set of the digits from 0 on, in any order
     ("{0,1}\n0 1\n* -> 0\n", (1, 0)),
     ("{1,0}\n0 1\n* -> 0\n", (1, 0)),
@@ -54,6 +54,7 @@ static LANGUAGES: [(&str, (usize, u64)); 28] = [
     ("{0,1}\n0 1\n0 -> 1\n", (0, 3)),
     ("{0,1}\n0 1\n0 -> 1\n9\n", (0, 4)),
     ("{0,1}\n0 1\n0 -> 0\n0 0\n", (0, 4)),
+    ("{0,1}\n0 -\n", (0, 2)),
 ];
 
 #[test]
@@ -65,7 +66,7 @@ fn languages_are_read_as_listed(rt: HostRuntime) {
 }
 
 // Numbers of digits, adders over them, and what is read of each.
-static ADDERS: [(u32, &str, (usize, u64)); 23] = [
+static ADDERS: [(u32, &str, (usize, u64)); 24] = [
     // three sets of the digits from 0 on, each in any order
     (2, "{0,1} {0,1} {0,1}\n0 1\n* * * -> 0\n", (1, 0)),
     (2, "{1,0}{0,1} {1,0}\r\n0 1\r\n1 0 1 -> 0", (1, 0)),
@@ -93,6 +94,7 @@ static ADDERS: [(u32, &str, (usize, u64)); 23] = [
     (2, "{0,1} {0,1} {0,1}\n0 1\n0 0 0 -> 1\n", (0, 3)),
     (2, "{0,1} {0,1} {0,1}\n0 1\n0 0 0 -> 0\n0 0\n", (0, 4)),
     (2, "{0,1} {0,1} {0,1}\n{0,1} {0,1} {0,1}\n0 1\n", (0, 2)),
+    (2, "{0,1} {0,1} {0,1}\n0 -\n", (0, 2)),
 ];
 
 #[test]

@@ -21,11 +21,21 @@ fn read_of(alloc: Global, text: &[u8]) -> Option<(usize, u64)> {
 }
 
 // Files, and what is read of each.
-static FILES: [(&str, (usize, u64)); 24] = [
+static FILES: [(&str, (usize, u64)); 33] = [
     // any outputs of 32 bits
     ("msd_2\n0 0\n0 -> 0\n1 -> 1\n1 1\n0 -> 1\n1 -> 0\n", (2, 0)),
     ("msd_2\n0 -2147483648\n* -> 0\n", (1, 0)),
     ("msd_2\n0 2147483648\n* -> 0\n", (0, 2)),
+    // and `-` for no letter, once for a state
+    ("msd_2\n0 -\n", (1, 0)),
+    ("msd_2\r\n0\t-\r\n* -> 0\r\n", (1, 0)),
+    ("msd_2\n0 -\n0 -> 0\n1 -> 1\n1 7\n", (2, 0)),
+    ("msd_2\n0 -\n0 -\n", (0, 3)),
+    ("msd_2\n0 -\n0 5\n", (0, 3)),
+    ("msd_2\n0 --\n", (0, 2)),
+    ("msd_2\n0 - 5\n", (0, 2)),
+    ("msd_2\n- -\n", (0, 2)),
+    ("{0,1}\n0 -\n", (0, 1)),
     // over systems alone
     ("true\n", (0, 1)),
     ("false\n", (0, 1)),

@@ -18,3 +18,4 @@ pub mod RuleLemmas
 pub mod FirstOtherLemmas
 pub mod UniformLemmas
 pub mod AppliedLemmas
+pub mod ImageLetterLemmas

@@ -62,7 +62,6 @@ fails_first first rest (faults.Unknown of file) refused = inl refused
 fails_first first rest (faults.File of file flaw) refused = inl refused
 fails_first first rest (faults.Arity of tracks given) refused = inl refused
 fails_first first rest (faults.Clash of one two) refused = inl refused
-fails_first first rest (faults.WordGap of representation) refused = inl refused
 fails_first first rest (faults.Plain of) refused = inl refused
 
 -- and so does what refuses those after it
@@ -92,7 +91,6 @@ fails_after first rest y (faults.Unknown of file) passed refused = inr (y, passe
 fails_after first rest y (faults.File of file flaw) passed refused = inr (y, passed, refused)
 fails_after first rest y (faults.Arity of tracks given) passed refused = inr (y, passed, refused)
 fails_after first rest y (faults.Clash of one two) passed refused = inr (y, passed, refused)
-fails_after first rest y (faults.WordGap of representation) passed refused = inr (y, passed, refused)
 fails_after first rest y (faults.Plain of) passed refused = inr (y, passed, refused)
 
 -- what the checks after the first make all of them make

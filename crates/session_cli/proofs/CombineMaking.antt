@@ -49,7 +49,6 @@ module _ (ledger : Ledger) (head : CombineHead) (tracks : WordTracks) (names : L
   word_unstored (faults.Direction one other) refused = absurd refused
   word_unstored (faults.Letters step) refused = absurd refused
   word_unstored (faults.States step) refused = absurd refused
-  word_unstored (faults.WordGap of representation) refused = absurd refused
   word_unstored (faults.Plain of) refused = absurd refused
   word_unstored (faults.Store folder name) refused = absurd refused
   word_unstored faults.ScriptLimit refused = absurd refused

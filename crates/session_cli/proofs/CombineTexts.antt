@@ -1,8 +1,9 @@
 -- The word that listed automata make has the letters of their definitions, so its text is that of the definition that is stored.
-use Rattle.std.proofs.Common.{◌≡◌, ◌↔◌, ℕ, suc, ℤ, List, [], ◌∷◌, length, Option, None, Some, Ok, inl, inr, refl, sym, ap, ◌∙◌, subst, arith}
+use Rattle.std.proofs.Common.{◌≡◌, ◌↔◌, ℕ, suc, ℤ, pos, List, [], ◌∷◌, length, Option, None, Some, Ok, inl, inr, refl, sym, ap, ◌∙◌, subst, arith}
 use Rattle.std.specs.Int.{w32}
 use Rattle.std.specs.List.{All, AllByRecursion}
 use Rattle.std.specs.Prelude.{FitsSigned}
+use Rattle.std.proofs.lemmas.Option.{same_Some}
 use Rattle.wal_outside.specs.Files.{Files}
 use Rattle.combinations.specs.Combined.{IsCombined, AreSystemsFor, IsCombination}
 use Rattle.combinations.specs.Parts.{PartValue}
@@ -74,10 +75,10 @@ with_count (name ∷ names) (s ∷ found) count = ap suc (with_count names found
 -- The first relation that holds has the value of the first definition that holds.
 module _ (ledger : Ledger) (relations : List NamedRelation) (means : (name : List ℕ) (r : RelationValue) → relation_named relations name ≡ Some r → HoldsAs ledger name r) (ns : List ℕ) (letter : ℤ) where
   abbrev pub MakesSame : List PartValue → Parts → Type 0
-  MakesSame parts trees = IsCombined parts ns letter ↔ first_letter (custom_of ledger) trees ns letter
+  MakesSame parts trees = IsCombined (Some (pos 0)) parts ns letter ↔ first_letter (custom_of ledger) trees ns letter
 
   pub letters_same : (place : ℕ) (automata : List ValuedName) (parts : List PartValue) → ArePartsFrom relations place automata parts → MakesSame parts (parts_from ledger place automata)
-  letters_same place [] [] are = ((λ is. is), (λ is. is))
+  letters_same place [] [] are = ((λ is. sym (same_Some (pos 0) letter is)), (λ is. ap Some (sym is)))
   letters_same place [] (p ∷ parts) are = absurd are
   letters_same place (v ∷ automata) [] are = absurd are
   letters_same place (v ∷ automata) (p ∷ parts) (is, value, rest) =
@@ -85,13 +86,13 @@ module _ (ledger : Ledger) (relations : List NamedRelation) (means : (name : Lis
       let later : MakesSame parts (parts_from ledger (suc place) automata) = letters_same (suc place) automata parts rest in
       subst (λ (e : Option Entry). MakesSame (p ∷ parts) (with_part e (value_at place v.value) (parts_from ledger (suc place) automata))) (sym own.there) (there own later, back own later)
     where
-      there : (own : HoldsAs ledger v.name p.relation) → MakesSame parts (parts_from ledger (suc place) automata) → IsCombined (p ∷ parts) ns letter
+      there : (own : HoldsAs ledger v.name p.relation) → MakesSame parts (parts_from ledger (suc place) automata) → IsCombined (Some (pos 0)) (p ∷ parts) ns letter
           → first_letter (custom_of ledger) (with_part (Some own.entry) (value_at place v.value) (parts_from ledger (suc place) automata)) ns letter
       there own later (inl (holds, letter_is)) = inl ((own.same ns).0 holds, letter_is ∙ value)
       there own later (inr (none, others)) = inr ((λ holds. none ((own.same ns).1 holds)), later.0 others)
 
       back : (own : HoldsAs ledger v.name p.relation) → MakesSame parts (parts_from ledger (suc place) automata)
-          → first_letter (custom_of ledger) (with_part (Some own.entry) (value_at place v.value) (parts_from ledger (suc place) automata)) ns letter → IsCombined (p ∷ parts) ns letter
+          → first_letter (custom_of ledger) (with_part (Some own.entry) (value_at place v.value) (parts_from ledger (suc place) automata)) ns letter → IsCombined (Some (pos 0)) (p ∷ parts) ns letter
       back own later (inl (holds, letter_is)) = inl ((own.same ns).1 holds, letter_is ∙ sym value)
       back own later (inr (none, others)) = inr ((λ holds. none ((own.same ns).0 holds)), later.1 others)
 
@@ -106,7 +107,7 @@ module _ (automata : List ValuedName) (tables : List Loaded) (files : Files) (li
   abbrev pub h : Headers
   h = headers_of tables
 
-  combination : IsCombination steps.before.parts steps.before.tracks word
+  combination : IsCombination (Some (pos 0)) steps.before.parts steps.before.tracks word
   combination = steps.done.step.made_is
 
   under_first : (vs : List ValuedName) (ps : List PartValue) → HaveSystemsOfFirst h (listed_names vs) → ArePartsFrom (relations_in steps.before.reads) 0 vs ps → AreSystemsFor ps steps.before.tracks
@@ -137,7 +138,7 @@ module _ (automata : List ValuedName) (tables : List Loaded) (files : Files) (li
       )
 
   -- the text of a word with these letters is that of the definition
-  word_text_is : (parts : Parts) → All (λ letter. FitsSigned w32 letter) word.function.letters → ((ns : List ℕ) (letter : ℤ) → IsCombined steps.before.parts ns letter ↔ first_letter custom parts ns letter)
+  word_text_is : (parts : Parts) → All (λ letter. FitsSigned w32 letter) word.function.letters → ((ns : List ℕ) (letter : ℤ) → IsCombined (Some (pos 0)) steps.before.parts ns letter ↔ first_letter custom parts ns letter)
       → HasTreeText custom (Combine (first_tracks h (listed_names automata) word).direction (first_tracks h (listed_names automata) word).named parts) (named_text (first_names h (listed_names automata)) word)
   word_text_is parts fit same = by (listed_names automata) shape word_under
     where

@@ -78,7 +78,6 @@ refused_command limit ledger old new text shown fault found by refused read = re
     answer_of (faults.File of file flaw) refused = refused
     answer_of (faults.Arity of tracks given) refused = refused
     answer_of (faults.Clash of one two) refused = refused
-    answer_of (faults.WordGap of representation) refused = refused
     answer_of (faults.Plain of) refused = refused
 
     cause_of : (f : Fault) → IsReadFault f old new → IsTrue (is_store_fault f) → Rose old.faults new.faults
@@ -107,7 +106,6 @@ refused_command limit ledger old new text shown fault found by refused read = re
     cause_of (faults.File of file flaw) read is = cc
     cause_of (faults.Arity of tracks given) read is = cc
     cause_of (faults.Clash of one two) read is = cc
-    cause_of (faults.WordGap of representation) read is = cc
     cause_of (faults.Plain of) read is = cc
 
     failed_of : (f : Fault) → IsReadFault f old new → new.failed ≡ failed_by (failed_at f) old.failed
@@ -136,7 +134,6 @@ refused_command limit ledger old new text shown fault found by refused read = re
     failed_of (faults.File of file flaw) read = read
     failed_of (faults.Arity of tracks given) read = read
     failed_of (faults.Clash of one two) read = read
-    failed_of (faults.WordGap of representation) read = read
     failed_of (faults.Plain of) read = read
 
 same_put : (old : Option Files) (place other : Place) (stored : List ℕ) → place.0 ≡ other.0 → place.1 ≡ other.1 → option_map (λ files. put files place.0 place.1 stored) old ≡ option_map (λ files. put files other.0 other.1 stored) old
@@ -211,5 +208,4 @@ planned_command limit ledger old mid new text shown plan result found by plans r
     by_result (Err (faults.File of file flaw)) w = absurd w.cause
     by_result (Err (faults.Arity of tracks given)) w = absurd w.cause
     by_result (Err (faults.Clash of one two)) w = absurd w.cause
-    by_result (Err (faults.WordGap of representation)) w = absurd w.cause
     by_result (Err (faults.Plain of)) w = absurd w.cause

@@ -79,7 +79,6 @@ module _ (files others : Files) (same : SameButMacros files others) where
   unloaded_alike named (faults.Direction one two) is = absurd is
   unloaded_alike named (faults.Letters step) is = absurd is
   unloaded_alike named (faults.States step) is = absurd is
-  unloaded_alike named (faults.WordGap of representation) is = absurd is
   unloaded_alike named (faults.Plain of) is = absurd is
   unloaded_alike named (faults.Morphism kind) is = absurd is
   unloaded_alike named (faults.LetterMissing letter) is = absurd is

@@ -116,7 +116,6 @@ module _ (custom : Custom) (l : LibraryValue) (bindings : Bindings) (means : Mea
   text_refused place lines (faults.Direction one other) refused = absurd refused
   text_refused place lines (faults.Letters step) refused = absurd refused
   text_refused place lines (faults.States step) refused = absurd refused
-  text_refused place lines (faults.WordGap of representation) refused = absurd refused
   text_refused place lines (faults.Plain of) refused = absurd refused
   text_refused place lines (faults.Store folder name) refused = absurd refused
   text_refused place lines faults.ScriptLimit refused = absurd refused

@@ -26,9 +26,7 @@ use Rattle.formula_build.specs.declared.resolving.Resolved.{Resolved}
 use Rattle.number_relations.specs.Relations.{RelationValue}
 use Rattle.system_files.specs.SystemFiles.{Custom}
 use Rattle.session_cli.specs.FormulaOutcomes.{ResolvedAnswers}
-use Rattle.session_cli.specs.declared.read_fault.ReadFault.{ReadFault}
-use Rattle.session_cli.specs.declared.read_fault.ReadFault.TheVariants.{Step, Gap}
-use Rattle.session_cli.specs.FormulaSteps.{AreMeant, IsReadingStopped, IsLetterMissing, AreFormulaSteps}
+use Rattle.session_cli.specs.FormulaSteps.{AreMeant, IsReadingStopped, AreFormulaSteps}
 use Rattle.session_cli.specs.TableReads.{TableRead, AreTablesRead, read_of, library_with}
 use Rattle.session_cli.specs.TableReading.{IsReadingFault}
 
@@ -88,13 +86,11 @@ module _ (r : Resolved) (read : ReadValue) (reads : List TableRead) (formula : t
         lines_are = refl;
       }
 
--- why tables are not read: memory ran out, or a step passes a limit, or a letter is missing
-abbrev pub IsUnread : StepLog → Custom → List Loaded → ReadFault → Type 0
-IsUnread admitted custom tables (Step fault) = (fault ≡ step_faults.Memory) ⊎ IsReadingStopped admitted custom tables fault
-IsUnread admitted custom tables (Gap name representation) = IsLetterMissing admitted custom tables name representation
+-- why tables are not read: memory ran out, or a step passes a limit
+abbrev pub IsUnread : StepLog → Custom → List Loaded → StepFault → Type 0
+IsUnread admitted custom tables fault = (fault ≡ step_faults.Memory) ⊎ IsReadingStopped admitted custom tables fault
 
 -- tables that were not read
-pub stopped_here : (systems : List NamedSystem) (admitted : StepLog) (custom : Custom) (tables : List Loaded) (fault : ReadFault) → AreSealed systems → AreMeant custom systems → IsReadingFault systems admitted tables fault → IsUnread admitted custom tables fault
-stopped_here systems admitted custom tables (Step fault) sealed meant (inl memory) = inl memory
-stopped_here systems admitted custom tables (Step fault) sealed meant (inr refused) = inr (record { systems = systems; sealed = sealed; meant = meant; refused = refused })
-stopped_here systems admitted custom tables (Gap name representation) sealed meant gap = record { systems = systems; sealed = sealed; meant = meant; gap = gap }
+pub stopped_here : (systems : List NamedSystem) (admitted : StepLog) (custom : Custom) (tables : List Loaded) (fault : StepFault) → AreSealed systems → AreMeant custom systems → IsReadingFault systems admitted tables fault → IsUnread admitted custom tables fault
+stopped_here systems admitted custom tables fault sealed meant (inl memory) = inl memory
+stopped_here systems admitted custom tables fault sealed meant (inr refused) = inr (record { systems = systems; sealed = sealed; meant = meant; refused = refused })

@@ -16,11 +16,9 @@ use Rattle.session_cli.specs.Checks.{Pure, Fails}
 use Rattle.system_files.specs.SystemFiles.{Custom}
 use Rattle.dfa_loading.specs.Headers.{headers_of}
 use Rattle.dfa_loading.specs.declared.loaded.Loaded.{Loaded}
-use Rattle.session_cli.specs.FormulaFaults.{fault_of_formula, fault_of_resolution, fault_of_reading}
+use Rattle.session_cli.specs.FormulaFaults.{fault_of_formula, fault_of_resolution}
 use Rattle.session_cli.specs.FormulaOutcomes.{FormulaAnswers, ResolvedAnswers, BuiltAnswers}
 use Rattle.session_cli.specs.FormulaSteps.{AreStepsRefused}
-use Rattle.session_cli.specs.declared.read_fault.ReadFault.{ReadFault}
-use Rattle.session_cli.specs.declared.read_fault.ReadFault.TheVariants.{Step, Gap}
 use Rattle.session_cli.proofs.FormulaReady.{IsUnread}
 use Rattle.session_cli.specs.TrackSystems as track_systems
 
@@ -47,8 +45,7 @@ unbuilt admitted custom tables formula (step_faults.Letters step) refused = refu
 unbuilt admitted custom tables formula (step_faults.States step) refused = refused
 unbuilt admitted custom tables formula step_faults.Memory refused = tt
 
--- one that reads a table does, or memory runs out there, or a letter is missing
-pub unread : (admitted : StepLog) (custom : Custom) (tables : List Loaded) (formula : trees.Formula) (fault : ReadFault) → IsUnread admitted custom tables fault → Fails (Pure (BuiltAnswers admitted custom tables formula)) (fault_of_reading fault)
-unread admitted custom tables formula (Step fault) (inl memory) = subst (λ (f : StepFault). Fails (Pure (BuiltAnswers admitted custom tables formula)) (track_systems.fault_of f)) (sym memory) tt
-unread admitted custom tables formula (Step fault) (inr stopped) = unbuilt admitted custom tables formula fault (inl stopped)
-unread admitted custom tables formula (Gap name representation) missing = missing
+-- one that reads a table does, or memory runs out there
+pub unread : (admitted : StepLog) (custom : Custom) (tables : List Loaded) (formula : trees.Formula) (fault : StepFault) → IsUnread admitted custom tables fault → Fails (Pure (BuiltAnswers admitted custom tables formula)) (track_systems.fault_of fault)
+unread admitted custom tables formula fault (inl memory) = subst (λ (f : StepFault). Fails (Pure (BuiltAnswers admitted custom tables formula)) (track_systems.fault_of f)) (sym memory) tt
+unread admitted custom tables formula fault (inr stopped) = unbuilt admitted custom tables formula fault (inl stopped)

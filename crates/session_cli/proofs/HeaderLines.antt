@@ -1,7 +1,6 @@
--- The header of what a file lists: a line of the file is read so, and its systems have one direction. A word's file is read as a relation's
--- would be.
+-- The header of what a file lists: a line of the file is read so, and its systems have one direction.
 use Rattle.std.proofs.Common.{◌≡◌, ℕ, zero, suc, ◌+◌, ◌<◌, Bool, true, false, ◌&&◌, ◌||◌, cond, eqb, List, [], ◌∷◌, length, take, drop, get_or, Option, None, Some, Result, Ok, Err, bytes_eq, refl, sym, ap, ◌∙◌, subst, arith}
-use Rattle.std.specs.Prelude.{ok_or, codes, nat_le}
+use Rattle.std.specs.Prelude.{codes, nat_le}
 use Rattle.std.specs.List.{AllByRecursion, list_all}
 use Rattle.std.proofs.lemmas.Bool.{eqb-true}
 use Rattle.std.proofs.lemmas.Slice.Eq.{bytes_eq-Decides}
@@ -11,9 +10,10 @@ use Rattle.text_grammar.specs.Bytes.{is_alphanumeric}
 use Rattle.text_grammar.specs.Systems.{is_system, is_direction}
 use Rattle.dfa_reading.specs.Systems.{system_of, directs_as, of_one_direction, systems_of}
 use Rattle.dfa_reading.specs.Listed.{Listed}
-use Rattle.dfa_reading.specs.Reading.{Draft, no_draft, add_line, add_lines_by, add_lines, then_read, placed_lines, lists, finish_with, finish, relation_of}
+use Rattle.dfa_reading.specs.declared.outputs.Outputs.TheVariants.{Numbers, Letters}
+use Rattle.dfa_reading.specs.Reading.{Draft, no_draft, add_line, add_lines_by, then_read, placed_lines, lists, finish_with, finish, relation_of}
 use Rattle.dfa_reading.specs.WordFiles.{is_word, kept_word, add_word_line, word_of}
-use Rattle.dfa_reading.proofs.Drafts.{then_ok, ok_some}
+use Rattle.dfa_reading.proofs.Drafts.{then_ok}
 use Rattle.dfa_reading.proofs.Options.{bind_some, cond_some-then, each_holds}
 use Rattle.dfa_reading.proofs.ReadWords.{IsHeaded, line_headed, line_of_systems, lines_kept}
 use Rattle.digit_tuple.specs.declared.direction.Direction.TheVariants.{Msd, Lsd}
@@ -44,12 +44,25 @@ finished_header after (Some header) draft listed h = by (has_states header && eq
     by true e = absurd (cc)
     by false e = ap Some (sym (lists_header header draft listed e))
 
--- the header of what a file lists is that of one of its lines
-pub header_of_line : (text : List ℕ) (listed : Listed) → relation_of text ≡ Ok listed → IsHeaderOfLine listed.header
-unfolding relation_of
-header_of_line text listed h =
-    let read = then_ok (add_lines 1 no_draft (lines_of text)) (finish (line_after (lines_of text))) listed h in
-    lines_kept IsHeaded add_line line_headed 1 no_draft read.0 (lines_of text) read.1 (λ header none. let e : None ≡ Some header = none in absurd (cc)) listed.header (finished_header (line_after (lines_of text)) read.0.header read.0 listed read.2)
+-- the header of what is listed line by line is that of one of the lines, where each line that is added keeps this
+header_of_line : (add : ℕ → Draft → List ℕ → Option Draft) → ((at : ℕ) (draft next : Draft) (line : List ℕ) → add at draft line ≡ Some next → IsHeaded draft → IsHeaded next) → (text : List ℕ) (listed : Listed)
+    → then_read (add_lines_by add 1 no_draft (lines_of text)) (finish (line_after (lines_of text))) ≡ Ok listed → IsHeaderOfLine listed.header
+header_of_line add kept text listed h =
+    let read = then_ok (add_lines_by add 1 no_draft (lines_of text)) (finish (line_after (lines_of text))) listed h in
+    lines_kept IsHeaded add kept 1 no_draft read.0 (lines_of text) read.1 (λ header none. let e : None ≡ Some header = none in absurd (cc)) listed.header (finished_header (line_after (lines_of text)) read.0.header read.0 listed read.2)
+
+word_line_headed : (at : ℕ) (draft next : Draft) (line : List ℕ) → add_word_line at draft line ≡ Some next → IsHeaded draft → IsHeaded next
+unfolding add_word_line
+word_line_headed at draft next line h is =
+    let both = bind_some (add_line Letters at draft line) kept_word next h in
+    let kept = cond_some-then (is_word both.0) (Some both.0) next both.2 in
+    line_headed Letters at draft next line (both.1 ∙ kept.1) is
+
+-- so is the header of what a file lists
+file_header : (file : File) (text : List ℕ) (listed : Listed) → lists_of file text ≡ Ok listed → IsHeaderOfLine listed.header
+unfolding relation_of word_of
+file_header (Automaton name) text listed lists = header_of_line (add_line Numbers) (line_headed Numbers) text listed lists
+file_header (Word name) text listed lists = header_of_line add_word_line word_line_headed text listed lists
 
 -- the first byte of a name says whether it begins with `lsd_`, of those that begin with a direction
 abbrev tells_lsd : List ℕ → Bool
@@ -145,39 +158,13 @@ unfolding systems_of
 systems_some line names h = let read = bind_some (each_of system_of (parts_of line)) of_one_direction names h in some_of read.0 names read.2
 
 -- the systems of what a file lists have one direction
-pub listed_shared_direction : (text : List ℕ) (listed : Listed) (names : List (List ℕ)) → relation_of text ≡ Ok listed → listed.header ≡ Systems names → ShareDirection direction_named names
-listed_shared_direction text listed names lists is =
-    let line = header_of_line text listed lists in
+pub listed_shared_direction : (file : File) (text : List ℕ) (listed : Listed) (names : List (List ℕ)) → lists_of file text ≡ Ok listed → listed.header ≡ Systems names → ShareDirection direction_named names
+listed_shared_direction file text listed names lists is =
+    let line = file_header file text listed lists in
     systems_shared_direction line.0 names (line_of_systems line.0 names (line.1 ∙ ap Some is))
 
--- and where it has systems there is one
+-- and where an automaton's file has systems there is one
 pub listed_some : (text : List ℕ) (listed : Listed) (names : List (List ℕ)) → relation_of text ≡ Ok listed → listed.header ≡ Systems names → 0 < length names
 listed_some text listed names lists is =
-    let line = header_of_line text listed lists in
+    let line = file_header (Automaton []) text listed lists in
     systems_some line.0 names (line_of_systems line.0 names (line.1 ∙ ap Some is))
-
--- a line that is added to what was read of a word's file is added to what was read of a relation's
-word_line_is : (at : ℕ) (draft next : Draft) (line : List ℕ) → add_word_line at draft line ≡ Some next → add_line at draft line ≡ Some next
-unfolding add_word_line
-word_line_is at draft next line h =
-    let both = bind_some (add_line at draft line) kept_word next h in
-    let kept = cond_some-then (is_word both.0) (Some both.0) next both.2 in
-    both.1 ∙ kept.1
-
-word_lines_are : (at : ℕ) (draft last : Draft) (lines : List (List ℕ)) → add_lines_by add_word_line at draft lines ≡ Ok last → add_lines at draft lines ≡ Ok last
-word_lines_are at draft last [] h = h
-word_lines_are at draft last (line ∷ lines) h =
-    let first = then_ok (ok_or (add_word_line at draft line) at) (λ next. add_lines_by add_word_line (at + 1) next lines) last h in
-    let here : add_line at draft line ≡ Some first.0 = word_line_is at draft first.0 line (ok_some (add_word_line at draft line) at first.0 first.1) in
-    ap (λ (o : Option Draft). then_read (ok_or o at) (λ next. add_lines (at + 1) next lines)) here ∙ word_lines_are (at + 1) first.0 last lines first.2
-
--- what a word's file lists is what it would list as a relation's
-word_is_relation : (text : List ℕ) (listed : Listed) → word_of text ≡ Ok listed → relation_of text ≡ Ok listed
-unfolding word_of relation_of
-word_is_relation text listed h =
-    let read = then_ok (add_lines_by add_word_line 1 no_draft (lines_of text)) (finish (line_after (lines_of text))) listed h in
-    ap (λ (r : Result Draft ℕ). then_read r (finish (line_after (lines_of text)))) (word_lines_are 1 no_draft read.0 (lines_of text) read.1) ∙ read.2
-
-pub file_is_relation : (file : File) (text : List ℕ) (listed : Listed) → lists_of file text ≡ Ok listed → relation_of text ≡ Ok listed
-file_is_relation (Automaton name) text listed lists = lists
-file_is_relation (Word name) text listed lists = word_is_relation text listed lists

@@ -1,5 +1,5 @@
 -- The image of a word has one outcome.
-use Rattle.std.proofs.Common.{◌≡◌, ◌≢◌, ℕ, zero, suc, ◌<ℤ◌, ℤ, pos, List, [], ◌∷◌, get_or, length, Some, Result, Ok, Err, ◌⊎◌, inl, inr, refl, sym, ap, ◌∙◌, subst, arith}
+use Rattle.std.proofs.Common.{◌≡◌, ◌≢◌, ℕ, zero, suc, ◌<ℤ◌, ℤ, pos, List, [], ◌∷◌, get_or, length, None, Some, Result, Ok, Err, ◌⊎◌, inl, inr, refl, sym, ap, ◌∙◌, subst, arith}
 use Rattle.std.specs.List.{AllByRecursion}
 use Rattle.std.specs.Map.{keys_of}
 use Rattle.std.proofs.lemmas.Int.{ints}
@@ -108,7 +108,7 @@ with_letter b relation parts = record { relation = relation; value = b } ∷ par
 
 -- the steps of the letters, and the one that combines their relations
 abbrev DoesCombined : LibraryValue → Name → ℕ → WordValue → List ℤ → StepLog → Result WordValue StepFault → StepLog → Type 0
-DoesCombined l s k word letters = Then (DoesLetters l s k letters) (λ parts. DoesStep (combine_step parts word.systems))
+DoesCombined l s k word letters = Then (DoesLetters l s k letters) (λ parts. DoesStep (combine_step None parts word.systems))
 
 module _ (l : LibraryValue) (is : IsLibrary l) (s : Name) (k : ℕ) where
   agree : Agree l l
@@ -124,7 +124,7 @@ module _ (l : LibraryValue) (is : IsLibrary l) (s : Name) (k : ℕ) where
       (λ relation. then_one faults.Memory (DoesLetters l s k bs) (λ parts. Gives (with_letter b relation parts)) (letters_one bs) (λ parts. gives_one (with_letter b relation parts)))
 
   combined_one : (word : WordValue) (letters : List ℤ) → HasOneAnswer faults.Memory (DoesCombined l s k word letters)
-  combined_one word letters = then_one faults.Memory (DoesLetters l s k letters) (λ parts. DoesStep (combine_step parts word.systems)) (letters_one letters) (λ parts. step_outcome parts word.systems)
+  combined_one word letters = then_one faults.Memory (DoesLetters l s k letters) (λ parts. DoesStep (combine_step None parts word.systems)) (letters_one letters) (λ parts. step_outcome None parts word.systems)
 
 module _ (rules : Rules) (word : WordValue) (s : Name) (is : IsWordValue word) where
   abbrev DoesOver : ℕ → LibraryValue → StepLog → Result WordValue StepFault → StepLog → Type 0

@@ -92,7 +92,6 @@ module _ (files others : Files) where
   unloaded_with named (faults.Direction one other) first = absurd first
   unloaded_with named (faults.Letters step) first = absurd first
   unloaded_with named (faults.States step) first = absurd first
-  unloaded_with named (faults.WordGap of representation) first = absurd first
   unloaded_with named (faults.Plain of) first = absurd first
   unloaded_with named faults.ScriptLimit first = absurd first
   unloaded_with named (faults.MacroArgs of at given) first = absurd first

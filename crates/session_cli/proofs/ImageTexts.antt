@@ -145,7 +145,6 @@ module _ (ledger : Ledger) (head : ImageHead) (track : WordTrack) (rules : Rules
   image_unstored (faults.Direction one other) refused = absurd refused
   image_unstored (faults.Letters step) refused = absurd refused
   image_unstored (faults.States step) refused = absurd refused
-  image_unstored (faults.WordGap of representation) refused = absurd refused
   image_unstored (faults.Plain of) refused = absurd refused
   image_unstored (faults.Store folder under) refused = absurd refused
   image_unstored faults.ScriptLimit refused = absurd refused

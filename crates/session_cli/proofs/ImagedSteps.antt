@@ -17,10 +17,7 @@ use Rattle.session_cli.specs.declared.image_fault.ImageFault.{ImageFault}
 use Rattle.session_cli.specs.declared.image_fault.ImageFault.TheVariants as images
 use Rattle.word_output.specs.Words.{WordValue}
 use Rattle.system_files.specs.SystemFiles.{Custom}
-use Rattle.session_cli.specs.declared.read_fault.ReadFault.{ReadFault}
-use Rattle.session_cli.specs.declared.read_fault.ReadFault.TheVariants.{Step, Gap}
 use Rattle.session_cli.specs.Checks.{Pure, Fails}
-use Rattle.session_cli.specs.FormulaFaults.{fault_of_reading}
 use Rattle.session_cli.specs.FormulaSteps.{AreMeant}
 use Rattle.session_cli.specs.ImageFaults.{fault_of_imaging}
 use Rattle.session_cli.specs.FormulaPlans.{HasSystems}
@@ -45,11 +42,10 @@ module _ (admitted : StepLog) (custom : Custom) (tables : List Loaded) (old name
   unimaged (step_faults.States step) refused = refused
   unimaged step_faults.Memory refused = tt
 
-  -- one that reads the table does, or a letter is missing, or memory runs out there
-  pub unread_old : (fault : ReadFault) → IsUnread admitted custom tables fault → Fails (Pure (ImagedAnswers admitted custom tables old name rules)) (fault_of_reading fault)
-  unread_old (Step fault) (inl memory) = subst (λ (f : StepFault). Fails (Pure (ImagedAnswers admitted custom tables old name rules)) (fault_of f)) (sym memory) tt
-  unread_old (Step fault) (inr stopped) = unimaged fault (inl stopped)
-  unread_old (Gap of representation) missing = missing
+  -- one that reads the table does, or memory runs out there
+  pub unread_old : (fault : StepFault) → IsUnread admitted custom tables fault → Fails (Pure (ImagedAnswers admitted custom tables old name rules)) (fault_of fault)
+  unread_old fault (inl memory) = subst (λ (f : StepFault). Fails (Pure (ImagedAnswers admitted custom tables old name rules)) (fault_of f)) (sym memory) tt
+  unread_old fault (inr stopped) = unimaged fault (inl stopped)
 
   module _ (systems : List NamedSystem) (sealed : AreSealed systems) (reads : List TableRead) (reading : StepLog) (made : AreTablesRead systems admitted tables reads reading) (word : WordValue) (word_is : word_named (words_in reads) old ≡ Some word)
       (meant : AreMeant custom systems) where

@@ -1,20 +1,21 @@
 -- The relations of letters, combined, make the image of the word.
-use Rattle.std.proofs.Common.{◌≡◌, ℕ, zero, suc, ◌<◌, ◌≤◌, List, [], ◌∷◌, length, map, get_or, ℤ, Some, ◌⊎◌, inl, inr, refl, sym, ap, ◌∙◌, subst, arith}
+use Rattle.std.proofs.Common.{◌≡◌, ℕ, zero, suc, ◌+◌, ◌*◌, ◌<◌, ◌≤◌, List, [], ◌∷◌, length, map, get_or, ℤ, None, Some, ◌⊎◌, inl, inr, refl, sym, ap, ◌∙◌, subst, arith}
 use Rattle.std.specs.Prelude.{slice_get}
-use Rattle.std.specs.List.{All, AllByRecursion, Contains}
-use Rattle.std.proofs.lemmas.Option.{same_Some}
+use Rattle.std.specs.List.{Contains}
+use Rattle.std.proofs.lemmas.Option.{none-some, same_Some}
 use Rattle.morph_words.specs.Rules.{Rules}
 use Rattle.morph_words.specs.Images.{image}
+use Rattle.morph_words.specs.ImageLetters.{IsImageLetter}
 use Rattle.num_system.specs.Sealed.{SystemValue}
 use Rattle.word_output.specs.Words.{HasLetter, IsWordValue, WordValue}
-use Rattle.number_relations.specs.Relations.{IsRelation, RelationHolds, RelationValue}
+use Rattle.number_relations.specs.Relations.{RelationHolds, RelationValue}
+use Rattle.number_relations.proofs.RelationLemmas.{relations_decided}
 use Rattle.formula_parse.specs.Tokens.{Name}
 use Rattle.formula_build.specs.Libraries.{meanings_of, word_named}
 use Rattle.named_systems.specs.NamedSystems.{NamedSystem}
 use Rattle.combinations.specs.Parts.{PartValue, systems_at}
 use Rattle.combinations.specs.Combined.{IsCombination, IsCombined}
 use Rattle.combinations.specs.Shapes.{HaveSameTracks, IsShapeFault}
-use Rattle.combinations.proofs.CombinedLemmas.{some_combined}
 use Rattle.word_images.specs.ImageFormula.{word_name}
 use Rattle.word_images.specs.ImageWords.{AreOutputs, IsImageWord, IsMapped}
 use Rattle.session_cli.specs.LetterParts.{AreLetterParts, IsLetterRelation}
@@ -24,12 +25,8 @@ use Rattle.session_cli.specs.LetterSettings.{library_in}
 use Rattle.session_cli.specs.declared.setting.Setting.{Setting}
 use Rattle.word_images.proofs.FormulaTruth.{IsReached, IsReachedBefore, image_holds, image_reached}
 use Rattle.session_cli.proofs.NamedWords.{found}
-use Rattle.word_images.proofs.PlaceLemmas.{StandsAt, image_of_standing, one_standing, some_standing, standing_of_image, standing_output}
-
-all_each : (P : PartValue → Type 0) (parts : List PartValue) → AllByRecursion P parts → All P parts
-all_each P [] each k d within = absurd (omega (arith, within))
-all_each P (p ∷ parts) each zero d within = each.0
-all_each P (p ∷ parts) each (suc k) d within = all_each P parts each.1 k d (omega (arith, within))
+use Rattle.word_images.specs.Laws.{LetterOf}
+use Rattle.word_images.proofs.PlaceLemmas.{image_length, image_output, images_have_one_letter}
 
 -- the values of the parts
 abbrev pub values_of : List PartValue → List ℤ
@@ -46,13 +43,17 @@ module _ (rules : Rules) (word : WordValue) (s : Name) (k : ℕ) (t : Setting) (
   positive : 0 < k
   positive = omega (arith, mapped.length_is.allowed.0)
 
+  -- the letter is at the place of the image
+  abbrev IsAt : ℕ → ℤ → Type 0
+  IsAt n b = IsImageLetter rules (LetterOf word) n b
+
   -- the relation of a letter holds where the letter is
-  holds_standing : (b : ℤ) (n : ℕ) (r : RelationValue) → IsLetterRelation t s k b r → RelationHolds r (n ∷ []) → StandsAt rules word k n b
-  holds_standing b n r rel holds =
+  holds_letter : (b : ℤ) (n : ℕ) (r : RelationValue) → IsLetterRelation t s k b r → RelationHolds r (n ∷ []) → IsAt n b
+  holds_letter b n r rel holds =
       by (image_reached (meanings_of (library_in t)) s k b (λ name. n) positive ((rel.holds n).0 holds))
     where
-      by : IsReachedBefore (meanings_of (library_in t)) s k b (λ name. n) k → StandsAt rules word k n b
-      by h = record { q = at.q; r = h.r; small = h.small; place_is = at.place_is; letter = from.0; has = from.1; image_is = from.2 }
+      by : IsReachedBefore (meanings_of (library_in t)) s k b (λ name. n) k → IsAt n b
+      by h = record { k = k; uniform = mapped.length_is.uniform; q = at.q; r = h.r; small = h.small; place_is = at.place_is; of_word = from.0; has = from.1; letter_is = from.2 }
         where
           at : IsReached (meanings_of (library_in t)) s k b (λ name. n) h.r
           at = h.reached_is
@@ -63,55 +64,53 @@ module _ (rules : Rules) (word : WordValue) (s : Name) (k : ℕ) (t : Setting) (
           from : (a : ℤ) × HasLetter word (at.q ∷ []) a × (slice_get (image rules a) h.r ≡ Some b)
           from = (there.2.letters (at.q ∷ []) b).0 (subst (λ (w : WordValue). HasLetter w (at.q ∷ []) b) (same_Some at.has.0 there.0 (sym at.has.1 ∙ there.1)) at.has.2)
 
-  standing_holds : (b : ℤ) (n : ℕ) (r : RelationValue) → IsLetterRelation t s k b r → StandsAt rules word k n b → RelationHolds r (n ∷ [])
-  standing_holds b n r rel h =
+  letter_holds : (b : ℤ) (n : ℕ) (r : RelationValue) → IsLetterRelation t s k b r → IsAt n b → RelationHolds r (n ∷ [])
+  letter_holds b n r rel h =
       (rel.holds n).1 (image_holds (meanings_of (library_in t)) s k b (λ name. n) positive (record {
         r = h.r;
-        small = h.small;
-        reached_is = record { q = h.q; place_is = h.place_is; has = (there.0, there.1, (there.2.letters (h.q ∷ []) b).1 (h.letter, h.has, h.image_is)) };
+        small = small;
+        reached_is = record { q = h.q; place_is = h.place_is ∙ ap (λ m. h.q * m + h.r) lengths; has = (there.0, there.1, (there.2.letters (h.q ∷ []) b).1 (h.of_word, h.has, h.letter_is)) };
       }))
     where
-      there : (u : WordValue) × (word_named (library_in t).words (word_name h.r) ≡ Some u) × IsRecoded rules word h.r u
-      there = found rules word k (library_in t).words h.r few library.words h.small
+      lengths : h.k ≡ k
+      lengths = image_length rules word k n b mapped h
 
-  -- the combined letter is at the place, or no letter of the parts does
-  combined_standing : (parts : List PartValue) (n : ℕ) (c : ℤ) → AreLetterParts t s k parts → IsCombined parts (n ∷ []) c → StandsAt rules word k n c ⊎ ((b : ℤ) → Contains (values_of parts) b → ¬ StandsAt rules word k n b)
-  combined_standing [] n c are combined = inr (λ b at. absurd (omega (arith, at.1)))
-  combined_standing (part ∷ parts) n c are (inl (holds, same)) = inl (subst (StandsAt rules word k n) (sym same) (holds_standing part.value n part.relation are.0 holds))
-  combined_standing (part ∷ parts) n c are (inr (not, rest)) = by (combined_standing parts n c are.1 rest)
+      small : h.r < k
+      small = omega (arith, h.small, lengths)
+
+      there : (u : WordValue) × (word_named (library_in t).words (word_name h.r) ≡ Some u) × IsRecoded rules word h.r u
+      there = found rules word k (library_in t).words h.r few library.words small
+
+  -- a combined letter is at the place
+  combined_at : (parts : List PartValue) (n : ℕ) (c : ℤ) → AreLetterParts t s k parts → IsCombined None parts (n ∷ []) c → IsAt n c
+  combined_at [] n c are combined = absurd (none-some c combined)
+  combined_at (part ∷ parts) n c are (inl (holds, same)) = subst (IsAt n) (sym same) (holds_letter part.value n part.relation are.0 holds)
+  combined_at (part ∷ parts) n c are (inr (not, rest)) = combined_at parts n c are.1 rest
+
+  -- and a letter there that is one of the parts' is combined
+  at_combined : (parts : List PartValue) (n : ℕ) (c : ℤ) → AreLetterParts t s k parts → IsAt n c → Contains (values_of parts) c → IsCombined None parts (n ∷ []) c
+  at_combined [] n c are at there = absurd (omega (arith, there.1))
+  at_combined (part ∷ parts) n c are at there = by (λ later. at_combined parts n c are.1 at later) (relations_decided part.relation (n ∷ []) are.0.relation)
     where
-      by : StandsAt rules word k n c ⊎ ((b : ℤ) → Contains (values_of parts) b → ¬ StandsAt rules word k n b) → StandsAt rules word k n c ⊎ ((b : ℤ) → Contains (values_of (part ∷ parts)) b → ¬ StandsAt rules word k n b)
-      by (inl stands) = inl stands
-      by (inr none) = inr (λ b at stands. each b stands (first_or_later part.value (values_of parts) b at))
+      by : (Contains (values_of parts) c → IsCombined None parts (n ∷ []) c) → RelationHolds part.relation (n ∷ []) ⊎ (RelationHolds part.relation (n ∷ []) → ⊥) → IsCombined None (part ∷ parts) (n ∷ []) c
+      by others (inl holds) = inl (holds, images_have_one_letter rules word n c part.value is at (holds_letter part.value n part.relation are.0 holds))
+      by others (inr not) = inr (not, each (first_or_later part.value (values_of parts) c there))
         where
-          each : (b : ℤ) → StandsAt rules word k n b → (part.value ≡ b) ⊎ Contains (values_of parts) b → ⊥
-          each b stands (inl same) = not (standing_holds part.value n part.relation are.0 (subst (StandsAt rules word k n) (sym same) stands))
-          each b stands (inr later) = none b later stands
+          each : (part.value ≡ c) ⊎ Contains (values_of parts) c → IsCombined None parts (n ∷ []) c
+          each (inl same) = absurd (not (letter_holds part.value n part.relation are.0 (subst (IsAt n) (sym same) at)))
+          each (inr later) = others later
 
   module _ (letters : List ℤ) (outputs : AreOutputs rules word letters) (parts : List PartValue) (are : AreLetterParts t s k parts) (values : values_of parts ≡ letters) where
-    to : (n : ℕ) (c : ℤ) → IsCombined parts (n ∷ []) c → StandsAt rules word k n c
-    to n c combined = by (some_standing rules word k is track mapped n) (combined_standing parts n c are combined)
-      where
-        by : (b : ℤ) × StandsAt rules word k n b → StandsAt rules word k n c ⊎ ((b : ℤ) → Contains (values_of parts) b → ¬ StandsAt rules word k n b) → StandsAt rules word k n c
-        by found (inl stands) = stands
-        by (b, stands) (inr none) = absurd (none b (subst (λ xs. Contains xs b) (sym values) ((outputs.members b).1 (standing_output rules word k is track mapped n b stands))) stands)
+    among : (n : ℕ) (c : ℤ) → IsAt n c → Contains (values_of parts) c
+    among n c at = subst (λ xs. Contains xs c) (sym values) ((outputs.members c).1 (image_output rules word n c is at))
 
-    back : (n : ℕ) (c : ℤ) → StandsAt rules word k n c → IsCombined parts (n ∷ []) c
-    back n c stands =
-        let some = some_combined parts (n ∷ []) (all_each (λ (p : PartValue). IsRelation p.relation) parts (relations parts are)) in
-        subst (IsCombined parts (n ∷ [])) (one_standing rules word k is track mapped n some.0 c (to n some.0 some.1) stands) some.1
-      where
-        relations : (ps : List PartValue) → AreLetterParts t s k ps → AllByRecursion (λ (p : PartValue). IsRelation p.relation) ps
-        relations [] each = tt
-        relations (p ∷ ps) each = (each.0.relation, relations ps each.1)
-
-    pub image_word : (v : WordValue) → IsCombination parts word.systems v → IsImageWord rules word v
+    pub image_word : (v : WordValue) → IsCombination None parts word.systems v → IsImageWord rules word v
     image_word v combination = record {
       word_is = combination.word_is;
       systems = combination.systems_are;
       letters = λ n c. (
-        (λ has. image_of_standing rules word k is track mapped n c (to n c ((combination.letters (n ∷ []) c (sym track)).0 has))),
-        (λ image. (combination.letters (n ∷ []) c (sym track)).1 (back n c (standing_of_image rules word k is track mapped n c image))),
+        (λ has. combined_at parts n c are ((combination.letters (n ∷ []) c (sym track)).0 has)),
+        (λ at. (combination.letters (n ∷ []) c (sym track)).1 (at_combined parts n c are at (among n c at))),
       );
     }
 

@@ -1,6 +1,5 @@
 -- Lemmas, in reading order.
 pub mod StepLines
-pub mod RepresentationSends
 pub mod CheckNames
 pub mod CheckSteps
 pub mod WordSteps
@@ -12,6 +11,7 @@ pub mod LoadedFiles
 pub mod FilesElsewhere
 pub mod MacroReads
 pub mod FilesAlike
+pub mod ServedWords
 pub mod WholeSteps
 pub mod OneExpression
 pub mod NameLemmas

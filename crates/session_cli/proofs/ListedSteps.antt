@@ -1,5 +1,5 @@
 -- The steps by which listed automata are combined, and why they are refused, from what the code of each part answers.
-use Rattle.std.proofs.Common.{◌≢◌, ℕ, List, [], ◌∷◌, Ok, Err, inl, inr, refl, sym, subst}
+use Rattle.std.proofs.Common.{◌≢◌, List, [], ◌∷◌, pos, Some, Ok, Err, inl, inr, refl, sym, subst}
 use Rattle.combinations.specs.Combined.{AreSystemsFor}
 use Rattle.combinations.specs.CombineSteps.{DoesCombine}
 use Rattle.combinations.specs.Parts.{PartValue, systems_at}
@@ -13,13 +13,10 @@ use Rattle.named_systems.specs.NamedSystems.{NamedSystem, AreSealed}
 use Rattle.system_files.specs.SystemFiles.{Custom}
 use Rattle.word_output.specs.Words.{WordValue}
 use Rattle.session_cli.specs.declared.combine.ListedAutomata.{ListedAutomata}
-use Rattle.session_cli.specs.declared.read_fault.ReadFault.{ReadFault}
-use Rattle.session_cli.specs.declared.read_fault.ReadFault.TheVariants.{Step, Gap}
 use Rattle.session_cli.specs.Checks.{Pure, Fails}
 use Rattle.session_cli.specs.CombineMakes.{AreStepsOver, automata_of}
 use Rattle.session_cli.specs.CombineOutcomes.{CombinedAnswers}
 use Rattle.session_cli.specs.CombineSteps.{ArePartsFrom, AreListedParts, AreCombineStepsRefused}
-use Rattle.session_cli.specs.FormulaFaults.{fault_of_reading}
 use Rattle.session_cli.specs.FormulaSteps.{AreMeant}
 use Rattle.session_cli.specs.TableReads.{TableRead, AreTablesRead, relations_in}
 use Rattle.session_cli.specs.TrackSystems.{fault_of}
@@ -32,11 +29,10 @@ uncombined admitted custom tables automata (step_faults.States step) refused = r
 uncombined admitted custom tables automata step_faults.Memory refused = tt
 
 -- one that reads a table does, or memory runs out there
-pub unread_list : (admitted : StepLog) (custom : Custom) (tables : List Loaded) (automata : List ValuedName) → ((name : List ℕ) (representation : List (List ℕ)) → IsUnread admitted custom tables (Gap name representation) → ⊥) → (fault : ReadFault) → IsUnread admitted custom tables fault
-    → Fails (Pure (CombinedAnswers admitted custom tables automata)) (fault_of_reading fault)
-unread_list admitted custom tables automata none (Step fault) (inl memory) = subst (λ (f : StepFault). Fails (Pure (CombinedAnswers admitted custom tables automata)) (fault_of f)) (sym memory) tt
-unread_list admitted custom tables automata none (Step fault) (inr stopped) = uncombined admitted custom tables automata fault (inl stopped)
-unread_list admitted custom tables automata none (Gap name representation) missing = absurd (none name representation missing)
+pub unread_list : (admitted : StepLog) (custom : Custom) (tables : List Loaded) (automata : List ValuedName) (fault : StepFault) → IsUnread admitted custom tables fault
+    → Fails (Pure (CombinedAnswers admitted custom tables automata)) (fault_of fault)
+unread_list admitted custom tables automata fault (inl memory) = subst (λ (f : StepFault). Fails (Pure (CombinedAnswers admitted custom tables automata)) (fault_of f)) (sym memory) tt
+unread_list admitted custom tables automata fault (inr stopped) = uncombined admitted custom tables automata fault (inl stopped)
 
 module _ (admitted : StepLog) (read : ListedAutomata) (systems : List NamedSystem) (sealed : AreSealed systems) (reads : List TableRead) (reading : StepLog) (made : AreTablesRead systems admitted read.tables.items reads reading)
     (parts : List PartValue) (are : ArePartsFrom (relations_in reads) 0 (automata_of read) parts) (some : automata_of read ≢ []) where
@@ -60,11 +56,11 @@ module _ (admitted : StepLog) (read : ListedAutomata) (systems : List NamedSyste
   }
 
   -- the step that combines them is done
-  pub list_done : (custom : Custom) → AreMeant custom systems → (word : WordValue) (log : StepLog) → DoesCombine parts (systems_at parts 0) reading (Ok word) log → AreStepsOver admitted custom systems read word log.lines
+  pub list_done : (custom : Custom) → AreMeant custom systems → (word : WordValue) (log : StepLog) → DoesCombine (Some (pos 0)) parts (systems_at parts 0) reading (Ok word) log → AreStepsOver admitted custom systems read word log.lines
   unfolding before
   list_done custom meant word log done = record { steps = record { before = before custom meant; log = log; done = done.1; lines_are = refl }; systems_are = refl }
 
   -- or it is refused
-  pub list_refused : (custom : Custom) → AreMeant custom systems → (fault : StepFault) (log : StepLog) → DoesCombine parts (systems_at parts 0) reading (Err (combines.Step fault)) log → Fails (Pure (CombinedAnswers admitted custom read.tables.items (automata_of read))) (fault_of fault)
+  pub list_refused : (custom : Custom) → AreMeant custom systems → (fault : StepFault) (log : StepLog) → DoesCombine (Some (pos 0)) parts (systems_at parts 0) reading (Err (combines.Step fault)) log → Fails (Pure (CombinedAnswers admitted custom read.tables.items (automata_of read))) (fault_of fault)
   unfolding before
   list_refused custom meant fault log refused = uncombined admitted custom read.tables.items (automata_of read) fault (inr (record { before = before custom meant; log = log; refused = refused.1 }))

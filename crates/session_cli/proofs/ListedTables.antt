@@ -13,7 +13,6 @@ use Rattle.formula_parse.specs.Tokens.{Name}
 use Rattle.formula_resolve.specs.FirstMentions.{is_same_file, mentioned_files}
 use Rattle.formula_resolve.specs.Headers.{Headers, automaton_tracks, is_plain}
 use Rattle.formula_resolve.specs.declared.file.File.{File}
-use Rattle.formula_resolve.specs.declared.file.File.TheVariants.{Automaton, Word}
 use Rattle.formula_resolve.proofs.FirstLemmas.{first_once}
 use Rattle.formula_build.specs.KnownNames.{IsFileIn}
 use Rattle.formula_build.specs.Libraries.{NamedRelation, AreRelations, relation_named}
@@ -32,9 +31,9 @@ use Rattle.session_cli.specs.CombineMakes.{HasRelations}
 use Rattle.session_cli.specs.CombineOutcomes.{listed_names, listed_mentions, listed_files, listed_systems, first_plain}
 use Rattle.session_cli.specs.FormulaPlans.{HasSystems}
 use Rattle.session_cli.specs.FormulaSteps.{AreMeant}
-use Rattle.session_cli.specs.TableReads.{TableRead, AreTablesRead, IsReadingGap, relations_in, library_with}
+use Rattle.session_cli.specs.TableReads.{TableRead, AreTablesRead, relations_in, library_with}
 use Rattle.session_cli.specs.TableReading.{AreReadable}
-use Rattle.session_cli.proofs.MentionedTables.{OfMention, IsNotPlain, files_all, once_each, tables_all}
+use Rattle.session_cli.proofs.MentionedTables.{OfMention, IsNotPlain, once_each}
 use Rattle.session_cli.proofs.ReadableTables.{mentions_readable}
 use Rattle.session_cli.proofs.TableFiles.{files_apart}
 use Rattle.session_cli.proofs.TableFits.{are_relations, files_known, tables_fit}
@@ -49,21 +48,6 @@ plain_called h (v ∷ automata) none = by (is_plain h v.name) refl none (plain_c
         → AllByRecursion (OfMention (IsNotPlain h)) (listed_mentions (v ∷ automata))
     by true is none later = absurd (cc)
     by false is none later = (is, later none)
-
--- the file is one of an automaton
-abbrev pub IsAutomaton : File → Type 0
-IsAutomaton (Automaton name) = Unit {0}
-IsAutomaton (Word name) = ⊥
-
-are_automata : (automata : List ValuedName) → AllByRecursion (OfMention IsAutomaton) (listed_mentions automata)
-are_automata [] = tt
-are_automata (v ∷ automata) = (tt, are_automata automata)
-
--- no letter is missing in automata
-no_gap : (systems : List NamedSystem) (old : StepLog) (tables : List Loaded) (name : List ℕ) (representation : List (List ℕ)) → AllByRecursion (λ (t : Loaded). IsAutomaton t.file) tables → IsReadingGap systems old tables name representation → ⊥
-no_gap systems old [] name representation all gap = gap
-no_gap systems old (table ∷ tables) name representation all (inl gap) = subst IsAutomaton gap.file_is all.0
-no_gap systems old (table ∷ tables) name representation all (inr (r, mid, first, rest)) = no_gap systems mid tables name representation all.1 rest
 
 -- a relation is under each listed name, where each file has a meaning
 named_relations : (systems : List NamedSystem) (reads : List TableRead) (automata : List ValuedName) → AllByRecursion (IsFileIn (library_with reads systems)) (flat_map mentioned_files (listed_mentions automata)) → HasRelations (relations_in reads) automata
@@ -86,9 +70,6 @@ under_names systems (name ∷ names) [] count each = absurd (omega (arith, count
 under_names systems (name ∷ names) (s ∷ found) count each = (each 0 (omega arith), under_names systems names found (omega (arith, count)) (λ i within. each (suc i) (omega (arith, within))))
 
 module _ (automata : List ValuedName) (tables : List Loaded) (files : Files) (listed : AreListedBy files (listed_files automata) tables) where
-  pub listed_no_gap : (systems : List NamedSystem) (old : StepLog) (name : List ℕ) (representation : List (List ℕ)) → IsReadingGap systems old tables name representation → ⊥
-  listed_no_gap systems old name representation gap = no_gap systems old tables name representation (tables_all IsAutomaton files (listed_files automata) tables listed (files_all IsAutomaton (listed_mentions automata) (are_automata automata))) gap
-
   module _ (systems : List NamedSystem) (sealed : AreSealed systems) (custom : Custom) (meant : AreMeant custom systems) (plain : first_plain (headers_of tables) (listed_names automata) ≡ None) (has : HasSystems (listed_systems tables automata) systems) where
     -- the tables can be read
     pub listed_readable : AreReadable systems tables

@@ -42,7 +42,6 @@ unloaded ledger files named (faults.Clash of one two) stores first = absurd firs
 unloaded ledger files named (faults.Direction one other) stores first = absurd first
 unloaded ledger files named (faults.Letters step) stores first = absurd first
 unloaded ledger files named (faults.States step) stores first = absurd first
-unloaded ledger files named (faults.WordGap of representation) stores first = absurd first
 unloaded ledger files named (faults.Plain of) stores first = absurd first
 unloaded ledger files named faults.ScriptLimit stores first = absurd first
 unloaded ledger files named (faults.MacroArgs of at given) stores first = absurd first

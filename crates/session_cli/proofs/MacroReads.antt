@@ -42,7 +42,6 @@ unexpanded ledger files body (faults.Clash of one two) stores is = absurd is
 unexpanded ledger files body (faults.Direction one two) stores is = absurd is
 unexpanded ledger files body (faults.Letters step) stores is = absurd is
 unexpanded ledger files body (faults.States step) stores is = absurd is
-unexpanded ledger files body (faults.WordGap of representation) stores is = absurd is
 unexpanded ledger files body (faults.Plain of) stores is = absurd is
 unexpanded ledger files body (faults.Morphism kind) stores is = absurd is
 unexpanded ledger files body (faults.LetterMissing letter) stores is = absurd is

@@ -1,5 +1,5 @@
 -- The relations of all letters, combined.
-use Rattle.std.proofs.Common.{◌≡◌, ℕ, List, [], ◌∷◌, length, ℤ, Ok, Err, ◌⊎◌, inl, inr, refl, sym, ap, ◌∙◌, subst, arith}
+use Rattle.std.proofs.Common.{◌≡◌, ℕ, List, [], ◌∷◌, length, ℤ, None, Ok, Err, ◌⊎◌, inl, inr, refl, sym, ap, ◌∙◌, subst, arith}
 use Rattle.std.specs.Prelude.{slice_index_or}
 use Rattle.digit_tuple.specs.Steps.{StepLog}
 use Rattle.digit_tuple.specs.declared.step_fault.StepFault.{StepFault}
@@ -60,24 +60,24 @@ module _ (rules : Rules) (word : WordValue) (s : Name) (k : ℕ) (t : Setting) (
     are_here : AreLetterParts t s k read
     are_here = subst (AreLetterParts t s k) (sym read_are) are
 
-    pub one_shape : (f : CombineFault) (i j : ℕ) (new : StepLog) → f ≡ Shape i j → DoesCombine read ss middle (Err f) new → ⊥
+    pub one_shape : (f : CombineFault) (i j : ℕ) (new : StepLog) → f ≡ Shape i j → DoesCombine None read ss middle (Err f) new → ⊥
     one_shape f i j new is_shape refused =
-        no_shape_fault t s k system read i j setting.library.systems are_here (subst (λ e. DoesCombine read ss middle (Err e) new) is_shape refused).0
+        no_shape_fault t s k system read i j setting.library.systems are_here (subst (λ e. DoesCombine None read ss middle (Err e) new) is_shape refused).0
 
     -- what is combined is the image
-    pub image_made : (v : WordValue) (new : StepLog) → DoesCombine read ss middle (Ok v) new → IsImageWord rules word v
+    pub image_made : (v : WordValue) (new : StepLog) → DoesCombine None read ss middle (Ok v) new → IsImageWord rules word v
     image_made v new done =
-        let moved = subst (λ (ts : List SystemValue). DoesCombine read ts middle (Ok v) new) ss_are done in
+        let moved = subst (λ (ts : List SystemValue). DoesCombine None read ts middle (Ok v) new) ss_are done in
         image_word rules word s k t is track mapped setting.library letters outputs read are_here (built_values (library_in t) s k letters read old middle built_here) v moved.1.step.made_is
 
     -- the steps are those of the image
-    pub image_done : (v : WordValue) (new : StepLog) → DoesCombine read ss middle (Ok v) new → DoesMapped rules word s old (Ok v) new
+    pub image_done : (v : WordValue) (new : StepLog) → DoesCombine None read ss middle (Ok v) new → DoesMapped rules word s old (Ok v) new
     image_done v new done =
-        let moved = subst (λ (ts : List SystemValue). DoesCombine read ts middle (Ok v) new) ss_are done in
+        let moved = subst (λ (ts : List SystemValue). DoesCombine None read ts middle (Ok v) new) ss_are done in
         (k, mapped, inr (library_in t, setting.library, inr (letters, outputs, inl (read, middle, letters_done (library_in t) s k letters read old middle built_here, moved.1))))
 
     -- or the one that combines them is refused
-    pub combining_stopped : (f : CombineFault) (fault : StepFault) (new : StepLog) → f ≡ Step fault → DoesCombine read ss middle (Err f) new → DoesMapped rules word s old (Err fault) new
+    pub combining_stopped : (f : CombineFault) (fault : StepFault) (new : StepLog) → f ≡ Step fault → DoesCombine None read ss middle (Err f) new → DoesMapped rules word s old (Err fault) new
     combining_stopped f fault new is_step refused =
-        let moved = subst (λ (ts : List SystemValue). DoesCombine read ts middle (Err (Step fault)) new) ss_are (subst (λ e. DoesCombine read ss middle (Err e) new) is_step refused) in
+        let moved = subst (λ (ts : List SystemValue). DoesCombine None read ts middle (Err (Step fault)) new) ss_are (subst (λ e. DoesCombine None read ss middle (Err e) new) is_step refused) in
         (k, mapped, inr (library_in t, setting.library, inr (letters, outputs, inl (read, middle, letters_done (library_in t) s k letters read old middle built_here, moved.1))))

@@ -27,7 +27,7 @@ use Rattle.session_cli.specs.FormulaSteps.{AreFormulaSteps}
 use Rattle.session_cli.specs.TableReads.{TableRead, library_with}
 use Rattle.session_cli.specs.TrackSystems.{fault_of}
 use Rattle.session_cli.proofs.CheckSteps.{IsSingle}
-use Rattle.session_cli.proofs.OneMeantReadings.{IsStopped, stopped_by, missing_by, same_reading, were_readable, read_stopped, both_stopped}
+use Rattle.session_cli.proofs.OneMeantReadings.{IsStopped, stopped_by, same_reading, were_readable, read_stopped, both_stopped}
 use Rattle.session_cli.proofs.OneSealed.{meant_agree}
 use Rattle.session_cli.proofs.TableFits.{are_relations, are_words}
 
@@ -66,7 +66,6 @@ built_is admitted custom tables formula (Err (faults.SystemUnknown name)) a = ab
 built_is admitted custom tables formula (Err (faults.NotAdmitted name law)) a = absurd a
 built_is admitted custom tables formula (Err (faults.Clash name first other)) a = absurd a
 built_is admitted custom tables formula (Err (faults.Direction first other)) a = absurd a
-built_is admitted custom tables formula (Err (faults.WordGap name representation)) a = inr (missing_by admitted custom tables name representation a)
 built_is admitted custom tables formula (Err (faults.Plain name)) a = absurd a
 built_is admitted custom tables formula (Err (faults.Store folder name)) a = absurd a
 built_is admitted custom tables formula (Err faults.Memory) a = absurd a

@@ -1,5 +1,5 @@
 -- A `combine` has one outcome.
-use Rattle.std.proofs.Common.{◌≡◌, ◌≢◌, ◌⊎◌, ℕ, suc, List, [], ◌∷◌, length, None, Some, Result, Ok, Err, inl, inr, refl, sym, ap, ◌∙◌, subst, arith}
+use Rattle.std.proofs.Common.{◌≡◌, ◌≢◌, ◌⊎◌, ℕ, suc, List, [], ◌∷◌, length, pos, None, Some, Result, Ok, Err, inl, inr, refl, sym, ap, ◌∙◌, subst, arith}
 use Rattle.std.specs.List.{AllByRecursion}
 use Rattle.wal_outside.specs.Files.{Files}
 use Rattle.combinations.specs.Combined.{AreSystemsFor}
@@ -73,7 +73,6 @@ plain_is h names (Err (faults.Clash name first other)) a = absurd a
 plain_is h names (Err (faults.Direction first other)) a = absurd a
 plain_is h names (Err (faults.Letters step)) a = absurd a
 plain_is h names (Err (faults.States step)) a = absurd a
-plain_is h names (Err (faults.WordGap name representation)) a = absurd a
 plain_is h names (Err (faults.Store folder name)) a = absurd a
 plain_is h names (Err faults.Memory) a = absurd a
 plain_is h names (Err faults.ScriptLimit) a = absurd a
@@ -119,7 +118,6 @@ shape_is h names (Err (faults.Clash name first other)) a = absurd a
 shape_is h names (Err (faults.Direction first other)) a = absurd a
 shape_is h names (Err (faults.Letters step)) a = absurd a
 shape_is h names (Err (faults.States step)) a = absurd a
-shape_is h names (Err (faults.WordGap name representation)) a = absurd a
 shape_is h names (Err (faults.Plain name)) a = absurd a
 shape_is h names (Err (faults.Store folder name)) a = absurd a
 shape_is h names (Err faults.Memory) a = absurd a
@@ -258,7 +256,6 @@ combined_is admitted custom tables automata (Err (faults.SystemUnknown name)) a 
 combined_is admitted custom tables automata (Err (faults.NotAdmitted name law)) a = absurd a
 combined_is admitted custom tables automata (Err (faults.Clash name first other)) a = absurd a
 combined_is admitted custom tables automata (Err (faults.Direction first other)) a = absurd a
-combined_is admitted custom tables automata (Err (faults.WordGap name representation)) a = absurd a
 combined_is admitted custom tables automata (Err (faults.Plain name)) a = absurd a
 combined_is admitted custom tables automata (Err (faults.Store folder name)) a = absurd a
 combined_is admitted custom tables automata (Err faults.Memory) a = absurd a
@@ -296,9 +293,9 @@ module _ (admitted : StepLog) (custom : Custom) (tables : List Loaded) (automata
   both_made r s p q =
       let a = p.done.before in
       let b = q.done.before in
-      let there = moved (λ old ps ts. DoesStep (combine_step ps ts) old (Ok q.word) q.done.log) a b q.done.done in
+      let there = moved (λ old ps ts. DoesStep (combine_step (Some (pos 0)) ps ts) old (Ok q.word) q.done.log) a b q.done.done in
       let same : p.done.log ≡ q.done.log = (one_value steps.Memory p.done.log q.done.log p.word q.word
-      (step_outcome a.parts a.tracks a.reading p.done.log q.done.log (Ok p.word) (Ok q.word) p.done.done there)).1 in
+      (step_outcome (Some (pos 0)) a.parts a.tracks a.reading p.done.log q.done.log (Ok p.word) (Ok q.word) p.done.done there)).1 in
       let lines : p.lines ≡ q.lines = p.done.lines_are ∙ (ap (λ (log : StepLog). log.lines) same ∙ sym q.done.lines_are) in
       p.is ∙ (ap (λ (ls : List StepLine). let x : Result (List StepLine) Fault = Ok ls in x) lines ∙ sym q.is)
 
@@ -306,16 +303,16 @@ module _ (admitted : StepLog) (custom : Custom) (tables : List Loaded) (automata
   made_refused r s p q =
       let a = p.done.before in
       let b = q.stops.before in
-      let there = moved (λ old ps ts. DoesStep (combine_step ps ts) old (Err q.fault) q.stops.log) a b q.stops.refused in
-      q.not_memory (memory_alone steps.Memory p.done.log q.stops.log p.word q.fault (step_outcome a.parts a.tracks a.reading p.done.log q.stops.log (Ok p.word) (Err q.fault) p.done.done there))
+      let there = moved (λ old ps ts. DoesStep (combine_step (Some (pos 0)) ps ts) old (Err q.fault) q.stops.log) a b q.stops.refused in
+      q.not_memory (memory_alone steps.Memory p.done.log q.stops.log p.word q.fault (step_outcome (Some (pos 0)) a.parts a.tracks a.reading p.done.log q.stops.log (Ok p.word) (Err q.fault) p.done.done there))
 
   both_refused : (r s : Result (List StepLine) Fault) → IsWordRefused admitted custom tables automata r → IsWordRefused admitted custom tables automata s → r ≡ s
   both_refused r s p q =
       let a = p.stops.before in
       let b = q.stops.before in
-      let there = moved (λ old ps ts. DoesStep (combine_step ps ts) old (Err q.fault) q.stops.log) a b q.stops.refused in
+      let there = moved (λ old ps ts. DoesStep (combine_step (Some (pos 0)) ps ts) old (Err q.fault) q.stops.log) a b q.stops.refused in
       let same : p.fault ≡ q.fault =
-      same_fault steps.Memory p.stops.log q.stops.log p.fault q.fault (step_outcome a.parts a.tracks a.reading p.stops.log q.stops.log (Err p.fault) (Err q.fault) p.stops.refused there) p.not_memory q.not_memory in
+      same_fault steps.Memory p.stops.log q.stops.log p.fault q.fault (step_outcome (Some (pos 0)) a.parts a.tracks a.reading p.stops.log q.stops.log (Err p.fault) (Err q.fault) p.stops.refused there) p.not_memory q.not_memory in
       p.is ∙ (ap (λ (f : StepFault). let x : Result (List StepLine) Fault = Err (fault_of f) in x) same ∙ sym q.is)
 
   not_both : (a : AreListedParts admitted custom tables automata) (s : Result (List StepLine) Fault) → IsStopped admitted custom tables s → ⊥

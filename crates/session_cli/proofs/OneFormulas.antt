@@ -67,7 +67,6 @@ IsResolution tables formula r =
 
 resolved_is : (tables : List Loaded) (formula : trees.Formula) (r : Result (Unit {0}) Fault) → ResolvedAnswers tables formula r → IsResolution tables formula r
 resolved_is tables formula (Ok done) none = inl (none, refl)
-resolved_is tables formula (Err (faults.WordGap name representation)) a = absurd a
 resolved_is tables formula (Err (faults.Plain name)) a = inr (resolves.Plain name, a, refl)
 resolved_is tables formula (Err (faults.Arity name tracks given)) a = inr (resolves.Arity name tracks given, a, refl)
 resolved_is tables formula (Err (faults.Clash name first other)) a = inr (resolves.Clash name first other, a, refl)

@@ -49,7 +49,6 @@ head_is grammar text (Err (faults.Clash name first other)) a = absurd a
 head_is grammar text (Err (faults.Direction first other)) a = absurd a
 head_is grammar text (Err (faults.Letters step)) a = absurd a
 head_is grammar text (Err (faults.States step)) a = absurd a
-head_is grammar text (Err (faults.WordGap name representation)) a = absurd a
 head_is grammar text (Err (faults.Plain name)) a = absurd a
 head_is grammar text (Err (faults.Store folder name)) a = absurd a
 head_is grammar text (Err faults.Memory) a = absurd a

@@ -50,7 +50,7 @@ use Rattle.session_cli.proofs.CheckSteps.{IsSingle, then_single}
 use Rattle.session_cli.proofs.ImagedSteps.{of_one_kind}
 use Rattle.session_cli.proofs.OneHeads.{head_single}
 use Rattle.session_cli.proofs.OneLoadings.{files_single}
-use Rattle.session_cli.proofs.OneMeantReadings.{IsStopped, stopped_by, missing_by, same_reading, were_readable, read_stopped, both_stopped}
+use Rattle.session_cli.proofs.OneMeantReadings.{IsStopped, stopped_by, same_reading, were_readable, read_stopped, both_stopped}
 use Rattle.session_cli.proofs.OneSystems.{systems_single}
 use Rattle.session_cli.proofs.OneTexts.{stored_single}
 use Rattle.session_cli.proofs.TableFits.{are_words}
@@ -78,7 +78,6 @@ track_is h old (Err (faults.Clash name first other)) a = absurd a
 track_is h old (Err (faults.Direction first other)) a = absurd a
 track_is h old (Err (faults.Letters step)) a = absurd a
 track_is h old (Err (faults.States step)) a = absurd a
-track_is h old (Err (faults.WordGap name representation)) a = absurd a
 track_is h old (Err (faults.Plain name)) a = absurd a
 track_is h old (Err (faults.Store folder name)) a = absurd a
 track_is h old (Err faults.Memory) a = absurd a
@@ -122,7 +121,6 @@ length_is rules (Err (faults.Clash name first other)) a = absurd a
 length_is rules (Err (faults.Direction first other)) a = absurd a
 length_is rules (Err (faults.Letters step)) a = absurd a
 length_is rules (Err (faults.States step)) a = absurd a
-length_is rules (Err (faults.WordGap name representation)) a = absurd a
 length_is rules (Err (faults.Plain name)) a = absurd a
 length_is rules (Err (faults.Store folder name)) a = absurd a
 length_is rules (Err faults.Memory) a = absurd a
@@ -206,7 +204,6 @@ imaged_is admitted custom tables old name rules (Err (faults.Letters step)) (inl
 imaged_is admitted custom tables old name rules (Err (faults.Letters step)) (inr a) = inr (inl (record { fault = images.Step (steps.Letters step); not_memory = λ is. cc; stops = a; is = refl }))
 imaged_is admitted custom tables old name rules (Err (faults.States step)) (inl a) = inr (inr (stopped_by admitted custom tables (steps.States step) (λ is. cc) a))
 imaged_is admitted custom tables old name rules (Err (faults.States step)) (inr a) = inr (inl (record { fault = images.Step (steps.States step); not_memory = λ is. cc; stops = a; is = refl }))
-imaged_is admitted custom tables old name rules (Err (faults.WordGap of representation)) a = inr (inr (missing_by admitted custom tables of representation a))
 imaged_is admitted custom tables old name rules (Err (faults.LetterMissing letter)) a = inr (inl (record { fault = images.Missing letter; not_memory = λ is. cc; stops = a; is = refl }))
 imaged_is admitted custom tables old name rules (Err faults.Command) a = absurd a
 imaged_is admitted custom tables old name rules (Err (faults.Syntax grammar at)) a = absurd a

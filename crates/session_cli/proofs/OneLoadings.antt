@@ -124,7 +124,6 @@ files_is ledger named (Err (faults.Clash name first other)) a = absurd a
 files_is ledger named (Err (faults.Direction first other)) a = absurd a
 files_is ledger named (Err (faults.Letters step)) a = absurd a
 files_is ledger named (Err (faults.States step)) a = absurd a
-files_is ledger named (Err (faults.WordGap name representation)) a = absurd a
 files_is ledger named (Err (faults.Plain name)) a = absurd a
 files_is ledger named (Err (faults.Store folder name)) a = absurd a
 files_is ledger named (Err faults.Memory) a = absurd a

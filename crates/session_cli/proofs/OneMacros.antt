@@ -53,7 +53,6 @@ expansion_of ledger body (Err (faults.Clash of one two)) is = absurd is
 expansion_of ledger body (Err (faults.Direction one two)) is = absurd is
 expansion_of ledger body (Err (faults.Letters step)) is = absurd is
 expansion_of ledger body (Err (faults.States step)) is = absurd is
-expansion_of ledger body (Err (faults.WordGap of representation)) is = absurd is
 expansion_of ledger body (Err (faults.Plain of)) is = absurd is
 expansion_of ledger body (Err (faults.Morphism kind)) is = absurd is
 expansion_of ledger body (Err (faults.LetterMissing letter)) is = absurd is

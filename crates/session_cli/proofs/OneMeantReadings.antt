@@ -1,5 +1,5 @@
 -- Tables that files list are read in one way over systems that names mean, whichever systems these are.
-use Rattle.std.proofs.Common.{◌≡◌, ◌≢◌, ℕ, List, [], ◌∷◌, Result, Err, refl, sym, ap, ◌∙◌, subst}
+use Rattle.std.proofs.Common.{◌≡◌, ◌≢◌, List, [], ◌∷◌, Result, Err, refl, sym, ap, ◌∙◌, subst}
 use Rattle.std.specs.List.{AllByRecursion}
 use Rattle.wal_outside.specs.Files.{Files}
 use Rattle.digit_tuple.specs.Steps.{StepLog}
@@ -19,17 +19,13 @@ use Rattle.num_system.specs.Tracks.{ShareDirection}
 use Rattle.system_files.specs.SystemFiles.{Custom}
 use Rattle.definitions.proofs.FileTables.{file_is_table}
 use Rattle.definitions.proofs.OneTable.{one_table}
-use Rattle.session_cli.specs.declared.read_fault.ReadFault.{ReadFault}
-use Rattle.session_cli.specs.declared.read_fault.ReadFault.TheVariants.{Step, Gap}
 use Rattle.session_cli.specs.declared.fault.Fault.{Fault}
-use Rattle.session_cli.specs.declared.fault.Fault.TheVariants as faults
-use Rattle.session_cli.specs.FormulaFaults.{fault_of_reading}
-use Rattle.session_cli.specs.FormulaSteps.{AreMeant, IsReadingStopped, IsLetterMissing}
+use Rattle.session_cli.specs.FormulaSteps.{AreMeant, IsReadingStopped}
 use Rattle.session_cli.specs.TableReads.{TableRead, ARelation, AWord, AreSystemsUnder, IsTableRead, AreTablesRead}
 use Rattle.session_cli.specs.TableReading.{IsReadable, AreReadable}
 use Rattle.session_cli.specs.TrackSystems.{fault_of}
 use Rattle.session_cli.proofs.OneSealed.{meant_agree}
-use Rattle.session_cli.proofs.OneTableReadings.{StopsReading, refusal_stops, gap_stops, one_reading, reading_apart, one_stopping}
+use Rattle.session_cli.proofs.OneTableReadings.{StopsReading, refusal_stops, one_reading, reading_apart, one_stopping}
 use Rattle.session_cli.proofs.ReadableTables.{under_shared_direction}
 use Rattle.session_cli.proofs.TableFiles.{IsListedTable, tables_listed}
 use Rattle.session_cli.proofs.TableHeaders as table_headers
@@ -69,16 +65,13 @@ pub record IsStopped (admitted : StepLog) (custom : Custom) (tables : List Loade
   pub systems : List NamedSystem
   pub sealed : AreSealed systems
   pub meant : AreMeant custom systems
-  pub fault : ReadFault
+  pub fault : StepFault
   pub stops : StopsReading systems admitted tables fault
-  pub is : r ≡ Err (fault_of_reading fault)
+  pub is : r ≡ Err (fault_of fault)
 
--- reading is stopped by a step, or for want of a letter
+-- reading is stopped by a step
 pub stopped_by : (admitted : StepLog) (custom : Custom) (tables : List Loaded) (fault : StepFault) → fault ≢ steps.Memory → IsReadingStopped admitted custom tables fault → IsStopped admitted custom tables (Err (fault_of fault))
-stopped_by admitted custom tables fault not_memory a = record { systems = a.systems; sealed = a.sealed; meant = a.meant; fault = Step fault; stops = refusal_stops a.systems admitted tables fault not_memory a.refused; is = refl }
-
-pub missing_by : (admitted : StepLog) (custom : Custom) (tables : List Loaded) (name : List ℕ) (representation : List (List ℕ)) → IsLetterMissing admitted custom tables name representation → IsStopped admitted custom tables (Err (faults.WordGap name representation))
-missing_by admitted custom tables name representation a = record { systems = a.systems; sealed = a.sealed; meant = a.meant; fault = Gap name representation; stops = gap_stops a.systems admitted tables name representation a.gap; is = refl }
+stopped_by admitted custom tables fault not_memory a = record { systems = a.systems; sealed = a.sealed; meant = a.meant; fault = fault; stops = refusal_stops a.systems admitted tables fault not_memory a.refused; is = refl }
 
 module _ (admitted : StepLog) (custom : Custom) (tables : List Loaded) (files : Files) (named : List File) (listed : AreListedBy files named tables) where
   directions : (systems : List NamedSystem) → AreMeant custom systems → AllByRecursion (IsOfOneDirection systems) tables
@@ -106,4 +99,4 @@ module _ (admitted : StepLog) (custom : Custom) (tables : List Loaded) (files : 
   pub both_stopped : (r s : Result (List StepLine) Fault) → IsStopped admitted custom tables r → IsStopped admitted custom tables s → r ≡ s
   both_stopped r s p q =
       let same : p.fault ≡ q.fault = one_stopping one_table one_word_outcome p.systems q.systems (alike p.systems q.systems p.sealed p.meant q.sealed q.meant) admitted tables p.fault q.fault p.stops q.stops in
-      p.is ∙ (ap (λ (f : ReadFault). let x : Result (List StepLine) Fault = Err (fault_of_reading f) in x) same ∙ sym q.is)
+      p.is ∙ (ap (λ (f : StepFault). let x : Result (List StepLine) Fault = Err (fault_of f) in x) same ∙ sym q.is)

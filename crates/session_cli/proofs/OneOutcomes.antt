@@ -92,7 +92,6 @@ steps_is admitted tracks e (Err (faults.Unknown of file)) a = absurd a
 steps_is admitted tracks e (Err (faults.File of file flaw)) a = absurd a
 steps_is admitted tracks e (Err (faults.Arity of count given)) a = absurd a
 steps_is admitted tracks e (Err (faults.Clash of one two)) a = absurd a
-steps_is admitted tracks e (Err (faults.WordGap of representation)) a = absurd a
 steps_is admitted tracks e (Err (faults.Plain of)) a = absurd a
 
 steps_single : (admitted : StepLog) (tracks : Tracks) (e : Expression (List ℤ)) → IsSingle (Pure (StepsAnswers admitted tracks e))
@@ -156,7 +155,6 @@ parsed_is sets body (Err (faults.Unknown of file)) a = absurd a
 parsed_is sets body (Err (faults.File of file flaw)) a = absurd a
 parsed_is sets body (Err (faults.Arity of tracks given)) a = absurd a
 parsed_is sets body (Err (faults.Clash of one two)) a = absurd a
-parsed_is sets body (Err (faults.WordGap of representation)) a = absurd a
 parsed_is sets body (Err (faults.Plain of)) a = absurd a
 
 parsed_single : (sets : List (List ℤ)) (body : List ℕ) → IsSingle (Pure (ParsedAnswers sets body))
@@ -198,7 +196,6 @@ names_is custom names (Err (faults.Unknown of file)) a = absurd a
 names_is custom names (Err (faults.File of file flaw)) a = absurd a
 names_is custom names (Err (faults.Arity of tracks given)) a = absurd a
 names_is custom names (Err (faults.Clash of one two)) a = absurd a
-names_is custom names (Err (faults.WordGap of representation)) a = absurd a
 names_is custom names (Err (faults.Plain of)) a = absurd a
 
 by_names : (custom : Custom) (names : List (List ℕ)) (r s : Result Tracks Fault) → IsNames custom names r → IsNames custom names s → r ≡ s
@@ -243,7 +240,6 @@ tracks_single custom (heads.Sets sets) r s a b = single_by (Pure (TracksAnswers 
     is (Err (faults.File of file flaw)) a = absurd a
     is (Err (faults.Arity of tracks given)) a = absurd a
     is (Err (faults.Clash of one two)) a = absurd a
-    is (Err (faults.WordGap of representation)) a = absurd a
     is (Err (faults.Plain of)) a = absurd a
 tracks_single custom (heads.Systems names) r s a b = by_names custom names r s (names_is custom names r a) (names_is custom names s b)
 
@@ -289,7 +285,6 @@ length_single text r s a b = by_length (length_is r a) (length_is s b)
     length_is (Err (faults.File of file flaw)) a = absurd a
     length_is (Err (faults.Arity of tracks given)) a = absurd a
     length_is (Err (faults.Clash of one two)) a = absurd a
-    length_is (Err (faults.WordGap of representation)) a = absurd a
     length_is (Err (faults.Plain of)) a = absurd a
 
     by_length : ((length text ≤ 65536) × (r ≡ Ok tt)) ⊎ ((65536 < length text) × (r ≡ Err (faults.Long 65536))) → ((length text ≤ 65536) × (s ≡ Ok tt)) ⊎ ((65536 < length text) × (s ≡ Err (faults.Long 65536))) → r ≡ s
@@ -356,7 +351,6 @@ word_single text r s a b = by_word (word_is r a) (word_is s b)
     word_is (Err (faults.File of file flaw)) a = absurd a
     word_is (Err (faults.Arity of tracks given)) a = absurd a
     word_is (Err (faults.Clash of one two)) a = absurd a
-    word_is (Err (faults.WordGap of representation)) a = absurd a
     word_is (Err (faults.Plain of)) a = absurd a
 
     by_word : ((word : CommandWord) × (first_word_of text ≡ word_text word) × (r ≡ Ok word)) ⊎ (((word : CommandWord) → first_word_of text ≢ word_text word) × (r ≡ Err faults.Command))

@@ -118,7 +118,6 @@ reading_is text (Err (faults.Clash name first other)) a = absurd a
 reading_is text (Err (faults.Direction first other)) a = absurd a
 reading_is text (Err (faults.Letters step)) a = absurd a
 reading_is text (Err (faults.States step)) a = absurd a
-reading_is text (Err (faults.WordGap name representation)) a = absurd a
 reading_is text (Err (faults.Plain name)) a = absurd a
 reading_is text (Err (faults.Store folder name)) a = absurd a
 reading_is text (Err faults.Memory) a = absurd a

@@ -17,9 +17,9 @@ use Rattle.session_cli.specs.Accepting.{Success, Answer}
 use Rattle.session_cli.specs.Outcomes.{checks_of, Outcome}
 use Rattle.session_cli.specs.SessionLanguage.{IsAnswer, StoresEntry, session_language}
 use Rattle.session_cli.specs.Whole.{HasCalled}
-use Rattle.command_line.specs.Words.{GivesLimit}
+use Rattle.session_cli.specs.ServedWords.{GivesLimit}
 use Rattle.session_cli.proofs.WholeSteps.{usage_or_memory}
-use Rattle.command_line.proofs.OneLimits.{one_limit}
+use Rattle.session_cli.proofs.ServedWords.{one_limit}
 use Rattle.session_cli.proofs.OneOutcomes.{one_answer}
 
 -- an answer that is neither the store's nor memory's is the proper outcome
@@ -40,7 +40,6 @@ proper limit ledger text (Err (faults.Unknown of file)) is own = is
 proper limit ledger text (Err (faults.File of file flaw)) is own = is
 proper limit ledger text (Err (faults.Arity of tracks given)) is own = is
 proper limit ledger text (Err (faults.Clash of one two)) is own = is
-proper limit ledger text (Err (faults.WordGap of representation)) is own = is
 proper limit ledger text (Err (faults.Plain of)) is own = is
 proper limit ledger text (Err faults.Command) is own = is
 proper limit ledger text (Err (faults.Syntax grammar at)) is own = is

@@ -50,7 +50,6 @@ systems_is limit custom names (Err (faults.Unknown folder name)) a = absurd a
 systems_is limit custom names (Err (faults.Arity name tracks given)) a = absurd a
 systems_is limit custom names (Err (faults.Clash name first other)) a = absurd a
 systems_is limit custom names (Err (faults.Direction first other)) a = absurd a
-systems_is limit custom names (Err (faults.WordGap name representation)) a = absurd a
 systems_is limit custom names (Err (faults.Plain name)) a = absurd a
 systems_is limit custom names (Err (faults.Store folder name)) a = absurd a
 systems_is limit custom names (Err faults.Memory) a = absurd a

@@ -12,39 +12,24 @@ use Rattle.named_systems.specs.NamedSystems.{NamedSystem}
 use Rattle.num_system.specs.Sealed.{SystemValue}
 use Rattle.word_output.specs.Laws.{WordReadingsHaveOneOutcome}
 use Rattle.word_output.specs.WordReadings.{DoesWord}
-use Rattle.word_output.specs.declared.word_fault.WordFault.TheVariants as words
 use Rattle.definitions.specs.TableSteps.{DoesTable}
 use Rattle.definitions.specs.TableLaws.{TablesHaveOneAnswer}
-use Rattle.session_cli.specs.declared.read_fault.ReadFault.{ReadFault}
-use Rattle.session_cli.specs.declared.read_fault.ReadFault.TheVariants.{Step, Gap}
-use Rattle.session_cli.specs.TableReads.{TableRead, ARelation, AWord, AreSystemsUnder, IsRelationRead, IsWordRead, IsTableRead, PassesFile, IsTableRefused, IsTableGap, AreTablesRead, IsReadingRefused, IsReadingGap}
+use Rattle.session_cli.specs.TableReads.{TableRead, ARelation, AWord, AreSystemsUnder, IsRelationRead, IsWordRead, IsTableRead, PassesFile, IsTableRefused, AreTablesRead, IsReadingRefused}
 use Rattle.session_cli.proofs.TableReads.{AreAlike, same_under}
 
 -- why one table is not read, unless memory ran out
-abbrev pub StopsTable : List NamedSystem → StepLog → Loaded → ReadFault → Type 0
-StopsTable systems old table (Step fault) = (fault ≢ Memory) × IsTableRefused systems old table fault
-StopsTable systems old table (Gap name representation) = IsTableGap systems old table name representation
+abbrev pub StopsTable : List NamedSystem → StepLog → Loaded → StepFault → Type 0
+StopsTable systems old table fault = (fault ≢ Memory) × IsTableRefused systems old table fault
 
 -- why some tables, one after another, are not read
-abbrev pub StopsReading : List NamedSystem → StepLog → List Loaded → ReadFault → Type 0
+abbrev pub StopsReading : List NamedSystem → StepLog → List Loaded → StepFault → Type 0
 StopsReading systems old [] fault = ⊥
 StopsReading systems old (table ∷ tables) fault = StopsTable systems old table fault ⊎ ((r : TableRead) × (mid : StepLog) × IsTableRead systems old table r mid × StopsReading systems mid tables fault)
 
-pub refusal_stops : (systems : List NamedSystem) (old : StepLog) (tables : List Loaded) (fault : StepFault) → fault ≢ Memory → IsReadingRefused systems old tables fault → StopsReading systems old tables (Step fault)
+pub refusal_stops : (systems : List NamedSystem) (old : StepLog) (tables : List Loaded) (fault : StepFault) → fault ≢ Memory → IsReadingRefused systems old tables fault → StopsReading systems old tables fault
 refusal_stops systems old [] fault ample refused = absurd refused
 refusal_stops systems old (t ∷ tables) fault ample (inl refused) = inl (ample, refused)
 refusal_stops systems old (t ∷ tables) fault ample (inr (r, mid, read, later)) = inr (r, mid, read, refusal_stops systems mid tables fault ample later)
-
-pub gap_stops : (systems : List NamedSystem) (old : StepLog) (tables : List Loaded) (name : List ℕ) (representation : List (List ℕ)) → IsReadingGap systems old tables name representation → StopsReading systems old tables (Gap name representation)
-gap_stops systems old [] name representation gap = absurd gap
-gap_stops systems old (t ∷ tables) name representation (inl gap) = inl gap
-gap_stops systems old (t ∷ tables) name representation (inr (r, mid, read, later)) = inr (r, mid, read, gap_stops systems mid tables name representation later)
-
-step_memory : (fault : StepFault) → words.Step fault ≡ words.Step Memory → fault ≡ Memory
-step_memory fault same = cc
-
-not_gap : (representation : List (List ℕ)) → words.Gap representation ≢ words.Step Memory
-not_gap representation = λ is. cc
 
 no_relation : (name other : List ℕ) (table : Loaded) → table.file ≡ Automaton name → table.file ≡ Word other → ⊥
 no_relation name other table first second = let e : Automaton name ≡ Word other = sym first ∙ second in cc
@@ -54,7 +39,7 @@ passes_automaton : (name : List ℕ) (old : StepLog) (tracks : List SystemValue)
 passes_automaton name old tracks table fault is passes = subst (λ (f : File). PassesFile f old tracks table.listed fault) is passes
 
 passes_word : (name : List ℕ) (old : StepLog) (tracks : List SystemValue) (table : Loaded) (fault : StepFault) → table.file ≡ Word name → PassesFile table.file old tracks table.listed fault
-    → (new : StepLog) × DoesWord tracks table.listed old (Err (words.Step fault)) new
+    → (new : StepLog) × DoesWord tracks table.listed old (Err fault) new
 passes_word name old tracks table fault is passes = subst (λ (f : File). PassesFile f old tracks table.listed fault) is passes
 
 module _ (one : TablesHaveOneAnswer) (one_word : WordReadingsHaveOneOutcome) where
@@ -66,15 +51,9 @@ module _ (one : TablesHaveOneAnswer) (one_word : WordReadingsHaveOneOutcome) whe
 
   -- nor is a word
   word_refused : (old new : StepLog) (tracks : List SystemValue) (table : Loaded) (w : NamedWord) (fault : StepFault) → fault ≢ Memory → DoesWord tracks table.listed old (Ok w.word) new
-      → ((next : StepLog) × DoesWord tracks table.listed old (Err (words.Step fault)) next) → ⊥
+      → ((next : StepLog) × DoesWord tracks table.listed old (Err fault) next) → ⊥
   word_refused old new tracks table w fault ample done (next, refused) =
-      ample (step_memory fault (memory_alone (words.Step Memory) new next w.word (words.Step fault) (one_word tracks table.listed old new next (Ok w.word) (Err (words.Step fault)) done refused)))
-
-  -- and no letter is missing
-  word_gap : (old new next : StepLog) (tracks : List SystemValue) (table : Loaded) (w : NamedWord) (representation : List (List ℕ)) → DoesWord tracks table.listed old (Ok w.word) new
-      → DoesWord tracks table.listed old (Err (words.Gap representation)) next → ⊥
-  word_gap old new next tracks table w representation done gap =
-      not_gap representation (memory_alone (words.Step Memory) new next w.word (words.Gap representation) (one_word tracks table.listed old new next (Ok w.word) (Err (words.Gap representation)) done gap))
+      ample (memory_alone Memory new next w.word fault (one_word tracks table.listed old new next (Ok w.word) (Err fault) done refused))
 
   -- the first step to pass a limit is one
   one_pass : (file : File) (old : StepLog) (tracks : List SystemValue) (table : Loaded) (fault other : StepFault) → fault ≢ Memory → other ≢ Memory → PassesFile file old tracks table.listed fault
@@ -82,17 +61,7 @@ module _ (one : TablesHaveOneAnswer) (one_word : WordReadingsHaveOneOutcome) whe
   one_pass (Automaton name) old tracks table fault other ample enough (new, first) (next, second) =
       same_fault Memory new next fault other (one tracks table.listed old new next (Err fault) (Err other) first second) ample enough
   one_pass (Word name) old tracks table fault other ample enough (new, first) (next, second) =
-      let e : words.Step fault ≡ words.Step other = same_fault (words.Step Memory) new next (words.Step fault) (words.Step other)
-      (one_word tracks table.listed old new next (Err (words.Step fault)) (Err (words.Step other)) first second) (λ is. ample (step_memory fault is)) (λ is. enough (step_memory other is)) in
-      cc
-
-  gap_refused : (old next : StepLog) (table : Loaded) (name : List ℕ) (representation : List (List ℕ)) (fault : StepFault) (tracks : List SystemValue) → fault ≢ Memory → table.file ≡ Word name
-      → DoesWord tracks table.listed old (Err (words.Gap representation)) next → PassesFile table.file old tracks table.listed fault → ⊥
-  gap_refused old next table name representation fault tracks ample is gap passes =
-      let refused = passes_word name old tracks table fault is passes in
-      let e : words.Gap representation ≡ words.Step fault = same_fault (words.Step Memory) next refused.0 (words.Gap representation) (words.Step fault)
-      (one_word tracks table.listed old next refused.0 (Err (words.Gap representation)) (Err (words.Step fault)) gap refused.1) (not_gap representation) (λ same. ample (step_memory fault same)) in
-      cc
+      same_fault Memory new next fault other (one_word tracks table.listed old new next (Err fault) (Err other) first second) ample enough
 
   module _ (systems others : List NamedSystem) (alike : AreAlike systems others) where
     same_tracks : (table : Loaded) (ss ts : List SystemValue) → AreSystemsUnder systems table.listed.header ss → AreSystemsUnder others table.listed.header ts → ts ≡ ss
@@ -108,7 +77,7 @@ module _ (one : TablesHaveOneAnswer) (one_word : WordReadingsHaveOneOutcome) whe
     one_word_read : (old new now : StepLog) (table : Loaded) (v w : NamedWord) → IsWordRead systems old table v new → IsWordRead others old table w now → (v ≡ w) × (new ≡ now)
     one_word_read old new now table v w first second =
         let there = subst (λ (ts : List SystemValue). DoesWord ts table.listed old (Ok w.word) now) (same_tracks table first.tracks second.tracks first.over second.over) second.done in
-        let same = one_value (words.Step Memory) new now v.word w.word (one_word first.tracks table.listed old new now (Ok v.word) (Ok w.word) first.done there) in
+        let same = one_value Memory new now v.word w.word (one_word first.tracks table.listed old new now (Ok v.word) (Ok w.word) first.done there) in
         let names : v.name ≡ w.name = let e : Word v.name ≡ Word w.name = sym first.file_is ∙ second.file_is in cc in
         (λ i. record { name = names i; word = same.0 i }, same.1)
 
@@ -119,56 +88,31 @@ module _ (one : TablesHaveOneAnswer) (one_word : WordReadingsHaveOneOutcome) whe
     one_read old new now table (AWord v) (AWord w) first second = let same = one_word_read old new now table v w first second in (ap AWord same.0, same.1)
 
     -- a table that is read is not stopped, whichever of the two systems it is read over
-    read_apart : (old new : StepLog) (table : Loaded) (r : TableRead) (fault : ReadFault) → IsTableRead systems old table r new → StopsTable others old table fault → ⊥
-    read_apart old new table (ARelation r) (Gap name representation) read gap = no_relation r.name name table read.file_is gap.file_is
-    read_apart old new table (ARelation r) (Step fault) read (ample, refused) =
+    read_apart : (old new : StepLog) (table : Loaded) (r : TableRead) (fault : StepFault) → IsTableRead systems old table r new → StopsTable others old table fault → ⊥
+    read_apart old new table (ARelation r) fault read (ample, refused) =
         made_refused old new read.tracks table r fault ample read.done
         (subst (λ (ts : List SystemValue). (next : StepLog) × DoesTable ts table.listed old (Err fault) next) (same_tracks table read.tracks refused.tracks read.over refused.over)
         (passes_automaton r.name old refused.tracks table fault read.file_is refused.passes))
-    read_apart old new table (AWord w) (Gap name representation) read gap =
-        word_gap old new gap.new read.tracks table w representation read.done
-        (subst (λ (ts : List SystemValue). DoesWord ts table.listed old (Err (words.Gap representation)) gap.new) (same_tracks table read.tracks gap.tracks read.over gap.over) gap.gap)
-    read_apart old new table (AWord w) (Step fault) read (ample, refused) =
+    read_apart old new table (AWord w) fault read (ample, refused) =
         word_refused old new read.tracks table w fault ample read.done
-        (subst (λ (ts : List SystemValue). (next : StepLog) × DoesWord ts table.listed old (Err (words.Step fault)) next) (same_tracks table read.tracks refused.tracks read.over refused.over)
+        (subst (λ (ts : List SystemValue). (next : StepLog) × DoesWord ts table.listed old (Err fault) next) (same_tracks table read.tracks refused.tracks read.over refused.over)
         (passes_word w.name old refused.tracks table fault read.file_is refused.passes))
 
-    stop_apart : (old new : StepLog) (table : Loaded) (r : TableRead) (fault : ReadFault) → StopsTable systems old table fault → IsTableRead others old table r new → ⊥
-    stop_apart old new table (ARelation r) (Gap name representation) gap read = no_relation r.name name table read.file_is gap.file_is
-    stop_apart old new table (ARelation r) (Step fault) (ample, refused) read =
+    stop_apart : (old new : StepLog) (table : Loaded) (r : TableRead) (fault : StepFault) → StopsTable systems old table fault → IsTableRead others old table r new → ⊥
+    stop_apart old new table (ARelation r) fault (ample, refused) read =
         made_refused old new refused.tracks table r fault ample
         (subst (λ (ts : List SystemValue). DoesTable ts table.listed old (Ok r.relation) new) (same_tracks table refused.tracks read.tracks refused.over read.over) read.done)
         (passes_automaton r.name old refused.tracks table fault read.file_is refused.passes)
-    stop_apart old new table (AWord w) (Gap name representation) gap read =
-        word_gap old new gap.new gap.tracks table w representation
-        (subst (λ (ts : List SystemValue). DoesWord ts table.listed old (Ok w.word) new) (same_tracks table gap.tracks read.tracks gap.over read.over) read.done) gap.gap
-    stop_apart old new table (AWord w) (Step fault) (ample, refused) read =
+    stop_apart old new table (AWord w) fault (ample, refused) read =
         word_refused old new refused.tracks table w fault ample
         (subst (λ (ts : List SystemValue). DoesWord ts table.listed old (Ok w.word) new) (same_tracks table refused.tracks read.tracks refused.over read.over) read.done)
         (passes_word w.name old refused.tracks table fault read.file_is refused.passes)
 
     -- a table is stopped by one fault
-    one_gap : (old : StepLog) (table : Loaded) (name other : List ℕ) (representation also : List (List ℕ)) → IsTableGap systems old table name representation → IsTableGap others old table other also
-        → Gap name representation ≡ Gap other also
-    one_gap old table name other representation also first second =
-        let there = subst (λ (ts : List SystemValue). DoesWord ts table.listed old (Err (words.Gap also)) second.new) (same_tracks table first.tracks second.tracks first.over second.over) second.gap in
-        let e : words.Gap representation ≡ words.Gap also = same_fault (words.Step Memory) first.new second.new (words.Gap representation) (words.Gap also)
-        (one_word first.tracks table.listed old first.new second.new (Err (words.Gap representation)) (Err (words.Gap also)) first.gap there) (not_gap representation) (not_gap also) in
-        let representations : representation ≡ also = cc in
-        let names : name ≡ other = let f : Word name ≡ Word other = sym first.file_is ∙ second.file_is in cc in
-        λ i. Gap (names i) (representations i)
-
-    one_stop : (old : StepLog) (table : Loaded) (fault other : ReadFault) → StopsTable systems old table fault → StopsTable others old table other → fault ≡ other
-    one_stop old table (Step fault) (Step other) (ample, first) (enough, second) =
-        ap Step (one_pass table.file old first.tracks table fault other ample enough first.passes
-        (subst (λ (ts : List SystemValue). PassesFile table.file old ts table.listed other) (same_tracks table first.tracks second.tracks first.over second.over) second.passes))
-    one_stop old table (Step fault) (Gap name representation) (ample, refused) gap =
-        absurd (gap_refused old gap.new table name representation fault gap.tracks ample gap.file_is gap.gap
-        (subst (λ (ts : List SystemValue). PassesFile table.file old ts table.listed fault) (sym (same_tracks table refused.tracks gap.tracks refused.over gap.over)) refused.passes))
-    one_stop old table (Gap name representation) (Step fault) gap (ample, refused) =
-        absurd (gap_refused old gap.new table name representation fault gap.tracks ample gap.file_is gap.gap
-        (subst (λ (ts : List SystemValue). PassesFile table.file old ts table.listed fault) (same_tracks table gap.tracks refused.tracks gap.over refused.over) refused.passes))
-    one_stop old table (Gap name representation) (Gap other also) first second = one_gap old table name other representation also first second
+    one_stop : (old : StepLog) (table : Loaded) (fault other : StepFault) → StopsTable systems old table fault → StopsTable others old table other → fault ≡ other
+    one_stop old table fault other (ample, first) (enough, second) =
+        one_pass table.file old first.tracks table fault other ample enough first.passes
+        (subst (λ (ts : List SystemValue). PassesFile table.file old ts table.listed other) (same_tracks table first.tracks second.tracks first.over second.over) second.passes)
 
     -- two readings give the same
     pub one_reading : (old new now : StepLog) (tables : List Loaded) (rs ss : List TableRead) → AreTablesRead systems old tables rs new → AreTablesRead others old tables ss now → (rs ≡ ss) × (new ≡ now)
@@ -183,7 +127,7 @@ module _ (one : TablesHaveOneAnswer) (one_word : WordReadingsHaveOneOutcome) whe
         (λ i. here i ∷ later i, last)
 
     -- what is read is not stopped
-    pub reading_apart : (old new : StepLog) (tables : List Loaded) (rs : List TableRead) (fault : ReadFault) → AreTablesRead systems old tables rs new → StopsReading others old tables fault → ⊥
+    pub reading_apart : (old new : StepLog) (tables : List Loaded) (rs : List TableRead) (fault : StepFault) → AreTablesRead systems old tables rs new → StopsReading others old tables fault → ⊥
     reading_apart old new [] rs fault read stopped = stopped
     reading_apart old new (t ∷ tables) [] fault read stopped = read
     reading_apart old new (t ∷ tables) (r ∷ rs) fault (mid, read, rest) (inl stopped) = read_apart old mid t r fault read stopped
@@ -192,7 +136,7 @@ module _ (one : TablesHaveOneAnswer) (one_word : WordReadingsHaveOneOutcome) whe
         reading_apart mid new tables rs fault rest (subst (λ (m : StepLog). StopsReading others m tables fault) (sym same) stopped)
 
     -- two readings that stop have one fault
-    pub one_stopping : (old : StepLog) (tables : List Loaded) (fault other : ReadFault) → StopsReading systems old tables fault → StopsReading others old tables other → fault ≡ other
+    pub one_stopping : (old : StepLog) (tables : List Loaded) (fault other : StepFault) → StopsReading systems old tables fault → StopsReading others old tables other → fault ≡ other
     one_stopping old [] fault other first second = absurd first
     one_stopping old (t ∷ tables) fault other (inl first) (inl second) = one_stop old t fault other first second
     one_stopping old (t ∷ tables) fault other (inl first) (inr (s, mid, read, second)) = absurd (stop_apart old mid t s fault first read)

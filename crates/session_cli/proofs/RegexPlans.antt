@@ -90,7 +90,6 @@ made_by_steps custom admitted name tracks body shown pattern lines printed_lines
     by_text (Err (faults.File of file flaw)) refused = absurd refused
     by_text (Err (faults.Arity of tracks given)) refused = absurd refused
     by_text (Err (faults.Clash of one two)) refused = absurd refused
-    by_text (Err (faults.WordGap of representation)) refused = absurd refused
     by_text (Err (faults.Plain of)) refused = absurd refused
 
 -- the step over sets was made

@@ -55,7 +55,6 @@ kept store (faults.Unknown of file) other = refl
 kept store (faults.File of file flaw) other = refl
 kept store (faults.Arity of tracks given) other = refl
 kept store (faults.Clash of one two) other = refl
-kept store (faults.WordGap of representation) other = refl
 kept store (faults.Plain of) other = refl
 kept store (faults.NotAdmitted of law) other = refl
 
@@ -85,7 +84,6 @@ moved old new (faults.Unknown of file) other is = is
 moved old new (faults.File of file flaw) other is = is
 moved old new (faults.Arity of tracks given) other is = is
 moved old new (faults.Clash of one two) other is = is
-moved old new (faults.WordGap of representation) other is = is
 moved old new (faults.Plain of) other is = is
 moved old new (faults.NotAdmitted of law) other is = is
 
@@ -150,7 +148,6 @@ own_fault check none (faults.Unknown of file) refused = refl
 own_fault check none (faults.File of file flaw) refused = refl
 own_fault check none (faults.Arity of tracks given) refused = refl
 own_fault check none (faults.Clash of one two) refused = refl
-own_fault check none (faults.WordGap of representation) refused = refl
 own_fault check none (faults.Plain of) refused = refl
 own_fault check none (faults.NotAdmitted of law) refused = refl
 

@@ -6,14 +6,15 @@ use Rattle.wal_outside.specs.Files.{Files}
 use Rattle.formula_resolve.specs.FirstMentions.{has, is_same_file, IsOnce}
 use Rattle.formula_resolve.specs.declared.file.File.{File}
 use Rattle.formula_resolve.specs.declared.file.File.TheVariants.{Automaton, Word}
+use Rattle.dfa_reading.specs.Listed.{Listed}
 use Rattle.dfa_reading.specs.WordFiles.{IsWordListed}
 use Rattle.dfa_reading.proofs.ReadWords.{word_files_list_words}
 use Rattle.dfa_loading.specs.Loading.{AreListedBy}
 use Rattle.dfa_loading.specs.Places.{lists_of}
 use Rattle.dfa_loading.specs.declared.loaded.Loaded.{Loaded}
+use Rattle.definitions.proofs.FileTables.{word_has_states}
 use Rattle.definitions.specs.TableLaws.{FilesAreTables}
 use Rattle.definitions.specs.TableSteps.{IsTable}
-use Rattle.session_cli.proofs.HeaderLines.{file_is_relation}
 use Rattle.formula_build.proofs.ReadFormulas.{same_file}
 
 pub same_itself : (file : File) → is_same_file file file ≡ true
@@ -79,9 +80,14 @@ pub record IsListedTable (table : Loaded) : Type 0 where
   pub is_table : IsTable table.listed
   pub is_word : (name : List ℕ) → table.file ≡ Word name → IsWordListed table.listed
 
+-- what a file lists has a state below a header that wants one
+file_table : FilesAreTables → (file : File) (text : List ℕ) (listed : Listed) → lists_of file text ≡ Ok listed → IsTable listed
+file_table law (Automaton name) text listed lists = law text listed lists
+file_table law (Word name) text listed lists = word_has_states text listed lists
+
 listed_table : (law : FilesAreTables) (file : File) (text : List ℕ) (table : Loaded) → table.file ≡ file → lists_of file text ≡ Ok table.listed → IsListedTable table
 listed_table law file text table file_is lists = record {
-  is_table = law text table.listed (file_is_relation file text table.listed lists);
+  is_table = file_table law file text table.listed lists;
   is_word = λ name is. word_files_list_words text table.listed (subst (λ (f : File). lists_of f text ≡ Ok table.listed) (sym file_is ∙ is) lists);
 }
 

@@ -88,8 +88,8 @@ module _ (hold : TablesHold) (systems : List NamedSystem) (sealed : AreSealed sy
   word_over_table all h old new table w kept read =
       let over : AreOver (known (systems_in table.listed.header)) read.tracks = over_header table.listed.header read.tracks read.over in
       let own : IsWordOverSystems (library_with all systems) (known (systems_in table.listed.header)) w.word = record {
-        count = ap length read.done.2 ∙ over.count;
-        each = λ i within. over.each i within ∙ ap (λ (ss : List SystemValue). Some (get_or ss i absent_system)) (sym read.done.2);
+        count = ap length read.done.1 ∙ over.count;
+        each = λ i within. over.each i within ∙ ap (λ (ss : List SystemValue). Some (get_or ss i absent_system)) (sym read.done.1);
       } in
       subst (λ (names : List Name). IsWordOverSystems (library_with all systems) names w.word) (sym (tracks_kept h table kept) ∙ ap (file_tracks h) read.file_is) own
 

@@ -12,7 +12,7 @@ use Rattle.std.specs.FinMap.{get-empty, get-insert, slice_cmp-IsAntisymmetric, n
 use Rattle.wal_outside.specs.Files.{Files}
 use Rattle.digit_tuple.specs.declared.direction.Direction.TheVariants.{Msd, Lsd}
 use Rattle.dfa_reading.specs.Headers.{Header, Truth, Systems, Sets}
-use Rattle.dfa_reading.specs.Reading.{relation_of}
+use Rattle.dfa_loading.specs.Places.{lists_of}
 use Rattle.dfa_loading.specs.Headers.{with_header, with_word_header, with_file, with_table, headers_of}
 use Rattle.dfa_loading.specs.Loading.{AreListedBy}
 use Rattle.dfa_loading.specs.declared.loaded.Loaded.{Loaded}
@@ -24,7 +24,7 @@ use Rattle.formula_resolve.specs.declared.file.File.TheVariants.{Automaton, Word
 use Rattle.formula_build.specs.Resolved.{ShareDirection, AreDirections}
 use Rattle.formula_build.specs.Solutions.{direction_named}
 use Rattle.formula_build.proofs.ReadFormulas.{same_file}
-use Rattle.session_cli.proofs.HeaderLines.{file_is_relation, listed_shared_direction}
+use Rattle.session_cli.proofs.HeaderLines.{listed_shared_direction}
 use Rattle.session_cli.proofs.TableFiles.{HasNo, AreApart, same_itself}
 
 -- the systems of a header; sets are none
@@ -134,19 +134,19 @@ IsOfOneDirection table = ShareDirection direction_named (known (systems_in table
 none_parted : ShareDirection direction_named []
 none_parted = λ i j within also. absurd (omega (arith, within))
 
-table_shared_direction : (text : List ℕ) (table : Loaded) → relation_of text ≡ Ok table.listed → IsOfOneDirection table
-table_shared_direction text table lists = by table.listed.header refl
+table_shared_direction : (file : File) (text : List ℕ) (table : Loaded) → lists_of file text ≡ Ok table.listed → IsOfOneDirection table
+table_shared_direction file text table lists = by table.listed.header refl
   where
     by : (header : Header) → table.listed.header ≡ header → ShareDirection direction_named (known (systems_in header))
     by (Truth value) is = none_parted
-    by (Systems names) is = listed_shared_direction text table.listed names lists is
+    by (Systems names) is = listed_shared_direction file text table.listed names lists is
     by (Sets sets) is = none_parted
 
 pub tables_shared_direction : (files : Files) (named : List File) (tables : List Loaded) → AreListedBy files named tables → AllByRecursion IsOfOneDirection tables
 tables_shared_direction files [] [] are = tt
 tables_shared_direction files [] (table ∷ tables) are = absurd are
 tables_shared_direction files (file ∷ named) [] are = absurd are
-tables_shared_direction files (file ∷ named) (table ∷ tables) are = (table_shared_direction are.0.text table (file_is_relation file are.0.text table.listed are.0.lists.lists), tables_shared_direction files named tables are.1)
+tables_shared_direction files (file ∷ named) (table ∷ tables) are = (table_shared_direction file are.0.text table are.0.lists.lists, tables_shared_direction files named tables are.1)
 
 -- so no two directions meet under a file
 abbrev AreOfOneDirection : Headers → Type 0

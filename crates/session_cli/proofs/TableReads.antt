@@ -10,6 +10,7 @@ use Rattle.dfa_reading.specs.Headers.{Header, Truth, Systems, Sets, Below, digit
 use Rattle.dfa_reading.specs.Listed.{Listed}
 use Rattle.dfa_reading.specs.Systems.{digit_limit}
 use Rattle.dfa_reading.specs.WordFiles.{IsWordListed}
+use Rattle.formula_resolve.specs.declared.file.File.{File}
 use Rattle.formula_resolve.specs.declared.file.File.TheVariants.{Word}
 use Rattle.dfa_loading.specs.declared.loaded.Loaded.{Loaded}
 use Rattle.formula_build.specs.Libraries.{NamedRelation, NamedWord, ReadValue, with_relation, with_word}
@@ -17,13 +18,11 @@ use Rattle.named_systems.specs.NamedSystems.{NamedSystem, system_named}
 use Rattle.num_system.specs.Sealed.{SystemValue}
 use Rattle.num_system.specs.Tracks.{ShareDirection}
 use Rattle.number_relations.specs.Relations.{RelationValue}
+use Rattle.word_output.specs.WordReadings.{DoesWord}
 use Rattle.word_output.specs.Words.{WordValue}
-use Rattle.word_output.specs.declared.word_fault.WordFault.TheVariants as words
 use Rattle.definitions.specs.TableSteps.{AreForTracks}
-use Rattle.session_cli.specs.declared.read_fault.ReadFault.{ReadFault}
-use Rattle.session_cli.specs.declared.read_fault.ReadFault.TheVariants.{Step, Gap}
-use Rattle.session_cli.specs.TableReads.{TableRead, ARelation, AWord, relations_in, words_in, read_of, AreSystemsUnder, IsRelationRead, IsWordRead, IsTableRead, IsTableRefused, IsTableGap, AreTablesRead, IsReadingRefused, IsReadingGap}
-use Rattle.session_cli.specs.TableReading.{IsReadable, IsTableFault, IsReadingFault, ReadsTables, with_read}
+use Rattle.session_cli.specs.TableReads.{TableRead, ARelation, AWord, relations_in, words_in, read_of, AreSystemsUnder, IsRelationRead, IsWordRead, IsTableRead, PassesFile, IsTableRefused, AreTablesRead, IsReadingRefused}
+use Rattle.session_cli.specs.TableReading.{IsReadable, IsTableFault, IsReadingFault, ReadsTables, ReadsWord, with_read}
 
 -- the system is under the name
 abbrev pub StandsUnder : List NamedSystem → List ℕ → SystemValue → Type 0
@@ -107,17 +106,6 @@ one_refused systems old mid (t ∷ tables) [] (suc i) table fault within is pref
 one_refused systems old mid (t ∷ tables) (q ∷ reads) (suc i) table fault within is (next, first, rest) refused =
     inr (q, next, first, one_refused systems next mid tables reads i table fault (omega (arith, within)) is rest refused)
 
--- or a letter is missing in one
-one_gap : (systems : List NamedSystem) (old mid : StepLog) (tables : List Loaded) (reads : List TableRead) (i : ℕ) (table : Loaded) (name : List ℕ) (representation : List (List ℕ)) → i < length tables → table ≡ get_or tables i table
-    → AreTablesRead systems old (take i tables) reads mid → IsTableGap systems mid table name representation → IsReadingGap systems old tables name representation
-one_gap systems old mid [] reads i table name representation within is prefix gap = absurd (omega (arith, within))
-one_gap systems old mid (t ∷ tables) [] zero table name representation within is prefix gap =
-    inl (subst (λ (x : Loaded). IsTableGap systems old x name representation) is (subst (λ (o : StepLog). IsTableGap systems o table name representation) prefix gap))
-one_gap systems old mid (t ∷ tables) (q ∷ reads) zero table name representation within is prefix gap = absurd prefix
-one_gap systems old mid (t ∷ tables) [] (suc i) table name representation within is prefix gap = absurd prefix
-one_gap systems old mid (t ∷ tables) (q ∷ reads) (suc i) table name representation within is (next, first, rest) gap =
-    inr (q, next, first, one_gap systems next mid tables reads i table name representation (omega (arith, within)) is rest gap)
-
 -- one more in a vector
 pub pushed : {X Y : Type 0} (f : X → Y) (new mid : Vec X Global) (items : List X) (x : X) → new ≡ mid → mid.items ≡ items ++ x ∷ [] → map f new.items ≡ map f items ++ f x ∷ []
 pushed {X} f new mid items x is push = ap (λ (v : Vec X Global). map f v.items) is ∙ ap (map f) push ∙ map-append f items (x ∷ [])
@@ -174,17 +162,23 @@ read_on systems old mid new tables i table before after within is (reads, prefix
     )
 
 -- tables were read, and then reading stopped
-reading_fault : (systems : List NamedSystem) (old mid : StepLog) (tables : List Loaded) (i : ℕ) (table : Loaded) (before : ReadValue) (fault : ReadFault) → i < length tables → table ≡ get_or tables i table
+reading_fault : (systems : List NamedSystem) (old mid : StepLog) (tables : List Loaded) (i : ℕ) (table : Loaded) (before : ReadValue) (fault : StepFault) → i < length tables → table ≡ get_or tables i table
     → AreReadSoFar systems old (take i tables) before mid → IsTableFault systems mid table fault → IsReadingFault systems old tables fault
-reading_fault systems old mid tables i table before (Step fault) within is (reads, prefix, before_is) (inl memory) = inl memory
-reading_fault systems old mid tables i table before (Step fault) within is (reads, prefix, before_is) (inr refused) = inr (one_refused systems old mid tables reads i table fault within is prefix refused)
-reading_fault systems old mid tables i table before (Gap name representation) within is (reads, prefix, before_is) gap = one_gap systems old mid tables reads i table name representation within is prefix gap
+reading_fault systems old mid tables i table before fault within is (reads, prefix, before_is) (inl memory) = inl memory
+reading_fault systems old mid tables i table before fault within is (reads, prefix, before_is) (inr refused) = inr (one_refused systems old mid tables reads i table fault within is prefix refused)
 
-pub reading_stops : (systems : List NamedSystem) (old mid new : StepLog) (tables : List Loaded) (i : ℕ) (table : Loaded) (before : ReadValue) (fault : ReadFault) (result : Result ReadValue ReadFault) → i < length tables → table ≡ get_or tables i table
+pub reading_stops : (systems : List NamedSystem) (old mid new : StepLog) (tables : List Loaded) (i : ℕ) (table : Loaded) (before : ReadValue) (fault : StepFault) (result : Result ReadValue StepFault) → i < length tables → table ≡ get_or tables i table
     → AreReadSoFar systems old (take i tables) before mid → IsTableFault systems mid table fault → IsErrAnd result (λ e. e ≡ fault) → ReadsTables systems old tables result new
 reading_stops systems old mid new tables i table before fault (Ok read) within is prefix stops same = absurd same
 reading_stops systems old mid new tables i table before fault (Err e) within is prefix stops same =
     subst (IsReadingFault systems old tables) (sym same) (reading_fault systems old mid tables i table before fault within is prefix stops)
+
+-- a word's table is read as the steps of its word answer
+pub word_answered : (systems : List NamedSystem) (old new : StepLog) (table : Loaded) (name : List ℕ) (tracks : List SystemValue) (result : Result WordValue StepFault) → table.file ≡ Word name → AreSystemsUnder systems table.listed.header tracks
+    → DoesWord tracks table.listed old result new → ReadsWord systems old table result new
+word_answered systems old new table name tracks (Ok w) file_is under done = λ other is. record { file_is = is; tracks = tracks; over = under; done = done }
+word_answered systems old new table name tracks (Err fault) file_is under refused =
+    inr (record { tracks = tracks; over = under; passes = subst (λ (file : File). PassesFile file old tracks table.listed fault) (sym file_is) (new, refused) })
 
 -- what reading a word asks for of a table and its systems
 pub record MayReadWord (listed : Listed) (tracks : List SystemValue) : Type 0 where
@@ -205,18 +199,18 @@ may_read_word systems table name tracks file_is readable under =
     }
 
 -- one table is added
-pub relation_added : (systems : List NamedSystem) (old mid new : StepLog) (table : Loaded) (name : List ℕ) (r shared : RelationValue) (before more after : ReadValue) → IsRelationRead systems old table (record { name = name; relation = r }) mid → shared ≡ r
-    → more ≡ record { relations = with_relation before.relations name shared; words = before.words } → new ≡ mid → after ≡ more → (q : TableRead) × IsTableRead systems old table q new × (after ≡ with_read before q)
-relation_added systems old mid new table name r shared before more after read same is steps library = (
+pub relation_added : (systems : List NamedSystem) (old new : StepLog) (table : Loaded) (name : List ℕ) (r shared : RelationValue) (before after : ReadValue) → IsRelationRead systems old table (record { name = name; relation = r }) new → shared ≡ r
+    → after ≡ record { relations = with_relation before.relations name shared; words = before.words } → (q : TableRead) × IsTableRead systems old table q new × (after ≡ with_read before q)
+relation_added systems old new table name r shared before after read same is = (
   ARelation (record { name = name; relation = r }),
-  subst (IsRelationRead systems old table (record { name = name; relation = r })) (sym steps) read,
-  library ∙ is ∙ (λ i. record { relations = with_relation before.relations name (same i); words = before.words }),
+  read,
+  is ∙ (λ i. record { relations = with_relation before.relations name (same i); words = before.words }),
 )
 
-pub word_added : (systems : List NamedSystem) (old mid new : StepLog) (table : Loaded) (name : List ℕ) (w shared : WordValue) (before more after : ReadValue) → IsWordRead systems old table (record { name = name; word = w }) mid → shared ≡ w
-    → more ≡ record { relations = before.relations; words = with_word before.words name shared } → new ≡ mid → after ≡ more → (q : TableRead) × IsTableRead systems old table q new × (after ≡ with_read before q)
-word_added systems old mid new table name w shared before more after read same is steps library = (
+pub word_added : (systems : List NamedSystem) (old new : StepLog) (table : Loaded) (name : List ℕ) (w shared : WordValue) (before after : ReadValue) → IsWordRead systems old table (record { name = name; word = w }) new → shared ≡ w
+    → after ≡ record { relations = before.relations; words = with_word before.words name shared } → (q : TableRead) × IsTableRead systems old table q new × (after ≡ with_read before q)
+word_added systems old new table name w shared before after read same is = (
   AWord (record { name = name; word = w }),
-  subst (IsWordRead systems old table (record { name = name; word = w })) (sym steps) read,
-  library ∙ is ∙ (λ i. record { relations = before.relations; words = with_word before.words name (same i) }),
+  read,
+  is ∙ (λ i. record { relations = before.relations; words = with_word before.words name (same i) }),
 )

@@ -37,8 +37,8 @@ module _ (systems : List NamedSystem) (sealed : AreSealed systems) (old new : St
   word_of_table =
       let own : WordValue = record { systems = read.tracks; function = w.word.function } in
       let made = steps_made read.tracks table.listed old new w.word.function read.done.0 in
-      let is : IsWordValue own = word_is read.tracks table.listed w.word.function made (below_sealed systems table.listed.header read.tracks sealed read.over) one some read.done.1 in
-      let same : own ≡ w.word = λ i. record { systems = sym read.done.2 i; function = w.word.function } in
+      let is : IsWordValue own = word_is read.tracks table.listed w.word.function made (below_sealed systems table.listed.header read.tracks sealed read.over) one some in
+      let same : own ≡ w.word = λ i. record { systems = sym read.done.1 i; function = w.word.function } in
       subst IsWordValue same is
 
   module _ (custom : Custom) (are : AreMeant custom systems) where
@@ -53,7 +53,7 @@ module _ (systems : List NamedSystem) (sealed : AreSealed systems) (old new : St
     -- at each place it has the letter of the text that lists the table
     pub word_letters : WordsHaveFileLetters → (text : List ℕ) → word_of text ≡ Ok table.listed → (ns : List ℕ) (letter : ℤ) → HasLetter w.word ns letter ↔ FileLetter custom text ns letter
     word_letters have text lists ns letter =
-        let over = sym read.done.2 in
+        let over = sym read.done.1 in
         have custom text table.listed listed.names old new w.word lists listed.header
         (subst (NamesMean custom listed.names) over mean) word_of_table
         (subst (λ (ss : List SystemValue). DoesWordSteps ss table.listed old (Ok w.word.function) new) over read.done.0) ns letter

@@ -83,7 +83,6 @@ fault_later (faults.Unknown of file) old mid new later same is = is ∙ same
 fault_later (faults.File of file flaw) old mid new later same is = is ∙ same
 fault_later (faults.Arity of tracks given) old mid new later same is = is ∙ same
 fault_later (faults.Clash of one two) old mid new later same is = is ∙ same
-fault_later (faults.WordGap of representation) old mid new later same is = is ∙ same
 fault_later (faults.Plain of) old mid new later same is = is ∙ same
 
 pub reads_both : {X Y : Type 0} (old mid new : StoreView) (x : X) (r : Result Y Fault) → HasRead old (Ok x) mid → HasRead mid r new → HasRead old r new

@@ -1,6 +1,6 @@
 -- The steps by which listed automata are combined: after those of the systems that are admitted, first those that read the tables, then one
 -- that makes the word.
-use Rattle.std.specs.Prelude.{◌≡◌, ◌⊎◌, ℕ, suc, List, [], ◌∷◌, Some, Ok, Err, ⊤}
+use Rattle.std.specs.Prelude.{◌≡◌, ◌⊎◌, ℕ, suc, pos, List, [], ◌∷◌, Some, Ok, Err, ⊤}
 use Rattle.digit_tuple.specs.Steps.{StepLog}
 use Rattle.digit_tuple.specs.declared.step_fault.StepFault.{StepFault}
 use Rattle.digit_tuple.specs.declared.steps.StepLine.{StepLine}
@@ -44,14 +44,14 @@ pub record AreListedParts (admitted : StepLog) (custom : Custom) (tables : List 
 pub record AreCombineSteps (admitted : StepLog) (custom : Custom) (tables : List Loaded) (automata : List ValuedName) (word : WordValue) (lines : List StepLine) : Type 0 where
   pub before : AreListedParts admitted custom tables automata
   pub log : StepLog
-  pub done : DoesStep (combine_step before.parts before.tracks) before.reading (Ok word) log
+  pub done : DoesStep (combine_step (Some (pos 0)) before.parts before.tracks) before.reading (Ok word) log
   pub lines_are : lines ≡ log.lines
 
 -- it is refused by this fault
 pub record IsCombiningStopped (admitted : StepLog) (custom : Custom) (tables : List Loaded) (automata : List ValuedName) (fault : StepFault) : Type 0 where
   pub before : AreListedParts admitted custom tables automata
   pub log : StepLog
-  pub refused : DoesStep (combine_step before.parts before.tracks) before.reading (Err fault) log
+  pub refused : DoesStep (combine_step (Some (pos 0)) before.parts before.tracks) before.reading (Err fault) log
 
 -- a step that reads a table, or the one that combines, is the first to pass a limit
 abbrev pub AreCombineStepsRefused : StepLog → Custom → List Loaded → List ValuedName → StepFault → Type 0

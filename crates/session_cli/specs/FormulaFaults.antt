@@ -8,11 +8,8 @@ use Rattle.formula_resolve.specs.declared.fault.ResolveFault.TheVariants as reso
 use Rattle.macro_loading.specs.declared.fault.ExpansionFault.{ExpansionFault}
 use Rattle.macro_loading.specs.declared.fault.ExpansionFault.TheVariants as expansions
 use Rattle.session_cli.specs.declared.fault.Grammar.TheVariants as grammars
-use Rattle.session_cli.specs.declared.read_fault.ReadFault.{ReadFault}
-use Rattle.session_cli.specs.declared.read_fault.ReadFault.TheVariants as reads
 use Rattle.session_cli.specs.declared.fault.Fault.{Fault}
 use Rattle.session_cli.specs.declared.fault.Fault.TheVariants as faults
-use Rattle.session_cli.specs.TrackSystems.{fault_of}
 
 abbrev pub fault_of_formula : ParseFault → Fault
 fault_of_formula (parses.Syntax at) = faults.Syntax grammars.Formula at
@@ -34,10 +31,6 @@ fault_of_loading (loads.Unknown folder name) = faults.Unknown folder name
 fault_of_loading (loads.File folder name flaw) = faults.File folder name flaw
 fault_of_loading (loads.Store folder name) = faults.Store folder name
 fault_of_loading loads.Memory = faults.Memory
-
-abbrev pub fault_of_reading : ReadFault → Fault
-fault_of_reading (reads.Step fault) = fault_of fault
-fault_of_reading (reads.Gap name representation) = faults.WordGap name representation
 
 abbrev pub fault_of_expansion : ExpansionFault → Fault
 fault_of_expansion (expansions.Syntax at) = faults.Syntax grammars.Macro at

@@ -34,7 +34,7 @@ use Rattle.definitions.specs.Trees.{Variable, Formula, Bindings, Defined, Ledger
 use Rattle.definitions.specs.Named.{IsSystemNamed}
 use Rattle.system_files.specs.SystemFiles.{Custom}
 use Rattle.definitions.specs.FormulaTexts.{HasVerdict}
-use Rattle.session_cli.specs.FormulaSteps.{AreFormulaSteps, AreStepsRefused, IsLetterMissing}
+use Rattle.session_cli.specs.FormulaSteps.{AreFormulaSteps, AreStepsRefused}
 use Rattle.session_cli.specs.SystemChecks.{systems_known}
 use Rattle.session_cli.specs.HeadAnswers.{HeadAnswers}
 use Rattle.session_cli.specs.MacroChecks.{expanded}
@@ -59,13 +59,11 @@ ResolvedAnswers tables formula (Err (faults.Clash name first other)) = fault_of 
 ResolvedAnswers tables formula (Err (faults.Direction first other)) = fault_of (headers_of tables) formula ≡ Some (resolves.Direction first other)
 ResolvedAnswers tables formula (Err fault) = ⊥
 
--- the lines of the steps; or the number of the first one that passes a limit; or the first word in which a letter is missing, where that
--- comes first
+-- the lines of the steps, or the number of the first one that passes a limit
 abbrev pub BuiltAnswers : StepLog → Custom → List Loaded → trees.Formula → Result (List StepLine) Fault → Type 0
 BuiltAnswers admitted custom tables formula (Ok lines) = (relation : RelationValue) × AreFormulaSteps admitted custom tables formula (Ok relation) lines
 BuiltAnswers admitted custom tables formula (Err (faults.Letters step)) = AreStepsRefused admitted custom tables formula (steps.Letters step)
 BuiltAnswers admitted custom tables formula (Err (faults.States step)) = AreStepsRefused admitted custom tables formula (steps.States step)
-BuiltAnswers admitted custom tables formula (Err (faults.WordGap name representation)) = IsLetterMissing admitted custom tables name representation
 BuiltAnswers admitted custom tables formula (Err fault) = ⊥
 
 -- a free variable over the system that the name of its system means

@@ -1,6 +1,6 @@
 -- The steps by which a formula is decided: after those of the systems that are admitted, first those that read the tables of the automata and
 -- words that it names, then those of its plan, over the systems that names mean.
-use Rattle.std.specs.Prelude.{◌≡◌, ◌⊎◌, ℕ, List, [], Result, Err}
+use Rattle.std.specs.Prelude.{◌≡◌, ◌⊎◌, List, [], Result, Err}
 use Rattle.std.specs.List.{AllByRecursion}
 use Rattle.digit_tuple.specs.Steps.{StepLog}
 use Rattle.digit_tuple.specs.declared.step_fault.StepFault.{StepFault}
@@ -15,7 +15,7 @@ use Rattle.num_system.specs.Sealed.{system_of}
 use Rattle.number_relations.specs.Relations.{RelationValue}
 use Rattle.system_files.specs.SystemFiles.{Custom}
 use Rattle.definitions.specs.Named.{IsSystemNamed}
-use Rattle.session_cli.specs.TableReads.{TableRead, AreTablesRead, IsReadingRefused, IsReadingGap, library_with}
+use Rattle.session_cli.specs.TableReads.{TableRead, AreTablesRead, IsReadingRefused, library_with}
 
 -- each system is the one that its name means, read in that direction
 abbrev pub AreMeant : Custom → List NamedSystem → Type 0
@@ -44,14 +44,6 @@ pub record IsReadingStopped (admitted : StepLog) (custom : Custom) (tables : Lis
   pub sealed : AreSealed systems
   pub meant : AreMeant custom systems
   pub refused : IsReadingRefused systems admitted tables fault
-
--- In the word of this name a letter is missing: its steps, and those before them, are within the limit, and in no word before it a letter
--- is missing. This is the first of all representations of places without a letter.
-pub record IsLetterMissing (admitted : StepLog) (custom : Custom) (tables : List Loaded) (name : List ℕ) (representation : List (List ℕ)) : Type 0 where
-  pub systems : List NamedSystem
-  pub sealed : AreSealed systems
-  pub meant : AreMeant custom systems
-  pub gap : IsReadingGap systems admitted tables name representation
 
 -- a step that reads a table, or one of the plan, is the first to pass a limit
 abbrev pub AreStepsRefused : StepLog → Custom → List Loaded → trees.Formula → StepFault → Type 0

@@ -33,7 +33,7 @@ use Rattle.session_cli.specs.declared.fault.Fault.TheVariants as faults
 use Rattle.session_cli.specs.Accepting.{Success, stored}
 use Rattle.session_cli.specs.Checks.{Check, Passing, Pure, Then}
 use Rattle.session_cli.specs.FileChecks.{files_loaded}
-use Rattle.session_cli.specs.FormulaSteps.{AreMeant, IsReadingStopped, IsLetterMissing}
+use Rattle.session_cli.specs.FormulaSteps.{AreMeant, IsReadingStopped}
 use Rattle.session_cli.specs.HeadAnswers.{HeadAnswers}
 use Rattle.session_cli.specs.MorphismChecks.{morphism_loaded}
 use Rattle.session_cli.specs.SystemChecks.{systems_known}
@@ -92,13 +92,12 @@ pub record IsImagingStopped (admitted : StepLog) (custom : Custom) (tables : Lis
 abbrev pub AreImageStepsRefused : StepLog → Custom → List Loaded → List ℕ → List ℕ → Rules → StepFault → Type 0
 AreImageStepsRefused admitted custom tables old name rules fault = IsReadingStopped admitted custom tables fault ⊎ IsImagingStopped admitted custom tables old name rules (images.Step fault)
 
--- the lines of the steps; or the number of the first one that passes a limit; or that the old word lacks a letter at some place, or has one
--- without a rule, where that comes first
+-- the lines of the steps; or the number of the first one that passes a limit; or that the old word has a letter without a rule, where that
+-- comes first
 abbrev pub ImagedAnswers : StepLog → Custom → List Loaded → List ℕ → List ℕ → Rules → Result (List StepLine) Fault → Type 0
 ImagedAnswers admitted custom tables old name rules (Ok lines) = (word : WordValue) × AreImageSteps admitted custom tables old name rules word lines
 ImagedAnswers admitted custom tables old name rules (Err (faults.Letters step)) = AreImageStepsRefused admitted custom tables old name rules (steps.Letters step)
 ImagedAnswers admitted custom tables old name rules (Err (faults.States step)) = AreImageStepsRefused admitted custom tables old name rules (steps.States step)
-ImagedAnswers admitted custom tables old name rules (Err (faults.WordGap word representation)) = IsLetterMissing admitted custom tables word representation
 ImagedAnswers admitted custom tables old name rules (Err (faults.LetterMissing letter)) = IsImagingStopped admitted custom tables old name rules (images.Missing letter)
 ImagedAnswers admitted custom tables old name rules (Err fault) = ⊥
 

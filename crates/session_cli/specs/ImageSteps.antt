@@ -1,5 +1,5 @@
 -- The steps by which the image of a word is made.
-use Rattle.std.specs.Prelude.{◌≡◌, ◌⊎◌, ℕ, ℤ, List, [], ◌∷◌, Result, Ok, Err}
+use Rattle.std.specs.Prelude.{◌≡◌, ◌⊎◌, ℕ, ℤ, List, [], ◌∷◌, None, Result, Ok, Err}
 use Rattle.digit_tuple.specs.StepResults.{Then}
 use Rattle.digit_tuple.specs.Steps.{StepLog}
 use Rattle.digit_tuple.specs.declared.step_fault.StepFault.{StepFault}
@@ -31,13 +31,14 @@ DoesLetters l s k (b ∷ bs) =
     Then (BuildsFormula l (letter_plan s k b)) (λ relation.
     Then (DoesLetters l s k bs) (λ parts. Gives {Made = List PartValue} (record { relation = relation; value = b } ∷ parts)))
 
--- the word is mapped: first the steps of the letters of the image, over the words of all places, and then one that combines their relations
+-- the word is mapped: first the steps of the letters of the image, over the words of all places, and then one that combines their relations,
+-- with no letter where none of them holds
 abbrev pub DoesMapped : Rules → WordValue → Name → StepLog → Result WordValue StepFault → StepLog → Type 0
 DoesMapped rules word s old result new =
     (k : ℕ) × IsMapped rules word k
     × WithSome (IsImageLibrary rules word s k) (λ l.
     WithSome (AreOutputs rules word) (λ letters.
-    Then (DoesLetters l s k letters) (λ parts. DoesStep (combine_step parts word.systems)))) old result new
+    Then (DoesLetters l s k letters) (λ parts. DoesStep (combine_step None parts word.systems)))) old result new
 
 -- all images have one length that is allowed, and this is the least letter of the word without a rule
 pub record IsLetterMissing (rules : Rules) (word : WordValue) (letter : ℤ) : Type 0 where

@@ -20,10 +20,10 @@ pub mod RecodedWords
 pub mod ImageSteps
 pub mod ImageOutcomes
 pub mod Outcomes
-pub mod RepresentationTexts
 pub mod Lines
 pub mod Views
 pub mod SessionLanguage
+pub mod ServedWords
 pub mod Whole
 pub mod Laws
 -- what functions inside the crate do

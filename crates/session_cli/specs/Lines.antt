@@ -14,7 +14,6 @@ use Rattle.session_cli.specs.declared.fault.Grammar.{Grammar}
 use Rattle.session_cli.specs.declared.fault.Grammar.TheVariants as grammars
 use Rattle.session_cli.specs.declared.fault.Fault.{Fault}
 use Rattle.session_cli.specs.declared.fault.Fault.TheVariants as faults
-use Rattle.session_cli.specs.RepresentationTexts.{representation_text}
 use Rattle.session_cli.specs.Accepting.{Success}
 
 -- the line of a step with its number: its kind, its width, and the number of states of its result
@@ -94,7 +93,6 @@ detail (faults.Clash name first other) = ((codes ": F16 Clash " ++ name) ++ (cod
 detail (faults.Direction first other) = (codes ": F17 Direction " ++ first) ++ (codes " " ++ other)
 detail (faults.Letters step) = codes ": F18 Letters step " ++ decimal step
 detail (faults.States step) = codes ": F19 States step " ++ decimal step
-detail (faults.WordGap name representation) = (codes ": F20 WordGap " ++ name) ++ (codes " " ++ representation_text representation)
 detail (faults.Plain name) = codes ": F21 Plain " ++ name
 detail (faults.Morphism kind) = (codes ": F22 Morphism " ++ refusal_name kind) ++ (codes " " ++ signed_decimal (refusal_letter kind))
 detail (faults.LetterMissing letter) = codes ": F23 LetterMissing " ++ signed_decimal letter

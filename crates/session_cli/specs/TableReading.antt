@@ -2,6 +2,7 @@
 use Rattle.std.specs.Prelude.{◌≡◌, ◌⊎◌, ℕ, List, Result, MatchResult}
 use Rattle.std.specs.List.{AllByRecursion}
 use Rattle.digit_tuple.specs.Steps.{StepLog}
+use Rattle.digit_tuple.specs.declared.step_fault.StepFault.{StepFault}
 use Rattle.digit_tuple.specs.declared.step_fault.StepFault.TheVariants as faults
 use Rattle.dfa_loading.specs.declared.loaded.Loaded.{Loaded}
 use Rattle.dfa_reading.specs.WordFiles.{IsWordListed}
@@ -13,9 +14,7 @@ use Rattle.num_system.specs.Tracks.{ShareDirection}
 use Rattle.number_relations.specs.Relations.{RelationValue}
 use Rattle.word_output.specs.Words.{WordValue}
 use Rattle.definitions.specs.TableSteps.{IsTable}
-use Rattle.session_cli.specs.declared.read_fault.ReadFault.{ReadFault}
-use Rattle.session_cli.specs.declared.read_fault.ReadFault.TheVariants.{Step, Gap}
-use Rattle.session_cli.specs.TableReads.{TableRead, ARelation, AWord, read_of, AreSystemsUnder, IsRelationRead, IsWordRead, IsTableRead, IsTableRefused, IsTableGap, AreTablesRead, IsReadingRefused, IsReadingGap}
+use Rattle.session_cli.specs.TableReads.{TableRead, ARelation, AWord, read_of, AreSystemsUnder, IsRelationRead, IsWordRead, IsTableRead, IsTableRefused, AreTablesRead, IsReadingRefused}
 
 -- a table over systems, each of which is under its name, in one direction; a word's lists a word
 pub record IsReadable (systems : List NamedSystem) (table : Loaded) : Type 0 where
@@ -28,18 +27,17 @@ pub record IsReadable (systems : List NamedSystem) (table : Loaded) : Type 0 whe
 abbrev pub AreReadable : List NamedSystem → List Loaded → Type 0
 AreReadable systems tables = AllByRecursion (IsReadable systems) tables
 
--- why a table is not read: memory ran out, or a step is the first to pass a limit, or a letter is missing
-abbrev pub IsTableFault : List NamedSystem → StepLog → Loaded → ReadFault → Type 0
-IsTableFault systems old table (Step fault) = (fault ≡ faults.Memory) ⊎ IsTableRefused systems old table fault
-IsTableFault systems old table (Gap name representation) = IsTableGap systems old table name representation
+-- why a table is not read: memory ran out, or a step is the first to pass a limit
+abbrev pub IsTableFault : List NamedSystem → StepLog → Loaded → StepFault → Type 0
+IsTableFault systems old table fault = (fault ≡ faults.Memory) ⊎ IsTableRefused systems old table fault
 
 -- the relation of an automaton's table is made by its steps, or not
-abbrev pub ReadsRelation : List NamedSystem → StepLog → Loaded → Result RelationValue ReadFault → StepLog → Type 0
+abbrev pub ReadsRelation : List NamedSystem → StepLog → Loaded → Result RelationValue StepFault → StepLog → Type 0
 ReadsRelation systems old table result new =
     MatchResult result (λ r. (name : List ℕ) → table.file ≡ Automaton name → IsRelationRead systems old table (record { name = name; relation = r }) new) (IsTableFault systems old table)
 
 -- the word of a word's table
-abbrev pub ReadsWord : List NamedSystem → StepLog → Loaded → Result WordValue ReadFault → StepLog → Type 0
+abbrev pub ReadsWord : List NamedSystem → StepLog → Loaded → Result WordValue StepFault → StepLog → Type 0
 ReadsWord systems old table result new =
     MatchResult result (λ w. (name : List ℕ) → table.file ≡ Word name → IsWordRead systems old table (record { name = name; word = w }) new) (IsTableFault systems old table)
 
@@ -49,16 +47,15 @@ with_read read (ARelation r) = record { relations = with_relation read.relations
 with_read read (AWord w) = record { relations = read.relations; words = with_word read.words w.name w.word }
 
 -- what a table makes is added, or it is not read
-abbrev pub AddsTable : List NamedSystem → StepLog → Loaded → ReadValue → Result (Unit {0}) ReadFault → ReadValue → StepLog → Type 0
+abbrev pub AddsTable : List NamedSystem → StepLog → Loaded → ReadValue → Result (Unit {0}) StepFault → ReadValue → StepLog → Type 0
 AddsTable systems old table before result after new =
     MatchResult result (λ _. (r : TableRead) × IsTableRead systems old table r new × (after ≡ with_read before r)) (IsTableFault systems old table)
 
 -- why tables are not read
-abbrev pub IsReadingFault : List NamedSystem → StepLog → List Loaded → ReadFault → Type 0
-IsReadingFault systems old tables (Step fault) = (fault ≡ faults.Memory) ⊎ IsReadingRefused systems old tables fault
-IsReadingFault systems old tables (Gap name representation) = IsReadingGap systems old tables name representation
+abbrev pub IsReadingFault : List NamedSystem → StepLog → List Loaded → StepFault → Type 0
+IsReadingFault systems old tables fault = (fault ≡ faults.Memory) ⊎ IsReadingRefused systems old tables fault
 
 -- what the tables make, each under its name, or why they are not read
-abbrev pub ReadsTables : List NamedSystem → StepLog → List Loaded → Result ReadValue ReadFault → StepLog → Type 0
+abbrev pub ReadsTables : List NamedSystem → StepLog → List Loaded → Result ReadValue StepFault → StepLog → Type 0
 ReadsTables systems old tables result new =
     MatchResult result (λ read. (reads : List TableRead) × AreTablesRead systems old tables reads new × (read ≡ read_of reads)) (IsReadingFault systems old tables)

@@ -1,6 +1,6 @@
 -- The steps by which the files that a formula names are read, one after another: those of an automaton make a relation, and those of a word
 -- its letters.
-use Rattle.std.specs.Prelude.{◌≡◌, ◌⊎◌, ℕ, List, [], ◌∷◌, Some, Ok, Err}
+use Rattle.std.specs.Prelude.{◌≡◌, ◌⊎◌, List, [], ◌∷◌, Some, Ok, Err}
 use Rattle.std.specs.List.{AllZip}
 use Rattle.digit_tuple.specs.Steps.{StepLog}
 use Rattle.digit_tuple.specs.declared.step_fault.StepFault.{StepFault}
@@ -13,7 +13,6 @@ use Rattle.formula_build.specs.Libraries.{NamedRelation, NamedWord, ReadValue, L
 use Rattle.named_systems.specs.NamedSystems.{NamedSystem, system_named}
 use Rattle.num_system.specs.Sealed.{SystemValue}
 use Rattle.word_output.specs.WordReadings.{DoesWord}
-use Rattle.word_output.specs.declared.word_fault.WordFault.TheVariants.{Gap, Step}
 use Rattle.definitions.specs.TableSteps.{DoesTable}
 
 -- what is made of a file: a relation or a word, under the file's name
@@ -66,22 +65,13 @@ IsTableRead systems old table (AWord w) new = IsWordRead systems old table w new
 -- a step of a file of this kind is the first to pass a limit
 abbrev pub PassesFile : File → StepLog → List SystemValue → Listed → StepFault → Type 0
 PassesFile (Automaton name) old tracks listed fault = (new : StepLog) × DoesTable tracks listed old (Err fault) new
-PassesFile (Word name) old tracks listed fault = (new : StepLog) × DoesWord tracks listed old (Err (Step fault)) new
+PassesFile (Word name) old tracks listed fault = (new : StepLog) × DoesWord tracks listed old (Err fault) new
 
 -- a step of the table is
 pub record IsTableRefused (systems : List NamedSystem) (old : StepLog) (table : Loaded) (fault : StepFault) : Type 0 where
   pub tracks : List SystemValue
   pub over : AreSystemsUnder systems table.listed.header tracks
   pub passes : PassesFile table.file old tracks table.listed fault
-
--- The table is that of the word of this name. Its steps are within the limit, and some place has no letter: this is the first of all
--- representations of such places.
-pub record IsTableGap (systems : List NamedSystem) (old : StepLog) (table : Loaded) (name : List ℕ) (representation : List (List ℕ)) : Type 0 where
-  pub file_is : table.file ≡ Word name
-  pub tracks : List SystemValue
-  pub over : AreSystemsUnder systems table.listed.header tracks
-  pub new : StepLog
-  pub gap : DoesWord tracks table.listed old (Err (Gap representation)) new
 
 -- the steps of some tables, one after another, make what their names mean
 abbrev pub AreTablesRead : List NamedSystem → StepLog → List Loaded → List TableRead → StepLog → Type 0
@@ -96,10 +86,3 @@ IsReadingRefused systems old [] fault = ⊥
 IsReadingRefused systems old (table ∷ tables) fault =
     IsTableRefused systems old table fault
     ⊎ ((r : TableRead) × (mid : StepLog) × IsTableRead systems old table r mid × IsReadingRefused systems mid tables fault)
-
--- the word of this name is one of them, and the first in which a letter is missing
-abbrev pub IsReadingGap : List NamedSystem → StepLog → List Loaded → List ℕ → List (List ℕ) → Type 0
-IsReadingGap systems old [] name representation = ⊥
-IsReadingGap systems old (table ∷ tables) name representation =
-    IsTableGap systems old table name representation
-    ⊎ ((r : TableRead) × (mid : StepLog) × IsTableRead systems old table r mid × IsReadingGap systems mid tables name representation)

@@ -8,7 +8,7 @@ use Rattle.script_runs.specs.Ends.{HasRun}
 use Rattle.script_runs.specs.declared.status.Status.{Status}
 use Rattle.script_runs.specs.declared.status.Status.TheVariants as status
 use Rattle.session_cli.specs.SessionLanguage.{session_language}
-use Rattle.command_line.specs.Words.{GivesLimit, GivesNone}
+use Rattle.session_cli.specs.ServedWords.{GivesLimit, GivesNoLimit}
 
 abbrev pub usage_line : List ℕ
 usage_line = codes "usage: walnut [--states N] [--stop] [--make SEED]\n"
@@ -36,9 +36,9 @@ pub record EndsUnread (from to : SourceView) (old new : StoreView) (held now : S
   pub sink_stays : now ≡ held
   pub state_is : state ≡ status.Memory
 
--- A whole call: a run with the limit that the words give; or the words give none, and the usage line.
+-- A whole call: a run with the limit that the words give, and nothing else; or the words are refused, and the usage line.
 abbrev pub HasCalled : List (List ℕ) → SourceView → SourceView → StoreView → StoreView → SinkView → SinkView → Status → Type 0
 HasCalled words from to old new held now state =
     ((limit : ℕ) × GivesLimit words limit × HasRun (session_language limit) from to old new held now state)
-    ⊎ (GivesNone words × ShowsUsage from to old new held now state)
+    ⊎ (GivesNoLimit words × ShowsUsage from to old new held now state)
     ⊎ EndsUnread from to old new held now state

@@ -1,6 +1,6 @@
 //! The command `combine`: the word that listed automata make together.
 
-ghost use Rattle.std.specs.Prelude.{◌≡◌, ◌≢◌, ◌↔◌, ◌<◌, ◌≤◌, ◌^◌, ℕ, List, [], length, None, Ok, Err, IsTrue, IfOk, MatchOption, MatchResult};
+ghost use Rattle.std.specs.Prelude.{◌≡◌, ◌≢◌, ◌↔◌, ◌<◌, ◌≤◌, ◌^◌, ℕ, List, [], length, pos, None, Some, Ok, Err, IsTrue, IfOk, MatchOption, MatchResult};
 ghost use Rattle.std.specs.List.{AllByRecursion};
 ghost use Rattle.combinations.specs.CombineSteps.{DoesCombine};
 ghost use Rattle.combinations.specs.Parts.{systems_at};
@@ -285,9 +285,9 @@ fn parts_of(
 fn word_of(alloc: Global, parts: &[Part], steps: &mut Steps) -> Result<Word, StepFault>
     requires some { parts.now ≢ [] }
     requires shape { HaveOneTracks parts.now }
-    ensures { MatchResult result (λ word. DoesCombine parts.now (systems_at parts.now 0) steps.old (Ok word) steps.new) (λ fault. DoesCombine parts.now (systems_at parts.now 0) steps.old (Err (Step fault)) steps.new) }
+    ensures { MatchResult result (λ word. DoesCombine (Some (pos 0)) parts.now (systems_at parts.now 0) steps.old (Ok word) steps.new) (λ fault. DoesCombine (Some (pos 0)) parts.now (systems_at parts.now 0) steps.old (Err (Step fault)) steps.new) }
 {
-    match combine(alloc, parts, parts[0].relation().systems(), steps) {
+    match combine(alloc, parts, parts[0].relation().systems(), Some(0), steps) {
         Ok(word) => Ok(word),
         Err(CombineFault::Step(fault)) => Err(fault),
         Err(CombineFault::Shape(_, _)) => unreachable!(),

@@ -1,14 +1,13 @@
 ghost use Rattle.std.specs.Prelude.{◌≡◌};
 ghost use Rattle.session_cli.specs.declared.fault.Fault.TheVariants.{Memory};
 ghost use Rattle.session_cli.specs.TrackSystems.{fault_of, fault_of_tracks};
-ghost use Rattle.session_cli.specs.FormulaFaults.{fault_of_loading, fault_of_resolution, fault_of_reading, fault_of_formula, fault_of_expansion};
+ghost use Rattle.session_cli.specs.FormulaFaults.{fault_of_loading, fault_of_resolution, fault_of_formula, fault_of_expansion};
 ghost use Rattle.session_cli.specs.HeadAnswers.{fault_of_head};
 ghost use Rattle.session_cli.specs.MorphismFaults.{fault_of_promotion, fault_of_rules};
 ghost use Rattle.session_cli.specs.ImageFaults.{fault_of_imaging};
 ghost use Rattle.session_cli.specs.SystemFaults.{fault_of_system};
 
 use crate::image_fault::ImageFault;
-use crate::read_fault::ReadFault;
 use adder_check::admit_fault::Law;
 use command_head::HeadFault;
 use dfa_loading::{FileFlaw, LoadFault};
@@ -24,7 +23,6 @@ use named_systems::TracksFault;
 use std::alloc::{AllocError, AllocFailed};
 use system_admission::SystemFault;
 use wal_outside::Folder;
-use word_output::representation::Representation;
 
 /// The part of a command that a fault is about. Bytes count from the part's begin.
 #[derive(Clone, Copy, Debug, PartialEq, Eq)]
@@ -84,8 +82,6 @@ pub enum Fault {
     Letters(u64),
     /// F19: this step, counted from 1, would have more values than a step may have.
     States(u64),
-    /// F20: the word of this name has no letter at some place: this is the first of all representations of such places.
-    WordGap(Name, Representation),
     /// F21: the automaton of this name is over sets.
     Plain(Name),
     /// F22: no word is made of the morphism.
@@ -130,17 +126,6 @@ impl From<ImageFault> for Fault {
             ImageFault::Morphism(kind) => Fault::Morphism(kind),
             ImageFault::Missing(letter) => Fault::LetterMissing(letter),
             ImageFault::Step(fault) => Fault::from(fault),
-        }
-    }
-}
-
-impl From<ReadFault> for Fault {
-    ghost from_gives = { λ f e. e ≡ fault_of_reading f };
-
-    fn from(fault: ReadFault) -> Fault {
-        match fault {
-            ReadFault::Step(fault) => Fault::from(fault),
-            ReadFault::Gap(name, representation) => Fault::WordGap(name, representation),
         }
     }
 }

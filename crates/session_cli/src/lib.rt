@@ -19,8 +19,6 @@ mod command_word;
 mod step_options;
 // the command `reg`
 mod reg;
-// why the tables of a formula are not read
-mod read_fault;
 // the tables of files that a command mentions
 mod table_loading;
 // the relations and the words of loaded tables
@@ -53,6 +51,8 @@ mod planning;
 mod session;
 // the commands of a script, answered by a session
 mod answering;
+// the words of the command line that are served
+mod served_words;
 // the whole call
 mod whole;
 // what holds of all runs

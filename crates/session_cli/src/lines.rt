@@ -1,10 +1,8 @@
-ghost use Rattle.std.specs.Prelude.{◌≡◌, ◌++◌, codes, decimal, map};
+ghost use Rattle.std.specs.Prelude.{◌≡◌, ◌++◌, codes, decimal};
 ghost use Rattle.std.specs.Fmt.{signed_decimal};
-ghost use Rattle.std.specs.List.{flat_map};
 ghost use Rattle.wal_outside.specs.Folders.{folder_text};
 ghost use Rattle.wal_outside.specs.Sending.{Sends};
 ghost use Rattle.session_cli.specs.Lines.{grammar_name as grammar_text, flaw_text, refusal_name, refusal_letter, law_name as law_text, detail, fault_line};
-ghost use Rattle.session_cli.specs.RepresentationTexts.{digits_text, digit_after, letter_text, representation_text};
 
 use crate::fault::{Fault, Grammar};
 use adder_check::admit_fault::Law;
@@ -13,7 +11,6 @@ use digit_tuple::name::Name;
 use itoa::Buffer;
 use morph_words::MorphismKind;
 use wal_outside::{Folder, Sink, WriteFault, send, send_four, send_two};
-use word_output::representation::Representation;
 
 impl Grammar {
     /// The part's name in a line.
@@ -85,7 +82,6 @@ fn send_detail<K: Sink>(out: &mut K, fault: &Fault) -> Result<(), WriteFault>
         ),
         Fault::Letters(step) => send_number(out, b": F18 Letters step ", *step),
         Fault::States(step) => send_number(out, b": F19 States step ", *step),
-        Fault::WordGap(name, representation) => send_gap(out, name, representation),
         Fault::Plain(name) => send_two(out, b": F21 Plain ", name.as_bytes()),
         Fault::Morphism(kind) => send_kind(out, *kind),
         Fault::LetterMissing(letter) => send_signed(out, b": F23 LetterMissing ", *letter),
@@ -278,73 +274,4 @@ fn send_clash<K: Sink>(
         first.as_bytes(),
     )?;
     send_two(out, b" ", other.as_bytes())
-}
-
-/// Hands over the fault of a word without a letter at the place with this representation.
-fn send_gap<K: Sink>(
-    out: &mut K,
-    name: &Name,
-    representation: &Representation,
-) -> Result<(), WriteFault>
-    ensures { Sends (K.view out.old) ((codes ": F20 WordGap " ++ name.now) ++ (codes " " ++ representation_text representation.now)) result (K.view out.new) }
-{
-    send_two(out, b": F20 WordGap ", name.as_bytes())?;
-    send(out, b" ")?;
-    send_representation(out, representation)
-}
-
-/// Hands over a representation: the digits of each letter in brackets, and empty brackets where it has no letter.
-fn send_representation<K: Sink>(
-    out: &mut K,
-    representation: &Representation,
-) -> Result<(), WriteFault>
-    ensures { Sends (K.view out.old) (representation_text representation.now) result (K.view out.new) }
-{
-    let letters = representation.letters();
-    if letters.is_empty() {
-        return send(out, b"[]");
-    }
-    send_letters(out, letters)
-}
-
-/// Hands over letters, the digits of each in brackets.
-fn send_letters<K: Sink>(out: &mut K, letters: &[Vec<u32>]) -> Result<(), WriteFault>
-    ensures { Sends (K.view out.old) (flat_map letter_text (map (λ letter. letter.items) letters.now)) result (K.view out.new) }
-{
-    for letter in letters {
-        send_letter(out, letter)?;
-    }
-    Ok(())
-}
-
-/// Hands over the digits of a letter in brackets.
-fn send_letter<K: Sink>(out: &mut K, digits: &[u32]) -> Result<(), WriteFault>
-    ensures { Sends (K.view out.old) (letter_text digits.now) result (K.view out.new) }
-{
-    send(out, b"[")?;
-    send_digits(out, digits)?;
-    send(out, b"]")
-}
-
-/// Hands over digits with commas between them.
-fn send_digits<K: Sink>(out: &mut K, digits: &[u32]) -> Result<(), WriteFault>
-    ensures { Sends (K.view out.old) (digits_text digits.now) result (K.view out.new) }
-{
-    match digits {
-        [] => Ok(()),
-        [first, rest @ ..] => {
-            send_number(out, b"", u64::from(*first))?;
-            send_digits_after(out, rest)
-        }
-    }
-}
-
-/// Hands over digits, each after a comma.
-fn send_digits_after<K: Sink>(out: &mut K, digits: &[u32]) -> Result<(), WriteFault>
-    ensures { Sends (K.view out.old) (flat_map digit_after digits.now) result (K.view out.new) }
-{
-    for digit in digits {
-        send_number(out, b",", u64::from(*digit))?;
-    }
-    Ok(())
 }

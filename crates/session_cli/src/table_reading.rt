@@ -8,12 +8,11 @@ ghost use Rattle.num_system.specs.Sealed.{SystemValue};
 ghost use Rattle.session_cli.specs.TableReads.{AreSystemsUnder};
 ghost use Rattle.session_cli.specs.TableReading.{IsReadable, AreReadable, AddsTable, ReadsRelation, ReadsWord, ReadsTables};
 
-use crate::read_fault::ReadFault;
 use definitions::table_relation;
 use dfa_loading::Loaded;
 use dfa_reading::FileHeader;
 use digit_tuple::faults::OutOfMemory;
-use digit_tuple::name::Name;
+use digit_tuple::step_fault::StepFault;
 use digit_tuple::steps::Steps;
 use formula_build::Library;
 use formula_resolve::File;
@@ -23,21 +22,19 @@ use number_relations::relation::Relation;
 use std::alloc::Global;
 use std::rc::Rc;
 use word_output::word::Word;
-use word_output::word_fault::WordFault;
 use word_output::word_reading::read_word_steps;
 
 /// What the table of each file makes, under the name of the file: an automaton's a relation, and a word's a word. It is made by
 /// the table's steps, one table after another. No table is over sets, and the systems of each are under their names.
 ///
 /// # Errors
-/// `Letters` and `States` exactly at the first step that passes a limit, with its number; `Gap` if and only if the steps of a
-/// word are done and it has no letter at some place, with its name and the first of all representations of such places.
+/// `Letters` and `States` exactly at the first step that passes a limit, with its number.
 pub(crate) fn read_tables(
     alloc: Global,
     tables: &[Loaded],
     systems: &NamedSystems,
     steps: &mut Steps,
-) -> Result<Library, ReadFault>
+) -> Result<Library, StepFault>
     requires { AreReadable systems.now tables.now }
     ensures { ReadsTables systems.now steps.old tables.now result steps.new }
 {
@@ -55,7 +52,7 @@ fn add_table(
     systems: &NamedSystems,
     steps: &mut Steps,
     library: &mut Library,
-) -> Result<(), ReadFault>
+) -> Result<(), StepFault>
     requires { IsReadable systems.now table.now }
     ensures { AddsTable systems.now steps.old table.now library.old result library.new steps.new }
 {
@@ -80,7 +77,7 @@ fn read_relation(
     table: &Loaded,
     systems: &NamedSystems,
     steps: &mut Steps,
-) -> Result<Relation, ReadFault>
+) -> Result<Relation, StepFault>
     requires table { IsReadable systems.now table.now }
     requires automaton { (name : List ℕ) × (table.now.file ≡ files.Automaton name) }
     ensures { ReadsRelation systems.now steps.old table.now result steps.new }
@@ -95,19 +92,13 @@ fn read_word(
     table: &Loaded,
     systems: &NamedSystems,
     steps: &mut Steps,
-) -> Result<Word, ReadFault>
+) -> Result<Word, StepFault>
     requires table { IsReadable systems.now table.now }
     requires word { (name : List ℕ) × (table.now.file ≡ files.Word name) }
     ensures { ReadsWord systems.now steps.old table.now result steps.new }
 {
     let tracks = tracks_under(alloc, table.listed.header(), systems)?;
-    match read_word_steps(alloc, &table.listed, &tracks, steps) {
-        Ok(word) => Ok(word),
-        Err(WordFault::Step(fault)) => Err(ReadFault::Step(fault)),
-        Err(WordFault::Gap(representation)) => {
-            Err(ReadFault::Gap(table.name().copy(alloc)?, representation))
-        }
-    }
+    read_word_steps(alloc, &table.listed, &tracks, steps)
 }
 
 /// The systems that are under the names of a header, none below `true` and `false`.

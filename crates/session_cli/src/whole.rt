@@ -1,10 +1,11 @@
 ghost use Rattle.std.specs.Prelude.{◌≡◌, ◌⊎◌, map, string_bytes};
 ghost use Rattle.wal_outside.specs.Causes.{Rose};
-ghost use Rattle.command_line.specs.Words.{GivesNone};
+ghost use Rattle.session_cli.specs.ServedWords.{GivesNoLimit};
 ghost use Rattle.session_cli.specs.Whole.{HasCalled, PrintsUsage};
 
+use crate::served_words::limit_of;
 use crate::session::Session;
-use command_line::{WordsFault, limit_of};
+use command_line::WordsFault;
 use script_runs::{Status, run_script};
 use std::alloc::Global;
 use wal_outside::{Sink, Source, Store, WriteFault, send};
@@ -27,8 +28,8 @@ pub fn run<S: Source, K: Sink, T: Store>(
     store: &mut T,
 ) -> Status
     ensures run { HasCalled (map string_bytes words.now) (S.view script.old) (S.view script.new) (T.view store.old) (T.view store.new) (K.view out.old) (K.view out.new) result }
-    ensures usage { result ≡ Status.Usage → GivesNone (map string_bytes words.now) }
-    ensures refused { GivesNone (map string_bytes words.now) → (result ≡ Status.Usage) ⊎ (result ≡ Status.Memory) }
+    ensures usage { result ≡ Status.Usage → GivesNoLimit (map string_bytes words.now) }
+    ensures refused { GivesNoLimit (map string_bytes words.now) → (result ≡ Status.Usage) ⊎ (result ≡ Status.Memory) }
     ensures outside { result ≡ Status.Outside → Rose (S.view script.old).faults (S.view script.new).faults
         ⊎ (Rose (K.view out.old).faults (K.view out.new).faults ⊎ Rose (T.view store.old).faults (T.view store.new).faults) }
     ensures memory { result ≡ Status.Memory → ((S.view script.new).faults ≡ (S.view script.old).faults) × ((K.view out.new).faults ≡ (K.view out.old).faults) }

@@ -5,7 +5,7 @@ use std::alloc::Global;
 use std::process::Abort;
 
 /// A command, and the lines of its steps with the verdict after them.
-static STEPS: [(&str, &str); 23] = [
+static STEPS: [(&str, &str); 26] = [
     (
         "eval a \"Ex x+x=0\":",
         "step 1 const 2 1\nstep 2 product 6 2\nstep 3 project 3 2\nstep 4 product 5 1\nstep 5 project 2 1\nstep 6 project 1 1\nTRUE\n",
@@ -30,6 +30,15 @@ static STEPS: [(&str, &str); 23] = [
         "def d \"x=x+1\":",
         "step 1 const 3 2\nstep 2 product 9 3\nstep 3 project 3 2\n",
     ),
+    (
+        "def s \"2*x/3*4=y\":",
+        "step 1 product 9 4\nstep 2 project 4 3\nstep 3 product 12 6\nstep 4 project 5 4\nstep 5 const 4 3\nstep 6 product 11 4\nstep 7 project 4 3\nstep 8 product 20 6\nstep 9 project 4 3\nstep 10 product 12 6\nstep 11 project 5 4\nstep 12 product 9 4\nstep 13 project 5 4\nstep 14 product 25 12\nstep 15 project 13 12\n",
+    ),
+    (
+        "eval i \"Ix Ey x=2*y\":",
+        "step 1 project 2 2\nstep 2 product 6 3\nstep 3 project 1 1\nstep 4 complement 1 1\nstep 5 project 1 1\nstep 6 complement 1 1\nTRUE\n",
+    ),
+    ("def d \"x/1=y\":", ""),
     ("def d \"x=x\":", ""),
     ("def d \"x!=y\":", ""),
     ("def d \"Ex,x x=y\":", "step 1 project 1 1\n"),
@@ -106,12 +115,31 @@ static LIMITS: [(&str, &str, &str, u8); 6] = [
 ];
 
 /// A command that is refused, and the line of its fault.
-static FAULTS: [(&str, &str); 26] = [
+static FAULTS: [(&str, &str); 33] = [
     (
         "eval a \"x=1 | y=2 & z=3\";",
         "error 1: F03 MixedChain at 10\n",
     ),
     ("eval a \"x*y=2\";", "error 1: F05 NotLinear at 1\n"),
+    ("eval n \"6/2*x=3\";", "error 1: F05 NotLinear at 3\n"),
+    ("eval l \"x/0=1\";", "error 1: F02 Syntax in formula at 2\n"),
+    (
+        "eval l \"x/00=1\";",
+        "error 1: F02 Syntax in formula at 2\n",
+    ),
+    (
+        "eval l \"x/(2)=1\";",
+        "error 1: F02 Syntax in formula at 2\n",
+    ),
+    (
+        "eval l \"x/18446744073709551616=1\";",
+        "error 1: F04 Number in formula at 2\n",
+    ),
+    (
+        "eval l \"Ix,y x=y\";",
+        "error 1: F02 Syntax in formula at 2\n",
+    ),
+    ("def p \"?msd_17 x/2=y\";", "error 1: F18 Letters step 1\n"),
     (
         "eval a \"18446744073709551616=x\";",
         "error 1: F04 Number in formula at 0\n",

@@ -5,7 +5,7 @@ use std::alloc::Global;
 use wal_outside::Folder;
 
 /// A command, and the folder, the name and the text that it stores.
-static TEXTS: [(&str, Folder, &str, &str); 15] = [
+static TEXTS: [(&str, Folder, &str, &str); 16] = [
     ("eval a \"Ex x+x=6\";", Folder::Results, "a", "true\n"),
     ("eval b \"Ax Ey x=y+y\";", Folder::Results, "b", "false\n"),
     (
@@ -31,6 +31,12 @@ static TEXTS: [(&str, Folder, &str, &str); 15] = [
         Folder::Automata,
         "w",
         "msd_2\n\n0 1\n0 -> 0\n",
+    ),
+    (
+        "def h \"x/2=y\";",
+        Folder::Automata,
+        "h",
+        "msd_2 msd_2\n\n0 1\n0 0 -> 0\n1 0 -> 1\n\n1 1\n0 1 -> 0\n1 1 -> 1\n",
     ),
     ("def no \"x<x\";", Folder::Automata, "no", "msd_2\n\n0 0\n"),
     (
@@ -74,7 +80,7 @@ static TEXTS: [(&str, Folder, &str, &str); 15] = [
 ];
 
 /// Sentences that are true of the natural numbers.
-static THEOREMS: [&str; 20] = [
+static THEOREMS: [&str; 37] = [
     "Ax,y x+y=y+x",
     "Ax,y,z (x+y)+z=x+(y+z)",
     "Ax x+0=x",
@@ -95,6 +101,23 @@ static THEOREMS: [&str; 20] = [
     "Ex Ay x<=y",
     "~(Ex Ay y<=x)",
     "Ax,y (x-y)+y=x | x<y",
+    "Ax x/1=x",
+    "Ax x/2/3=x/6",
+    "Ax,y (x+y)/2=y => x<=y+1",
+    "~(Ex (x-1)/2=0 & x=0)",
+    "Ax,r 7*(x/7)+r=x & r<7 <=> x-7*(x/7)=r",
+    "Ay Ex x/3=y",
+    "?lsd_3 Ax x/3*3<=x",
+    "?msd_fib Ax x/2+x/2<=x",
+    "?msd_10 Ax 10*(x/10)<=x",
+    "?msd_16 Ax x/2<=x",
+    "?lsd_2 Ix Ey x=3*y",
+    "Ix Ey x=2*y",
+    "~(Ix x<7)",
+    "Ix 1=1",
+    "Ay Ix x>y",
+    "~(Ix Iy x=2*y)",
+    "~(Ey Ix x/3=y)",
 ];
 
 #[test]

@@ -3,7 +3,7 @@
 use crate::given::FileRow;
 use wal_outside::Folder;
 
-/// Words over systems built in and of users, words with gaps, of several inputs and in files that break their format; and rules.
+/// Words over systems built in and of users, words that lack letters, of several inputs and in files that break their format; and rules.
 pub static IMAGED: [FileRow; 63] = [
     (Folder::Bases, "msd_bin", "{0,1}\n0 1\n* -> 0\n"),
     (

@@ -102,6 +102,10 @@ mod image_steps;
 #[cfg(test)]
 mod image_texts;
 
+// words that lack letters
+#[cfg(test)]
+mod partial_words;
+
 // automata combined to words
 #[cfg(test)]
 mod combine_faults;

@@ -293,7 +293,7 @@ static SCRIPTS: [(&str, &str, u8, usize); 53] = [
         1,
         0,
     ),
-    ("eval a \"G[0]=@5\";", "error 1: F20 WordGap G [1]\n", 1, 0),
+    ("eval a \"G[0]=@5 & ~(G[1]=@5)\";", "TRUE\n", 0, 1),
     (
         "eval a \"G[0]=@5 & ?msd_wrong 0=0\";",
         "error 1: F15 NotAdmitted msd_wrong SuccessorLaw\n",

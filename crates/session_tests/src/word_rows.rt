@@ -9,9 +9,9 @@ use wal_outside::{Folder, MemStore};
 type FileRow = (&'static str, &'static str);
 
 /// The words that the scripts name: `T` is the Thue-Morse word and `L` the same read from the least significant digit on; `Q`
-/// at i and j says whether the Thue-Morse word has one letter there; `G` has no letter past 0, and `H` none at 2; `N` has a
-/// negative letter; `B` gives a letter two targets, `S` has a header of sets, and `Z` is 0 everywhere, over another system.
-static FILES: [FileRow; 10] = [
+/// at i and j says whether the Thue-Morse word has one letter there; `G` has no letter past 0, `H` none at 2, `P` one at 1 alone,
+/// and `Y` none; `M` and `W` have two outputs for a state, one of them `-`; `N` has a negative letter; `B` gives a letter two targets, `S` has a header of sets, and `Z` is 0 everywhere, over another system.
+static FILES: [FileRow; 14] = [
     ("T", "msd_2\n\n0 0\n0 -> 0\n1 -> 1\n\n1 1\n0 -> 1\n1 -> 0\n"),
     ("L", "lsd_2\n\n0 0\n0 -> 0\n1 -> 1\n\n1 1\n0 -> 1\n1 -> 0\n"),
     (
@@ -20,6 +20,10 @@ static FILES: [FileRow; 10] = [
     ),
     ("G", "msd_2\n0 5\n0 -> 0\n"),
     ("H", "msd_2\n0 5\n0 -> 0\n1 -> 1\n1 6\n1 -> 1\n"),
+    ("P", "msd_2\n0 -\n0 -> 0\n1 -> 1\n1 7\n"),
+    ("Y", "msd_2\n0 -\n"),
+    ("M", "msd_2\n0 -\n0 -\n"),
+    ("W", "msd_2\n0 5\n0 -\n"),
     ("N", "msd_2\n0 -3\n* -> 1\n1 4\n0 -> 1\n1 -> 1\n"),
     ("B", "msd_2\n0 0\n* -> 0\n1 -> 1\n1 1\n"),
     ("S", "{0,1}\n0 0\n0 -> 0\n1 -> 0\n"),
@@ -28,7 +32,7 @@ static FILES: [FileRow; 10] = [
 ];
 
 /// Scripts, and what they print.
-static PRINTED: [(&str, &str); 28] = [
+static PRINTED: [(&str, &str); 44] = [
     (
         "eval o \"Ei,n n>=1 & At t<=n => T[i+t]=T[i+n+t]\";",
         "FALSE\n",
@@ -73,15 +77,61 @@ static PRINTED: [(&str, &str); 28] = [
         "def w \"Z[x]=@0 & x=1\";",
         "error 1: F16 Clash x msd_3 msd_2\n",
     ),
-    ("eval w \"G[0]=@5\";", "error 1: F20 WordGap G [1]\n"),
-    ("eval w \"H[0]=@5\";", "error 1: F20 WordGap H [1][0]\n"),
+    ("eval w \"G[0]=@5\";", "TRUE\n"),
+    ("eval w \"H[0]=@5\";", "TRUE\n"),
+    ("eval w \"T[0]=@0 & G[0]=@5\";", "TRUE\n"),
+    ("eval w \"G[0]=@5 & H[0]=@5\";", "TRUE\n"),
+    ("eval v \"Ex G[x]!=@5\";", "FALSE\n"),
+    ("eval u \"Ax x=0 | ~(G[x]=G[x])\";", "TRUE\n"),
     (
-        "eval w \"T[0]=@0 & G[0]=@5\";",
-        "error 1: F20 WordGap G [1]\n",
+        "eval w \"G[1]=@5 | G[1]!=@5 | G[1]<@5 | G[1]<=@5 | G[1]>@5 | G[1]>=@5\";",
+        "FALSE\n",
     ),
     (
-        "eval w \"G[0]=@5 & H[0]=@5\";",
-        "error 1: F20 WordGap G [1]\n",
+        "eval w \"~(G[1]=@5) & ~(G[1]!=@5) & ~(G[1]<@5) & ~(G[1]<=@5) & ~(G[1]>@5) & ~(G[1]>=@5)\";",
+        "TRUE\n",
+    ),
+    (
+        "eval w \"G[1]=T[1] | G[1]!=T[1] | G[1]<T[1] | G[1]<=T[1] | G[1]>T[1] | G[1]>=T[1]\";",
+        "FALSE\n",
+    ),
+    (
+        "eval w \"~(G[1]=T[1]) & ~(G[1]!=T[1]) & ~(G[1]<T[1]) & ~(G[1]<=T[1]) & ~(G[1]>T[1]) & ~(G[1]>=T[1])\";",
+        "TRUE\n",
+    ),
+    (
+        "eval w \"T[1]=G[1] | T[1]!=G[1] | T[1]<G[1] | T[1]<=G[1] | T[1]>G[1] | T[1]>=G[1]\";",
+        "FALSE\n",
+    ),
+    (
+        "eval w \"H[1]=@6 & ~(H[2]=@6 | H[2]!=@6) & H[3]=@6\";",
+        "TRUE\n",
+    ),
+    ("eval w \"P[1]=@7 & (Ax P[x]<=P[x] => x=1)\";", "TRUE\n"),
+    ("eval w \"Ex Y[x]=@0 | Y[x]!=@0\";", "FALSE\n"),
+    (
+        "def r \"G[x]=@5\":",
+        "step 1 read 2 1\nstep 2 pad 2 1\nstep 3 valid 2 1\n",
+    ),
+    (
+        "def r \"Y[x]!=@5\":",
+        "step 1 read 2 1\nstep 2 pad 2 1\nstep 3 valid 1 1\n",
+    ),
+    (
+        "eval w \"M[0]=@0\";",
+        "error 1: F12 File Word Automata Library/M line 3\n",
+    ),
+    (
+        "eval w \"W[0]=@5\";",
+        "error 1: F12 File Word Automata Library/W line 3\n",
+    ),
+    (
+        "def f \"G[x]=@5\"; combine C f=7; eval w \"C[0]=@7 & (Ax x>0 => C[x]=@0)\";",
+        "TRUE\n",
+    ),
+    (
+        "def f \"G[x]!=@5\"; combine C f=7; eval w \"Ax C[x]=@0\";",
+        "TRUE\n",
     ),
     (
         "eval w \"N[0]=@-3 & N[7]=@4 & N[7]>@-3 & @-3<N[7] & ~N[7]=@-4\";",
@@ -123,12 +173,14 @@ static PRINTED: [(&str, &str); 28] = [
 ];
 
 /// Formulas with one free variable, and the texts that they store.
-static STORED: [(&str, &str); 3] = [
+static STORED: [(&str, &str); 5] = [
     (
         "T[x]=@1",
         "msd_2\n\n0 0\n0 -> 0\n1 -> 1\n\n1 1\n0 -> 1\n1 -> 0\n",
     ),
     ("T[x-1]!=@0 & x=0", "msd_2\n\n0 0\n"),
+    ("G[x]<=@5", "msd_2\n\n0 1\n0 -> 0\n"),
+    ("G[x]!=@5", "msd_2\n\n0 0\n"),
     (
         "T[T]=@0 & T=3",
         "msd_2\n\n0 0\n0 -> 0\n1 -> 1\n\n1 0\n1 -> 2\n\n2 1\n",

@@ -14,7 +14,7 @@ const SHOWN: &str = "step 1 regex 33 32\n";
 const EXCEEDED: &str = "error 1: F19 States step 1\n";
 
 /// Command lines, what is printed of the script, and the status.
-static WORDS: [(&str, &str, u8); 24] = [
+static WORDS: [(&str, &str, u8); 28] = [
     ("walnut", SHOWN, 0),
     ("walnut --states 33", SHOWN, 0),
     ("walnut --states=33", SHOWN, 0),
@@ -34,6 +34,10 @@ static WORDS: [(&str, &str, u8); 24] = [
     ("walnut --states +33", USAGE, 2),
     ("walnut --states -33", USAGE, 2),
     ("walnut --states many", USAGE, 2),
+    ("walnut --stop", USAGE, 2),
+    ("walnut --make 0", USAGE, 2),
+    ("walnut --states 33 --stop", USAGE, 2),
+    ("walnut --make=0 --states=33", USAGE, 2),
     ("walnut --help", USAGE, 2),
     ("walnut -h", USAGE, 2),
     ("walnut --version", USAGE, 2),

@@ -1,11 +1,11 @@
 -- The word whose letters are those at one place of the images.
-use Rattle.std.proofs.Common.{Bor, ◌≡◌, ℕ, zero, suc, ◌<◌, ◌≤◌, List, [], ◌∷◌, ◌++◌, length, get_or, ℤ, pos, Option, None, Some, ◌⊎◌, inl, inr, refl, sym, ap, ◌∙◌, subst, arith}
+use Rattle.std.proofs.Common.{Bor, ◌≡◌, ℕ, zero, suc, ◌<◌, ◌≤◌, List, [], ◌∷◌, ◌++◌, length, get_or, ℤ, Option, None, Some, ◌⊎◌, inl, inr, refl, sym, ap, ◌∙◌, subst, arith}
 use Rattle.std.specs.Prelude.{IfSome, IsSome, MatchOption, slice_get}
 use Rattle.std.specs.List.{HoldsAt}
 use Rattle.std.specs.Option.{option_and_then, option_copied, option_map_or}
 use Rattle.std.proofs.lemmas.Bool.{cases_lt}
 use Rattle.std.proofs.lemmas.List.{get_or_append_left, get_or_past, get_or_push, length_push}
-use Rattle.std.proofs.lemmas.Option.{none-some, slice_get-get_or, slice_get_past, slice_get_read}
+use Rattle.std.proofs.lemmas.Option.{none-some, slice_get_past, slice_get_read}
 use Rattle.digit_tuple.specs.Deterministic.{Automaton, letters_of, run_of, states_of}
 use Rattle.digit_tuple.specs.Letters.{IsWord, product}
 use Rattle.numeration.specs.Representation.{letters_in}
@@ -17,11 +17,9 @@ use Rattle.morph_words.specs.Images.{image}
 use Rattle.word_output.specs.LetterFunctions.{IsLetterFunction, LetterFunctionValue, letter_after, letter_in}
 use Rattle.word_output.specs.StateLetters.{letter_at, letter_led, letter_of_state}
 use Rattle.word_output.specs.Words.{IsWordValue, RepresentsPlace, WordValue}
-use Rattle.word_output.proofs.OptionLemmas.{some_there, some_value}
-use Rattle.word_images.specs.ImageWords.{IsMapped}
+use Rattle.word_output.proofs.OptionLemmas.{some_value}
 use Rattle.word_images.specs.Recoded.{IsRecoded}
 use Rattle.word_images.specs.RecodedLetters.{first_recoded, recoded_letter, recoded_letters}
-use Rattle.word_images.proofs.PlaceLemmas.{occurs}
 
 -- what is looked up at a place, copied
 pub copied_at : (o : Option (Bor ℤ)) (xs : List ℤ) (n : ℕ) → IfSome o (λ x. x.now ≡ get_or xs n x.now) → MatchOption o (length xs ≤ n) (λ x. (n < length xs) × HoldsAt (λ y. x.now ≡ y) xs n) → option_copied o ≡ slice_get xs n
@@ -62,7 +60,7 @@ module _ (rules : Rules) (r : ℕ) (f : LetterFunctionValue) where
       by None = refl
       by (Some q) = at q (cases_lt q (states_of f.automaton))
 
-module _ (rules : Rules) (r k : ℕ) (word : WordValue) (is : IsWordValue word) (mapped : IsMapped rules word k) (small : r < k) (g : LetterFunctionValue) (function : IsLetterFunction g) (sizes : g.automaton.sizes ≡ word.function.automaton.sizes)
+module _ (rules : Rules) (r : ℕ) (word : WordValue) (is : IsWordValue word) (g : LetterFunctionValue) (function : IsLetterFunction g) (sizes : g.automaton.sizes ≡ word.function.automaton.sizes)
     (letters : (w : List ℕ) → IsWord (letters_of word.function.automaton) w → letter_after g w ≡ letter_led word.function.automaton (recoded_letters rules r word.function) w) where
   abbrev made : WordValue
   made = record { systems = word.systems; function = g }
@@ -70,14 +68,8 @@ module _ (rules : Rules) (r k : ℕ) (word : WordValue) (is : IsWordValue word) 
   letter_is : (w : List ℕ) → IsWord (letters_in (systems_of word.systems)) w → letter_after g w ≡ recoded_letter rules r (letter_after word.function w)
   letter_is w over = letters w (subst (λ (ss : List ℕ). IsWord (product ss) w) (sym is.sizes) over) ∙ led_is rules r word.function is.function w
 
-  there : (ns w : List ℕ) → RepresentsPlace word.systems ns w → (b : ℤ) × (letter_after g w ≡ Some b)
-  there ns w represented =
-      let a = some_value (letter_after word.function w) ((is.everywhere w represented.over).1 (ns, represented)) in
-      let ruled = mapped.ruled a.0 (occurs word ns a.0 is (w, represented, a.1)) in
-      (get_or (image rules a.0) r (pos 0), letter_is w represented.over ∙ ap (recoded_letter rules r) a.1 ∙ slice_get-get_or (image rules a.0) r (pos 0) (omega (arith, small, mapped.length_is.uniform a.0 ruled)))
-
   represented_by : (w : List ℕ) → IsWord (letters_in (systems_of word.systems)) w → IsSome (letter_after g w) → (ns : List ℕ) × RepresentsPlace word.systems ns w
-  represented_by w over has = (is.everywhere w over).0 (by (letter_after word.function w) refl)
+  represented_by w over has = is.represents w over (by (letter_after word.function w) refl)
     where
       by : (o : Option ℤ) → letter_after word.function w ≡ o → IsSome o
       by None e = let b = some_value (letter_after g w) has in absurd (none-some b.0 (sym (letter_is w over ∙ ap (recoded_letter rules r) e) ∙ b.1))
@@ -94,7 +86,7 @@ module _ (rules : Rules) (r k : ℕ) (word : WordValue) (is : IsWordValue word) 
     sealed = is.sealed;
     shared_direction = is.shared_direction;
     sizes = sizes ∙ is.sizes;
-    everywhere = λ w over. ((λ has. represented_by w over has), (λ represented. let b = there represented.0 w represented.1 in some_there (letter_after g w) b.0 b.1));
+    represents = represented_by;
     one = λ ns w u first second. letter_is w first.over ∙ ap (recoded_letter rules r) (is.one ns w u first second) ∙ sym (letter_is u second.over);
   }
 
@@ -109,7 +101,7 @@ module _ (rules : Rules) (r k : ℕ) (word : WordValue) (is : IsWordValue word) 
   }
 
 -- of what is found in the code
-module _ (rules : Rules) (r k : ℕ) (word : WordValue) (is : IsWordValue word) (mapped : IsMapped rules word k) (small : r < k) (g f : LetterFunctionValue) (table : Automaton) (ls : List (Option ℤ)) (ss : List SystemValue) (f_is : f ≡ word.function) (table_is : table ≡ f.automaton)
+module _ (rules : Rules) (r : ℕ) (word : WordValue) (is : IsWordValue word) (g f : LetterFunctionValue) (table : Automaton) (ls : List (Option ℤ)) (ss : List SystemValue) (f_is : f ≡ word.function) (table_is : table ≡ f.automaton)
     (ls_are : ls ≡ recoded_letters rules r f) (ss_are : ss ≡ word.systems) (function : IsLetterFunction g) (sizes : g.automaton.sizes ≡ table.sizes) (letters : (w : List ℕ) → IsWord (letters_of table) w → letter_after g w ≡ letter_led table ls w) where
   tables : table ≡ word.function.automaton
   tables = table_is ∙ ap (λ (h : LetterFunctionValue). h.automaton) f_is
@@ -124,8 +116,8 @@ module _ (rules : Rules) (r k : ℕ) (word : WordValue) (is : IsWordValue word) 
   leads w over = letters w (subst (λ (e : Automaton). IsWord (letters_of e) w) (sym tables) over) ∙ (λ i. letter_led (tables i) (all_letters i) w)
 
   pub word_made : IsWordValue (record { systems = ss; function = g })
-  word_made = subst (λ (ts : List SystemValue). IsWordValue (record { systems = ts; function = g })) (sym ss_are) (made_is rules r k word is mapped small g function all_sizes leads)
+  word_made = subst (λ (ts : List SystemValue). IsWordValue (record { systems = ts; function = g })) (sym ss_are) (made_is rules r word is g function all_sizes leads)
 
   pub recoded_made : (v : WordValue) → v ≡ record { systems = ss; function = g } → IsRecoded rules word r v
   recoded_made v v_is =
-      subst (IsRecoded rules word r) (sym (v_is ∙ ap (λ (ts : List SystemValue). record { systems = ts; function = g }) ss_are)) (recoded_is rules r k word is mapped small g function all_sizes leads)
+      subst (IsRecoded rules word r) (sym (v_is ∙ ap (λ (ts : List SystemValue). record { systems = ts; function = g }) ss_are)) (recoded_is rules r word is g function all_sizes leads)

@@ -37,7 +37,7 @@ pub record IsMapped (rules : Rules) (word : WordValue) (k : ℕ) : Type 0 where
   pub length_is : HasLength IsImageLength rules k
   pub ruled : AreRuled rules word
 
--- the word over the same systems that has at each place the letter of the image
+-- the word over the same systems that has at each place the letter of the image, if there is one
 pub record IsImageWord (rules : Rules) (word v : WordValue) : Type 0 where
   pub word_is : IsWordValue v
   pub systems : v.systems ≡ word.systems

@@ -1,7 +1,7 @@
 -- Laws of the images of words.
-use Rattle.std.specs.Prelude.{◌≡◌, ℕ, ℤ, ◌∷◌, [], length}
+use Rattle.std.specs.Prelude.{◌≡◌, ◌↔◌, ℕ, ℤ, ◌∷◌, []}
 use Rattle.morph_words.specs.Rules.{Rules}
-use Rattle.morph_words.specs.ImageLetters.{IsImageLetter}
+use Rattle.morph_words.specs.ImageLetters.{IsImageLetter, IsJoinedLetter}
 use Rattle.word_output.specs.Words.{HasLetter, IsWordValue, WordValue}
 use Rattle.word_images.specs.ImageWords.{IsMapped}
 
@@ -9,10 +9,11 @@ use Rattle.word_images.specs.ImageWords.{IsMapped}
 abbrev pub LetterOf : WordValue → ℕ → ℤ → Type 0
 LetterOf word m c = HasLetter word (m ∷ []) c
 
--- the image of a word has a letter at each place
-abbrev pub ImagesHaveLetters : Type 0
-ImagesHaveLetters = (rules : Rules) (word : WordValue) (k place : ℕ) → IsWordValue word → length word.systems ≡ 1 → IsMapped rules word k → (letter : ℤ) × IsImageLetter rules (LetterOf word) place letter
+-- the image of a word with a letter at each place is the images of its letters, one after another
+abbrev pub ImagesAreJoined : Type 0
+ImagesAreJoined = (rules : Rules) (word : WordValue) (k : ℕ) → IsWordValue word → IsMapped rules word k → ((place : ℕ) → (letter : ℤ) × LetterOf word place letter)
+    → (place : ℕ) (letter : ℤ) → IsImageLetter rules (LetterOf word) place letter ↔ IsJoinedLetter rules (LetterOf word) place letter
 
--- and one alone
+-- the image of a word has one letter at most at each place
 abbrev pub ImagesHaveOneLetter : Type 0
-ImagesHaveOneLetter = (rules : Rules) (word : WordValue) (k place : ℕ) (b c : ℤ) → IsWordValue word → length word.systems ≡ 1 → IsMapped rules word k → IsImageLetter rules (LetterOf word) place b → IsImageLetter rules (LetterOf word) place c → b ≡ c
+ImagesHaveOneLetter = (rules : Rules) (word : WordValue) (place : ℕ) (b c : ℤ) → IsWordValue word → IsImageLetter rules (LetterOf word) place b → IsImageLetter rules (LetterOf word) place c → b ≡ c

@@ -1,9 +1,13 @@
 //! Laws of images, each a call that does nothing.
 
-ghost use Rattle.word_images.specs.Laws.{ImagesHaveLetters, ImagesHaveOneLetter};
+ghost use Rattle.word_images.specs.Laws.{ImagesAreJoined, ImagesHaveOneLetter};
 
-/// The image of a word has a letter at each place, and one alone.
-pub fn images_have_letters()
-    ensures some { ImagesHaveLetters }
-    ensures one { ImagesHaveOneLetter }
+/// The image of a word with a letter at each place is the images of its letters, one after another.
+pub fn images_are_joined()
+    ensures { ImagesAreJoined }
+{}
+
+/// The image of a word has one letter at most at each place.
+pub fn images_have_one_letter()
+    ensures { ImagesHaveOneLetter }
 {}

@@ -2,7 +2,7 @@
 //! images have one length, one after another, are a word over the same system.
 //!
 //! For each place of the images there is a recoded word, whose letter at each number is that at this place of the
-//! image. Each letter of the result has a formula over these words that is true at its places.
+//! image. Where the word has no letter, the recoded word and the image have none. Each letter of the result has a formula over these words that is true at its places.
 #![tactic(auto)]
 
 /// The letters of a word that have no rule.

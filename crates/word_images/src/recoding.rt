@@ -1,9 +1,8 @@
 //! Words whose letters are those at one place of the images.
 
-ghost use Rattle.std.specs.Prelude.{◌≡◌, ◌<◌, ℕ, IfOk, slice_get};
+ghost use Rattle.std.specs.Prelude.{◌≡◌, IfOk, slice_get};
 ghost use Rattle.std.specs.Option.{option_and_then};
 ghost use Rattle.morph_words.specs.Images.{image};
-ghost use Rattle.word_images.specs.ImageWords.{IsMapped};
 ghost use Rattle.word_images.specs.Recoded.{IsRecoded};
 ghost use Rattle.word_images.specs.RecodedLetters.{recoded_letters};
 
@@ -14,15 +13,14 @@ use std::alloc::Global;
 use word_output::letter_function::LetterFunction;
 use word_output::word::Word;
 
-/// The word that has at each place the letter at this place of the image of the word's letter there. Time and memory
-/// follow the states of the word.
+/// The word that has at each place the letter at this place of the image of the word's letter there. Where the word has
+/// no letter, or its letter has no image that is long enough, it has none. Time and memory follow the states of the word.
 pub fn recoded(
     alloc: Global,
     morphism: &Morphism,
     place: usize,
     word: &Word,
 ) -> Result<Word, OutOfMemory>
-    requires { (k : ℕ) × IsMapped morphism.now word.now k × (place < k) }
     ensures { IfOk result (IsRecoded morphism.now word.now place) }
 {
     let systems = shared(alloc, word.systems())?;

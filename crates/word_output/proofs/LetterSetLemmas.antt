@@ -4,7 +4,7 @@ use Rattle.std.specs.Option.{option_and_then, option_map_or}
 use Rattle.std.proofs.lemmas.Bool.{cases_lt}
 use Rattle.std.proofs.lemmas.List.{get_or_append_left, get_or_push, length_push}
 use Rattle.std.proofs.lemmas.Option.{none-some}
-use Rattle.digit_tuple.specs.Deterministic.{Automaton, accepting_of, accepts_of, run_of, states_of, step_of, target_by}
+use Rattle.digit_tuple.specs.Deterministic.{Automaton, accepting_of, accepts_from, accepts_of, run_of, states_of, step_of, target_by}
 use Rattle.digit_tuple.specs.Letters.{product, IsWord}
 use Rattle.digit_tuple.specs.Reflagged.{IsReflagged}
 use Rattle.digit_tuple.specs.declared.transitions.Transition.{Transition}
@@ -15,7 +15,16 @@ use Rattle.minimise.proofs.RunLemmas.{run_within}
 use Rattle.num_system.specs.declared.comparison.Comparison.{Comparison}
 use Rattle.word_output.specs.LetterFunctions.{IsLetterFunction, LetterFunctionValue, letter_after, letter_in}
 use Rattle.word_output.specs.LetterSets.{ComparesLetters, HasComparedLetter, IsLetterSet}
-use Rattle.word_output.proofs.FirstWordLemmas.{accepts-run}
+
+-- whether a word is accepted is determined by where it leads
+pub accepts-run : (d : Automaton) (w : List ℕ) (q : ℕ) → accepts_from d q w ≡ option_map_or (λ p. accepting_of d p) (run_of d q w) false
+accepts-run d [] q = refl
+accepts-run d (a ∷ w) q = by (step_of d q a) (accepts-run d w)
+  where
+    by : (o : Option ℕ) → ((p : ℕ) → accepts_from d p w ≡ option_map_or (λ r. accepting_of d r) (run_of d p w) false)
+        → option_map_or (λ p. accepts_from d p w) o false ≡ option_map_or (λ p. accepting_of d p) (option_and_then (λ p. run_of d p w) o) false
+    by None rest = refl
+    by (Some p) rest = rest p
 
 -- other flags lead nowhere else
 pub run-reflagged : (flags : List Bool) (old new : Automaton) → IsReflagged flags old new → (w : List ℕ) (q : ℕ) → run_of new q w ≡ run_of old q w

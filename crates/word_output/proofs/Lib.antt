@@ -1,6 +1,5 @@
 pub mod OptionLemmas
 pub mod StripLemmas
-pub mod TupleWords
 pub mod PlaceLemmas
 pub mod PlaceLaws
 pub mod WordSteps
@@ -12,9 +11,7 @@ pub mod StateLetterLemmas
 pub mod LetterFunctionLemmas
 pub mod LetterLeads
 pub mod ListedStateLemmas
-pub mod FirstWordLemmas
 pub mod LsdLetterLemmas
-pub mod GapLemmas
 pub mod LetterSetLemmas
 pub mod ValidLetterLemmas
 pub mod MsdLetterLemmas

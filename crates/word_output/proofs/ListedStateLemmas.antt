@@ -1,12 +1,12 @@
 -- The listed states that words lead to.
-use Rattle.std.proofs.Common.{◌≡◌, ◌==◌, ℕ, ℤ, ◌<◌, ◌≤◌, ◌↔◌, Bool, true, not, ◌&&◌, List, [], ◌∷◌, length, pos, Option, None, Some, unwrap_or, ◌⊎◌, inl, inr, refl, sym, ap, ◌∙◌, subst, arith, if◌then◌else◌}
+use Rattle.std.proofs.Common.{◌≡◌, ◌==◌, ℕ, ℤ, ◌<◌, ◌≤◌, ◌↔◌, Bool, true, not, ◌&&◌, List, [], ◌∷◌, length, Option, None, Some, unwrap_or, ◌⊎◌, inl, inr, refl, sym, ap, ◌∙◌, subst, arith, if◌then◌else◌}
 use Rattle.std.specs.List.{AllZip}
 use Rattle.std.specs.Option.{MatchOption, option_and_then}
-use Rattle.std.specs.Prelude.{slice_get, slice_index}
+use Rattle.std.specs.Prelude.{slice_index}
 use Rattle.std.proofs.lemmas.Bool.{cases_lt}
-use Rattle.std.proofs.lemmas.List.{get_or-map}
+use Rattle.std.proofs.lemmas.List.{get_or-map, get_or_past}
 use Rattle.std.proofs.lemmas.List.Elements.{All-weaker}
-use Rattle.std.proofs.lemmas.Option.{none-some, same_Some, slice_get-get_or, slice_get_past}
+use Rattle.std.proofs.lemmas.Option.{none-some}
 use Rattle.digit_tuple.specs.Deterministic.{Automaton, IsTable, letters_of, states_of, transitions_of, run_of}
 use Rattle.digit_tuple.specs.Explored.{key_at}
 use Rattle.digit_tuple.specs.Letters.{product, IsWord}
@@ -135,8 +135,8 @@ module _ (sizes : List ℕ) (listed : Listed) (d : Automaton) (is : IsTableOf si
 
 -- the letters of these states are the listed ones
 module _ (sizes : List ℕ) (listed : Listed) (keys : List (List ℕ)) (d : Automaton) (states : AreListedStates sizes listed keys d) where
-  letter_there : (t : ℕ) → t < states_of d → letter_at (listed_letters listed.outputs keys) t ≡ slice_get listed.outputs (listed_of keys t)
-  letter_there t inside = get_or-map (λ key. slice_get listed.outputs (slice_index key 0)) keys t [] None (omega (arith, inside, states.count))
+  letter_there : (t : ℕ) → t < states_of d → letter_at (listed_letters listed.outputs keys) t ≡ output_of listed (listed_of keys t)
+  letter_there t inside = get_or-map (λ key. output_of listed (slice_index key 0)) keys t [] None (omega (arith, inside, states.count))
 
   pub letter_led-listed : (tuples : List (List ℕ)) (w : List ℕ) (letter : ℤ) → AllZip (IsLetterOfDigits sizes) tuples w
       → (letter_led d (listed_letters listed.outputs keys) w ≡ Some letter) ↔ HasListedLetter sizes listed tuples letter
@@ -149,10 +149,10 @@ module _ (sizes : List ℕ) (listed : Listed) (keys : List (List ℕ)) (d : Auto
         where
           over : (listed_of keys t < length listed.outputs) ⊎ (length listed.outputs ≤ listed_of keys t) → letter_at (listed_letters listed.outputs keys) t ≡ Some letter → HasListedLetter sizes listed tuples letter
           over (inl less) same =
-              (listed_of keys t, (some.1 (listed_of keys t)).1 (refl, less), same_Some (output_of listed (listed_of keys t)) letter (sym (slice_get-get_or listed.outputs (listed_of keys t) (pos 0) less) ∙ sym (letter_there t some.0) ∙ same))
-          over (inr past) same = absurd (none-some letter (sym (slice_get_past listed.outputs (listed_of keys t) past) ∙ sym (letter_there t some.0) ∙ same))
+              (listed_of keys t, (some.1 (listed_of keys t)).1 (refl, less), sym (letter_there t some.0) ∙ same)
+          over (inr past) same = absurd (none-some letter (sym (get_or_past listed.outputs (listed_of keys t) None past) ∙ sym (letter_there t some.0) ∙ same))
 
           back : HasListedLetter sizes listed tuples letter → letter_at (listed_letters listed.outputs keys) t ≡ Some letter
           back has =
               let ends = (some.1 has.0).0 has.1 in
-              letter_there t some.0 ∙ ap (slice_get listed.outputs) (sym ends.0) ∙ slice_get-get_or listed.outputs has.0 (pos 0) ends.1 ∙ ap Some has.2
+              letter_there t some.0 ∙ ap (output_of listed) (sym ends.0) ∙ has.2

@@ -19,11 +19,6 @@ some_value (Some x) there = (x, refl)
 pub some_there : {X : Type 0} (o : Option X) (x : X) → o ≡ Some x → IsSome o
 some_there o x is = ap is_some is
 
--- what is not missing is there
-pub there_or : {X : Type 0} (o : Option X) → ¬ (o ≡ None) → IsSome o
-there_or None not_none = absurd (not_none refl)
-there_or (Some x) not_none = refl
-
 -- a value that is kept by a test passes it
 pub kept_passes : {X : Type 0} (test : Bool) (o : Option X) → IsSome (if test then o else None) → test ≡ true
 kept_passes true o there = refl

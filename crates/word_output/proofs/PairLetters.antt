@@ -25,9 +25,8 @@ use Rattle.product_op.proofs.SinkKeyLemmas.{are_sinks-at}
 use Rattle.word_output.specs.KeyLetters.{BothAlike, BothCompare, KeyCompares}
 use Rattle.word_output.specs.LetterFunctions.{IsLetterFunction, LetterFunctionValue, letter_after}
 use Rattle.word_output.specs.StateLetters.{letter_of_state}
-use Rattle.word_output.proofs.FirstWordLemmas.{accepts-run}
 use Rattle.word_output.proofs.LetterLeads.{led, letter_after-lead, one_led, same_letters, sink_letter}
-use Rattle.word_output.proofs.LetterSetLemmas.{run-reflagged}
+use Rattle.word_output.proofs.LetterSetLemmas.{accepts-run, run-reflagged}
 
 -- one more flag
 pub flags_more : (P : ℕ → Type 0) (flags : List Bool) (flag : Bool) (n : ℕ) → length flags ≡ n → ((q : ℕ) → q < n → IsTrue (slice_index_or flags q false) ↔ P q) → (IsTrue flag ↔ P n)

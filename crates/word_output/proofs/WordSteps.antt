@@ -1,4 +1,4 @@
--- What the three steps of a word make: its letters are those that are listed, and without a gap it is a word.
+-- What the three steps of a word make: a word, whose letters are those that are listed.
 use Rattle.std.proofs.Common.{◌≡◌, ℕ, ◌<◌, ℤ, true, List, length, Option, None, Some, Ok, sym, ap, ◌∙◌, subst, if◌then◌else◌}
 use Rattle.std.specs.Prelude.{IsSome}
 use Rattle.std.specs.List.{AllByRecursion}
@@ -15,7 +15,6 @@ use Rattle.num_system.specs.Sealed.{IsSealed, SystemValue}
 use Rattle.num_system.specs.Tracks.{ShareDirection, languages_of, systems_of, direction_of}
 use Rattle.automaton_steps.specs.Makings.{DoesStep}
 use Rattle.automaton_steps.proofs.AnswerCases.{both_done}
-use Rattle.word_output.specs.Gaps.{HasNoGap}
 use Rattle.word_output.specs.Laws.{WordsHaveListedLetters}
 use Rattle.word_output.specs.LetterFunctions.{LetterFunctionValue, letter_after}
 use Rattle.word_output.specs.LetterPaddings.{IsLetterPadding, letter_pad_step}
@@ -23,7 +22,7 @@ use Rattle.word_output.specs.LetterReadings.{IsLetterReading, letter_read_step}
 use Rattle.word_output.specs.ValidLetters.{AreValidLetters, valid_letters_step}
 use Rattle.word_output.specs.WordReadings.{DoesWordSteps, HasListedLetterAt}
 use Rattle.word_output.specs.Words.{HasLetter, IsWordValue, RepresentsPlace}
-use Rattle.word_output.proofs.OptionLemmas.{kept_passes, there_or}
+use Rattle.word_output.proofs.OptionLemmas.{kept_passes}
 use Rattle.word_output.proofs.PlaceLemmas.{one_stripped, place_of_valid, stripped_represents, valid_of_place}
 use Rattle.word_output.proofs.StripLemmas.{strip-twice}
 use Rattle.dfa_reading.proofs.TupleWords.{tuples_of, word_of_tuples}
@@ -63,7 +62,7 @@ module _ (systems : List SystemValue) (listed : Listed) (f : LetterFunctionValue
   padded_sizes : padded.automaton.sizes ≡ sizes_of ss
   padded_sizes = made.padding.sizes ∙ read_sizes
 
-  pub function_sizes : f.automaton.sizes ≡ sizes_of ss
+  function_sizes : f.automaton.sizes ≡ sizes_of ss
   function_sizes = made.validity.sizes ∙ padded_sizes
 
   over_sizes : (sizes w : List ℕ) → sizes ≡ sizes_of ss → IsWord (letters_in ss) w → IsWord (product sizes) w
@@ -86,32 +85,20 @@ module _ (systems : List SystemValue) (listed : Listed) (f : LetterFunctionValue
   letter_valid w over there = kept_passes (is_valid (sizes_of ss) (languages_of systems) w) (letter_after read (strip direction w)) (subst IsSome (kept_letter w over) there)
 
   module _ (sealed : AllByRecursion IsSealed systems) (one : ShareDirection systems) where
-    -- where no valid word lacks a letter, these are the letters of a word
-    module _ (some : 0 < length systems) (no_gap : HasNoGap (languages_of systems) f) where
-      place_lettered : (ns w : List ℕ) → RepresentsPlace systems ns w → IsSome (letter_after f w)
-      place_lettered ns w represented = there_or (letter_after f w)
-          (λ none. no_gap w (record {
-            over = over_sizes f.automaton.sizes w function_sizes represented.over;
-            valid = subst (λ (sizes : List ℕ). is_valid sizes (languages_of systems) w ≡ true) (sym function_sizes) (valid_of_place systems sealed one ns w represented);
-            none = none;
-          }))
-
-      pub word_is : IsWordValue (record { systems = systems; function = f })
-      word_is = record {
-        function = made.validity.function;
-        some = some;
-        sealed = sealed;
-        shared_direction = one;
-        sizes = function_sizes;
-        everywhere = λ w over. (
-          λ there. place_of_valid systems sealed one w over (letter_valid w over there),
-          λ place. place_lettered place.0 w place.1,
-        );
-        one = λ ns w u first second.
-            valid_letter w first.over (valid_of_place systems sealed one ns w first)
-            ∙ ap (letter_after read) (one_stripped systems sealed one ns w u first second)
-            ∙ sym (valid_letter u second.over (valid_of_place systems sealed one ns u second));
-      }
+    -- these are the letters of a word
+    pub word_is : 0 < length systems → IsWordValue (record { systems = systems; function = f })
+    word_is some = record {
+      function = made.validity.function;
+      some = some;
+      sealed = sealed;
+      shared_direction = one;
+      sizes = function_sizes;
+      represents = λ w over there. place_of_valid systems sealed one w over (letter_valid w over there);
+      one = λ ns w u first second.
+          valid_letter w first.over (valid_of_place systems sealed one ns w first)
+          ∙ ap (letter_after read) (one_stripped systems sealed one ns w u first second)
+          ∙ sym (valid_letter u second.over (valid_of_place systems sealed one ns u second));
+    }
 
     -- a word's letter at a place is listed there
     pub listed_letter : (ns : List ℕ) (letter : ℤ) → HasLetter (record { systems = systems; function = f }) ns letter → HasListedLetterAt direction ss listed ns letter

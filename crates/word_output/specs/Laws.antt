@@ -18,7 +18,6 @@ use Rattle.word_output.specs.LetterSets.{ComparesLetters, IsLetterSet}
 use Rattle.word_output.specs.WordPairs.{IsPair, PlacedLetters, pair_step}
 use Rattle.word_output.specs.WordReadings.{DoesWord, DoesWordSteps, HasListedLetterAt}
 use Rattle.word_output.specs.Words.{HasLetter, IsWordValue, WordValue}
-use Rattle.word_output.specs.declared.word_fault.WordFault.TheVariants.{Step}
 
 -- a word that is read has at each place the letter that is listed there
 abbrev pub WordsHaveListedLetters : Type 0
@@ -29,9 +28,9 @@ WordsHaveListedLetters = (old new : StepLog) (listed : Listed) (v : WordValue) �
 abbrev pub PlacesHaveOneLetter : Type 0
 PlacesHaveOneLetter = (v : WordValue) (ns : List ℕ) (b c : ℤ) → IsWordValue v → HasLetter v ns b → HasLetter v ns c → b ≡ c
 
--- and each has one
-abbrev pub PlacesHaveLetters : Type 0
-PlacesHaveLetters = (v : WordValue) (ns : List ℕ) → IsWordValue v → length ns ≡ length v.systems → (letter : ℤ) × HasLetter v ns letter
+-- words over the same systems with the same letters are equal
+abbrev pub WordsAreToldByTheirLetters : Type 0
+WordsAreToldByTheirLetters = (v u : WordValue) → IsWordValue v → IsWordValue u → v.systems ≡ u.systems → ((ns : List ℕ) (letter : ℤ) → HasLetter v ns letter ↔ HasLetter u ns letter) → v ≡ u
 
 -- the automaton of a set of letters holds of the places that have such a letter
 abbrev pub LetterSetsHold : Type 0
@@ -56,6 +55,6 @@ OneLetterSet = (comparison : Comparison) (letter : ℤ) (f : LetterFunctionValue
 abbrev pub PairsHaveOneOutcome : Type 0
 PairsHaveOneOutcome = (comparison : Comparison) (a b : PlacedLetters) → HasOneOutcome (pair_step comparison a b)
 
--- what a file lists is read as one word, or refused by one fault
+-- what a file lists is read as one word, or refused at one step
 abbrev pub WordReadingsHaveOneOutcome : Type 0
-WordReadingsHaveOneOutcome = (systems : List SystemValue) (listed : Listed) → HasOneAnswer (Step Memory) (DoesWord systems listed)
+WordReadingsHaveOneOutcome = (systems : List SystemValue) (listed : Listed) → HasOneAnswer Memory (DoesWord systems listed)

@@ -1,5 +1,5 @@
 -- Automata that give words letters, as for places of automatic words.
-use Rattle.std.specs.Prelude.{◌≡◌, ◌==◌, ℕ, ◌+◌, ◌-◌, ◌<◌, ◌≤◌, ℤ, pos, ◌<ℤ◌, List, ◌++◌, length, map, slice_index_or, Option, None, Some, unwrap_or, if◌then◌else◌}
+use Rattle.std.specs.Prelude.{◌≡◌, ◌==◌, ℕ, ◌+◌, ◌-◌, ◌<◌, ◌≤◌, ℤ, pos, ◌<ℤ◌, List, ◌++◌, length, map, slice_index_or, Option, None, Some, if◌then◌else◌}
 use Rattle.std.specs.List.{All, AllPairs, Contains}
 use Rattle.digit_tuple.specs.Deterministic.{Automaton, letters_of}
 use Rattle.digit_tuple.specs.Letters.{IsWord}
@@ -16,13 +16,9 @@ pub record LetterFunctionValue : Type 0 where
 abbrev pub letter_in : List ℤ → ℕ → Option ℤ
 letter_in letters class = if class == 0 then None else Some (slice_index_or letters (class - 1) (pos 0))
 
--- what a state of a class prints: its letter, and 0 where it has none
-abbrev pub output_in : List ℤ → ℕ → ℤ
-output_in letters class = unwrap_or (letter_in letters class) (pos 0)
-
--- what the states print, in their order
-abbrev pub outputs_of : LetterFunctionValue → List ℤ
-outputs_of f = map (output_in f.letters) f.classes
+-- the letter of each state, in their order
+abbrev pub outputs_of : LetterFunctionValue → List (Option ℤ)
+outputs_of f = map (letter_in f.letters) f.classes
 
 -- the letter of the state that the word leads to; none where it leads nowhere, or to a state without a letter
 abbrev pub letter_after : LetterFunctionValue → List ℕ → Option ℤ

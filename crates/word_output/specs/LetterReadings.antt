@@ -9,7 +9,7 @@ use Rattle.word_output.specs.LetterFunctions.{LetterFunctionValue, IsLetterFunct
 
 -- a path of listed transitions by these tuples ends in a state with this letter
 abbrev pub HasListedLetter : List ℕ → Listed → List (List ℕ) → ℤ → Type 0
-HasListedLetter sizes listed tuples letter = (q : ℕ) × MovesAlong sizes listed 0 tuples q × (output_of listed q ≡ letter)
+HasListedLetter sizes listed tuples letter = (q : ℕ) × MovesAlong sizes listed 0 tuples q × (output_of listed q ≡ Some letter)
 
 -- the word, letter by letter that of a tuple, leads along listed transitions to the state
 pub record LeadsListed (sizes : List ℕ) (listed : Listed) (w : List ℕ) (q : ℕ) : Type 0 where

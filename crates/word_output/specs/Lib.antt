@@ -5,8 +5,6 @@ pub mod ListedStates
 pub mod LetterPaddings
 pub mod PastZeros
 pub mod ValidLetters
-pub mod LeastWords
-pub mod Gaps
 pub mod LetterSets
 pub mod WordPairs
 pub mod KeyLetters

@@ -1,5 +1,5 @@
 -- States for the listed ones that words lead to. Nobody has to believe this: it serves the code of the step `read`.
-use Rattle.std.specs.Prelude.{◌≡◌, ◌↔◌, ℕ, ◌<◌, ℤ, List, Option, length, map, MatchOption, slice_get, slice_index}
+use Rattle.std.specs.Prelude.{◌≡◌, ◌↔◌, ℕ, ◌<◌, ℤ, List, Option, None, length, map, MatchOption, slice_index, slice_index_or}
 use Rattle.std.specs.List.{All, AllZip}
 use Rattle.digit_tuple.specs.Deterministic.{Automaton, states_of, run_of}
 use Rattle.digit_tuple.specs.Explored.{key_at}
@@ -20,5 +20,5 @@ pub record AreListedStates (sizes : List ℕ) (listed : Listed) (keys : List (Li
       (λ t. (t < states_of d) × ((q : ℕ) → MovesAlong sizes listed 0 tuples q ↔ ((q ≡ listed_of keys t) × (q < length listed.outputs))))
 
 -- the output of the listed state of each key
-abbrev pub listed_letters : List ℤ → List (List ℕ) → List (Option ℤ)
-listed_letters outputs keys = map (λ key. slice_get outputs (slice_index key 0)) keys
+abbrev pub listed_letters : List (Option ℤ) → List (List ℕ) → List (Option ℤ)
+listed_letters outputs keys = map (λ key. slice_index_or outputs (slice_index key 0) None) keys

@@ -1,5 +1,5 @@
--- Automatic words: the letter at each place, which is a tuple of numbers.
-use Rattle.std.specs.Prelude.{◌≡◌, ℕ, ◌<◌, ℤ, List, length, Some, IsSome, ◌↔◌}
+-- Automatic words: the letters at places, which are tuples of numbers. A place may have no letter.
+use Rattle.std.specs.Prelude.{◌≡◌, ℕ, ◌<◌, ℤ, List, length, Some, IsSome}
 use Rattle.std.specs.List.{AllByRecursion}
 use Rattle.digit_tuple.specs.Letters.{IsWord}
 use Rattle.digit_tuple.specs.Paddings.{in_order}
@@ -22,13 +22,13 @@ pub record RepresentsPlace (systems : List SystemValue) (ns w : List ℕ) : Type
 abbrev pub HasLetter : WordValue → List ℕ → ℤ → Type 0
 HasLetter v ns letter = (w : List ℕ) × RepresentsPlace v.systems ns w × (letter_after v.function w ≡ Some letter)
 
--- Each track has a sealed system, and these have one direction. The words that represent some place, and no others, have a letter, and all
--- representations of a place have one.
+-- Each track has a sealed system, and these have one direction. A word that has a letter represents a place, and all representations of a
+-- place have the same letter, or all have none.
 pub record IsWordValue (v : WordValue) : Type 0 where
   pub function : IsLetterFunction v.function
   pub some : 0 < length v.systems
   pub sealed : AllByRecursion IsSealed v.systems
   pub shared_direction : ShareDirection v.systems
   pub sizes : v.function.automaton.sizes ≡ sizes_of (systems_of v.systems)
-  pub everywhere : (w : List ℕ) → IsWord (letters_in (systems_of v.systems)) w → IsSome (letter_after v.function w) ↔ ((ns : List ℕ) × RepresentsPlace v.systems ns w)
+  pub represents : (w : List ℕ) → IsWord (letters_in (systems_of v.systems)) w → IsSome (letter_after v.function w) → (ns : List ℕ) × RepresentsPlace v.systems ns w
   pub one : (ns w u : List ℕ) → RepresentsPlace v.systems ns w → RepresentsPlace v.systems ns u → letter_after v.function w ≡ letter_after v.function u

@@ -1,6 +1,6 @@
 //! Laws of automatic words, each a call that does nothing.
 
-ghost use Rattle.word_output.specs.Laws.{LetterSetsHold, OneLetterSet, PairsHaveOneOutcome, PairsHold, PlacesHaveLetters, PlacesHaveOneLetter, WordReadingsHaveOneOutcome, WordsHaveListedLetters};
+ghost use Rattle.word_output.specs.Laws.{LetterSetsHold, OneLetterSet, PairsHaveOneOutcome, PairsHold, PlacesHaveOneLetter, WordReadingsHaveOneOutcome, WordsAreToldByTheirLetters, WordsHaveListedLetters};
 ghost use Rattle.word_output.specs.LetterFunctions.{LetterFunctionsAreEqual};
 
 /// Letter functions over the same tracks that give each word the same letter are equal.
@@ -13,10 +13,14 @@ pub fn words_have_listed_letters()
     ensures { WordsHaveListedLetters }
 {}
 
-/// Each place has one letter.
-pub fn places_have_letters()
-    ensures some { PlacesHaveLetters }
-    ensures one { PlacesHaveOneLetter }
+/// Each place has one letter at most.
+pub fn places_have_one_letter()
+    ensures { PlacesHaveOneLetter }
+{}
+
+/// Words over the same systems are equal if they have the same letters at the same places.
+pub fn words_are_told_by_their_letters()
+    ensures { WordsAreToldByTheirLetters }
 {}
 
 /// The automaton of a set of letters holds of the places that have such a letter, and is the only one that is

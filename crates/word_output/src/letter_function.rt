@@ -5,7 +5,7 @@ ghost use Rattle.digit_tuple.specs.Deterministic.{states_of, letters_of};
 ghost use Rattle.digit_tuple.specs.FirstWords.{IsNumberedByFirsts};
 ghost use Rattle.digit_tuple.specs.Letters.{IsWord};
 ghost use Rattle.minimise.specs.Classes.{class_of};
-ghost use Rattle.word_output.specs.LetterFunctions.{IsLetterFunction, letter_after, letter_in, output_in, outputs_of};
+ghost use Rattle.word_output.specs.LetterFunctions.{IsLetterFunction, letter_after, letter_in, outputs_of};
 ghost use Rattle.word_output.specs.StateLetters.{letter_led};
 
 use crate::state_letters::{classes_of, distinct_letters};
@@ -80,14 +80,14 @@ impl LetterFunction {
         }
     }
 
-    /// What the states print, in their order: each its letter, and 0 where it has none. Out of memory gives nothing.
-    pub fn outputs(&self, alloc: Global) -> Result<Vec<i32>, OutOfMemory>
+    /// The letter of each state, in their order; None is no letter. Out of memory gives nothing.
+    pub fn outputs(&self, alloc: Global) -> Result<Vec<Option<i32>>, OutOfMemory>
         ensures outputs { IfOk result (λ outputs. outputs.items ≡ outputs_of self.now) }
         ensures count { length (outputs_of self.now) ≡ states_of self.now.automaton }
     {
         let mut outputs = Vec::with_capacity(alloc, self.table_classes.len())?;
         for class in &self.table_classes {
-            outputs.push(output_of(&self.table_letters, *class))?;
+            outputs.push(letter_of_class(&self.table_letters, *class))?;
         }
         Ok(outputs)
     }
@@ -109,14 +109,14 @@ impl LetterFunction {
     }
 }
 
-// What a state of the class prints.
-fn output_of(letters: &[i32], class: u32) -> i32
+// The letter of a class; class 0 has none.
+fn letter_of_class(letters: &[i32], class: u32) -> Option<i32>
     requires { class ≤ length letters.now }
-    ensures { result ≡ output_in letters.now class }
+    ensures { result ≡ letter_in letters.now class }
 {
     if class == 0 {
-        0
+        None
     } else {
-        letters[class as usize - 1]
+        Some(letters[class as usize - 1])
     }
 }

@@ -1,6 +1,6 @@
 //! The step `read` of automatic words.
 
-ghost use Rattle.std.specs.Prelude.{◌≡◌, ◌+◌, ◌<◌, ◌≤◌, ◌∷◌, [], ℕ, List, length, slice_get, slice_index, IfOk, OnOk};
+ghost use Rattle.std.specs.Prelude.{◌≡◌, ◌+◌, ◌<◌, ◌≤◌, ◌∷◌, [], ℕ, List, length, None, slice_index, slice_index_or, IfOk, OnOk};
 ghost use Rattle.std.specs.List.{All};
 ghost use Rattle.std.specs.Result.{IsErrOf};
 ghost use Rattle.digit_tuple.specs.Deterministic.{letters_of, states_of};
@@ -32,7 +32,7 @@ use std::alloc::Global;
 
 /// The function that gives words the letters that a word's file lists, by the step `read` as the next one. `digits`
 /// gives how many digits each system of the header has. The width is the number of listed states that words lead to,
-/// and one more where some word leads to none. Time and memory follow the transitions of the listed table.
+/// and one more where some word leads to none. Words that lead to a state with output `-`, or to none, have no letter. Time and memory follow the transitions of the listed table.
 ///
 /// # Errors
 /// `Letters` if and only if there are too many tracks or letters, looked at first; `States` if and only if the width
@@ -106,7 +106,7 @@ fn table_states(alloc: Global, table: &Dfa, limit: u32) -> Result<Stepped<Explor
 fn listed_letters(
     alloc: Global,
     keys: &Numbering,
-    outputs: &[i32],
+    outputs: &[Option<i32>],
 ) -> Result<Vec<Option<i32>>, OutOfMemory>
     requires { All (λ key. 0 < length key) keys.now }
     ensures { IfOk result (λ letters. letters.items ≡ listed_letters outputs.now keys.now) }
@@ -118,10 +118,13 @@ fn listed_letters(
     Ok(letters)
 }
 
-// The output of the listed state of a key, if it has one.
-fn listed_letter(outputs: &[i32], key: &[u32]) -> Option<i32>
+// The output of the listed state of a key, if there is such a state and it has a letter.
+fn listed_letter(outputs: &[Option<i32>], key: &[u32]) -> Option<i32>
     requires { 0 < length key.now }
-    ensures { result ≡ slice_get outputs.now (slice_index key.now 0) }
+    ensures { result ≡ slice_index_or outputs.now (slice_index key.now 0) None }
 {
-    outputs.get(key[0] as usize).copied()
+    match outputs.get(key[0] as usize) {
+        Some(output) => *output,
+        None => None,
+    }
 }

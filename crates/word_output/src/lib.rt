@@ -1,4 +1,5 @@
-//! Automatic words: the letter at each place, as an automaton that gives letters to the words that represent places.
+//! Automatic words: the letters at places, as an automaton that gives letters to words that represent places. A place may have no
+//! letter.
 #![tactic(auto)]
 
 /// The letters of the states of an automaton.
@@ -24,18 +25,6 @@ pub mod letter_padding;
 
 /// The letters of valid words.
 pub mod valid_letters;
-
-/// The first words that automata accept.
-mod least_word;
-
-/// Valid words without a letter.
-pub mod gap;
-
-/// Representations of places.
-pub mod representation;
-
-/// Why no word is read.
-pub mod word_fault;
 
 /// Automatic words.
 pub mod word;

@@ -9,14 +9,11 @@ ghost use Rattle.num_system.specs.Sealed.{IsSealed};
 ghost use Rattle.num_system.specs.Tracks.{ShareDirection, languages_of as languages_of_systems};
 ghost use Rattle.word_output.specs.WordReadings.{DoesWord, DoesWordSteps};
 
-use crate::gap::least_gap;
 use crate::letter_function::LetterFunction;
 use crate::letter_padding::pad_letters;
 use crate::letter_reading::read_letters;
-use crate::representation::Representation;
 use crate::valid_letters::valid_letters;
 use crate::word::Word;
-use crate::word_fault::WordFault;
 use dfa_reading::Listed;
 use digit_tuple::dfa::Dfa;
 use digit_tuple::step_fault::StepFault;
@@ -28,19 +25,19 @@ use std::alloc::Global;
 use std::rc::Rc;
 
 /// The word whose letter at each place is that which a word's file lists there: where the path of the place's
-/// representation without leading zeros ends. It is made by the steps `read`, `pad` and `valid` as the next ones. There
+/// representation without leading zeros ends. A place has no letter where this path breaks or ends at a state without
+/// one. The word is made by the steps `read`, `pad` and `valid` as the next ones. There
 /// is a system for each track of the header, and all have one direction. The widths and the costs are those of the
 /// steps.
 ///
 /// # Errors
-/// `Letters` and `States` exactly at the first step that passes a limit. Where each step is within them, `Gap` if and
-/// only if some place has no letter, with the first representation of all such places.
+/// `Letters` and `States` exactly at the first step that passes a limit.
 pub fn read_word_steps(
     alloc: Global,
     listed: &Listed,
     systems: &[Rc<System>],
     steps: &mut Steps,
-) -> Result<Word, WordFault>
+) -> Result<Word, StepFault>
     requires states { 0 < length listed.now.outputs }
     requires word { IsWordListed listed.now }
     requires tracks { length systems.now ≡ length (digits_in listed.now.header) }
@@ -51,14 +48,7 @@ pub fn read_word_steps(
     let kept = shared(alloc, systems)?;
     let languages = languages_of(alloc, systems)?;
     let function = letter_steps(alloc, listed, systems, &languages, steps)?;
-    match least_gap(alloc, &function, &languages)? {
-        None => Ok(Word::from_parts(function, kept)),
-        Some(gap) => Err(WordFault::Gap(Representation::of_word(
-            alloc,
-            function.dfa().alphabet(),
-            &gap,
-        )?)),
-    }
+    Ok(Word::from_parts(function, kept))
 }
 
 // The letters of the valid words, by the three steps.

@@ -24,7 +24,7 @@ returns-in-Ok c =
     record {
       line = _;
       step = record {
-        made_is = subst (IsCombination c.args.parts.now systems) word c.in-Ok.ensures.combination;
+        made_is = subst (IsCombination c.args.rest c.args.parts.now systems) word c.in-Ok.ensures.combination;
         line_is = record {
           alphabet = c.in-Ok.ensures.alphabet;
           kind_is = refl;
@@ -47,4 +47,4 @@ pub returns-in-Err-States : goal.returns-in-Err-States
 returns-in-Err-States c =
     let is_states : c.in-Err-States.field-0 ≡ States = c.in-Err-States.field-0-is in
     let fault : IsErrOf c.combined.result States = c.in-Err-States.is ∙ ap Err is_states in
-    ((c.next_number-in-Err-States.ensures, subst (λ n. ExceedsWidth n (combine_step c.args.parts.now (map rc_value c.args.systems.now)).step) c.limit.ensures (c.combined.ensures.states fault)), refl)
+    ((c.next_number-in-Err-States.ensures, subst (λ n. ExceedsWidth n (combine_step c.args.rest c.args.parts.now (map rc_value c.args.systems.now)).step) c.limit.ensures (c.combined.ensures.states fault)), refl)

@@ -59,7 +59,7 @@ returns-in_err-result-clause-states c =
     let read : readings_in c.deref-3.result.now ≡ beside parts systems c.are_sealed.ensures =
     ap readings_in c.deref-3.ensures.value ∙ c.in_ok-readers.ensures ∙ ap (λ (ss : List ℕ). combined_readings parts ss (map rc_value c.deref-2.result.now)) sizes
     ∙ ap (λ (ls : List Automaton). combined_readings parts (sizes_of (systems_of systems)) ls) languages in
-    handed_on (λ r. IsErrOf r faults.States → ExceedsWidth c.args.limit (combine_step parts systems).step) c.from_residual-in_err-result.result c.in_err-result.field-0.0 c.from_residual-in_err-result.ensures.1
+    handed_on (λ r. IsErrOf r faults.States → ExceedsWidth c.args.limit (combine_step c.args.rest parts systems).step) c.from_residual-in_err-result.result c.in_err-result.field-0.0 c.from_residual-in_err-result.ensures.1
     (λ refused. record {
       alphabet = subst (λ (ss : List ℕ). IsAlphabet ss) digits c.in_ok-alphabet.ensures.fits;
       apart = apart_combine parts systems c.are_sealed.ensures c.requires.systems c.requires.shape c.are_relations.ensures (c.args.limit + 1)
@@ -110,7 +110,7 @@ returns-clause-combination c =
     let tuples : AreTuples (product (sizes_of (systems_of systems))) (beside parts systems c.are_sealed.ensures) keys e =
     subst (λ (rs : List Reading). AreTuples (product (sizes_of (systems_of systems))) rs keys e) read
     (subst (λ (ss : List ℕ). AreTuples (product ss) (readings_in c.deref-3.result.now) keys e) sizes c.in_ok-result.ensures.tuples) in
-    let letters = c.deref-5.ensures.value ∙ c.in_ok-letters.ensures ∙ ap (λ (rs : List Reading). held_letters parts rs keys) seen in
-    word_of_tuples parts systems c.are_sealed.ensures c.requires.systems c.requires.shape c.are_relations.ensures f keys e c.in_ok-function.ensures.function (c.in_ok-function.ensures.sizes ∙ own) tuples
+    let letters = c.deref-5.ensures.value ∙ c.in_ok-letters.ensures ∙ ap (λ (rs : List Reading). held_letters c.args.rest parts rs keys) seen in
+    word_of_tuples parts systems c.are_sealed.ensures c.requires.systems c.requires.shape c.are_relations.ensures c.args.rest f keys e c.in_ok-function.ensures.function (c.in_ok-function.ensures.sizes ∙ own) tuples
     (λ w over.
     c.in_ok-function.ensures.letters w (subst (λ (ss : List ℕ). IsWord (product ss) w) (sym own) over) ∙ ap (λ (ls : List (Option ℤ)). letter_led e ls w) letters)

@@ -1,4 +1,4 @@
-use Rattle.std.proofs.Common.{ap, sym, ◌∙◌, rules, arith, below_more}
+use Rattle.std.proofs.Common.{Some, ap, sym, ◌∙◌, rules, arith, below_more}
 use Rattle.std.proofs.lemmas.Int.{to_z-of_z}
 use mir.Val.{SFits}
 use mir.Syntax.{w32}
@@ -18,7 +18,7 @@ returns-then-accepts c =
     ∙ c.if-accepts.true in
     let fits : SFits w32 c.value.result = search rules in
     simp to_z-of_z
-    (c.value.ensures ∙ ap (λ (p : PartValue). p.value) c.index-parts-place.is ∙ sym (first_held-at parts flags place part c.loop-place-test.true c.loop-place.invariant set))
+    (ap Some (c.value.ensures ∙ ap (λ (p : PartValue). p.value) c.index-parts-place.is) ∙ sym (first_held-at c.args.rest parts flags place part c.loop-place-test.true c.loop-place.invariant set))
 
 pub loop-place-preserved : goal.loop-place-preserved
 loop-place-preserved c =
@@ -28,5 +28,5 @@ loop-place-preserved c =
 
 pub returns : goal.returns
 returns c =
-    sym (first_held-none c.args.parts.now (flags_at (readings_in c.args.readers.now) c.args.key.now)
+    sym (first_held-none c.args.rest c.args.parts.now (flags_at (readings_in c.args.readers.now) c.args.key.now)
     (λ k less. c.loop-place.invariant k (omega (arith, less, c.loop-place-test.false))))

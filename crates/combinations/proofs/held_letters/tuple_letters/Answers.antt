@@ -10,6 +10,6 @@ tuple_letter-requires-clause-key c =
 
 pub loop-number-preserved : goal.loop-number-preserved
 loop-number-preserved c =
-    letters_more (held_letter c.args.parts.now (readings_in c.args.readers.now)) c.args.keys.now c.loop-number.number c.push.new.self.items c.loop-number.letters.items c.tuple_letter.result
+    letters_more (held_letter c.args.rest c.args.parts.now (readings_in c.args.readers.now)) c.args.keys.now c.loop-number.number c.push.new.self.items c.loop-number.letters.items c.tuple_letter.result
     (omega (arith, c.loop-number-test.true, c.len-number-end.ensures.len)) c.in_ok-push.ensures.items c.loop-number.invariant
-    (c.tuple_letter.ensures ∙ ap (held_letter c.args.parts.now (readings_in c.args.readers.now)) c.key.ensures)
+    (c.tuple_letter.ensures ∙ ap (held_letter c.args.rest c.args.parts.now (readings_in c.args.readers.now)) c.key.ensures)

@@ -1,4 +1,4 @@
-use Rattle.std.proofs.Common.{◌≢◌, List, [], Ok, Err, sym, subst}
+use Rattle.std.proofs.Common.{◌≢◌, List, [], pos, Some, Ok, Err, sym, subst}
 use Rattle.std.proofs.lemmas.Result.{err_from_is_err_and}
 use Rattle.combinations.specs.CombineSteps.{DoesCombine}
 use Rattle.combinations.specs.Parts.{PartValue, systems_at}
@@ -14,7 +14,7 @@ use Rattle.session_cli.specs.TableReading.{AreReadable}
 use Rattle.session_cli.proofs.FormulaReady.{stopped_here}
 use Rattle.session_cli.proofs.ListedParts.{parts_shaped, some_automata, some_parts}
 use Rattle.session_cli.proofs.ListedSteps.{list_done, list_refused, unread_list}
-use Rattle.session_cli.proofs.ListedTables.{listed_no_gap, listed_readable, listed_relations, listed_under}
+use Rattle.session_cli.proofs.ListedTables.{listed_readable, listed_relations, listed_under}
 use Rattle.session_cli.proofs.combine.combined_word.Goals as goal
 
 pub read_tables-requires : goal.read_tables-requires
@@ -33,8 +33,7 @@ returns-in_err-library c =
     let systems = c.args.names.now.systems in
     let fault = c.in_err-library.field-0.0 in
     λ custom meant.
-    rw (p.1, p.2) (unread_list c.args.steps.now custom read.tables.items (automata_of read)
-    (λ name representation missing. listed_no_gap (automata_of read) read.tables.items possible.read_list.files possible.read_list.listed missing.systems c.args.steps.now name representation missing.gap) fault
+    rw (p.1, p.2) (unread_list c.args.steps.now custom read.tables.items (automata_of read) fault
     (stopped_here systems c.args.steps.now custom read.tables.items fault c.are_sealed.ensures meant (rw c.deref.ensures.value at c.in_err-library.ensures)))
 
 pub parts_of-requires-clause-named : goal.parts_of-requires-clause-named
@@ -89,7 +88,7 @@ returns-in_err-word c =
     subst (λ (l : ReadValue). ArePartsFrom l.relations 0 (automata_of read) parts) done.2 (subst (λ xs. ArePartsFrom c.in_ok-library.library.relations 0 (automata_in xs) parts) c.deref-2.ensures.value c.in_ok-parts.ensures) in
     let some : automata_of read ≢ [] = some_automata read.automata.items possible.read_list.some in
     let fault = c.in_err-word.field-0.0 in
-    let refused = subst (λ (ps : List PartValue). DoesCombine ps (systems_at ps 0) c.read_tables.new.steps (Err (Step fault)) c.word_of.new.steps) c.deref-3.ensures.value c.in_err-word.ensures in
+    let refused = subst (λ (ps : List PartValue). DoesCombine (Some (pos 0)) ps (systems_at ps 0) c.read_tables.new.steps (Err (Step fault)) c.word_of.new.steps) c.deref-3.ensures.value c.in_err-word.ensures in
     λ custom meant. rw (p.1, p.2) (list_refused c.args.steps.now read systems c.are_sealed.ensures done.0 c.read_tables.new.steps done.1 parts are some custom meant fault c.word_of.new.steps refused)
 
 pub returns : goal.returns
@@ -103,5 +102,5 @@ returns c =
     subst (λ (l : ReadValue). ArePartsFrom l.relations 0 (automata_of read) parts) done.2 (subst (λ xs. ArePartsFrom c.in_ok-library.library.relations 0 (automata_in xs) parts) c.deref-2.ensures.value c.in_ok-parts.ensures) in
     let some : automata_of read ≢ [] = some_automata read.automata.items possible.read_list.some in
     let word = c.in_ok-word.word in
-    let made = subst (λ (ps : List PartValue). DoesCombine ps (systems_at ps 0) c.read_tables.new.steps (Ok word) c.word_of.new.steps) c.deref-3.ensures.value c.in_ok-word.ensures in
+    let made = subst (λ (ps : List PartValue). DoesCombine (Some (pos 0)) ps (systems_at ps 0) c.read_tables.new.steps (Ok word) c.word_of.new.steps) c.deref-3.ensures.value c.in_ok-word.ensures in
     λ custom meant. list_done c.args.steps.now read systems c.are_sealed.ensures done.0 c.read_tables.new.steps done.1 parts are some custom meant word c.word_of.new.steps made

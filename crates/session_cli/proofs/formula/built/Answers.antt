@@ -9,7 +9,7 @@ use Rattle.formula_resolve.specs.Headers.{Headers}
 use Rattle.formula_resolve.specs.declared.variable.Variable.{Variable}
 use Rattle.system_files.specs.SystemFiles.{Custom}
 use Rattle.definitions.specs.Trees.{custom_of}
-use Rattle.session_cli.specs.FormulaFaults.{fault_of_reading, fault_of_resolution}
+use Rattle.session_cli.specs.FormulaFaults.{fault_of_resolution}
 use Rattle.session_cli.specs.FormulaMakes.{tree_of}
 use Rattle.session_cli.specs.FormulaOutcomes.{bindings_now}
 use Rattle.session_cli.specs.FormulaPlans.{HaveTracks, IsTextOf, HasNoTextOf}
@@ -64,7 +64,7 @@ returns-in_err-library c =
     let fault = c.in_err-library.field-0.0 in
     λ custom meant ledger files place stores same listed.
     let here = subst (λ (k : Custom). AreMeant k systems) (sym same) meant in
-    rw (p.1, p.2) (resolved_unbuilt c.args.steps ledger place tables f (fault_of_reading fault) no_fault
+    rw (p.1, p.2) (resolved_unbuilt c.args.steps ledger place tables f (track_systems.fault_of fault) no_fault
     (unread c.args.steps (custom_of ledger) tables f fault (stopped_here systems c.args.steps (custom_of ledger) tables fault c.are_sealed.ensures here (rw c.deref.ensures.value at c.in_err-library.ensures))))
 
 pub build-requires-clause-fits : goal.build-requires-clause-fits

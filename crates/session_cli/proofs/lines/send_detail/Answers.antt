@@ -52,9 +52,6 @@ returns-in-NotLinear g c = rw c.in-NotLinear.is c.send_number-in-NotLinear.ensur
 pub returns-in-File : goal.returns-in-File
 returns-in-File g c = rw c.in-File.is c.send_flawed.ensures
 
-pub returns-in-WordGap : goal.returns-in-WordGap
-returns-in-WordGap g c = rw c.in-WordGap.is c.send_gap.ensures
-
 pub returns-in-MacroArgs : goal.returns-in-MacroArgs
 returns-in-MacroArgs g c = rw c.in-MacroArgs.is c.send_arguments.ensures
 

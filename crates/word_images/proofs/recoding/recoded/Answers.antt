@@ -13,12 +13,12 @@ pub from_parts-requires : goal.from_parts-requires
 from_parts-requires c =
     let letters = c.deref.ensures.value ∙ c.in_ok-letters.ensures in
     let systems : List SystemValue = map rc_value c.in_ok-systems.systems.items in
-    word_made c.args.morphism.now c.args.place c.requires.0 c.args.word.now c.systems.ensures.word c.requires.1 c.requires.2 c.in_ok-recoded.recoded c.function-function.result.now c.dfa.result.now c.deref.result.now systems
+    word_made c.args.morphism.now c.args.place c.args.word.now c.systems.ensures.word c.in_ok-recoded.recoded c.function-function.result.now c.dfa.result.now c.deref.result.now systems
     c.function-function.ensures.value c.dfa.ensures.value letters (c.in_ok-systems.ensures ∙ c.systems.ensures.value) c.in_ok-recoded.ensures.function c.in_ok-recoded.ensures.sizes c.in_ok-recoded.ensures.letters
 
 pub returns : goal.returns
 returns c =
     let letters = c.deref.ensures.value ∙ c.in_ok-letters.ensures in
     let systems : List SystemValue = map rc_value c.in_ok-systems.systems.items in
-    recoded_made c.args.morphism.now c.args.place c.requires.0 c.args.word.now c.systems.ensures.word c.requires.1 c.requires.2 c.in_ok-recoded.recoded c.function-function.result.now c.dfa.result.now c.deref.result.now systems
+    recoded_made c.args.morphism.now c.args.place c.args.word.now c.systems.ensures.word c.in_ok-recoded.recoded c.function-function.result.now c.dfa.result.now c.deref.result.now systems
     c.function-function.ensures.value c.dfa.ensures.value letters (c.in_ok-systems.ensures ∙ c.systems.ensures.value) c.in_ok-recoded.ensures.function c.in_ok-recoded.ensures.sizes c.in_ok-recoded.ensures.letters c.from_parts.result c.from_parts.ensures

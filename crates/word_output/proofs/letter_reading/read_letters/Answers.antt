@@ -19,7 +19,7 @@ returns-in_ok-done-in-Ok c =
     let e = c.in-Ok.field-0.result.dfa in
     let keys = c.in-Ok.field-0.result.keys in
     let states = c.in-Ok.ensures.states in
-    let letters = c.deref.ensures.value ∙ c.in_ok-letters-in-Ok.ensures ∙ ap (λ (outputs : List ℤ). listed_letters outputs keys) c.outputs.ensures in
+    let letters = c.deref.ensures.value ∙ c.in_ok-letters-in-Ok.ensures ∙ ap (λ (outputs : List (Option ℤ)). listed_letters outputs keys) c.outputs.ensures in
     let size : c.states.result ≡ states_of read.automaton = c.states.ensures.value ∙ ap states_of c.dfa.ensures.value in
     record {
       line = _;

@@ -1,5 +1,6 @@
 use Rattle.std.proofs.Common.{◌≡◌, Bool, true, None, Some, IsSome, Option, is_some, cond, sym, ap, ◌∙◌}
 use Rattle.std.specs.Prelude.{option_map}
+use Rattle.dfa_reading.specs.declared.outputs.Outputs.TheVariants.{Numbers}
 use Rattle.dfa_reading.specs.Reading.{add_line}
 use Rattle.dfa_reading.specs.HeaderViews.{header_view}
 use Rattle.dfa_reading.specs.declared.header.FileHeader.{FileHeader}
@@ -15,7 +16,7 @@ some_view : (o : Option FileHeader) → is_some o ≡ true → IsSome (option_ma
 some_view None some = some
 some_view (Some header) some = some
 
-read_line : (c : Then-headed) → add_line c.args.at (draft_view c.args.self.now.draft) c.args.line.now ≡ Some (draft_view c.add_line.new.self)
+read_line : (c : Then-headed) → add_line Numbers c.args.at (draft_view c.args.self.now.draft) c.args.line.now ≡ Some (draft_view c.add_line.new.self)
 read_line c = sym c.in_ok-add_line.ensures ∙ ap (λ (d : Bool). cond d (Some (draft_view c.add_line.new.self)) None) c.if-not-branch.false
 
 still : (c : Then-headed) → is_headed (may_head c.args.self.now.part) (draft_view c.add_line.new.self).header ≡ true
@@ -30,13 +31,13 @@ returns-then-headed-clause-added c =
 
 pub returns-then-headed-clause-prefix : goal.returns-then-headed-clause-prefix
 returns-then-headed-clause-prefix c added = record {
-  draft_is = line_read-kept c.args.at (draft_view c.args.self.now.draft) (draft_view c.add_line.new.self) c.args.line.now (read_line c) c.requires.draft_is;
+  draft_is = line_read-kept Numbers c.args.at (draft_view c.args.self.now.draft) (draft_view c.add_line.new.self) c.args.line.now (read_line c) c.requires.draft_is;
   headed = still c;
 }
 
 pub returns-else-headed-clause-prefix : goal.returns-else-headed-clause-prefix
 returns-else-headed-clause-prefix c added = record {
-  draft_is = line_read-kept c.args.at (draft_view c.args.self.now.draft) (draft_view c.add_line.new.self) c.args.line.now
+  draft_is = line_read-kept Numbers c.args.at (draft_view c.args.self.now.draft) (draft_view c.add_line.new.self) c.args.line.now
       (sym c.in_ok-add_line.ensures ∙ ap (λ (d : Bool). cond d (Some (draft_view c.add_line.new.self)) None) c.if-not-branch.false) c.requires.draft_is;
   headed = sym c.heads.ensures ∙ added;
 }

@@ -1,5 +1,6 @@
 use Rattle.std.proofs.Common.{◌≡◌, Bool, length, cond, true, None, Some, sym, ap, ◌∙◌, subst}
 use Rattle.std.proofs.lemmas.List.{length-map}
+use Rattle.dfa_reading.specs.declared.outputs.Outputs.TheVariants.{Letters}
 use Rattle.dfa_reading.specs.Reading.{add_line}
 use Rattle.dfa_reading.specs.declared.draft.Draft.{Draft as DraftRead}
 use Rattle.dfa_reading.specs.DraftViews.{draft_line_view, draft_view}
@@ -14,7 +15,7 @@ returns-clause-added c =
     let old = c.args.self.now in
     let next = draft_view c.add_line.new.self in
     let b = c.in_ok-note_line.field-0 in
-    let read : add_line c.args.at (draft_view old.draft) c.args.line.now ≡ Some next = sym c.in_ok-add_line.ensures ∙ ap (λ (d : Bool). cond d (Some next) None) c.if-not-branch.false in
+    let read : add_line Letters c.args.at (draft_view old.draft) c.args.line.now ≡ Some next = sym c.in_ok-add_line.ensures ∙ ap (λ (d : Bool). cond d (Some next) None) c.if-not-branch.false in
     let states : c.len-states.result ≡ length old.draft.outputs.items = c.len-states.ensures ∙ old.draft.outputs.ok.0 in
     let lines : c.len-lines.result ≡ length (draft_view old.draft).lines = c.len-lines.ensures ∙ old.draft.lines.ok.0 ∙ sym (length-map old.draft.lines.items draft_line_view) in
     let systems : are_of_systems next.header ≡ true = sym c.are_systems.ensures ∙ c.if-not-are_systems.false in
@@ -27,7 +28,7 @@ returns-clause-prefix c all_agree =
     let next = draft_view c.add_line.new.self in
     let b = c.in_ok-note_line.field-0 in
     let new = c.note_line.new.self.last in
-    let read : add_line c.args.at (draft_view old.draft) c.args.line.now ≡ Some next = sym c.in_ok-add_line.ensures ∙ ap (λ (d : Bool). cond d (Some next) None) c.if-not-branch.false in
+    let read : add_line Letters c.args.at (draft_view old.draft) c.args.line.now ≡ Some next = sym c.in_ok-add_line.ensures ∙ ap (λ (d : Bool). cond d (Some next) None) c.if-not-branch.false in
     let states : c.len-states.result ≡ length old.draft.outputs.items = c.len-states.ensures ∙ old.draft.outputs.ok.0 in
     let lines : c.len-lines.result ≡ length (draft_view old.draft).lines = c.len-lines.ensures ∙ old.draft.lines.ok.0 ∙ sym (length-map old.draft.lines.items draft_line_view) in
     let systems : are_of_systems next.header ≡ true = sym c.are_systems.ensures ∙ c.if-not-are_systems.false in

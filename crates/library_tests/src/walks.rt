@@ -1,0 +1,439 @@
+//! Walks through listed words, against rows worked by hand and against a plain loop over all words.
+
+use crate::outcomes::{expect, expect_so};
+use crate::row_fault::RowFault;
+use crate::table_texts::language;
+use digit_tuple::dfa::Dfa;
+use digit_tuple::direction::Direction;
+use reference::words::all_words;
+use std::alloc::Global;
+use word_walk::infinity::is_infinite;
+use word_walk::walk::Walk;
+
+// An automaton's line, the words that are left out, the place, how many words are asked for, and the words: `()` is the
+// empty one, and `.` says that there are no more.
+struct Row {
+    line: &'static str,
+    skip: Option<Direction>,
+    place: Option<&'static [u32]>,
+    asked: u32,
+    words: &'static str,
+}
+
+const MSD: Option<Direction> = Some(Direction::Msd);
+
+const LSD: Option<Direction> = Some(Direction::Lsd);
+
+// No words, the empty word, one word, three words, a word and longer ones, and all words.
+const NOTHING: &str = "x:2 = /";
+
+const EMPTY_WORD: &str = "x:2 = ()";
+
+const ONE: &str = "x:2 = 101";
+
+const THREE: &str = "x:2 = 1|10|011";
+
+const ENDING: &str = "x:2 = .*1";
+
+const ALL: &str = "x:2 = .*";
+
+// Pairs of numbers of which the first is smaller, in both directions, and pairs of equal numbers.
+const LESS_MSD: &str = "x:2 y:2 = / 0>0 1>1 3>0/! 0>1 1>1 2>1 3>1";
+
+const LESS_LSD: &str = "x:2 y:2 = / 0>0 1>1 2>0 3>0/! 0>1 1>1 2>0 3>1";
+
+const EQUAL: &str = "x:2 y:2 = /! 0>0 3>0";
+
+// Words of 0s alone, and words that end with a 0.
+const ZEROS: &str = "x:2 = 0*";
+
+const EVEN: &str = "x:2 = .*0|()";
+
+// The word 1 and words of which each is six letters longer.
+const FAR: &str = "x:2 = / 1>1/! 0>2/ 0>3/ 0>4/ 0>5/ 0>6/ 0>1";
+
+static ROWS: [Row; 30] = [
+    Row {
+        line: NOTHING,
+        skip: None,
+        place: None,
+        asked: 2,
+        words: ".",
+    },
+    Row {
+        line: NOTHING,
+        skip: MSD,
+        place: Some(&[1]),
+        asked: 2,
+        words: ".",
+    },
+    Row {
+        line: EMPTY_WORD,
+        skip: None,
+        place: None,
+        asked: 3,
+        words: "() .",
+    },
+    Row {
+        line: EMPTY_WORD,
+        skip: LSD,
+        place: None,
+        asked: 3,
+        words: "() .",
+    },
+    Row {
+        line: EMPTY_WORD,
+        skip: None,
+        place: Some(&[]),
+        asked: 3,
+        words: ".",
+    },
+    Row {
+        line: ONE,
+        skip: None,
+        place: None,
+        asked: 3,
+        words: "101 .",
+    },
+    Row {
+        line: ONE,
+        skip: None,
+        place: Some(&[1, 0, 0]),
+        asked: 3,
+        words: "101 .",
+    },
+    Row {
+        line: ONE,
+        skip: None,
+        place: Some(&[1, 0, 1]),
+        asked: 3,
+        words: ".",
+    },
+    Row {
+        line: THREE,
+        skip: None,
+        place: None,
+        asked: 9,
+        words: "1 10 011 .",
+    },
+    Row {
+        line: THREE,
+        skip: None,
+        place: None,
+        asked: 2,
+        words: "1 10",
+    },
+    Row {
+        line: THREE,
+        skip: MSD,
+        place: None,
+        asked: 9,
+        words: "1 10 .",
+    },
+    Row {
+        line: THREE,
+        skip: LSD,
+        place: None,
+        asked: 9,
+        words: "1 011 .",
+    },
+    Row {
+        line: THREE,
+        skip: None,
+        place: Some(&[1, 1]),
+        asked: 9,
+        words: "011 .",
+    },
+    Row {
+        line: THREE,
+        skip: None,
+        place: Some(&[0, 0, 0, 0]),
+        asked: 9,
+        words: ".",
+    },
+    Row {
+        line: THREE,
+        skip: None,
+        place: Some(&[7]),
+        asked: 9,
+        words: "10 011 .",
+    },
+    Row {
+        line: ENDING,
+        skip: None,
+        place: None,
+        asked: 5,
+        words: "1 01 11 001 011",
+    },
+    Row {
+        line: ENDING,
+        skip: MSD,
+        place: None,
+        asked: 5,
+        words: "1 11 101 111 1001",
+    },
+    Row {
+        line: ENDING,
+        skip: LSD,
+        place: None,
+        asked: 5,
+        words: "1 01 11 001 011",
+    },
+    Row {
+        line: ENDING,
+        skip: MSD,
+        place: Some(&[0, 1, 1]),
+        asked: 2,
+        words: "101 111",
+    },
+    Row {
+        line: ALL,
+        skip: None,
+        place: None,
+        asked: 8,
+        words: "() 0 1 00 01 10 11 000",
+    },
+    Row {
+        line: ALL,
+        skip: MSD,
+        place: None,
+        asked: 6,
+        words: "() 1 10 11 100 101",
+    },
+    Row {
+        line: ALL,
+        skip: LSD,
+        place: None,
+        asked: 6,
+        words: "() 1 01 11 001 011",
+    },
+    Row {
+        line: ALL,
+        skip: LSD,
+        place: Some(&[0, 1, 0]),
+        asked: 2,
+        words: "011 101",
+    },
+    Row {
+        line: LESS_MSD,
+        skip: MSD,
+        place: None,
+        asked: 4,
+        words: "1 10 11 12",
+    },
+    Row {
+        line: LESS_MSD,
+        skip: MSD,
+        place: Some(&[1, 1]),
+        asked: 3,
+        words: "12 13 31",
+    },
+    Row {
+        line: LESS_LSD,
+        skip: LSD,
+        place: None,
+        asked: 4,
+        words: "1 01 11 13",
+    },
+    Row {
+        line: EQUAL,
+        skip: MSD,
+        place: None,
+        asked: 4,
+        words: "() 3 30 33",
+    },
+    Row {
+        line: ZEROS,
+        skip: MSD,
+        place: None,
+        asked: 4,
+        words: "() .",
+    },
+    Row {
+        line: EVEN,
+        skip: LSD,
+        place: None,
+        asked: 4,
+        words: "() .",
+    },
+    Row {
+        line: FAR,
+        skip: None,
+        place: None,
+        asked: 3,
+        words: "1 1000000 1000000000000",
+    },
+];
+
+// So many next words of a walk.
+fn walked(alloc: Global, row: &Row) -> Result<String, RowFault> {
+    let dfa = language(alloc, row.line)?;
+    let mut walk = match row.place {
+        Some(place) => Walk::resume(alloc, &dfa, row.skip, place)?,
+        None => Walk::new(alloc, &dfa, row.skip)?,
+    };
+    let mut word = Vec::new(alloc);
+    let mut text = String::new(alloc);
+    for number in 0..row.asked {
+        if number > 0 {
+            text.push(' ')?;
+        }
+        if !walk.next(&mut word)? {
+            text.push('.')?;
+            return Ok(text);
+        }
+        add_word(alloc, &word, &mut text)?;
+    }
+    Ok(text)
+}
+
+// Adds a word's letters.
+fn add_word(alloc: Global, word: &[u32], text: &mut String) -> Result<(), RowFault> {
+    if word.is_empty() {
+        text.push_str("()")?;
+    }
+    for letter in word {
+        text.push_str(&format!(in alloc; "{letter}")?)?;
+    }
+    Ok(())
+}
+
+#[test]
+fn walks_give_the_words_worked_out(rt: HostRuntime) {
+    for row in &ROWS {
+        expect(&rt, row.line, &walked(rt.alloc(), row), row.words);
+    }
+}
+
+// Automata whose words are all looked at: sets with a negative member have their digits by place, so they are like these.
+static LISTS: [&str; 9] = [
+    NOTHING,
+    ONE,
+    THREE,
+    ENDING,
+    ALL,
+    EVEN,
+    FAR,
+    "x:3 = (0|12)*2?",
+    "x:3 = / 0>1 2>0/! 1>2/ 0>0 1>1 2>2",
+];
+
+// The longest words that are looked at.
+const LONGEST: usize = 4;
+
+// Whether a word is left out.
+fn is_left_out(skip: Option<Direction>, word: &[u32]) -> bool {
+    match skip {
+        None => false,
+        Some(Direction::Msd) => word.first() == Some(&0),
+        Some(Direction::Lsd) => word.last() == Some(&0),
+    }
+}
+
+// All words up to the longest, shorter ones first, and those of one length letter by letter.
+fn short_words(alloc: Global, letters: u32) -> Result<Vec<Vec<u32>>, RowFault> {
+    let mut words = Vec::new(alloc);
+    for length in 0..=LONGEST {
+        for word in &all_words(alloc, letters, length)? {
+            words.push(Vec::from_slice(alloc, word.letters())?)?;
+        }
+    }
+    Ok(words)
+}
+
+// The first of these words that is listed, by trying one after another.
+fn first_listed<'a>(
+    dfa: &Dfa,
+    skip: Option<Direction>,
+    words: &'a [Vec<u32>],
+) -> Option<&'a Vec<u32>> {
+    words
+        .iter()
+        .find(|word| dfa.accepts(word) && !is_left_out(skip, word))
+}
+
+// Whether a walk from the place, or from before all words, gives the first listed word of those after it, or a longer
+// one than they are, or none.
+fn goes_on(
+    alloc: Global,
+    dfa: &Dfa,
+    skip: Option<Direction>,
+    walk: &mut Walk,
+    after: &[Vec<u32>],
+) -> Result<bool, RowFault> {
+    let mut word = Vec::new(alloc);
+    let found = walk.next(&mut word)?;
+    Ok(match first_listed(dfa, skip, after) {
+        Some(wanted) => found && *wanted == word && walk.place() == Some(&word),
+        None => !found || word.len() > LONGEST,
+    })
+}
+
+// Whether walks go on from each word up to the longest, listed or not, and from before them all.
+fn goes_on_everywhere(
+    alloc: Global,
+    line: &str,
+    skip: Option<Direction>,
+) -> Result<bool, RowFault> {
+    let dfa = language(alloc, line)?;
+    let words = short_words(alloc, dfa.alphabet().letters())?;
+    let mut walk = Walk::new(alloc, &dfa, skip)?;
+    if walk.place().is_some() || !goes_on(alloc, &dfa, skip, &mut walk, &words)? {
+        return Ok(false);
+    }
+    for (index, place) in words.iter().enumerate() {
+        let mut walk = Walk::resume(alloc, &dfa, skip, place)?;
+        let after = words.get(index + 1..).unwrap_or(&[]);
+        if walk.place() != Some(place) || !goes_on(alloc, &dfa, skip, &mut walk, after)? {
+            return Ok(false);
+        }
+    }
+    Ok(true)
+}
+
+#[test]
+fn walks_go_on_from_each_place(rt: HostRuntime) {
+    for line in &LISTS {
+        for skip in [None, MSD, LSD] {
+            expect_so(&rt, line, &goes_on_everywhere(rt.alloc(), line, skip));
+        }
+    }
+}
+
+// Automata, the words that are left out, and whether infinitely many are listed.
+static INFINITE: [(&str, Option<Direction>, bool); 16] = [
+    (NOTHING, None, false),
+    (EMPTY_WORD, None, false),
+    (ONE, None, false),
+    (THREE, MSD, false),
+    (ENDING, None, true),
+    (ENDING, MSD, true),
+    (ENDING, LSD, true),
+    (ALL, None, true),
+    (ZEROS, None, true),
+    (ZEROS, MSD, false),
+    (ZEROS, LSD, false),
+    (EVEN, MSD, true),
+    (EVEN, LSD, false),
+    (LESS_MSD, MSD, true),
+    (LESS_LSD, LSD, true),
+    (FAR, None, true),
+];
+
+// Whether the answer for an automaton is this.
+fn is_answer(
+    alloc: Global,
+    line: &str,
+    skip: Option<Direction>,
+    wanted: bool,
+) -> Result<bool, RowFault> {
+    let dfa = language(alloc, line)?;
+    Ok(is_infinite(alloc, &dfa, skip)? == wanted)
+}
+
+#[test]
+fn lists_are_infinite_as_worked_out(rt: HostRuntime) {
+    for (line, skip, wanted) in &INFINITE {
+        expect_so(&rt, line, &is_answer(rt.alloc(), line, *skip, *wanted));
+    }
+}
