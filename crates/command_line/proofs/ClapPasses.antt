@@ -85,7 +85,7 @@ no_mark_with : (v : Valued) (value : Text) → bytes_eq (45 ∷ 45 ∷ (id_of v 
 no_mark_with of_states value = refl
 no_mark_with of_make value = refl
 
--- where more words pass behind the use of an option, they pass behind its words
+-- where more words pass after the use of an option, they pass after its words
 abbrev Goes : List Row → List Text → Type 0
 Goes after tail = (rows : List Row) (pending : Option (Text × List Text)) → settle_fault rules false (holds rows pending) ≡ [] → settled_rows rules pending rows ≡ after → faults_from (at_idle rows pending) tail ≡ []
 
@@ -138,7 +138,7 @@ end_passes rows pending end (inr is) settles =
     let P : List Text → Type 0 = λ words. faults_from (at_idle rows pending) words ≡ [] in
     subst P (sym is) (one_more (at_idle rows pending) (stand (holds rows pending) idle true) (45 ∷ 45 ∷ []) [] refl (turn_at_mark (holds rows pending) idle) settles)
 
--- options that are used one behind another pass
+-- options that are used one after another pass
 passes : (given : List Given) (options end : List Text) → AreWordsOfAll given options → IsEnd end → ArePlain (states_in given) → ArePlain (seeds_in given)
     → (rows : List Row) (pending : Option (Text × List Text)) → settle_fault rules false (holds rows pending) ≡ [] → AreUsed given (settled_rows rules pending rows) → faults_from (at_idle rows pending) (options ++ end) ≡ []
 passes [] options end none is_end plain plain' rows pending settles are =
@@ -157,7 +157,7 @@ passes (make value ∷ more) options end (first, rest, split, spelled, others) i
     subst P (sym (ap (λ (xs : List Text). xs ++ end) split ∙ append_assoc first rest end)) (valued_passes of_make rows pending value first (rest ++ end) spelled plain'.0 settles are.0
     (λ rows' pending' settles' same. passes more rest end others is_end plain plain'.1 rows' pending' settles' (subst (AreUsed more) (sym same) are.1)))
 
--- nothing fails behind the walk
+-- nothing fails after the walk
 none_entered : (stopped : Option (Text × List Text)) → entered_fault (built walnut_app) stopped ≡ []
 none_entered None = refl
 none_entered (Some p) = refl

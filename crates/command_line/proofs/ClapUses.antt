@@ -1,4 +1,4 @@
--- What clap holds after options were used one behind another, and when such a use is refused.
+-- What clap holds after options were used one after another, and when such a use is refused.
 use Rattle.std.proofs.Common.{◌≡◌, ◌⊎◌, ◌||◌, ℕ, ◌+◌, ◌<◌, ◌≤◌, zero, suc, Bool, true, false, if◌then◌else◌, List, [], ◌∷◌, ◌++◌, length, map, Option, None, Some, refl, sym, ap, ◌∙◌, subst, inl, inr, arith, codes}
 use Rattle.std.specs.List.{fold, list_any}
 use Rattle.std.specs.Prelude.{slice_get, ⊤}
@@ -45,7 +45,7 @@ abbrev pub rows_with : List Given → List Row → List Row
 rows_with [] rows = rows
 rows_with (given ∷ more) rows = rows_with more (use_of given rows)
 
--- where no row has the id, the new row comes behind all others
+-- where no row has the id, the new row comes after all others
 new_at_end : (id : Text) (change : Row → List Row) (missing rows : List Row) → has_row id rows ≡ false → at_row id change missing rows ≡ rows ++ missing
 new_at_end id change missing [] none = refl
 new_at_end id change missing (r ∷ rs) none = by_test (bytes_eq r.id id) refl (new_at_end id change missing rs)

@@ -1,4 +1,4 @@
--- All words of the command line, as clap reads them: where nothing fails they are options one behind another.
+-- All words of the command line, as clap reads them: where nothing fails they are options one after another.
 use Rattle.std.proofs.Common.{◌≡◌, ◌⊎◌, ℕ, ◌≤◌, zero, suc, Bool, true, false, is_some, if◌then◌else◌, List, [], ◌∷◌, ◌++◌, length, drop, Option, None, Some, refl, sym, ap, ◌∙◌, subst, inl, inr, arith, codes}
 use Rattle.std.specs.List.{fold}
 use Rattle.std.specs.Prelude.{slice_get}
@@ -73,7 +73,7 @@ settles_at_flag held waiting word (name, value) unlike is e = by_name value (fla
         (or_else_nil (settle_fault rules false held) (use_fault false stop_rule [] (settled rules held).rows) react).0
     by_name (Some value) (inr named) is = absurd (no_value_at_stop held waiting word value unlike (renamed word name (codes "stop") (Some value) is named) e)
 
--- words that are options one behind another, which are used from some rows to others
+-- words that are options one after another, which are used from some rows to others
 record Reads (rows : List Row) (words : List Text) (last : List Row) : Type 0 where
   given : List Given
   options : List Text
@@ -84,7 +84,7 @@ record Reads (rows : List Row) (words : List Text) (last : List Row) : Type 0 wh
   are_used : AreUsed given rows
   last_is : last ≡ rows_with given rows
 
--- such words behind the words of one option
+-- such words after the words of one option
 joins : (v : Valued) (rows last : List Row) (value : Text) (words first rest : List Text) → words ≡ first ++ rest → AreNameAndValue (45 ∷ 45 ∷ id_of v) value first → use_fault false (rule_at v) (value ∷ []) rows ≡ []
     → Reads (used (rule_at v) (value ∷ []) rows) rest last → Reads rows words last
 joins of_states rows last value words first rest split are free reads = record {

@@ -18,7 +18,7 @@ data Awaits : Type 0 where
   for_states : Awaits
   for_make : Awaits
 
--- an option in one word, and those behind it
+-- an option in one word, and those after it
 abbrev alone : List ℕ → List Given → List Given
 alone word more =
     if bytes_eq word (codes "--") then []

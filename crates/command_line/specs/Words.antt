@@ -17,7 +17,7 @@ AreWordsOf (states value) words = AreNameAndValue (codes "--states") value words
 AreWordsOf stop words = words ≡ codes "--stop" ∷ []
 AreWordsOf (make value) words = AreNameAndValue (codes "--make") value words
 
--- the words of options, one behind another
+-- the words of options, one after another
 abbrev pub AreWordsOfAll : List Given → List (List ℕ) → Type 0
 AreWordsOfAll [] words = words ≡ []
 AreWordsOfAll (given ∷ more) words = (first rest : List (List ℕ)) × (words ≡ first ++ rest) × AreWordsOf given first × AreWordsOfAll more rest

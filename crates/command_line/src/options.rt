@@ -20,7 +20,7 @@ pub struct Options {
 const DEFAULT_LIMIT: u32 = 100_000;
 
 /// What the words of the command line give: the program's name, and the options `--states N`, `--stop` and `--make SEED`, each once or
-/// not at all, in any order, a value in a word of its own or behind `=`. A last word may be `--`. Numbers are decimal digits without
+/// not at all, in any order, a value in a word of its own or after `=`. A last word may be `--`. Numbers are decimal digits without
 /// a sign or a leading zero. Time and memory follow the words.
 ///
 /// # Errors

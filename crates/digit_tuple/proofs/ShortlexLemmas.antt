@@ -41,10 +41,6 @@ IsLetterwiseBefore-last (x ∷ u) a b less = inr (refl, IsLetterwiseBefore-last 
 pub IsBefore-last : (u : List ℕ) (a b : ℕ) → a < b → IsBefore (u ++ a ∷ []) (u ++ b ∷ [])
 IsBefore-last u a b less = inr (omega (arith, length_push u a, length_push u b), IsLetterwiseBefore-last u a b less)
 
--- a word is before each longer one
-pub IsBefore-more : (u : List ℕ) (a : ℕ) → IsBefore u (u ++ a ∷ [])
-IsBefore-more u a = inl (omega (arith, length_push u a))
-
 pub IsLetterwiseBefore-irreflexive : (u : List ℕ) → ¬ IsLetterwiseBefore u u
 IsLetterwiseBefore-irreflexive [] before = before
 IsLetterwiseBefore-irreflexive (a ∷ u) (inl less) = omega arith

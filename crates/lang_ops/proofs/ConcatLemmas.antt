@@ -27,7 +27,7 @@ use Rattle.lang_ops.specs.ShiftedRows.{shifted_state}
 use Rattle.lang_ops.proofs.LinkedPaths.{IsCut, LeadsLinked, cut_from_path, path_from_accepted, path_from_run}
 use Rattle.lang_ops.proofs.RestLemmas.{SameAfter-none, SameAfter-run, accepted_from_run, live_from_accepted, live_run, run_from_accepted, run_from_residual, same_run, some_after}
 use Rattle.lang_ops.proofs.ShiftedPaths.{LeadsShifted, run_from_shifted, shifted_path}
-use Rattle.lang_ops.proofs.TableLeads.{LeadsLinked-front, LeadsShifted-back, accepting_of-back, accepting_of-front, back_branch}
+use Rattle.lang_ops.proofs.TableLeads.{LeadsLinked-prefix, LeadsShifted-back, accepting_of-back, accepting_of-prefix, back_branch}
 
 -- where the first language is empty
 module _ (a b : Automaton) (dead : IsDead a 0) where
@@ -51,13 +51,13 @@ module _ (a b : Automaton) (one : IsCanonical a) (two : IsCanonical b) (same : b
   abbrev Accepted : List ℕ → Type 0
   Accepted u = IsTrue (accepts_of a u)
 
-  front : LeadsLinked a link n
-  front = LeadsLinked-front a one.table link false is.front (map (shifted_state (states_of a)) b.states) is.rows n is.states
+  prefix : LeadsLinked a link n
+  prefix = LeadsLinked-prefix a one.table link false is.prefix (map (shifted_state (states_of a)) b.states) is.rows n is.states
 
   back : LeadsShifted b (states_of a) n
-  back = LeadsShifted-back b two.table (states_of a) n (back_branch a one.table link false is.front (map (shifted_state (states_of a)) b.states) is.rows n is.states)
+  back = LeadsShifted-back b two.table (states_of a) n (back_branch a one.table link false is.prefix (map (shifted_state (states_of a)) b.states) is.rows n is.states)
 
-  -- the link is the state behind those of the first automaton
+  -- the link is the state after those of the first automaton
   link_is : (l : ℕ) → link ≡ Some l → (l ≡ states_of a) × ¬ IsDead b 0
   link_is l some = by link linked some
     where
@@ -83,7 +83,7 @@ module _ (a b : Automaton) (one : IsCanonical a) (two : IsCanonical b) (same : b
       let at : 0 + states_of a ≡ states_of a = omega arith in
       subst (λ k. Path n k w (r + states_of a)) at (shifted_path b two.table (states_of a) n back w 0 r two.table.initial leads)
 
-  -- behind a word of the first language the second automaton is led to the state
+  -- after a word of the first language the second automaton is led to the state
   abbrev IsBehind : List ℕ → ℕ → Type 0
   IsBehind w r = (x : List ℕ) × IsRest Accepted w x × (run_of b 0 x ≡ Some r)
 
@@ -93,16 +93,16 @@ module _ (a b : Automaton) (one : IsCanonical a) (two : IsCanonical b) (same : b
       past : (l : ℕ) → link ≡ Some l → (v : List ℕ) → Path n l v q → run_of a 0 w ≡ Some q
       past l to v path = let found = from_link l to v q path in absurd (omega (arith, low, found.1))
 
-      through : (run_of a 0 w ≡ Some q) ⊎ IsCut a one.table link n front 0 w q → run_of a 0 w ≡ Some q
+      through : (run_of a 0 w ≡ Some q) ⊎ IsCut a one.table link n prefix 0 w q → run_of a 0 w ≡ Some q
       through (inl run) = run
       through (inr cut) = past cut.state cut.to cut.rest cut.path
 
       by : (p : ℕ) → Path n p w q → (p ≡ 0) ⊎ ((accepting_of a 0 ≡ true) × (link ≡ Some p)) → run_of a 0 w ≡ Some q
-      by p path (inl zero) = through (cut_from_path a one.table link n front w 0 q one.table.initial (subst (λ k. Path n k w q) zero path))
+      by p path (inl zero) = through (cut_from_path a one.table link n prefix w 0 q one.table.initial (subst (λ k. Path n k w q) zero path))
       by p path (inr to) = past p to.1 w path
 
   first_there : (w : List ℕ) (q : ℕ) → run_of a 0 w ≡ Some q → Contains (Set w) q
-  first_there w q leads = (key_run-members n is.table w first q).1 (0, (starts.members 0).1 (inl refl), path_from_run a one.table link n front w 0 q one.table.initial leads)
+  first_there w q leads = (key_run-members n is.table w first q).1 (0, (starts.members 0).1 (inl refl), path_from_run a one.table link n prefix w 0 q one.table.initial leads)
 
   second_members : (w : List ℕ) (r : ℕ) → Contains (Set w) (r + states_of a) → (¬ IsDead b 0) × IsBehind w r
   second_members w r there = let found = (key_run-members n is.table w first (r + states_of a)).0 there in by found.0 found.2 ((starts.members found.0).0 found.1)
@@ -113,12 +113,12 @@ module _ (a b : Automaton) (one : IsCanonical a) (two : IsCanonical b) (same : b
           let at : found.0 ≡ r = omega (arith, found.1) in
           ((link_is l to).1, (v, (u, cut, accepts), found.2 ∙ ap Some at))
 
-      through : (run_of a 0 w ≡ Some (r + states_of a)) ⊎ IsCut a one.table link n front 0 w (r + states_of a) → (¬ IsDead b 0) × IsBehind w r
+      through : (run_of a 0 w ≡ Some (r + states_of a)) ⊎ IsCut a one.table link n prefix 0 w (r + states_of a) → (¬ IsDead b 0) × IsBehind w r
       through (inl run) = let low = run_within a w 0 (r + states_of a) one.table one.table.initial run in absurd (omega (arith, low))
-      through (inr cut) = behind cut.state cut.to cut.front cut.rest cut.is cut.accepted cut.path
+      through (inr cut) = behind cut.state cut.to cut.prefix cut.rest cut.is cut.accepted cut.path
 
       by : (p : ℕ) → Path n p w (r + states_of a) → (p ≡ 0) ⊎ ((accepting_of a 0 ≡ true) × (link ≡ Some p)) → (¬ IsDead b 0) × IsBehind w r
-      by p path (inl zero) = through (cut_from_path a one.table link n front w 0 (r + states_of a) one.table.initial (subst (λ k. Path n k w (r + states_of a)) zero path))
+      by p path (inl zero) = through (cut_from_path a one.table link n prefix w 0 (r + states_of a) one.table.initial (subst (λ k. Path n k w (r + states_of a)) zero path))
       by p path (inr to) = behind p to.1 [] w refl to.0 path
 
   second_there : (w : List ℕ) (r : ℕ) → ¬ IsDead b 0 → IsBehind w r → Contains (Set w) (r + states_of a)
@@ -131,7 +131,7 @@ module _ (a b : Automaton) (one : IsCanonical a) (two : IsCanonical b) (same : b
         0,
         (starts.members 0).1 (inl refl),
         subst (λ v. Path n 0 v (r + states_of a)) (sym cut)
-            (Path-append n (c ∷ u) found.0 0 (states_of a) (r + states_of a) (path_from_accepted a one.table link n front u c 0 (states_of a) one.table.initial (link_there alive) accepts) (to_link found.0 r found.2)),
+            (Path-append n (c ∷ u) found.0 0 (states_of a) (r + states_of a) (path_from_accepted a one.table link n prefix u c 0 (states_of a) one.table.initial (link_there alive) accepts) (to_link found.0 r found.2)),
       )
 
   -- a state of the first automaton, or one of the second
@@ -156,12 +156,12 @@ module _ (a b : Automaton) (one : IsCanonical a) (two : IsCanonical b) (same : b
       accepted q there accepts = by (split q)
         where
           by : (q < states_of a) ⊎ ((r : ℕ) × (q ≡ r + states_of a)) → IsConcatenated a b w
-          by (inl low) = absurd (true≢false (sym accepts ∙ accepting_of-front a one.table link false is.front (map (shifted_state (states_of a)) b.states) is.rows n is.states q low))
+          by (inl low) = absurd (true≢false (sym accepts ∙ accepting_of-prefix a one.table link false is.prefix (map (shifted_state (states_of a)) b.states) is.rows n is.states q low))
           by (inr (r, at)) =
               let found = second_members w r (subst (Contains (Set w)) at there) in
               let low = run_within b found.1.0 0 r two.table two.table.initial found.1.2 in
               let last : accepting_of b r ≡ true =
-              sym (accepting_of-back b two.table (states_of a) n (back_branch a one.table link false is.front (map (shifted_state (states_of a)) b.states) is.rows n is.states) r low) ∙ ap (branching.accepting_of n) (sym at) ∙ accepts in
+              sym (accepting_of-back b two.table (states_of a) n (back_branch a one.table link false is.prefix (map (shifted_state (states_of a)) b.states) is.rows n is.states) r low) ∙ ap (branching.accepting_of n) (sym at) ∙ accepts in
               (found.1.1.0, found.1.0, found.1.1.1, found.1.1.2, accepted_from_run b found.1.0 r found.1.2 last)
 
       forth : (o : Option (List ℕ)) → key_run (set_after n) first w ≡ o → option_map_or (has_accepting n) o false ≡ true → IsConcatenated a b w
@@ -177,7 +177,7 @@ module _ (a b : Automaton) (one : IsCanonical a) (two : IsCanonical b) (same : b
           let low = run_within b found.1 0 run.0 two.table two.table.initial run.1 in (
             run.0 + states_of a,
             second_there w run.0 alive (found.1, (found.0, found.2, found.3), run.1),
-            accepting_of-back b two.table (states_of a) n (back_branch a one.table link false is.front (map (shifted_state (states_of a)) b.states) is.rows n is.states) run.0 low ∙ run.2,
+            accepting_of-back b two.table (states_of a) n (back_branch a one.table link false is.prefix (map (shifted_state (states_of a)) b.states) is.rows n is.states) run.0 low ∙ run.2,
           )
 
       back_to : IsConcatenated a b w → (o : Option (List ℕ)) → key_run (set_after n) first w ≡ o → option_map_or (has_accepting n) o false ≡ true

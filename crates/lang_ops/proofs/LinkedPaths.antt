@@ -33,12 +33,12 @@ module _ (a : Automaton) (table : IsTable (letters_of a) a.states) (link : Optio
       by None step none rest = absurd (true≢false (sym none))
       by (Some t) step some rest = (t, (leads p c t low).1 (inl step), rest t (step_within a p c t table low step) some)
 
-  -- the word is cut behind an accepted front, where a path goes through the link
+  -- the word is cut after an accepted prefix, where a path goes through the link
   pub record IsCut (p : ℕ) (w : List ℕ) (q : ℕ) : Type 0 where
-    pub front : List ℕ
+    pub prefix : List ℕ
     pub rest : List ℕ
-    pub is : w ≡ front ++ rest
-    pub accepted : accepts_from a p front ≡ true
+    pub is : w ≡ prefix ++ rest
+    pub accepted : accepts_from a p prefix ≡ true
     pub state : ℕ
     pub to : link ≡ Some state
     pub path : Path n state rest q
@@ -52,10 +52,10 @@ module _ (a : Automaton) (table : IsTable (letters_of a) a.states) (link : Optio
       further : step_of a p c ≡ Some path.0 → (run_of a path.0 w ≡ Some q) ⊎ IsCut path.0 w q → (run_of a p (c ∷ w) ≡ Some q) ⊎ IsCut p (c ∷ w) q
       further step (inl run) = inl (ap (λ (o : Option ℕ). option_and_then (λ t. run_of a t w) o) step ∙ run)
       further step (inr cut) = inr (record {
-        front = c ∷ cut.front;
+        prefix = c ∷ cut.prefix;
         rest = cut.rest;
         is = ap (λ v. c ∷ v) cut.is;
-        accepted = ap (λ (o : Option ℕ). option_map_or (λ t. accepts_from a t cut.front) o false) step ∙ cut.accepted;
+        accepted = ap (λ (o : Option ℕ). option_map_or (λ t. accepts_from a t cut.prefix) o false) step ∙ cut.accepted;
         state = cut.state;
         to = cut.to;
         path = cut.path;
@@ -66,7 +66,7 @@ module _ (a : Automaton) (table : IsTable (letters_of a) a.states) (link : Optio
           → (path.0 < states_of a → (run_of a path.0 w ≡ Some q) ⊎ IsCut path.0 w q) → (run_of a p (c ∷ w) ≡ Some q) ⊎ IsCut p (c ∷ w) q
       by (inl step) rest = further step (rest (step_within a p c path.0 table low step))
       by (inr found) rest = inr (record {
-        front = c ∷ [];
+        prefix = c ∷ [];
         rest = w;
         is = refl;
         accepted = ap (λ (o : Option ℕ). option_map_or (λ t. accepts_from a t []) o false) found.1.1 ∙ found.1.2;

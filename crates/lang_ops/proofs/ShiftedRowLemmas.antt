@@ -1,4 +1,4 @@
--- States behind others: their transitions are in range and in order.
+-- States after others: their transitions are in range and in order.
 use Rattle.std.proofs.Common.{◌≡◌, ℕ, ◌+◌, ◌<◌, ◌≤◌, List, [], ◌∷◌, ◌++◌, map, get_or, inl, sym, ap, ◌∙◌, arith}
 use Rattle.std.specs.List.{All, range_with_len}
 use Rattle.std.proofs.lemmas.List.{append_assoc, get_or-map, length-map, map-append}
@@ -37,14 +37,14 @@ abbrev pub shifted_to : Automaton → ℕ → ℕ → List Branch
 shifted_to d before count = map (λ q. shifted_state before (state_of d q)) (range_with_len 0 count)
 
 -- one more
-pub shifted_more : (d : Automaton) (before : ℕ) (front : List Branch) (rows : List NfaState) (state : ℕ) (row : NfaState) → branch_in row ≡ shifted_state before (state_of d state)
-    → branches_in rows ≡ front ++ shifted_to d before state → branches_in (rows ++ row ∷ []) ≡ front ++ shifted_to d before (state + 1)
-shifted_more d before front rows state row is are =
+pub shifted_more : (d : Automaton) (before : ℕ) (prefix : List Branch) (rows : List NfaState) (state : ℕ) (row : NfaState) → branch_in row ≡ shifted_state before (state_of d state)
+    → branches_in rows ≡ prefix ++ shifted_to d before state → branches_in (rows ++ row ∷ []) ≡ prefix ++ shifted_to d before (state + 1)
+shifted_more d before prefix rows state row is are =
     map-append branch_in rows (row ∷ [])
     ∙ ap (λ (bs : List Branch). bs ++ branch_in row ∷ []) are
-    ∙ append_assoc front (shifted_to d before state) (branch_in row ∷ [])
-    ∙ ap (λ (b : Branch). front ++ (shifted_to d before state ++ b ∷ [])) is
-    ∙ ap (λ (bs : List Branch). front ++ bs) (sym (map-range_with_len_more (λ q. shifted_state before (state_of d q)) 0 state state (omega arith)))
+    ∙ append_assoc prefix (shifted_to d before state) (branch_in row ∷ [])
+    ∙ ap (λ (b : Branch). prefix ++ (shifted_to d before state ++ b ∷ [])) is
+    ∙ ap (λ (bs : List Branch). prefix ++ bs) (sym (map-range_with_len_more (λ q. shifted_state before (state_of d q)) 0 state state (omega arith)))
 
 -- all of them
 pub shifted_all : (d : Automaton) (before : ℕ) → shifted_to d before (states_of d) ≡ map (shifted_state before) d.states

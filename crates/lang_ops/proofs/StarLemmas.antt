@@ -24,7 +24,7 @@ use Rattle.lang_ops.specs.Star.{IsStarred, StarAlike}
 use Rattle.lang_ops.specs.StarTables.{IsStarTable}
 use Rattle.lang_ops.proofs.LinkedPaths.{IsCut, LeadsLinked, cut_from_path, path_from_accepted, path_from_run}
 use Rattle.lang_ops.proofs.RestLemmas.{SameAfter-run, accepted_from_run, live_letter, run_from_accepted, run_from_residual, same_run, some_after}
-use Rattle.lang_ops.proofs.TableLeads.{LeadsLinked-front, accepting_of-front}
+use Rattle.lang_ops.proofs.TableLeads.{LeadsLinked-prefix, accepting_of-prefix}
 
 module _ (a : Automaton) where
   abbrev Accepted : List ℕ → Type 0
@@ -67,9 +67,9 @@ module _ (a : Automaton) where
 
 module _ (a : Automaton) (canonical : IsCanonical a) (more : List Branch) (n : Branching) (is : IsStarTable a more n) where
   pub leads : LeadsLinked a (Some 0) n
-  leads = LeadsLinked-front a canonical.table (Some 0) true is.front more is.rows n is.states
+  leads = LeadsLinked-prefix a canonical.table (Some 0) true is.prefix more is.rows n is.states
 
-  -- where a path leads from the initial state, the rest of the word behind some pieces leads
+  -- where a path leads from the initial state, the rest of the word after some pieces leads
   rest_below : (k : ℕ) (w : List ℕ) (q : ℕ) → length w < k → Path n 0 w q → (z : List ℕ) × IsRest (IsStarred a) w z × (run_of a 0 z ≡ Some q)
   rest_below zero w q short path = absurd (omega (arith, short))
   rest_below (suc k) w q short path = by (cut_from_path a canonical.table (Some 0) n leads w 0 q canonical.table.initial path) (λ v low. rest_below k v q low)
@@ -82,7 +82,7 @@ module _ (a : Automaton) (canonical : IsCanonical a) (more : List Branch) (n : B
           let found = below cut.rest (omega (arith, cut.shorter, short)) (subst (λ p. Path n p cut.rest q) start cut.path) in
           let rest = found.1 in (
             found.0,
-            (cut.front ++ rest.0, cut.is ∙ ap (λ v. cut.front ++ v) rest.1 ∙ sym (append_assoc cut.front rest.0 found.0), (cut.front ∷ rest.2.0, ap (λ v. cut.front ++ v) rest.2.1, (cut.accepted, rest.2.2))),
+            (cut.prefix ++ rest.0, cut.is ∙ ap (λ v. cut.prefix ++ v) rest.1 ∙ sym (append_assoc cut.prefix rest.0 found.0), (cut.prefix ∷ rest.2.0, ap (λ v. cut.prefix ++ v) rest.2.1, (cut.accepted, rest.2.2))),
             found.2,
           )
 
@@ -103,7 +103,7 @@ module _ (a : Automaton) (canonical : IsCanonical a) (more : List Branch) (n : B
   path_low w q path = let found = rest_from_path w q path in run_within a found.0 0 q canonical.table canonical.table.initial found.2
 
   accepting_is : (q : ℕ) → q < states_of a → branching.accepting_of n q ≡ accepting_of a q
-  accepting_is q low = accepting_of-front a canonical.table (Some 0) true is.front more is.rows n is.states q low
+  accepting_is q low = accepting_of-prefix a canonical.table (Some 0) true is.prefix more is.rows n is.states q low
 
   -- a word that leads to an accepting state is joined of pieces
   pub starred_from_path : (w : List ℕ) (q : ℕ) → Path n 0 w q → branching.accepting_of n q ≡ true → IsStarred a w

@@ -69,7 +69,7 @@ module _ (a : Automaton) (canonical : IsCanonical a) (none : accepting_of a 0 �
   first = states_of a ∷ []
 
   start_branch : branch_of n (states_of a) ≡ row
-  start_branch = ap (branch_of n) (omega arith) ∙ back_branch a canonical.table (Some 0) true is.front (row ∷ []) is.rows n is.states 0
+  start_branch = ap (branch_of n) (omega arith) ∙ back_branch a canonical.table (Some 0) true is.prefix (row ∷ []) is.rows n is.states 0
 
   -- the state leads where the initial one does
   as_initial : (c q : ℕ) → Leads n (states_of a) c q ↔ Leads n 0 c q
@@ -90,7 +90,7 @@ module _ (a : Automaton) (canonical : IsCanonical a) (none : accepting_of a 0 �
   started_set = record { some = omega arith; in_range = within; ascending = λ i j d before inside. absurd (omega arith) }
     where
       size : branching.states_of n ≡ states_of a + 1
-      size = ap (λ (bs : List Branch). length bs) is.states ∙ length_push is.front row ∙ ap (λ k. k + 1) is.rows.size
+      size = ap (λ (bs : List Branch). length bs) is.states ∙ length_push is.prefix row ∙ ap (λ k. k + 1) is.rows.size
 
       within : All (λ q. q < branching.states_of n) (states_of a ∷ [])
       within zero d inside = omega (arith, size)

@@ -1,4 +1,4 @@
--- Where letters lead among the states of a table, those of an automaton with their links in front.
+-- Where letters lead among the states of a table, those of an automaton with their links in prefix.
 use Rattle.std.proofs.Common.{◌≡◌, ◌↔◌, ◌⊎◌, inl, inr, ◌&&◌, ℕ, ◌+◌, ◌-◌, ◌<◌, Bool, true, List, ◌++◌, map, Option, Some, sym, ap, ◌∙◌, subst, arith}
 use Rattle.std.specs.List.{Contains}
 use Rattle.std.proofs.lemmas.List.{get_or-append_right, get_or-map, get_or_append_left}
@@ -31,21 +31,21 @@ linked_steps a table link p low new are c q = (λ there. forth ((are.members (tr
     back (inl is) = inl (contains_from_target_by (transitions_of a p) c q is)
     back (inr found) = inr (found.0, (found.1.0, contains_from_target_by (transitions_of a p) c found.1.0 found.1.1, found.1.2))
 
-module _ (a : Automaton) (table : IsTable (letters_of a) a.states) (link : Option ℕ) (ends : Bool) (front more : List Branch) (rows : AreLinkedRows a link ends front (states_of a)) (n : Branching) (states : n.states ≡ front ++ more) where
-  front_branch : (q : ℕ) → q < states_of a → branch_of n q ≡ branch_at front q
-  front_branch q low = ap (λ (bs : List Branch). branch_at bs q) states ∙ get_or_append_left front more no_branch q (omega (arith, low, rows.size))
+module _ (a : Automaton) (table : IsTable (letters_of a) a.states) (link : Option ℕ) (ends : Bool) (prefix more : List Branch) (rows : AreLinkedRows a link ends prefix (states_of a)) (n : Branching) (states : n.states ≡ prefix ++ more) where
+  prefix_branch : (q : ℕ) → q < states_of a → branch_of n q ≡ branch_at prefix q
+  prefix_branch q low = ap (λ (bs : List Branch). branch_at bs q) states ∙ get_or_append_left prefix more no_branch q (omega (arith, low, rows.size))
 
-  pub LeadsLinked-front : LeadsLinked a link n
-  LeadsLinked-front p c q low = subst (λ (b : Branch). Contains b.transitions (transition_to c q) ↔ ((step_of a p c ≡ Some q) ⊎ ((link ≡ Some q) × ((t : ℕ) × (step_of a p c ≡ Some t) × (accepting_of a t ≡ true)))))
-      (sym (front_branch p low)) (linked_steps a table link p low (branch_at front p).transitions (rows.transitions_are p low) c q)
+  pub LeadsLinked-prefix : LeadsLinked a link n
+  LeadsLinked-prefix p c q low = subst (λ (b : Branch). Contains b.transitions (transition_to c q) ↔ ((step_of a p c ≡ Some q) ⊎ ((link ≡ Some q) × ((t : ℕ) × (step_of a p c ≡ Some t) × (accepting_of a t ≡ true)))))
+      (sym (prefix_branch p low)) (linked_steps a table link p low (branch_at prefix p).transitions (rows.transitions_are p low) c q)
 
-  pub accepting_of-front : (q : ℕ) → q < states_of a → branching.accepting_of n q ≡ (ends && accepting_of a q)
-  accepting_of-front q low = ap (λ (b : Branch). b.accepting) (front_branch q low) ∙ rows.accepting_are q low
+  pub accepting_of-prefix : (q : ℕ) → q < states_of a → branching.accepting_of n q ≡ (ends && accepting_of a q)
+  accepting_of-prefix q low = ap (λ (b : Branch). b.accepting) (prefix_branch q low) ∙ rows.accepting_are q low
 
-  -- the states behind
+  -- the states after
   pub back_branch : (r : ℕ) → branch_of n (r + states_of a) ≡ branch_at more r
   back_branch r =
-      ap (λ (bs : List Branch). branch_at bs (r + states_of a)) states ∙ get_or-append_right front more (states_of a) (r + states_of a) no_branch rows.size (omega arith)
+      ap (λ (bs : List Branch). branch_at bs (r + states_of a)) states ∙ get_or-append_right prefix more (states_of a) (r + states_of a) no_branch rows.size (omega arith)
       ∙ ap (branch_at more) (omega arith)
 
 module _ (b : Automaton) (table : IsTable (letters_of b) b.states) (before : ℕ) (n : Branching) (back : (r : ℕ) → branch_of n (r + before) ≡ branch_at (map (shifted_state before) b.states) r) where

@@ -41,7 +41,7 @@ module _ (a b : Automaton) (one : IsTable (letters_of a) a.states) (two : IsTabl
   pub IsConcatTable-rows : (n : Branching) → n ≡ record { sizes = a.sizes; states = concat_rows } → IsConcatTable a b link n
   IsConcatTable-rows n is = subst (IsConcatTable a b link) (sym is) (record {
     sizes = refl;
-    front = rows;
+    prefix = rows;
     rows = are;
     states = refl;
     table = IsBranchTable-concat;
@@ -59,7 +59,7 @@ module _ (a : Automaton) (table : IsTable (letters_of a) a.states) (rows : List 
   }
 
   pub IsStarTable-returning : (n : Branching) → n ≡ record { sizes = a.sizes; states = rows } → IsStarTable a [] n
-  IsStarTable-returning n is = subst (IsStarTable a []) (sym is) (record { sizes = refl; front = rows; rows = are; states = sym (append-nil rows); table = IsBranchTable-returning })
+  IsStarTable-returning n is = subst (IsStarTable a []) (sym is) (record { sizes = refl; prefix = rows; rows = are; states = sym (append-nil rows); table = IsBranchTable-returning })
 
   module _ (row : Branch) (start : IsStarStart a row) (small : states_of a + 1 < 2 ^ 32) where
     started_size : length (rows ++ row ∷ []) ≡ states_of a + 1
@@ -77,4 +77,4 @@ module _ (a : Automaton) (table : IsTable (letters_of a) a.states) (rows : List 
     }
 
     pub IsStarTable-started : (n : Branching) → n ≡ record { sizes = a.sizes; states = rows ++ row ∷ [] } → IsStarTable a (row ∷ []) n
-    IsStarTable-started n is = subst (IsStarTable a (row ∷ [])) (sym is) (record { sizes = refl; front = rows; rows = are; states = refl; table = IsBranchTable-started })
+    IsStarTable-started n is = subst (IsStarTable a (row ∷ [])) (sym is) (record { sizes = refl; prefix = rows; rows = are; states = refl; table = IsBranchTable-started })

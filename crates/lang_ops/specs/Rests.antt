@@ -1,9 +1,9 @@
--- What is left of a word behind a front with some property.
+-- What is left of a word after a prefix with some property.
 use Rattle.std.specs.Prelude.{◌≡◌, ℕ, List, ◌++◌}
 use Rattle.digit_tuple.specs.Deterministic.{Automaton}
 use Rattle.minimise.specs.Residuals.{IsEmptyAfter, SameAfter}
 
--- x is what is left of w behind a front with the property
+-- x is what is left of w after a prefix with the property
 abbrev pub IsRest : (List ℕ → Type 0) → List ℕ → List ℕ → Type 0
 IsRest P w x = (u : List ℕ) × (w ≡ u ++ x) × P u
 

@@ -1,4 +1,4 @@
--- The states of an automaton behind others.
+-- The states of an automaton after others.
 use Rattle.std.specs.Prelude.{ℕ, ◌+◌, map}
 use Rattle.digit_tuple.specs.Automaton.{Branch}
 use Rattle.digit_tuple.specs.Deterministic.{State}

@@ -9,7 +9,7 @@ abbrev pub IsStarred : Automaton → List ℕ → Type 0
 IsStarred a w = (pieces : List (List ℕ)) × (w ≡ concat pieces) × AllByRecursion (λ piece. IsTrue (accepts_of a piece)) pieces
 
 -- both or neither of the words are in the star, and the language has the same residuals, but for the empty one, after what is left of
--- them behind words of the star
+-- them after words of the star
 pub record StarAlike (a : Automaton) (w v : List ℕ) : Type 0 where
   pub inside : IsStarred a w ↔ IsStarred a v
   pub rests : SameRests a (IsStarred a) w v

@@ -5,12 +5,12 @@ use Rattle.digit_tuple.specs.Automaton.{Branch, Branching, IsBranchTable}
 use Rattle.digit_tuple.specs.Deterministic.{Automaton, states_of, transitions_of}
 use Rattle.lang_ops.specs.LinkedRows.{AreLinked, AreLinkedRows}
 
--- the automaton's states, linked to its initial one, and behind them others
+-- the automaton's states, linked to its initial one, and after them others
 pub record IsStarTable (a : Automaton) (more : List Branch) (n : Branching) : Type 0 where
   pub sizes : n.sizes ≡ a.sizes
-  pub front : List Branch
-  pub rows : AreLinkedRows a (Some 0) true front (states_of a)
-  pub states : n.states ≡ front ++ more
+  pub prefix : List Branch
+  pub rows : AreLinkedRows a (Some 0) true prefix (states_of a)
+  pub states : n.states ≡ prefix ++ more
   pub table : IsBranchTable (branching.letters_of n) n.states
 
 -- the state accepts, and leads where the automaton's initial one does

@@ -26,7 +26,7 @@ use std::alloc::Global;
 /// result is canonical.
 ///
 /// The width is the number of pairs that words have: the residual of the first language after the word, which may be
-/// empty, and the set of residuals of the second, but for the empty one, after what is left of the word behind a word
+/// empty, and the set of residuals of the second, but for the empty one, after what is left of the word after a word
 /// of the first. `States` comes if and only if the width passes the limit, and `Letters` never. Memory may also run out
 /// where 2^32 - 1 states are not enough. Time and memory follow the sizes of these sets and their transitions.
 ///
@@ -84,7 +84,7 @@ fn live_concat(
     canonical_sets(alloc, table, &first, alphabet, limit)
 }
 
-// The second automaton's initial state behind the states of the first, unless the second accepts no word.
+// The second automaton's initial state after the states of the first, unless the second accepts no word.
 fn concat_link(a: &Dfa, b: &Dfa) -> Option<u32>
     requires { IsCanonical b.now }
     ensures { IsConcatLink a.now b.now result }
@@ -96,7 +96,7 @@ fn concat_link(a: &Dfa, b: &Dfa) -> Option<u32>
     }
 }
 
-// The states of the first automaton, linked, and those of the second behind them.
+// The states of the first automaton, linked, and those of the second after them.
 fn concat_table(alloc: Global, a: &Dfa, b: &Dfa, link: Option<u32>) -> Result<Nfa, OutOfMemory>
     requires sizes { b.now.sizes ≡ a.now.sizes }
     requires link { IsConcatLink a.now b.now link }

@@ -8,7 +8,7 @@ mod emptiness;
 /// The states of an automaton, linked to another state.
 mod linked_rows;
 
-/// The states of an automaton behind those of another.
+/// The states of an automaton after those of another.
 mod shifted_rows;
 
 /// The sets of states that words lead to, made canonical.

@@ -1,4 +1,4 @@
-//! The states of an automaton behind those of another.
+//! The states of an automaton after those of another.
 
 ghost use Rattle.std.specs.Prelude.{◌≡◌, ◌<◌, ◌+◌, ◌^◌, ◌++◌, map, IfOk, OnOk};
 ghost use Rattle.std.specs.List.{All};

@@ -23,7 +23,7 @@ use std::alloc::Global;
 /// result is canonical.
 ///
 /// The width is the number of pairs that words have: whether the word is in the star, and the set of residuals of the
-/// language, but for the empty one, after what is left of the word behind a word of the star. `States` comes if and only
+/// language, but for the empty one, after what is left of the word after a word of the star. `States` comes if and only
 /// if the width passes the limit, and `Letters` never. Memory may also run out where 2^32 - 1 states are not enough.
 /// Time and memory follow the sizes of these sets and their transitions.
 ///

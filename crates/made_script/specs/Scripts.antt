@@ -10,11 +10,11 @@ command_text number kind one two =
     else (if kind == 2 then codes "eval m" ++ decimal number ++ codes " \"?msd_fib Ex F[x+" ++ decimal one ++ codes "]=@1 & x<2\";\n"
     else codes "def m" ++ decimal number ++ codes " \"T[x+" ++ decimal one ++ codes "]=@1 & x<" ++ decimal two ++ codes "\";\n"))
 
--- the command behind so many others: three numbers are drawn for each, the first for its kind
+-- the command after so many others: three numbers are drawn for each, the first for its kind
 abbrev pub command_after : ℕ → ℕ → List ℕ
 command_after seed count = command_text (count + 1) (drawn_after seed (3 * count) % 4) (drawn_after seed (3 * count + 1) % 1000) (drawn_after seed (3 * count + 2) % 1000)
 
--- the first of these commands, one behind another
+-- the first of these commands, one after another
 abbrev pub commands : ℕ → ℕ → List ℕ
 commands seed zero = []
 commands seed (suc count) = commands seed count ++ command_after seed count

@@ -13,7 +13,7 @@ const FIRST: &[u8] =
 /// How many commands are drawn.
 const DRAWN: u64 = 196;
 
-/// The generated script of a seed: 200 commands, each with a line end behind it, in less than 8,000 bytes.
+/// The generated script of a seed: 200 commands, each with a line end after it, in less than 8,000 bytes.
 ///
 /// # Errors
 /// `OutOfMemory`.
@@ -69,7 +69,7 @@ fn push_command(
     Ok(())
 }
 
-/// Appends a text and a number behind it.
+/// Appends a text and a number after it.
 fn push_numbered(text: &mut Vec<u8>, words: &[u8], number: u64) -> Result<(), OutOfMemory>
     ensures { OnOk result (text.new.items ≡ text.old.items ++ words.now ++ decimal number) }
 {

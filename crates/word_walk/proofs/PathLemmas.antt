@@ -28,11 +28,11 @@ module _ (d : Automaton) where
       by None inside rest = absurd (omega (arith, inside))
       by (Some p) inside rest = rest p (omega (arith, inside))
 
-  -- what can be raised behind the first so many letters
+  -- what can be raised after the first so many letters
   abbrev pub raised_behind : ℕ → ℕ → List ℕ → Option (List ℕ)
   raised_behind q k w = option_and_then (λ p. raised d p (drop k w)) (run_of d q (take k w))
 
-  -- nothing behind the path
+  -- nothing after the path
   pub raised_behind-path : (w : List ℕ) (q : ℕ) → raised_behind q (length (path_of d q w)) w ≡ None
   raised_behind-path [] q = refl
   raised_behind-path (a ∷ w) q = by (step_of d q a) (λ p. raised_behind-path w p)
