@@ -1,0 +1,12 @@
+pub mod RootLemmas
+pub mod DigitLemmas
+pub mod GroupLemmas
+pub mod SplitLemmas
+pub mod JoinLemmas
+pub mod PlaceLemmas
+pub mod OneResults
+pub mod StepLemmas
+pub mod PlacedWords
+pub mod CopyLemmas
+pub mod ConversionLemmas
+pub mod OneConversions

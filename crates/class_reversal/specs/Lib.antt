@@ -1,0 +1,4 @@
+pub mod ReversedClasses
+pub mod Laws
+pub mod BackwardClasses
+pub mod BackwardLaws

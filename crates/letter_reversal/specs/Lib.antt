@@ -1,0 +1,2 @@
+pub mod LetterReversals
+pub mod Laws

@@ -1,0 +1,3 @@
+-- Lemmas.
+pub mod TransducerSteps
+pub mod OneAnswer

@@ -1,0 +1,12 @@
+pub mod FoundLines
+pub mod PushLemmas
+pub mod RunLemmas
+pub mod PairLemmas
+pub mod BlockLemmas
+pub mod BlockKeys
+pub mod StateLemmas
+pub mod AlikeLemmas
+pub mod TransductionOutcomes
+pub mod LetterRunLemmas
+pub mod BaseWords
+pub mod TransducedWordLemmas

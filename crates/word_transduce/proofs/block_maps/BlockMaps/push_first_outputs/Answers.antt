@@ -1,0 +1,8 @@
+use Rattle.word_transduce.specs.BlockMaps.{first_output}
+use Rattle.word_transduce.proofs.PushLemmas.{values_push}
+use Rattle.word_transduce.proofs.block_maps.BlockMaps.push_first_outputs.Goals as goal
+
+pub loop-pair-preserved : goal.loop-pair-preserved
+loop-pair-preserved c =
+    values_push (first_output c.args.self.now.transducer.now c.args.self.now.function.now) c.args.key.now.items c.loop-pair.key.items c.push.new.self.items c.loop-pair.pair c.first_output.result
+    c.loop-pair.invariant c.in_ok-push.ensures.items c.first_output.ensures
