@@ -1,12 +1,13 @@
 -- Heads with a fixed number of parts, each of a kind.
-use Rattle.std.proofs.Common.{◌≡◌, ◌≢◌, ℕ, ◌-◌, Bool, true, false, List, [], ◌∷◌, ◌++◌, length, take, map, refl, sym, ◌∙◌, ap, codes, subst}
+use Rattle.std.proofs.Common.{◌≡◌, ◌≢◌, ℕ, ◌-◌, Bool, true, false, List, [], ◌∷◌, ◌++◌, length, take, map, refl, sym, ◌∙◌, ap, codes, subst, inl}
 use Rattle.std.proofs.lemmas.List.{append-nil}
 use Rattle.std.proofs.lemmas.Bool.{false≢true}
 use Rattle.command_head.specs.Parts.{first_word_of, first_in, number_place, is_name, is_word, is_quoted}
-use Rattle.command_head.specs.Grammar.{quoted}
+use Rattle.command_head.specs.Grammar.{NamesFile, quoted}
 use Rattle.command_head.specs.Breaks.{IsSyntaxAt}
 use Rattle.command_head.proofs.PartShape.{word_name}
 use Rattle.command_head.proofs.ValuedParts.{numbered_name, numbered_quoted}
+use Rattle.command_head.proofs.FileNames.{numbered_file}
 use Rattle.command_head.proofs.PartsRead.{IsRead}
 use Rattle.command_head.proofs.Expecting.{Expects, IsLong, refused_syntax, left_syntax, word_syntax}
 
@@ -17,12 +18,15 @@ pub data Kind : Type 0 where
   AWord : Kind
   -- a text in quotes
   AText : Kind
+  -- a name of a file
+  AFile : Kind
 
 abbrev pub Takes : Kind → List ℕ → Type 0
 Takes (This bytes) part = part ≡ bytes
 Takes AName part = is_name part ≡ true
 Takes AWord part = is_word part ≡ true
 Takes AText part = is_quoted part ≡ true
+Takes AFile part = (name : List ℕ) × NamesFile part name
 
 -- parts of these kinds
 abbrev pub Fit : List Kind → List (List ℕ) → Type 0
@@ -41,12 +45,14 @@ example (This bytes) = bytes
 example AName = codes "a"
 example AWord = codes "a"
 example AText = quoted []
+example AFile = codes "a"
 
 example_fits : (kind : Kind) → Takes kind (example kind)
 example_fits (This bytes) = refl
 example_fits AName = refl
 example_fits AWord = refl
 example_fits AText = refl
+example_fits AFile = (codes "a", record { named = refl; part_is = inl refl })
 
 examples_fit : (kinds : List Kind) → Fit kinds (map example kinds)
 examples_fit [] = tt
@@ -82,12 +88,14 @@ Plain (This bytes) = is_name bytes ≡ true
 Plain AName = Unit {0}
 Plain AWord = Unit {0}
 Plain AText = Unit {0}
+Plain AFile = Unit {0}
 
 plain_long : (kind : Kind) (part : List ℕ) → Plain kind → IsLong (Takes kind) part → ⊥
 plain_long (This bytes) part named long = numbered_name part long.other long.other_number (subst (λ (l : List ℕ). is_name l ≡ true) (sym long.taken) named)
 plain_long AName part plain long = numbered_name part long.other long.other_number long.taken
 plain_long AWord part plain long = numbered_name part long.other long.other_number (word_name (take (number_place part) part ++ long.other) long.taken)
 plain_long AText part plain long = numbered_quoted part long.other long.other_number long.taken
+plain_long AFile part plain long = numbered_file part long.other long.other_number long.taken.0 long.taken.1
 
 module _ {H : Type 0} (grammar : List (List ℕ) → H → Type 0) (kinds : List Kind) (kind : Kind) (more : List Kind) (form : IsForm grammar (kinds ++ kind ∷ more)) (prefix : List (List ℕ)) (fits : Fit kinds prefix) where
   form_expects : Expects grammar prefix (Takes kind)

@@ -1,4 +1,4 @@
--- The parts of a `promote`, an `image` and a `combine` are those of some text.
+-- The parts of a `promote`, an `image`, a `combine` and of heads of languages are those of some text.
 use Rattle.std.proofs.Common.{◌≡◌, ℕ, suc, ◌+◌, ◌<◌, Bool, true, false, not, cond, ◌==◌, ◌&&◌, List, [], ◌∷◌, ◌++◌, ℤ, length, Option, None, Some, refl, sym, ◌∙◌, ap, subst, arith, codes, length-append}
 use Rattle.std.specs.List.{AllByRecursion}
 use Rattle.std.proofs.lemmas.List.{append-nil, append_assoc}
@@ -8,8 +8,8 @@ use Rattle.text_grammar.specs.Bytes.{is_letter}
 use Rattle.text_grammar.specs.Prefixes.{all_in, begins_in, prefix_len}
 use Rattle.text_grammar.specs.Numbers.{is_number, number_len, unsigned}
 use Rattle.command_head.specs.Parts.{ending_len, part_len, parts_of, texts_of, is_name}
-use Rattle.command_head.specs.Heads.{ValuedName, PromoteHead, ImageHead, CombineHead}
-use Rattle.command_head.specs.Grammar.{DerivesValue, DerivesValued, DeriveEach, DerivesPromote, DerivesImage, DerivesCombine}
+use Rattle.command_head.specs.Heads.{ValuedName, PromoteHead, ImageHead, CombineHead, LanguagesHead}
+use Rattle.command_head.specs.Grammar.{DerivesValue, DerivesValued, DeriveEach, DerivesPromote, DerivesImage, DerivesCombine, DerivesLanguages, DerivesLanguage}
 use Rattle.command_head.proofs.PrefixSteps.{prefix_len-append, after_prefix-append}
 use Rattle.command_head.proofs.PartShape.{all_in-all, name_bytes, word_name}
 use Rattle.command_head.proofs.JoinedParts.{Stands, stands_name, letter_solid, letter_len, text_of, word_bytes, word_first}
@@ -96,3 +96,17 @@ pub combine_text : (parts : List (List ℕ)) (head : CombineHead) → DerivesCom
 combine_text parts head s =
     let others = head.word ∷ s.automata in
     (text_of (codes "combine") others, word_first (codes "combine") others (word_bytes (codes "combine") refl) (stands_name head.word (word_name head.word s.word), stand_each s.automata head.automata s.each) ∙ sym s.parts_are)
+
+stand_names : (parts : List (List ℕ)) → AllByRecursion (λ part. is_name part ≡ true) parts → AllByRecursion Stands parts
+stand_names [] each = tt
+stand_names (part ∷ parts) each = (stands_name part each.0, stand_names parts each.1)
+
+pub languages_text : (word : List ℕ) (parts : List (List ℕ)) (head : LanguagesHead) → is_name word ≡ true → DerivesLanguages word parts head → (text : List ℕ) × (texts_of (parts_of text) ≡ parts)
+languages_text word parts head h s =
+    let others = head.name ∷ head.languages in
+    (text_of word others, word_first word others (word_bytes word h) (stands_name head.name s.name, stand_names head.languages s.each) ∙ sym s.parts_are)
+
+pub language_text : (word : List ℕ) (parts : List (List ℕ)) (head : LanguagesHead) → is_name word ≡ true → DerivesLanguage word parts head → (text : List ℕ) × (texts_of (parts_of text) ≡ parts)
+language_text word parts head h s =
+    let others = head.name ∷ s.language ∷ [] in
+    (text_of word others, word_first word others (word_bytes word h) (stands_name head.name s.name, (stands_name s.language s.is_named, tt)) ∙ sym s.parts_are)

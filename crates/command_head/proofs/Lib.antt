@@ -16,11 +16,15 @@ pub mod ValuedParts
 pub mod ValuedStages
 pub mod PartsRead
 pub mod Expecting
+pub mod FileNames
 pub mod Forms
 pub mod NamedHeads
 pub mod WordHeads
+pub mod RunHeads
 pub mod CombineHeads
 pub mod Listing
+pub mod LanguageHeads
+pub mod NameListing
 pub mod Breaking
 pub mod OneFault
 pub mod JoinedParts

@@ -32,7 +32,7 @@ pub record IsListing (text word : List ℕ) (automata : List ValuedName) (whole 
   pub few : 2 * length automata + (length rest + blank_len blank) ≤ length text
 
 -- a blank is a byte
-blank_counts : (suffix : List ℕ) → length (after_blanks suffix) + blank_len (begins_in Blank suffix) ≤ length suffix
+pub blank_counts : (suffix : List ℕ) → length (after_blanks suffix) + blank_len (begins_in Blank suffix) ≤ length suffix
 blank_counts [] = omega arith
 blank_counts (b ∷ bs) = by_blank (is_blank b) (prefix_len Blank bs) (length (after_blanks (b ∷ bs))) (length (b ∷ bs)) (length-after_prefix Blank (b ∷ bs))
   where
@@ -68,7 +68,7 @@ spaced false rest part e letter = by_letter (begins_in Letter rest) refl (subst 
     by_letter true e h = absurd (false≢true h)
     by_letter false e h = absurd (false≢true (sym e ∙ letter_take (part_len rest) rest h))
 
-shorter : (blank : Bool) (rest part : List ℕ) → part ≡ first_in blank rest → begins_in Letter part ≡ true → length (after_first rest) < length rest
+pub shorter : (blank : Bool) (rest part : List ℕ) → part ≡ first_in blank rest → begins_in Letter part ≡ true → length (after_first rest) < length rest
 unfolding first_in part_len
 shorter blank [] part e letter = absurd (false≢true (sym (ap (begins_in Letter) e) ∙ letter))
 shorter blank (b ∷ bs) part e letter = let some = part_len-some b bs in omega (arith, length-drop (part_len (b ∷ bs)) (b ∷ bs))

@@ -1,12 +1,12 @@
 -- The grammars of heads: which head derives which parts, one after another.
-use Rattle.std.specs.Prelude.{◌≡◌, ◌≢◌, ℕ, true, List, [], ◌∷◌, ◌++◌, ℤ, codes, ◌↔◌, Option, None, Some, Ok, ⊤, ◌^◌}
+use Rattle.std.specs.Prelude.{◌≡◌, ◌≢◌, ◌⊎◌, ℕ, true, List, [], ◌∷◌, ◌++◌, ℤ, codes, ◌↔◌, Option, None, Some, Ok, ⊤, ◌^◌}
 use Rattle.std.specs.List.{AllByRecursion, AllPairs}
 use Rattle.digit_tuple.specs.Sets.{IsAscending}
 use Rattle.text_grammar.specs.Numbers.{is_number, is_short, number_of}
 use Rattle.command_head.specs.Members.{has}
 use Rattle.text_grammar.specs.Systems.{is_system}
 use Rattle.command_head.specs.Parts.{parts_of, texts_of, is_name, is_word}
-use Rattle.command_head.specs.Heads.{Alphabets, Sets, Systems, RegHead, NamedHead, PromoteHead, ImageHead, ValuedName, CombineHead, reg_at}
+use Rattle.command_head.specs.Heads.{Alphabets, Sets, Systems, RegHead, NamedHead, PromoteHead, ImageHead, ValuedName, CombineHead, LanguagesHead, reg_at}
 
 -- a part denotes a number of 32 bits, signed
 pub record DerivesNumber (part : List ℕ) (n : ℤ) : Type 0 where
@@ -79,6 +79,21 @@ pub record DerivesImage (parts : List (List ℕ)) (head : ImageHead) : Type 0 wh
   pub morphism : is_name head.morphism ≡ true
   pub old : is_word head.old ≡ true
 
+-- a part that names a file: a name, with `.txt` after it or not
+pub record NamesFile (part name : List ℕ) : Type 0 where
+  pub named : is_name name ≡ true
+  pub part_is : (part ≡ name) ⊎ (part ≡ name ++ codes ".txt")
+
+-- the word `load`, and the name of a file
+pub record DerivesLoad (parts : List (List ℕ)) (name : List ℕ) : Type 0 where
+  pub part : List ℕ
+  pub parts_are : parts ≡ codes "load" ∷ part ∷ []
+  pub file : NamesFile part name
+
+-- a word alone
+abbrev pub DerivesAlone : List ℕ → List (List ℕ) → Unit {0} → Type 0
+DerivesAlone word parts done = parts ≡ word ∷ []
+
 -- what follows a name in its part: nothing, or `=` and a number
 abbrev pub DerivesValue : List ℕ → Option ℤ → Type 0
 DerivesValue suffix None = suffix ≡ []
@@ -105,6 +120,21 @@ pub record DerivesCombine (parts : List (List ℕ)) (head : CombineHead) : Type 
   pub word : is_word head.word ≡ true
   pub some : head.automata ≢ []
   pub each : DeriveEach automata head.automata
+
+-- a word, the new name, and one or more names
+pub record DerivesLanguages (word : List ℕ) (parts : List (List ℕ)) (head : LanguagesHead) : Type 0 where
+  pub parts_are : parts ≡ word ∷ head.name ∷ head.languages
+  pub name : is_name head.name ≡ true
+  pub some : head.languages ≢ []
+  pub each : AllByRecursion (λ language. is_name language ≡ true) head.languages
+
+-- a word, the new name, and one name
+pub record DerivesLanguage (word : List ℕ) (parts : List (List ℕ)) (head : LanguagesHead) : Type 0 where
+  pub language : List ℕ
+  pub parts_are : parts ≡ word ∷ head.name ∷ language ∷ []
+  pub name : is_name head.name ≡ true
+  pub is_named : is_name language ≡ true
+  pub one : head.languages ≡ language ∷ []
 
 -- what is read of a text is the head that derives its parts
 abbrev pub ReadsGrammar : Type 0

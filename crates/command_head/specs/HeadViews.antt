@@ -8,6 +8,7 @@ use Rattle.command_head.specs.declared.head.PromoteParts.{PromoteParts}
 use Rattle.command_head.specs.declared.head.ImageParts.{ImageParts}
 use Rattle.command_head.specs.declared.head.ValuedName as valued
 use Rattle.command_head.specs.declared.head.CombineParts.{CombineParts}
+use Rattle.command_head.specs.declared.head.LanguagesParts.{LanguagesParts}
 use Rattle.command_head.specs.declared.combining.ValueText.{ValueText}
 use Rattle.command_head.specs.declared.combining.ValueText.TheVariants as values
 use Rattle.command_head.specs.declared.stage.Stage.{Stage}
@@ -15,7 +16,7 @@ use Rattle.command_head.specs.declared.stage.Stage.TheVariants as stages
 use Rattle.command_head.specs.Values.{IsValueText, IsLongValue}
 use Rattle.command_head.specs.Grammar.{DerivesValue}
 use Rattle.command_head.specs.Heads as heads
-use Rattle.command_head.specs.Heads.{RegHead, NamedHead, PromoteHead, ImageHead, ValuedName, CombineHead, Sets, Systems}
+use Rattle.command_head.specs.Heads.{RegHead, NamedHead, PromoteHead, ImageHead, ValuedName, CombineHead, LanguagesHead, Sets, Systems}
 
 abbrev pub alphabets_of : Alphabets → heads.Alphabets
 alphabets_of (alphabets.Sets sets) = Sets sets
@@ -44,6 +45,9 @@ IsReadAs suffix values.Other = IsValueText suffix → ⊥
 
 abbrev pub combine_view : CombineParts → CombineHead
 combine_view parts = record { word = parts.word; automata = map valued_view parts.automata.items }
+
+abbrev pub languages_view : LanguagesParts → LanguagesHead
+languages_view parts = record { name = parts.name; languages = parts.languages.items }
 
 abbrev pub stage_view : Stage → heads.Stage
 stage_view stages.AtWord = heads.AtWord

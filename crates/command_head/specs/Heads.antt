@@ -45,6 +45,11 @@ pub record CombineHead : Type 0 where
   pub word : List ℕ
   pub automata : List ValuedName
 
+-- the parts of a head that makes a language of others: the new name, and the names of the others in their order
+pub record LanguagesHead : Type 0 where
+  pub name : List ℕ
+  pub languages : List (List ℕ)
+
 -- What was read of a `reg`, by the place in it.
 pub data Stage : Type 0 where
   -- before the first word

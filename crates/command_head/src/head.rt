@@ -84,3 +84,12 @@ pub struct CombineParts {
     /// The automata in the order in which they are listed, one at least.
     pub automata: Vec<ValuedName>,
 }
+
+/// The parts of a head that makes a language of others.
+#[derive(Drop)]
+pub struct LanguagesParts {
+    /// The name of the new automaton.
+    pub name: Name,
+    /// The names of the automata of the others in the order in which they are listed, one at least.
+    pub languages: Vec<Name>,
+}

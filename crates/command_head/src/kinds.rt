@@ -1,8 +1,9 @@
 //! Parts that have to be of one kind.
-ghost use Rattle.std.specs.Prelude.{◌≡◌, ◌≢◌, ◌-◌, [], length, true, false, MatchResult};
+ghost use Rattle.std.specs.Prelude.{◌≡◌, ◌≢◌, ℕ, ◌-◌, List, [], length, true, false, MatchResult};
 ghost use Rattle.command_head.specs.declared.fault.HeadFault.TheVariants.{Syntax};
 ghost use Rattle.text_grammar.specs.declared.class.Class.TheVariants.{Blank};
 ghost use Rattle.text_grammar.specs.Prefixes.{begins_in};
+ghost use Rattle.command_head.specs.Grammar.{NamesFile};
 ghost use Rattle.command_head.specs.Parts.{first_word_of, after_blanks, after_word as after_the_word, is_name as is_name_part, is_word as is_word_part, is_quoted as is_quoted_part, unquoted as inside_quotes};
 
 use crate::bytes::place;
@@ -44,6 +45,19 @@ pub(crate) fn word_in<'a>(part: &FirstPart<'a>) -> Result<&'a [u8], HeadFault>
 {
     if is_word(part.bytes) {
         Ok(part.bytes)
+    } else {
+        Err(HeadFault::Syntax(part.at))
+    }
+}
+
+/// The name of the file that a part has to name: it may have `.txt` after it.
+pub(crate) fn file_in<'a>(part: &FirstPart<'a>) -> Result<&'a [u8], HeadFault>
+    ensures { MatchResult result (λ name. NamesFile part.now.bytes.now name.now)
+        (λ fault. ((name : List ℕ) → NamesFile part.now.bytes.now name → ⊥) × (fault ≡ Syntax part.now.at)) }
+{
+    let (name, ending) = part.bytes.split_at(prefix_len(Class::NameByte, part.bytes));
+    if is_name(name) && (ending.is_empty() || ending == b".txt".as_slice()) {
+        Ok(name)
     } else {
         Err(HeadFault::Syntax(part.at))
     }

@@ -1,7 +1,7 @@
 //! Laws of the grammars.
 ghost use Rattle.std.specs.Prelude.{◌≡◌, ℕ, List, true};
 ghost use Rattle.command_head.specs.Parts.{is_name};
-ghost use Rattle.command_head.specs.Grammar.{ReadsGrammar, DerivesReg, DerivesNamed, DerivesPromote, DerivesImage, DerivesCombine, ArePartsOfTexts};
+ghost use Rattle.command_head.specs.Grammar.{ReadsGrammar, DerivesReg, DerivesNamed, DerivesPromote, DerivesImage, DerivesCombine, DerivesLanguages, DerivesLanguage, DerivesLoad, DerivesAlone, ArePartsOfTexts};
 ghost use Rattle.command_head.specs.Breaks.{BreaksGrammar, HasOneHead};
 
 /// Reading a text gives the parts of a `reg` if and only if the grammar derives these parts so.
@@ -23,6 +23,10 @@ pub fn one_head()
     ensures promote { HasOneHead DerivesPromote }
     ensures image { HasOneHead DerivesImage }
     ensures combine { HasOneHead DerivesCombine }
+    ensures languages { (word : List ℕ) → HasOneHead (DerivesLanguages word) }
+    ensures language { (word : List ℕ) → HasOneHead (DerivesLanguage word) }
+    ensures load { HasOneHead DerivesLoad }
+    ensures alone { (word : List ℕ) → HasOneHead (DerivesAlone word) }
 {}
 
 /// Parts that a grammar takes are the parts of some text, so that what is said of parts is said of texts.
@@ -32,4 +36,6 @@ pub fn parts_are_of_texts()
     ensures promote { ArePartsOfTexts DerivesPromote }
     ensures image { ArePartsOfTexts DerivesImage }
     ensures combine { ArePartsOfTexts DerivesCombine }
+    ensures languages { (word : List ℕ) → is_name word ≡ true → ArePartsOfTexts (DerivesLanguages word) }
+    ensures language { (word : List ℕ) → is_name word ≡ true → ArePartsOfTexts (DerivesLanguage word) }
 {}

@@ -1,7 +1,8 @@
 //! The heads of commands: the first word, and the parts of what follows by a grammar for each form of command: `reg`
 //! over sets, `reg NAME {a,b,..} .. "R"`, or over systems, `reg NAME SYSTEM .. "R"`; a word, a name and a text,
-//! `WORD NAME "TEXT"`; `promote WORD NAME`; `image WORD NAME WORD`; and `combine WORD NAME[=V] ..`. A head is read part
-//! by part, with the first fault and the byte where it is.
+//! `WORD NAME "TEXT"`; `promote WORD NAME`; `image WORD NAME WORD`; `combine WORD NAME[=V] ..`; a word and names,
+//! `WORD NAME NAME ..` or `WORD NAME NAME`; `load NAME[.txt]`; and a word alone. A head is read part by part, with the
+//! first fault and the byte where it is.
 #![tactic(auto)]
 
 // the faults of a head
@@ -26,14 +27,21 @@ mod named;
 mod word_heads;
 // the heads of commands that combine automata
 mod combining;
+// the heads of commands that make a language of others
+mod language_heads;
+// the heads of commands that load a file or end a run
+mod run_heads;
 // laws of the grammar
 pub mod laws;
 
 pub use combining::combine_parts;
 pub use fault::HeadFault;
 pub use head::{
-    Alphabets, CombineParts, ImageParts, NamedParts, PromoteParts, RegParts, ValuedName,
+    Alphabets, CombineParts, ImageParts, LanguagesParts, NamedParts, PromoteParts, RegParts,
+    ValuedName,
 };
 pub use heading::{first_word, reg_parts};
+pub use language_heads::{language_parts, languages_parts};
 pub use named::named_parts;
+pub use run_heads::{load_name, word_alone};
 pub use word_heads::{image_parts, promote_parts};

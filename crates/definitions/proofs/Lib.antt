@@ -1,10 +1,12 @@
 pub mod UserDigits
 pub mod NameLemmas
 pub mod FileNames
+pub mod LanguageTexts
 pub mod RegexTexts
 pub mod OneWordTexts
 pub mod OneTexts
 pub mod TextMeanings
+pub mod LanguageMeanings
 pub mod AssignedLemmas
 pub mod SameMeanings
 pub mod FileTables

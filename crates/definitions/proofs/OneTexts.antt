@@ -10,13 +10,14 @@ use Rattle.regex_build.specs.Expression.{Expression}
 use Rattle.reg_steps.proofs.OneRegex.{same_truth}
 use Rattle.reg_steps.proofs.RelationLemmas.{relation_is_one}
 use Rattle.definitions.specs.Tracks.{Tracks, OverSets, OverSystems, systems_of, letter_sets, header_of}
-use Rattle.definitions.specs.Trees.{Variable, Tree, File, Regex, Formula, Fixed, Image, Combine, Bindings, Bytes, Defined}
+use Rattle.definitions.specs.Trees.{Variable, Tree, File, Regex, Formula, Fixed, Image, Combine, Language, Bindings, Bytes, Defined}
 use Rattle.system_files.specs.SystemFiles.{Custom}
 use Rattle.definitions.specs.FormulaTexts.{IsSolvedBy, named_systems, IsSolutionText, HasTruth, truth_text, IsFormulaText, HasVerdict}
-use Rattle.definitions.specs.TreeMeanings.{tree_letter}
+use Rattle.definitions.specs.TreeMeanings.{tree_letter, tree_words}
 use Rattle.definitions.specs.Texts.{IsTrackText, HasTreeText}
 use Rattle.definitions.specs.Laws.{OneText}
 use Rattle.definitions.proofs.RegexTexts.{one_regex_text}
+use Rattle.definitions.proofs.LanguageTexts.{one_language_text}
 use Rattle.definitions.proofs.OneWordTexts.{one_word_text, one_fixed_text}
 
 -- an expression over tracks has one text
@@ -65,6 +66,7 @@ one_tree_text custom (Formula variables formula bindings) text other a b = one_f
 one_tree_text custom (Fixed rules) text other a b = one_fixed_text custom rules text other a b
 one_tree_text custom (Image direction system rules tree) text other a b = one_word_text custom direction (system ∷ []) (λ ns letter. tree_letter custom (Image direction system rules tree) ns letter) text other a b
 one_tree_text custom (Combine direction named parts) text other a b = one_word_text custom direction named (λ ns letter. tree_letter custom (Combine direction named parts) ns letter) text other a b
+one_tree_text custom (Language sets op trees) text other a b = one_language_text sets (λ word. tree_words custom (Language sets op trees) word) text other a b
 
 -- an entry has one text
 pub one_text_of : OneText

@@ -30,13 +30,13 @@ use Rattle.dfa_text.specs.RelationText.{relation_text}
 use Rattle.dfa_text.proofs.ListedPaths.{accepts_listed}
 use Rattle.dfa_text.proofs.PrintedRelations.{text_lists}
 use Rattle.definitions.specs.Tracks.{NamedSystem, Tracks, OverSets, OverSystems, names_of, systems_of, letter_sets, header_of}
-use Rattle.definitions.specs.Trees.{Variable, File, Regex, Formula, Fixed, Image, Combine, Bindings}
+use Rattle.definitions.specs.Trees.{Variable, File, Regex, Formula, Fixed, Image, Combine, Language, Bindings}
 use Rattle.system_files.specs.SystemFiles.{Custom}
 use Rattle.definitions.specs.Named.{AreNamed}
 use Rattle.definitions.specs.Files.{HasListedWord, HoldsUnder, ListedHolds, FileHolds}
 use Rattle.definitions.specs.TreeMeanings.{RegexHolds, tree_holds}
 use Rattle.definitions.specs.FormulaTexts.{IsSolvedBy, named_systems, IsSolutionText, IsSentenceText, truth_text, IsFormulaText}
-use Rattle.definitions.specs.Texts.{IsRegexText, IsRepresentedText, IsTrackText}
+use Rattle.definitions.specs.Texts.{IsRepresentedText, IsTrackText}
 use Rattle.definitions.specs.Laws.{TextsMeanTheirTrees}
 use Rattle.definitions.proofs.NameLemmas.{named_are_systems, same_list, same_direction}
 use Rattle.definitions.proofs.FileNames.{file_systems, track_names}
@@ -121,10 +121,8 @@ module _ (custom : Custom) (direction : Direction) (named : List NamedSystem) (s
             below.1 (subst (λ (names : List (List ℕ)). HoldsUnder custom names listed ns) (sym (track_names named)) here)
 
 -- over sets a text holds of no numbers
-sets_text_holds : (custom : Custom) (sets : List (List ℤ)) (e : Expression (List ℤ)) (text : List ℕ) → IsRegexText sets e text → (ns : List ℕ) → FileHolds custom text ns ↔ ⊥
-sets_text_holds custom sets e text is ns =
-    let under : IsAutomatonUnder (headers.Sets sets) is.automaton = record { tracks = is.tracks; sizes = is.of_regex.sizes; table = is.of_regex.canonical.table } in
-    file_holds custom text (automaton_listed (headers.Sets sets) is.automaton) (ap relation_of is.text_is ∙ text_lists (headers.Sets sets) is.automaton under) ns
+sets_text_holds : (custom : Custom) (sets : List (List ℤ)) (d : Automaton) (text : List ℕ) → IsAutomatonUnder (headers.Sets sets) d → text ≡ relation_text (headers.Sets sets) d → (ns : List ℕ) → FileHolds custom text ns ↔ ⊥
+sets_text_holds custom sets d text under is ns = file_holds custom text (automaton_listed (headers.Sets sets) d) (ap relation_of is ∙ text_lists (headers.Sets sets) d under) ns
 
 -- over systems of the numbers of which a representation matches
 represented_text_holds : (custom : Custom) (direction : Direction) (named : List NamedSystem) (e : Expression (List ℤ)) (text : List ℕ) → IsRepresentedText custom direction named e text → (ns : List ℕ)
@@ -138,11 +136,11 @@ represented_text_holds custom direction named e text is ns =
     rw is.text_is (λ h. (both.0 h).1, λ m. both.1 (count m, m))
 
 track_text_holds : (custom : Custom) (tracks : Tracks) (e : Expression (List ℤ)) (text : List ℕ) → IsTrackText custom tracks e text → (ns : List ℕ) → FileHolds custom text ns ↔ RegexHolds tracks e ns
-track_text_holds custom (OverSets sets) e text is ns = sets_text_holds custom sets e text is ns
+track_text_holds custom (OverSets sets) e text is ns = sets_text_holds custom sets is.automaton text (record { tracks = is.tracks; sizes = is.of_regex.sizes; table = is.of_regex.canonical.table }) is.text_is ns
 track_text_holds custom (OverSystems direction named) e text is ns = represented_text_holds custom direction named e text is ns
 
 -- what the text of a truth lists
-truth_read : (truth : Bool) → relation_of (truth_text truth) ≡ Ok (record { header = Truth truth; outputs = []; lines = [] })
+pub truth_read : (truth : Bool) → relation_of (truth_text truth) ≡ Ok (record { header = Truth truth; outputs = []; lines = [] })
 unfolding relation_of add_line is_passed file_header_of truth_of
 truth_read true = refl
 truth_read false = refl
@@ -181,3 +179,4 @@ text_means custom (Formula variables formula bindings) text may is ns = formula_
 text_means custom (Fixed rules) text may is ns = not_among may
 text_means custom (Image direction system rules tree) text may is ns = not_among may
 text_means custom (Combine direction named parts) text may is ns = not_among may
+text_means custom (Language sets op trees) text may is ns = sets_text_holds custom sets is.automaton text (record { tracks = is.tracks; sizes = is.sizes; table = is.canonical.table }) is.text_is ns

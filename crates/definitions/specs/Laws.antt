@@ -7,9 +7,10 @@ use Rattle.formula_parse.specs.Trees as trees
 use Rattle.formula_resolve.specs.declared.file.File as formula_file
 use Rattle.definitions.specs.Trees.{Variable, Tree, Formula, Bindings, MayStandIn, Entry, Ledger, ledger_of, entered, custom_of, bindings_of}
 use Rattle.system_files.specs.SystemFiles.{Custom}
+use Rattle.dfa_text.specs.Meaning.{FileAccepts}
 use Rattle.definitions.specs.Files.{FileHolds}
 use Rattle.definitions.specs.WordFiles.{FileLetter}
-use Rattle.definitions.specs.TreeMeanings.{tree_holds, bound_holds, tree_letter, bound_letter}
+use Rattle.definitions.specs.TreeMeanings.{tree_holds, bound_holds, tree_letter, bound_letter, tree_words}
 use Rattle.definitions.specs.Texts.{HasTreeText, HasText, Stores}
 
 -- an entry has at most one text
@@ -23,6 +24,10 @@ TextsMeanTheirTrees = (custom : Custom) (tree : Tree) (text : List ℕ) → MayS
 -- the text of a definition that may be among words, read as a word's file, has the letters of the definition
 abbrev pub WordTextsMeanTheirTrees : Type 0
 WordTextsMeanTheirTrees = (custom : Custom) (tree : Tree) (text : List ℕ) → MayStandIn Words tree → HasTreeText custom tree text → (ns : List ℕ) (letter : ℤ) → FileLetter custom text ns letter ↔ tree_letter custom tree ns letter
+
+-- the text of a definition that may be among automata, read as a file over sets, accepts the words of the definition
+abbrev pub LanguageTextsMeanTheirTrees : Type 0
+LanguageTextsMeanTheirTrees = (custom : Custom) (tree : Tree) (text : List ℕ) → MayStandIn Automata tree → HasTreeText custom tree text → (word : List (List ℤ)) → FileAccepts text word ↔ tree_words custom tree word
 
 -- names of automata are bound to what holds of the same numbers, and names of words to what has the same letters
 pub record BindTheSame (custom : Custom) (bindings others : Bindings) : Type 0 where

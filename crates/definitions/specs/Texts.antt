@@ -2,9 +2,11 @@
 use Rattle.std.specs.Prelude.{◌≡◌, ◌↔◌, ℕ, ◌<◌, ℤ, List, [], ◌∷◌, length, Option, None, Some, ⊤}
 use Rattle.std.specs.List.{AllByRecursion}
 use Rattle.digit_tuple.specs.Deterministic.{Automaton}
+use Rattle.digit_tuple.specs.Sets.{sizes_of}
 use Rattle.digit_tuple.specs.declared.direction.Direction.{Direction}
 use Rattle.digit_tuple.specs.declared.direction.Direction.TheVariants.{Msd}
 use Rattle.digit_tuple.specs.declared.header.Header.TheVariants as headers
+use Rattle.minimise.specs.Canonical.{IsCanonical}
 use Rattle.regex_build.specs.Expression.{Expression}
 use Rattle.regex_build.specs.Matches.{Matches}
 use Rattle.regex_build.specs.Patterns.{AreMembers}
@@ -17,8 +19,8 @@ use Rattle.reg_steps.specs.Relations.{IsRelation}
 use Rattle.definitions.specs.Tracks.{NamedSystem, systems_of, Tracks, OverSets, OverSystems, letter_sets, header_of}
 use Rattle.morph_words.specs.MorphismKinds.{HasFixedPoint}
 use Rattle.morph_words.specs.Rules.{Rules}
-use Rattle.definitions.specs.Trees.{Tree, File, Regex, Formula, Fixed, Image, Combine, MayStandIn, Entry, Bytes, Defined, Ledger, tree_of, custom_of}
-use Rattle.definitions.specs.TreeMeanings.{tree_letter}
+use Rattle.definitions.specs.Trees.{Tree, File, Regex, Formula, Fixed, Image, Combine, Language, MayStandIn, Entry, Bytes, Defined, Ledger, tree_of, custom_of}
+use Rattle.definitions.specs.TreeMeanings.{tree_letter, tree_words}
 use Rattle.definitions.specs.WordTexts.{IsWordText, msd_base}
 use Rattle.system_files.specs.SystemFiles.{Custom}
 use Rattle.definitions.specs.Named.{AreNamed}
@@ -53,6 +55,15 @@ pub record IsFixedText (custom : Custom) (rules : Rules) (text : List ℕ) : Typ
   pub has : HasFixedPoint rules k
   pub word : IsWordText custom Msd (msd_base k ∷ []) (λ ns letter. tree_letter custom (Fixed rules) ns letter) text
 
+-- The text of a language over sets. As a file it accepts exactly the words of the language; it is the text of the canonical automaton.
+pub record IsLanguageText (sets : List (List ℤ)) (InLanguage : List (List ℤ) → Type 0) (text : List ℕ) : Type 0 where
+  pub tracks : AreTrackSets sets
+  pub accepts : (word : List (List ℤ)) → FileAccepts text word ↔ InLanguage word
+  pub automaton : Automaton
+  pub sizes : automaton.sizes ≡ sizes_of sets
+  pub canonical : IsCanonical automaton
+  pub text_is : text ≡ relation_text (headers.Sets sets) automaton
+
 -- the text of a definition
 abbrev pub HasTreeText : Custom → Tree → List ℕ → Type 0
 HasTreeText custom (File bytes) text = text ≡ bytes
@@ -61,6 +72,7 @@ HasTreeText custom (Formula variables formula bindings) text = IsFormulaText cus
 HasTreeText custom (Fixed rules) text = IsFixedText custom rules text
 HasTreeText custom (Image direction system rules tree) text = IsWordText custom direction (system ∷ []) (λ ns letter. tree_letter custom (Image direction system rules tree) ns letter) text
 HasTreeText custom (Combine direction named parts) text = IsWordText custom direction named (λ ns letter. tree_letter custom (Combine direction named parts) ns letter) text
+HasTreeText custom (Language sets op trees) text = IsLanguageText sets (λ word. tree_words custom (Language sets op trees) word) text
 
 -- the text of an entry
 abbrev pub HasText : Custom → Entry → List ℕ → Type 0

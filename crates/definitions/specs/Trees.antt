@@ -1,5 +1,5 @@
 -- Definitions that commands make, and the ledger of what is under each name.
-use Rattle.std.specs.Prelude.{◌≡◌, ◌≢◌, ℕ, ℤ, List, Option, None, Some, option_and_then, ⊤, if◌then◌else◌}
+use Rattle.std.specs.Prelude.{◌≡◌, ◌≢◌, ℕ, ℤ, List, [], ◌∷◌, Option, None, Some, option_and_then, ⊤, if◌then◌else◌}
 use Rattle.std.specs.List.{fold}
 use Rattle.std.specs.Option.{option_map}
 use Rattle.wal_outside.specs.declared.folder.Folder.{Folder}
@@ -20,10 +20,18 @@ pub record Variable : Type 0 where
   pub direction : Direction
   pub system : NamedSystem
 
+-- an operation on languages; a star and a reversal are of one language
+pub data LanguageOp : Type 0 where
+  Union : LanguageOp
+  Intersection : LanguageOp
+  Concatenation : LanguageOp
+  Star : LanguageOp
+  Reversal : LanguageOp
+
 mutual
   -- A definition: the bytes of a file; an expression over tracks; a formula, with its free variables in byte order and the definitions that
-  -- its names mean; the fixed point of a morphism; the image of a word, over the word's system; or the word that definitions in a list
-  -- make together, over systems that are read in one direction.
+  -- its names mean; the fixed point of a morphism; the image of a word, over the word's system; the word that definitions in a list
+  -- make together, over systems that are read in one direction; or the language that an operation makes of those of definitions, over sets.
   pub data Tree : Type 0 where
     File : List ℕ → Tree
     Regex : Tracks → Expression (List ℤ) → Tree
@@ -31,19 +39,25 @@ mutual
     Fixed : Rules → Tree
     Image : Direction → NamedSystem → Rules → Tree → Tree
     Combine : Direction → List NamedSystem → Parts → Tree
+    Language : List (List ℤ) → LanguageOp → Trees → Tree
 
   -- definitions in a list, each with a letter
   pub data Parts : Type 0 where
     no_parts : Parts
     part : Tree → ℤ → Parts → Parts
 
+  -- definitions in a list
+  pub data Trees : Type 0 where
+    no_trees : Trees
+    tree_then : Tree → Trees → Trees
+
   -- what names in folders mean; the last one of a name counts
   pub data Bindings : Type 0 where
     unbound : Bindings
     bound : Bindings → Folder → List ℕ → Tree → Bindings
 
--- A definition may be in the folder. An expression and a formula are neither words nor files of a user's system, and are elsewhere; and a
--- definition of a word is among words.
+-- A definition may be in the folder. An expression, a formula and a language are neither words nor files of a user's system, and are
+-- elsewhere; and a definition of a word is among words.
 abbrev pub MayStandIn : Folder → Tree → Type 0
 MayStandIn folder (File bytes) = ⊤
 MayStandIn folder (Regex tracks expression) = (folder ≢ Words) × (folder ≢ Bases)
@@ -51,6 +65,7 @@ MayStandIn folder (Formula variables formula bindings) = (folder ≢ Words) × (
 MayStandIn folder (Fixed rules) = folder ≡ Words
 MayStandIn folder (Image direction system rules tree) = folder ≡ Words
 MayStandIn folder (Combine direction named parts) = folder ≡ Words
+MayStandIn folder (Language sets op trees) = (folder ≢ Words) × (folder ≢ Bases)
 
 -- what is under a name: bytes, or a definition
 pub data Entry : Type 0 where
@@ -77,6 +92,7 @@ bytes_of (Formula variables formula bindings) = None
 bytes_of (Fixed rules) = None
 bytes_of (Image direction system rules tree) = None
 bytes_of (Combine direction named parts) = None
+bytes_of (Language sets op trees) = None
 
 -- the definition of an entry
 abbrev pub tree_of : Entry → Tree
@@ -105,3 +121,13 @@ bindings_of ledger files = fold (with_file ledger) unbound files
 abbrev pub with_part : Option Entry → ℤ → Parts → Parts
 with_part None letter parts = parts
 with_part (Some entry) letter parts = part (tree_of entry) letter parts
+
+-- the definition of an automaton before others in a list; where there is no entry, none
+abbrev pub with_tree : Option Entry → Trees → Trees
+with_tree None trees = trees
+with_tree (Some entry) trees = tree_then (tree_of entry) trees
+
+-- the definitions of automata that are now under these names, in their order
+abbrev pub trees_of : Ledger → List (List ℕ) → Trees
+trees_of ledger [] = no_trees
+trees_of ledger (name ∷ names) = with_tree (ledger Automata name) (trees_of ledger names)

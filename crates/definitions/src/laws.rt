@@ -1,6 +1,6 @@
 //! Laws of definitions, each a call that does nothing.
 
-ghost use Rattle.definitions.specs.Laws.{OneText, TextsMeanTheirTrees, WordTextsMeanTheirTrees, BindingsMatterByMeaning, FilesBindAsTheirLedger, CustomTextsAreFiles};
+ghost use Rattle.definitions.specs.Laws.{OneText, TextsMeanTheirTrees, WordTextsMeanTheirTrees, LanguageTextsMeanTheirTrees, BindingsMatterByMeaning, FilesBindAsTheirLedger, CustomTextsAreFiles};
 
 /// An entry has at most one text.
 pub fn one_text()
@@ -15,6 +15,11 @@ pub fn texts_mean_their_trees()
 /// The text of a definition that may be among words, read as a word's file, has the letters of the definition.
 pub fn word_texts_mean_their_trees()
     ensures { WordTextsMeanTheirTrees }
+{}
+
+/// The text of a definition that may be among automata, read as a file over sets, accepts the words of the definition.
+pub fn language_texts_mean_their_trees()
+    ensures { LanguageTextsMeanTheirTrees }
 {}
 
 /// A formula holds of the same numbers where its names are bound to what holds of the same numbers, and those of words to what has

@@ -1,11 +1,13 @@
 //! Definitions: what a stored file means, what a definition holds of, and the text that stores it.
 //!
-//! A definition (`Tree` in `specs/Trees.antt`) is the bytes of a file, an expression over tracks, or a formula with the
-//! definitions that its names mean. `tree_holds` (`specs/TreeMeanings.antt`) says of which numbers it holds, `HasText`
-//! (`specs/Texts.antt`) which text stores it. The text of a definition, read as a file, holds of what the definition holds of,
-//! so that a command means the same under the definitions of names and under the files that store them. Among words and
-//! among users' systems are files alone; `tree_letter` says which letter a file has at a place, and `IsSystemNamed`
-//! (`specs/Named.antt`) which system a name means: one that is built in, or the one that the files of a user define.
+//! A definition (`Tree` in `specs/Trees.antt`) is the bytes of a file, an expression over tracks, a formula with the
+//! definitions that its names mean, a word that a command makes, or a language that an operation makes of others.
+//! `tree_holds` (`specs/TreeMeanings.antt`) says of which numbers it holds, `tree_words` which words over sets it has,
+//! `tree_letter` which letter it has at a place as a word, and `HasText` (`specs/Texts.antt`) which text stores it. The text
+//! of a definition, read as a file, holds of what the definition holds of, accepts the words that it has, and has its
+//! letters, so that a command means the same under the definitions of names and under the files that store them. Among
+//! users' systems are files alone, and among words files and words that commands make. `IsSystemNamed`
+//! (`specs/Named.antt`) says which system a name means: one that is built in, or the one that the files of a user define.
 #![tactic(auto)]
 
 /// Laws of definitions.
@@ -18,8 +20,8 @@ mod table;
 mod words;
 
 pub use laws::{
-    bindings_matter_by_meaning, custom_texts_are_files, files_bind_as_their_ledger, one_text,
-    texts_mean_their_trees, word_texts_mean_their_trees,
+    bindings_matter_by_meaning, custom_texts_are_files, files_bind_as_their_ledger,
+    language_texts_mean_their_trees, one_text, texts_mean_their_trees, word_texts_mean_their_trees,
 };
 pub use table::{files_are_tables, table_relation, tables_have_one_answer, tables_hold};
 pub use words::{files_are_words, words_have_file_letters};

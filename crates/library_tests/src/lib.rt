@@ -141,9 +141,17 @@ mod scripts;
 #[cfg(test)]
 mod heads;
 
+// the heads of commands that make languages of others, and their faults
+#[cfg(test)]
+mod language_heads;
+
 // the heads of commands that make words, and their faults
 #[cfg(test)]
 mod word_heads;
+
+// the heads of commands that load a file or end a run
+#[cfg(test)]
+mod run_heads;
 
 // sources, sinks and stores in memory
 #[cfg(test)]

@@ -1,7 +1,14 @@
 -- Lemmas, in reading order.
-pub mod RunSteps
+pub mod ReplySteps
+pub mod CountSums
+pub mod Counting
 pub mod Standing
-pub mod Coming
+pub mod MoreBytes
+pub mod Cutting
+pub mod ItemSteps
+pub mod TextSteps
 pub mod Between
+pub mod CountedItems
+pub mod WholeTexts
 pub mod Statuses
 pub mod OneRuns

@@ -1,34 +1,53 @@
 -- Runs over one script end alike, unless the store, the sink or memory fails.
-use Rattle.std.proofs.Common.{◌≡◌, ℕ, ◌+◌, ◌-◌, ◌^◌, ◌≤◌, min, ◌⊎◌, Bool, true, false, ◌||◌, if◌then◌else◌, List, [], ◌∷◌, ◌++◌, Option, None, Some, IfSome, Ok, Err, refl, sym, ap, ◌∙◌, subst, inl, inr, arith}
+use Rattle.std.proofs.Common.{◌≡◌, ℕ, suc, ◌+◌, ◌-◌, ◌^◌, ◌<◌, ◌≤◌, min, ◌⊎◌, Bool, true, false, ◌||◌, if◌then◌else◌, List, [], ◌∷◌, ◌++◌, length, Option, None, Some, IfSome, Ok, Err, refl, sym, ap, ◌∙◌, subst, inl, inr, arith}
 use Rattle.std.specs.Io.KnownBytes.{Consumes}
 use Rattle.wal_outside.specs.Files.{Files}
 use Rattle.wal_outside.specs.Sending.{HasSent}
 use Rattle.wal_outside.specs.Views.{SourceView, SinkView, StoreView}
 use Rattle.wal_outside.specs.declared.sink.WriteFault.{WriteFault}
 use Rattle.wal_outside.specs.declared.sink.WriteFault.TheVariants as writes
-use Rattle.script_cut.specs.Cuts.{Ended, Terminated, Unterminated, PastLimit, Item, start}
-use Rattle.script_cut.proofs.OneList.{same_lists}
+use Rattle.script_cut.specs.Cuts.{Ended, Terminated, Unterminated, PastLimit, Item, Rest, start, IsAtEnd}
+use Rattle.script_cut.proofs.OneList.{Same, same_next, none_next}
 use Rattle.script_runs.specs.declared.status.Status.{Status}
 use Rattle.script_runs.specs.declared.status.Status.TheVariants as status
-use Rattle.script_runs.specs.Languages.{CommandLanguage, Answer}
-use Rattle.script_runs.specs.Runs.{IsOpenAnswer, IsAnswerOf, Changes, Run, ledger_after, is_refusal, is_by_store, is_by_memory, some_of, status_by, status_of, printed}
-use Rattle.script_runs.specs.Ends.{stop_status, RanThrough, SourceFailed, WantedMemory, HasRun}
-use Rattle.script_runs.specs.Laws.{IsProper, IsDetermined, IsClean, EndAlike, RunsEndAlike, store_faults, StoreFaultsAreCounted}
+use Rattle.script_runs.specs.Languages.{CommandLanguage, Enters, Loads, Ends, Reply}
+use Rattle.script_runs.specs.Replies.{IsOpenReply, FitsIn, PassesLimit, IsReplyOf, Changes, State, Answered, Replies, state_after, ledger_after, room_after, is_refusal, is_by_store, is_by_memory}
+use Rattle.script_runs.specs.Turns.{Turns, no_more, cut_off, turn, in_order, is_cut_off, goes_on, IsDue}
+use Rattle.script_runs.specs.Runs.{room_at, place_with, with_room, Run, first_state}
+use Rattle.script_runs.specs.Printed.{some_of, status_by, status_of, printed}
+use Rattle.script_runs.specs.Ends.{stop_status, HasTurns, RanThrough, SourceFailed, WantedMemory, HasRun}
+use Rattle.script_runs.specs.Flows.{Loaded}
+use Rattle.script_runs.specs.Laws.{IsProper, IsDetermined, IsClean, EndAlike, RunsEndAlike, TextRunsEndAlike, store_faults, StoreFaultsAreCounted}
+use Rattle.script_runs.specs.declared.counts.Counts.{Counts}
+use Rattle.script_runs.specs.Counted.{AreCounted}
+use Rattle.script_runs.proofs.Counting.{some_of-append}
+use Rattle.script_runs.proofs.Statuses.{of_loaded}
 
 -- the count of store faults
-pub store_faults_are_counted : {F : Type 0} (l : CommandLanguage F) → StoreFaultsAreCounted l
-store_faults_are_counted l = counted
-  where
-    more : (v : Bool) (k a b c : ℕ) → a ≤ b → (v ≡ true → min (a + 1) (2 ^ 64 - 1) ≤ b) → min (b + k) (2 ^ 64 - 1) ≤ c → min (a + ((if v then 1 else 0) + k)) (2 ^ 64 - 1) ≤ c
-    more true k a b c later cause rest = omega (arith, cause refl)
-    more false k a b c later cause rest = omega arith
+faults-append : {F : Type 0} (l : CommandLanguage F) (front more : List (Answered l)) → store_faults l (front ++ more) ≡ store_faults l front + store_faults l more
+faults-append l [] more = omega arith
+faults-append l (a ∷ front) more = omega (arith, faults-append l front more)
 
-    counted : (ledger last : l.Ledger) (old new : StoreView) (items : List Item) (answers : List (Answer l)) → Run l ledger old items answers last new → min (old.faults + store_faults l answers) (2 ^ 64 - 1) ≤ new.faults
-    counted ledger last old new [] [] run = let same : new.faults ≡ old.faults = ap (λ (s : StoreView). s.faults) run.1 in omega arith
-    counted ledger last old new [] (answer ∷ answers) run = absurd run
-    counted ledger last old new (item ∷ items) [] run = absurd run
-    counted ledger last old new (item ∷ items) (answer ∷ answers) run =
-        more (is_by_store l answer) (store_faults l answers) old.faults run.0.faults new.faults run.1.stored.later run.1.stored.cause (counted (ledger_after l ledger answer) last run.0 new items answers run.2)
+pub store_faults_are_counted : {F : Type 0} (l : CommandLanguage F) → StoreFaultsAreCounted l
+store_faults_are_counted l = λ depth turns. counted turns depth
+  where
+    more : (v : Bool) (j k n a b c d : ℕ) → n ≡ j + k → a ≤ b → (v ≡ true → min (a + 1) (2 ^ 64 - 1) ≤ b) → min (b + j) (2 ^ 64 - 1) ≤ c → min (c + k) (2 ^ 64 - 1) ≤ d → min (a + ((if v then 1 else 0) + n)) (2 ^ 64 - 1) ≤ d
+    more true j k n a b c d is later cause first rest = omega (arith, is, cause refl, first, rest)
+    more false j k n a b c d is later cause first rest = omega (arith, is, later, first, rest)
+
+    none : (inside : Turns l) (n : ℕ) → inside ≡ no_more → min (n + store_faults l (in_order l inside)) (2 ^ 64 - 1) ≤ n
+    none no_more n is = omega arith
+    none cut_off n is = absurd (cc)
+    none (turn first inside behind) n is = absurd (cc)
+
+    counted : (turns : Turns l) (depth : ℕ) (place last : Rest) (old new : State l) → Run l depth place old turns last new → min (old.store.faults + store_faults l (in_order l turns)) (2 ^ 64 - 1) ≤ new.store.faults
+    counted no_more depth place last old new run = let same : new.store.faults ≡ old.store.faults = ap (λ (s : State l). s.store.faults) run.1 in omega arith
+    counted cut_off depth place last old new run = let same : new.store.faults ≡ old.store.faults = ap (λ (s : State l). s.store.faults) run.1 in omega arith
+    counted (turn first inside behind) depth place last old new (mid, store, later, next, replies, loaded, ends, run) =
+        more (is_by_store l first.reply) (store_faults l (in_order l inside)) (store_faults l (in_order l behind)) (store_faults l (in_order l inside ++ in_order l behind)) old.store.faults store.faults later.store.faults new.store.faults
+        (faults-append l (in_order l inside) (in_order l behind)) replies.stored.later replies.stored.cause
+        (of_loaded l inside (suc depth) (λ here later. min (here.store.faults + store_faults l (in_order l inside)) (2 ^ 64 - 1) ≤ later.store.faults) (λ here is. none inside here.store.faults is) (counted inside (suc depth)) first.reply (state_after l (with_room l old (room_at depth mid old.room)) first.reply store) later loaded)
+        (counted behind depth (place_with depth mid later.room) last later new run)
 
 -- where the files are reported, an item is answered by its ledger
 known_same : {L : Type 0} (reported : Option Files) (files : Files) (ledger known : L) → reported ≡ Some files → IfSome reported (λ (files : Files). known ≡ ledger) → known ≡ ledger
@@ -43,33 +62,35 @@ none_later : (v w : Bool) → (v || w) ≡ false → w ≡ false
 none_later true w is = cc
 none_later false w is = is
 
--- no answer is the store's or memory's
-record AreProper {F : Type 0} (l : CommandLanguage F) (answers : List (Answer l)) : Type 0 where
-  store : some_of (is_by_store l) answers ≡ false
-  memory : some_of (is_by_memory l) answers ≡ false
+-- no reply is the store's or memory's
+record AreProper {F : Type 0} (l : CommandLanguage F) (answered : List (Answered l)) : Type 0 where
+  store : some_of l (is_by_store l) answered ≡ false
+  memory : some_of l (is_by_memory l) answered ≡ false
 
-proper_first : {F : Type 0} (l : CommandLanguage F) (answer : Answer l) (answers : List (Answer l)) → AreProper l (answer ∷ answers) → IsProper l answer
-proper_first l answer answers are = record {
-  store = none_first (is_by_store l answer) (some_of (is_by_store l) answers) are.store;
-  memory = none_first (is_by_memory l answer) (some_of (is_by_memory l) answers) are.memory;
-}
+module _ {F : Type 0} (l : CommandLanguage F) where
+  parted : (p : Reply l → Bool) (front more : List (Answered l)) → some_of l p (front ++ more) ≡ false → (some_of l p front ≡ false) × (some_of l p more ≡ false)
+  parted p front more none =
+      let both : (some_of l p front || some_of l p more) ≡ false = sym (some_of-append l p front more) ∙ none in
+      (none_first (some_of l p front) (some_of l p more) both, none_later (some_of l p front) (some_of l p more) both)
 
-proper_rest : {F : Type 0} (l : CommandLanguage F) (answer : Answer l) (answers : List (Answer l)) → AreProper l (answer ∷ answers) → AreProper l answers
-proper_rest l answer answers are = record {
-  store = none_later (is_by_store l answer) (some_of (is_by_store l) answers) are.store;
-  memory = none_later (is_by_memory l answer) (some_of (is_by_memory l) answers) are.memory;
-}
+  proper_first : (first : Answered l) (answered : List (Answered l)) → AreProper l (first ∷ answered) → IsProper l first.reply
+  proper_first first answered are = record {
+    store = none_first (is_by_store l first.reply) (some_of l (is_by_store l) answered) are.store;
+    memory = none_first (is_by_memory l first.reply) (some_of l (is_by_memory l) answered) are.memory;
+  }
 
-record SameEnd {A : Type 0} (answers others : List A) (new new' : StoreView) : Type 0 where
-  answers_are : answers ≡ others
-  files : new.files ≡ new'.files
+  proper_rest : (first : Answered l) (inside behind : List (Answered l)) → AreProper l (first ∷ (inside ++ behind)) → AreProper l inside × AreProper l behind
+  proper_rest first inside behind are =
+      let store = parted (is_by_store l) inside behind (none_later (is_by_store l first.reply) (some_of l (is_by_store l) (inside ++ behind)) are.store) in
+      let memory = parted (is_by_memory l) inside behind (none_later (is_by_memory l first.reply) (some_of l (is_by_memory l) (inside ++ behind)) are.memory) in
+      (record { store = store.0; memory = memory.0 }, record { store = store.1; memory = memory.1 })
 
 -- how a text without terminator is refused
-same_open : {F : Type 0} (l : CommandLanguage F) (text : List ℕ) (answer other : Answer l) → IsOpenAnswer l text answer → IsOpenAnswer l text other → answer ≡ other
-same_open l text answer other (inl (long, is)) (inl (long', is')) = is ∙ sym is'
-same_open l text answer other (inl (long, is)) (inr (short, is')) = absurd (omega arith)
-same_open l text answer other (inr (short, is)) (inl (long', is')) = absurd (omega arith)
-same_open l text answer other (inr (short, is)) (inr (short', is')) = is ∙ sym is'
+same_open : {F : Type 0} (l : CommandLanguage F) (text : List ℕ) (reply other : Reply l) → IsOpenReply l text reply → IsOpenReply l text other → reply ≡ other
+same_open l text reply other (inl (long, is)) (inl (long', is')) = is ∙ sym is'
+same_open l text reply other (inl (long, is)) (inr (short, is')) = absurd (omega arith)
+same_open l text reply other (inr (short, is)) (inl (long, is')) = absurd (omega arith)
+same_open l text reply other (inr (short, is)) (inr (short', is')) = is ∙ sym is'
 
 clean_store : (refused store memory : Bool) → IsClean (status_by refused store memory) → (store ≡ false) × (memory ≡ false)
 clean_store refused store true (inl is) = cc
@@ -78,14 +99,14 @@ clean_store refused true false (inl is) = cc
 clean_store refused true false (inr is) = cc
 clean_store refused false false clean = (refl, refl)
 
-clean_answers : {F : Type 0} (l : CommandLanguage F) (answers : List (Answer l)) (state : Status) → state ≡ status_of l answers → IsClean state → AreProper l answers
-clean_answers l answers state is clean =
+clean_replies : {F : Type 0} (l : CommandLanguage F) (answered : List (Answered l)) (state : Status) → state ≡ status_of l answered → IsClean state → AreProper l answered
+clean_replies l answered state is clean =
     let P : Status → Type 0 = λ s. IsClean s in
-    let both : (some_of (is_by_store l) answers ≡ false) × (some_of (is_by_memory l) answers ≡ false) = clean_store (some_of (is_refusal l) answers) (some_of (is_by_store l) answers) (some_of (is_by_memory l) answers) (subst P is clean) in
+    let both : (some_of l (is_by_store l) answered ≡ false) × (some_of l (is_by_memory l) answered ≡ false) = clean_store (some_of l (is_refusal l) answered) (some_of l (is_by_store l) answered) (some_of l (is_by_memory l) answered) (subst P is clean) in
     record { store = both.0; memory = both.1 }
 
 -- the sink does not stop a clean run
-not_stopped : (stop : WriteFault) (state : Status) → state ≡ stop_status stop → IsClean state → ⊥
+pub not_stopped : (stop : WriteFault) (state : Status) → state ≡ stop_status stop → IsClean state → ⊥
 not_stopped writes.Failed state is (inl done) = cc
 not_stopped writes.Failed state is (inr refused) = cc
 not_stopped writes.Memory state is (inl done) = cc
@@ -104,9 +125,9 @@ not_usage state is (inl done) = cc
 not_usage state is (inr refused) = cc
 
 -- and neither the source nor out of memory
-no_fault : (from to : SourceView) (gave suffix : List ℕ) (state : Status) → SourceFailed from to gave suffix state ⊎ WantedMemory from to state → IsClean state → ⊥
-no_fault from to gave suffix state (inl failed) clean = not_outside state failed.state_is clean
-no_fault from to gave suffix state (inr memory) clean = not_memory state memory.state_is clean
+no_fault : {F : Type 0} (l : CommandLanguage F) (turns : Turns l) (from to : SourceView) (gave suffix : List ℕ) (state : Status) → SourceFailed l turns from to gave suffix state ⊎ WantedMemory l turns from to state → IsClean state → ⊥
+no_fault l turns from to gave suffix state (inl failed) clean = not_outside state failed.state_is clean
+no_fault l turns from to gave suffix state (inr memory) clean = not_memory state memory.state_is clean
 
 -- all of the script is what was given and what is left
 whole_script : (from to : Option (List ℕ)) (gave more script : List ℕ) → Consumes from to gave → IfSome to (λ left. more ≡ left) → from ≡ Some script → gave ++ more ≡ script
@@ -119,70 +140,179 @@ clean_through l script from to old new held now state (gave, more, given, inl ra
     let same : gave ++ more ≡ script = whole_script from.left to.left gave more script given.taken given.reported is in
     let Q : List ℕ → Type 0 = λ s. RanThrough l s from to old new held now state in subst Q same ran
 clean_through l script from to old new held now state (gave, more, given, inr (inl ran)) is clean = absurd (not_stopped ran.fault state ran.state_is clean)
-clean_through l script from to old new held now state (gave, more, given, inr (inr ran)) is clean = absurd (no_fault from to gave ran.suffix state ran.cause clean)
+clean_through l script from to old new held now state (gave, more, given, inr (inr ran)) is clean = absurd (no_fault l ran.turns from to gave ran.suffix state ran.cause clean)
+
+-- two states of which the same is known, with as many bytes that may be read, and the same files, which are reported
+record Alike {F : Type 0} (l : CommandLanguage F) (s t : State l) : Type 0 where
+  ledger : s.ledger ≡ t.ledger
+  room : s.room ≡ t.room
+  files : Files
+  reported : s.store.files ≡ Some files
+  reported' : t.store.files ≡ Some files
 
 module _ {F : Type 0} (l : CommandLanguage F) (determined : IsDetermined l) where
-  -- an item has one answer that is neither the store's nor memory's
-  same_item : (ended : Ended) (ledger : l.Ledger) (text : List ℕ) (answer other : Answer l) → IsAnswerOf l ended ledger text answer → IsAnswerOf l ended ledger text other → IsProper l answer → IsProper l other → answer ≡ other
-  same_item (Terminated shown) ledger text answer other a b is is' = determined.one_answer ledger text answer other a b is is'
-  same_item Unterminated ledger text answer other a b is is' = same_open l text answer other a b
-  same_item PastLimit ledger text answer other a b is is' = a ∙ sym b
+  alike_to : (s t s' t' : State l) → s' ≡ s → t' ≡ t → Alike l s t → Alike l s' t'
+  alike_to s t s' t' is is' a = subst (λ (x : State l). Alike l x t') (sym is) (subst (λ (x : State l). Alike l s x) (sym is') a)
+
+  proper_load : (loaded : List ℕ) → IsProper l (Ok (Loads loaded))
+  proper_load loaded = record { store = refl; memory = refl }
+
+  not_fitting : (room : ℕ) (loaded : List ℕ) (reply : Reply l) → reply ≡ Ok (Loads loaded) → FitsIn l room reply → room < length loaded → ⊥
+  not_fitting room loaded reply is fits over = let fits' : length loaded ≤ room = subst (λ (r : Reply l). FitsIn l room r) is fits in omega arith
+
+  -- an item has one reply that is neither the store's nor memory's
+  same_command : (depth room : ℕ) (ledger : l.Ledger) (text : List ℕ) (reply other : Reply l) → IsProper l reply → IsProper l other
+      → (l.answers depth ledger text reply × FitsIn l room reply) ⊎ PassesLimit l depth room ledger text reply → (l.answers depth ledger text other × FitsIn l room other) ⊎ PassesLimit l depth room ledger text other → reply ≡ other
+  same_command depth room ledger text reply other is is' (inl a) (inl b) = determined.one_reply depth ledger text reply other a.0 b.0 is is'
+  same_command depth room ledger text reply other is is' (inl a) (inr (loaded, answered, over, refused)) = absurd (not_fitting room loaded reply (determined.one_reply depth ledger text reply (Ok (Loads loaded)) a.0 answered is (proper_load loaded)) a.1 over)
+  same_command depth room ledger text reply other is is' (inr (loaded, answered, over, refused)) (inl b) = absurd (not_fitting room loaded other (determined.one_reply depth ledger text other (Ok (Loads loaded)) b.0 answered is' (proper_load loaded)) b.1 over)
+  same_command depth room ledger text reply other is is' (inr a) (inr b) = a.3 ∙ sym b.3
+
+  same_item : (ended : Ended) (depth room : ℕ) (ledger : l.Ledger) (text : List ℕ) (reply other : Reply l) → IsReplyOf l ended depth room ledger text reply → IsReplyOf l ended depth room ledger text other → IsProper l reply → IsProper l other → reply ≡ other
+  same_item (Terminated shown) depth room ledger text reply other a b is is' = same_command depth room ledger text reply other is is' a b
+  same_item Unterminated depth room ledger text reply other a b is is' = same_open l text reply other a b
+  same_item PastLimit depth room ledger text reply other a b is is' = a ∙ sym b
 
   -- files that are reported stay so
-  still_reported : (ledger : l.Ledger) (answer : Answer l) (old new : Option Files) (files : Files) → old ≡ Some files → Changes l ledger old answer new → (later : Files) × (new ≡ Some later)
-  still_reported ledger (Ok success) old new files is changed = let P : Option Files → Type 0 = λ o. l.changes ledger success o new in determined.stays_reported ledger success files new (subst P is changed)
+  still_reported : (ledger : l.Ledger) (reply : Reply l) (old new : Option Files) (files : Files) → old ≡ Some files → Changes l ledger old reply new → (later : Files) × (new ≡ Some later)
+  still_reported ledger (Ok (Enters success)) old new files is changed = let P : Option Files → Type 0 = λ o. l.changes ledger success o new in determined.stays_reported ledger success files new (subst P is changed)
+  still_reported ledger (Ok (Loads loaded)) old new files is new_is = (files, new_is ∙ is)
+  still_reported ledger (Ok Ends) old new files is new_is = (files, new_is ∙ is)
   still_reported ledger (Err fault) old new files is new_is = (files, new_is ∙ is)
 
-  -- one answer changes the same files in one way
-  same_changes : (ledger : l.Ledger) (answer : Answer l) (old old' new new' : Option Files) → old ≡ old' → Changes l ledger old answer new → Changes l ledger old' answer new' → new ≡ new'
-  same_changes ledger (Ok success) old old' new new' same changed changed' = let P : Option Files → Type 0 = λ o. l.changes ledger success o new' in determined.one_change ledger success old new new' changed (subst P (sym same) changed')
+  -- one reply changes the same files in one way
+  same_changes : (ledger : l.Ledger) (reply : Reply l) (old old' new new' : Option Files) → old ≡ old' → Changes l ledger old reply new → Changes l ledger old' reply new' → new ≡ new'
+  same_changes ledger (Ok (Enters success)) old old' new new' same changed changed' = let P : Option Files → Type 0 = λ o. l.changes ledger success o new' in determined.one_change ledger success old new new' changed (subst P (sym same) changed')
+  same_changes ledger (Ok (Loads loaded)) old old' new new' same is is' = is ∙ (same ∙ sym is')
+  same_changes ledger (Ok Ends) old old' new new' same is is' = is ∙ (same ∙ sym is')
   same_changes ledger (Err fault) old old' new new' same is is' = is ∙ (same ∙ sym is')
 
-  same_answers : (items : List Item) (answers others : List (Answer l)) (ledger last last' : l.Ledger) (old old' new new' : StoreView) (files : Files) → old.files ≡ Some files → old'.files ≡ Some files → Run l ledger old items answers last new → Run l ledger old' items others last' new'
-      → AreProper l answers → AreProper l others → SameEnd answers others new new'
-  same_answers [] [] [] ledger last last' old old' new new' files reported reported' run run' are are' = record {
-    answers_are = refl;
-    files = ap (λ (s : StoreView). s.files) run.1 ∙ (reported ∙ (sym reported' ∙ sym (ap (λ (s : StoreView). s.files) run'.1)));
-  }
-  same_answers [] [] (b ∷ others) ledger last last' old old' new new' files reported reported' run run' are are' = absurd run'
-  same_answers [] (a ∷ answers) others ledger last last' old old' new new' files reported reported' run run' are are' = absurd run
-  same_answers (item ∷ items) [] others ledger last last' old old' new new' files reported reported' run run' are are' = absurd run
-  same_answers (item ∷ items) (a ∷ answers) [] ledger last last' old old' new new' files reported reported' run run' are are' = absurd run'
-  same_answers (item ∷ items) (a ∷ answers) (b ∷ others) ledger last last' old old' new new' files reported reported' run run' are are' =
-      let known : run.1.known ≡ ledger = known_same old.files files ledger run.1.known reported run.1.known_is in
-      let known' : run'.1.known ≡ ledger = known_same old'.files files ledger run'.1.known reported' run'.1.known_is in
-      let first : a ≡ b = same_item item.ended ledger item.text a b
-      (subst (λ (e : l.Ledger). IsAnswerOf l item.ended e item.text a) known run.1.answered)
-      (subst (λ (e : l.Ledger). IsAnswerOf l item.ended e item.text b) known' run'.1.answered)
-      (proper_first l a answers are) (proper_first l b others are') in
-      let mine : Changes l ledger old.files a run.0.files = subst (λ (e : l.Ledger). Changes l e old.files a run.0.files) known run.1.stored.files in
-      let theirs : Changes l ledger old'.files b run'.0.files = subst (λ (e : l.Ledger). Changes l e old'.files b run'.0.files) known' run'.1.stored.files in
-      let P : Answer l → Type 0 = λ x. Changes l ledger old'.files x run'.0.files in
-      let mids : run.0.files ≡ run'.0.files = same_changes ledger a old.files old'.files run.0.files run'.0.files (reported ∙ sym reported') mine (subst P (sym first) theirs) in
-      let more = still_reported ledger a old.files run.0.files files reported mine in
-      let Q : Answer l → Type 0 = λ x. Run l (ledger_after l ledger x) run'.0 items others last' new' in
-      let rest : SameEnd answers others new new' = same_answers items answers others (ledger_after l ledger a) last last' run.0 run'.0 new new' more.0 more.1 (sym mids ∙ more.1) run.2 (subst Q (sym first) run'.2) (proper_rest l a answers are) (proper_rest l b others are') in
-      record { answers_are = λ i. first i ∷ rest.answers_are i; files = rest.files }
+  -- one item, from states that are alike
+  same_reply : (depth : ℕ) (at at' : State l) (item item' : Item) (reply reply' : Reply l) (store store' : StoreView) → Alike l at at' → item ≡ item' → Replies l depth at (record { item = item; reply = reply }) store → Replies l depth at' (record { item = item'; reply = reply' }) store'
+      → IsProper l reply → IsProper l reply' → reply ≡ reply'
+  same_reply depth at at' item item' reply reply' store store' alike items r r' is is' =
+      let known : r.known ≡ at.ledger = known_same at.store.files alike.files at.ledger r.known alike.reported r.known_is in
+      let known' : r'.known ≡ at.ledger = known_same at'.store.files alike.files at'.ledger r'.known alike.reported' r'.known_is ∙ sym alike.ledger in
+      let P : ℕ → l.Ledger → Item → Type 0 = λ room ledger i. IsReplyOf l i.ended depth room ledger i.text reply' in
+      same_item item.ended depth at.room at.ledger item.text reply reply'
+      (subst (λ (e : l.Ledger). IsReplyOf l item.ended depth at.room e item.text reply) known r.replied)
+      (subst (λ (i : Item). P at.room at.ledger i) (sym items) (subst (λ (n : ℕ). P n at.ledger item') (sym alike.room) (subst (λ (e : l.Ledger). P at'.room e item') known' r'.replied)))
+      is is'
 
-  through_alike : (script : List ℕ) (files : Files) (from to from' to' : SourceView) (old new old' new' : StoreView) (held now held' now' : SinkView) (state state' : Status) → RanThrough l script from to old new held now state → RanThrough l script from' to' old' new' held' now' state'
-      → old.files ≡ Some files → old'.files ≡ Some files → IsClean state → IsClean state' → EndAlike new new' held now held' now' state state'
-  through_alike script files from to from' to' old new old' new' held now held' now' state state' a b reported reported' clean clean' =
-      let same : old.files ≡ old'.files = reported ∙ sym reported' in
-      let items : a.items ≡ b.items = same_lists (start script) a.items b.items (record { last = a.last; cut = a.cut; end = a.end }) (record { last = b.last; cut = b.cut; end = b.end }) in
-      let P : List Item → Type 0 = λ is. Run l (l.first old'.files) old' is b.answers b.ledger new' in
-      let Q : Option Files → Type 0 = λ files. Run l (l.first files) old' a.items b.answers b.ledger new' in
-      let run : Run l (l.first old.files) old' a.items b.answers b.ledger new' = subst Q (sym same) (subst P (sym items) b.run) in
-      let ends : SameEnd a.answers b.answers new new' = same_answers a.items a.answers b.answers (l.first old.files) a.ledger b.ledger old old' new new' files reported reported' a.run run (clean_answers l a.answers state a.state_is clean) (clean_answers l b.answers state' b.state_is clean') in
-      let texts : printed l b.items b.answers ≡ printed l a.items a.answers = λ i. printed l (sym items i) (sym ends.answers_are i) in
+  same_after : (depth : ℕ) (at at' : State l) (item item' : Item) (reply reply' : Reply l) (store store' : StoreView) → Alike l at at' → reply ≡ reply' → Replies l depth at (record { item = item; reply = reply }) store → Replies l depth at' (record { item = item'; reply = reply' }) store'
+      → Alike l (state_after l at reply store) (state_after l at' reply' store')
+  same_after depth at at' item item' reply reply' store store' alike replies r r' =
+      let known : r.known ≡ at.ledger = known_same at.store.files alike.files at.ledger r.known alike.reported r.known_is in
+      let known' : r'.known ≡ at.ledger = known_same at'.store.files alike.files at'.ledger r'.known alike.reported' r'.known_is ∙ sym alike.ledger in
+      let mine : Changes l at.ledger at.store.files reply store.files = subst (λ (e : l.Ledger). Changes l e at.store.files reply store.files) known r.stored.files in
+      let theirs : Changes l at.ledger at'.store.files reply store'.files = subst (λ (x : Reply l). Changes l at.ledger at'.store.files x store'.files) (sym replies) (subst (λ (e : l.Ledger). Changes l e at'.store.files reply' store'.files) known' r'.stored.files) in
+      let stores : store.files ≡ store'.files = same_changes at.ledger reply at.store.files at'.store.files store.files store'.files (alike.reported ∙ sym alike.reported') mine theirs in
+      let more = still_reported at.ledger reply at.store.files store.files alike.files alike.reported mine in
       record {
-        status = a.state_is ∙ (ap (λ (xs : List (Answer l)). status_of l xs) ends.answers_are ∙ sym b.state_is);
-        files = ends.files;
-        text = printed l a.items a.answers;
+        ledger = λ i. ledger_after l (alike.ledger i) (replies i);
+        room = λ i. room_after l (alike.room i) (replies i);
+        files = more.0;
+        reported = more.1;
+        reported' = sym stores ∙ more.1;
+      }
+
+  -- turns are the same, and lead to states that are alike
+  abbrev SameEnds : Turns l → Turns l → State l → State l → Type 0
+  SameEnds turns turns' new new' = (turns ≡ turns') × Alike l new new'
+
+  abbrev AreSame : Turns l → Turns l → ℕ → Type 0
+  AreSame turns turns' depth = (place last last' : Rest) (old old' new new' : State l) → Alike l old old' → Run l depth place old turns last new → Run l depth place old' turns' last' new'
+      → (is_cut_off l turns ≡ false → IsAtEnd last) → (is_cut_off l turns' ≡ false → IsAtEnd last') → SameEnds turns turns' new new'
+
+  -- so of what a command loads
+  same_loaded : (inside inside' : Turns l) (depth : ℕ) → AreSame inside inside' depth → (reply : Reply l) (here here' later later' : State l) → Alike l here here' → Loaded l depth reply here inside later → Loaded l depth reply here' inside' later' → SameEnds inside inside' later later'
+  same_loaded inside inside' depth same (Ok (Enters success)) here here' later later' alike (is, to) (is', to') = (is ∙ sym is', alike_to here here' later later' to to' alike)
+  same_loaded inside inside' depth same (Ok (Loads text)) here here' later later' alike (end, run, ended) (end', run', ended') = same (start text) end end' here here' later later' alike run run' ended ended'
+  same_loaded inside inside' depth same (Ok Ends) here here' later later' alike (is, to) (is', to') = (is ∙ sym is', alike_to here here' later later' to to' alike)
+  same_loaded inside inside' depth same (Err fault) here here' later later' alike (is, to) (is', to') = (is ∙ sym is', alike_to here here' later later' to to' alike)
+
+  -- and of what comes behind it, where more may come or not
+  same_behind : (behind behind' : Turns l) (depth : ℕ) → (IsDue l behind → IsDue l behind' → AreSame behind behind' depth) → (v : Bool) (place place' last last' : Rest) (later later' new new' : State l) → place ≡ place' → Alike l later later'
+      → (v ≡ false → behind ≡ cut_off) → (v ≡ false → behind' ≡ cut_off) → (v ≡ true → IsDue l behind) → (v ≡ true → IsDue l behind') → Run l depth place later behind last new → Run l depth place' later' behind' last' new'
+      → (is_cut_off l behind ≡ false → IsAtEnd last) → (is_cut_off l behind' ≡ false → IsAtEnd last') → SameEnds behind behind' new new'
+  same_behind behind behind' depth same true place place' last last' later later' new new' places alike off off' due due' run run' end end' =
+      same (due refl) (due' refl) place last last' later later' new new' alike run (subst (λ (p : Rest). Run l depth p later' behind' last' new') (sym places) run') end end'
+  same_behind behind behind' depth same false place place' last last' later later' new new' places alike off off' due due' run run' end end' =
+      let stays : Run l depth place later cut_off last new = subst (λ (t : Turns l). Run l depth place later t last new) (off refl) run in
+      let stays' : Run l depth place' later' cut_off last' new' = subst (λ (t : Turns l). Run l depth place' later' t last' new') (off' refl) run' in
+      (off refl ∙ sym (off' refl), alike_to later later' new new' stays.1 stays'.1 alike)
+
+  same_turns : (turns turns' : Turns l) (depth : ℕ) → AreProper l (in_order l turns) → AreProper l (in_order l turns') → IsDue l turns → IsDue l turns' → AreSame turns turns' depth
+  same_turns no_more no_more depth are are' due due' = λ place last last' old old' new new' alike run run' end end'. (refl, alike_to old old' new new' run.1 run'.1 alike)
+  same_turns no_more cut_off depth are are' due due' = absurd due'
+  same_turns no_more (turn first inside behind) depth are are' due due' = λ place last last' old old' new new' alike run run' end end'.
+      absurd (none_next place first.item run'.0 run'.3 (subst IsAtEnd run.0 (end refl)))
+  same_turns cut_off turns' depth are are' due due' = absurd due
+  same_turns (turn first inside behind) no_more depth are are' due due' = λ place last last' old old' new new' alike run run' end end'.
+      absurd (none_next place first.item run.0 run.3 (subst IsAtEnd run'.0 (end' refl)))
+  same_turns (turn first inside behind) cut_off depth are are' due due' = absurd due'
+  same_turns (turn first inside behind) (turn first' inside' behind') depth are are' due due' = λ place last last' old old' new new' alike (mid, store, later, next, replies, loaded, off, run) (mid', store', later', next', replies', loaded', off', run') end end'.
+      let items : Same first.item first'.item mid mid' = same_next place first.item first'.item mid mid' next next' in
+      let rest = proper_rest l first (in_order l inside) (in_order l behind) are in
+      let rest' = proper_rest l first' (in_order l inside') (in_order l behind') are' in
+      let at : State l = with_room l old (room_at depth mid old.room) in
+      let at' : State l = with_room l old' (room_at depth mid' old'.room) in
+      let begin : Alike l at at' = record { ledger = alike.ledger; room = λ i. room_at depth (items.place i) (alike.room i); files = alike.files; reported = alike.reported; reported' = alike.reported' } in
+      let reply : first.reply ≡ first'.reply = same_reply depth at at' first.item first'.item first.reply first'.reply store store' begin items.item replies replies' (proper_first l first (in_order l inside ++ in_order l behind) are) (proper_first l first' (in_order l inside' ++ in_order l behind') are') in
+      let here : Alike l (state_after l at first.reply store) (state_after l at' first'.reply store') = same_after depth at at' first.item first'.item first.reply first'.reply store store' begin reply replies replies' in
+      let load : Loaded l (suc depth) first.reply (state_after l at' first'.reply store') inside' later' = subst (λ (r : Reply l). Loaded l (suc depth) r (state_after l at' first'.reply store') inside' later') (sym reply) loaded' in
+      let in_file : SameEnds inside inside' later later' = same_loaded inside inside' (suc depth) (same_turns inside inside' (suc depth) rest.0 rest'.0 due.0 due'.0) first.reply (state_after l at first.reply store) (state_after l at' first'.reply store') later later' here loaded load in
+      let going : goes_on l first.reply inside ≡ goes_on l first'.reply inside' = λ i. goes_on l (reply i) (in_file.0 i) in
+      let places : place_with depth mid later.room ≡ place_with depth mid' later'.room = λ i. place_with depth (items.place i) (in_file.1.room i) in
+      let ends : SameEnds behind behind' new new' = same_behind behind behind' depth (λ due due'. same_turns behind behind' depth rest.1 rest'.1 due due') (goes_on l first.reply inside) (place_with depth mid later.room) (place_with depth mid' later'.room) last last' later later' new new' places in_file.1
+      off (λ ends. off' (sym going ∙ ends)) due.1 (λ on. due'.1 (sym going ∙ on)) run run' end end' in
+      (λ i. turn (record { item = items.item i; reply = reply i }) (in_file.0 i) (ends.0 i), ends.1)
+
+  -- the turns of one script, from the same files, that end clean are the same, and so are the files after them
+  clean_turns : (text : List ℕ) (files : Files) (old new old' new' : StoreView) (turns turns' : Turns l) (last last' : Rest) (state state' : Status) → HasTurns l text old turns last new → HasTurns l text old' turns' last' new' → IsDue l turns → IsDue l turns'
+      → (is_cut_off l turns ≡ false → IsAtEnd last) → (is_cut_off l turns' ≡ false → IsAtEnd last') → state ≡ status_of l (in_order l turns) → state' ≡ status_of l (in_order l turns') → old.files ≡ Some files → old'.files ≡ Some files → IsClean state → IsClean state'
+      → (turns ≡ turns') × (new.files ≡ new'.files)
+  clean_turns text files old new old' new' turns turns' last last' state state' has has' due due' end end' is is' reported reported' clean clean' =
+      let begin : Alike l (first_state l old) (first_state l old') = record { ledger = ap l.first (reported ∙ sym reported'); room = refl; files = files; reported = reported; reported' = reported' } in
+      let same = same_turns turns turns' 0 (clean_replies l (in_order l turns) state is clean) (clean_replies l (in_order l turns') state' is' clean') due due'
+      (start text) last last' (first_state l old) (first_state l old') (record { ledger = has.ledger; store = new; room = has.room }) (record { ledger = has'.ledger; store = new'; room = has'.room }) begin has.run has'.run end end' in
+      (same.0, same.1.reported ∙ sym same.1.reported')
+
+  through_alike : (text : List ℕ) (files : Files) (from to from' to' : SourceView) (old new old' new' : StoreView) (held now held' now' : SinkView) (state state' : Status) → RanThrough l text from to old new held now state → RanThrough l text from' to' old' new' held' now' state'
+      → old.files ≡ Some files → old'.files ≡ Some files → IsClean state → IsClean state' → EndAlike new new' held now held' now' state state'
+  through_alike text files from to from' to' old new old' new' held now held' now' state state' a b reported reported' clean clean' =
+      let same : (a.turns ≡ b.turns) × (new.files ≡ new'.files) = clean_turns text files old new old' new' a.turns b.turns a.last b.last state state' a.has_turns b.has_turns a.due b.due a.end b.end a.state_is b.state_is reported reported' clean clean' in
+      let texts : printed l (in_order l b.turns) ≡ printed l (in_order l a.turns) = λ i. printed l (in_order l (sym same.0 i)) in
+      record {
+        status = a.state_is ∙ (ap (λ (t : Turns l). status_of l (in_order l t)) same.0 ∙ sym b.state_is);
+        files = same.1;
+        text = printed l (in_order l a.turns);
         printed = a.sent;
         printed' = let R : List ℕ → Type 0 = λ text. HasSent held' text now' in subst R texts b.sent;
       }
 
+  -- counts of the same items
+  same_counts : (answered answered' : List (Answered l)) (counts counts' : Counts) → answered ≡ answered' → AreCounted l answered counts → AreCounted l answered' counts' → counts ≡ counts'
+  same_counts answered answered' counts counts' same a b =
+      let c : AreCounted l answered counts' = subst (λ (xs : List (Answered l)). AreCounted l xs counts') (sym same) b in
+      let commands : counts.commands ≡ counts'.commands = a.commands ∙ sym c.commands in
+      let yes : counts.yes ≡ counts'.yes = a.yes ∙ sym c.yes in
+      let no : counts.no ≡ counts'.no = a.no ∙ sym c.no in
+      let other : counts.other ≡ counts'.other = a.other ∙ sym c.other in
+      let refused : counts.refused ≡ counts'.refused = a.refused ∙ sym c.refused in
+      λ i. record { commands = commands i; yes = yes i; no = no i; other = other i; refused = refused i }
+
+  -- runs over one text that is given whole, from the same files, that end clean end alike
+  pub texts_end_alike : TextRunsEndAlike l
+  texts_end_alike = λ text files old new old' new' counts counts' state state' a b reported reported' clean clean'.
+      let same : (a.turns ≡ b.turns) × (new.files ≡ new'.files) = clean_turns text files old new old' new' a.turns b.turns a.last b.last state state' a.has_turns b.has_turns a.due b.due a.end b.end a.state_is b.state_is reported reported' clean clean' in
+      record {
+        status = a.state_is ∙ (ap (λ (t : Turns l). status_of l (in_order l t)) same.0 ∙ sym b.state_is);
+        files = same.1;
+        counts = same_counts (in_order l a.turns) (in_order l b.turns) counts counts' (ap (in_order l) same.0) a.counted b.counted;
+      }
+
   -- runs over one script, from the same files, that end clean end alike
   pub runs_end_alike : RunsEndAlike l
-  runs_end_alike = λ script files from to from' to' old new old' new' held now held' now' state state' run run' is is' reported reported' clean clean'.
-      through_alike script files from to from' to' old new old' new' held now held' now' state state' (clean_through l script from to old new held now state run is clean) (clean_through l script from' to' old' new' held' now' state' run' is' clean') reported reported' clean clean'
+  runs_end_alike = λ text files from to from' to' old new old' new' held now held' now' state state' run run' is is' reported reported' clean clean'.
+      through_alike text files from to from' to' old new old' new' held now held' now' state state' (clean_through l text from to old new held now state run is clean) (clean_through l text from' to' old' new' held' now' state' run' is' clean') reported reported' clean clean'

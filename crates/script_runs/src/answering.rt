@@ -3,8 +3,10 @@
 ghost use Rattle.std.specs.Prelude.{◌≡◌, IfSome};
 ghost use Rattle.wal_outside.specs.Sending.{Sends};
 ghost use Rattle.script_runs.specs.Languages.{CommandLanguage, is_store_fault, IsSound};
-ghost use Rattle.script_runs.specs.Runs.{AnswersCommand};
+ghost use Rattle.script_runs.specs.Handing.{MayLoad};
+ghost use Rattle.script_runs.specs.Replies.{AnswersCommand};
 
+use crate::deed::Deed;
 use crate::script_fault::ScriptFault;
 use std::alloc::Global;
 use wal_outside::{Sink, Store, WriteFault};
@@ -16,29 +18,31 @@ pub struct Command<'a> {
     pub text: &'a [u8],
     /// Whether the lines of its steps are shown.
     pub shown: bool,
+    /// In how many loads it stands.
+    pub depth: usize,
 }
 
 /// What answers the commands of a script, one after another.
-pub trait Answering {
+pub trait Answering: Drop {
     /// Why a command is refused.
     type Refusal: Drop;
 
     /// The language of the commands.
     ghost language: { Self → CommandLanguage Self.Refusal };
 
-    /// Answers one command. Where it is accepted, `printed` has what it prints.
+    /// Answers one command, and says what it does. A command that stands in eight loads loads nothing.
     ///
     /// # Errors
-    /// Why it is refused; the store's texts are as before, and `printed` is empty.
+    /// Why it is refused; the store's texts are as before.
     fn answer<T: Store>(
         &mut self,
         alloc: Global,
         command: &Command<'_>,
         store: &mut T,
-        printed: &mut Vec<u8>,
-    ) -> Result<(), Self::Refusal>
+    ) -> Result<Deed, Self::Refusal>
         ensures kept { self.new ≡ self.old }
-        ensures command { (ledger : (language self.old).Ledger) → IfSome (T.view store.old).files ((language self.old).stores ledger) → AnswersCommand (language self.old) ledger (T.view store.old) command.now.text.now command.now.shown result printed.new.items (T.view store.new) };
+        ensures loads { MayLoad command.now.depth result }
+        ensures command { (ledger : (language self.old).Ledger) → IfSome (T.view store.old).files ((language self.old).stores ledger) → AnswersCommand (language self.old) command.now.depth ledger (T.view store.old) command.now.text.now command.now.shown result (T.view store.new) };
 
     /// Why a text is refused that is no command.
     fn refuse(&self, fault: ScriptFault) -> Self::Refusal
@@ -51,6 +55,10 @@ pub trait Answering {
     /// Whether a command is refused because memory ran out.
     fn is_by_memory(&self, refusal: &Self::Refusal) -> bool
         ensures { result ≡ (language self.now).is_memory refusal.now };
+
+    /// Whether a run ends with a command that is refused so.
+    fn ends_run(&self, refusal: &Self::Refusal) -> bool
+        ensures { result ≡ (language self.now).ends_run refusal.now };
 
     /// Hands over the line of a command that begins on `line` and is refused.
     ///

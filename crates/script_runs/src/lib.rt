@@ -5,16 +5,36 @@
 mod status;
 // why a text of a script is no command
 mod script_fault;
+// what an accepted command does
+mod deed;
 // what answers commands
 mod answering;
-// what was counted of the answers
+// how many commands were answered, and how
+mod counts;
+// what was counted of the replies
 mod tally;
-// an answer and its line
+// a reply and its line
 mod handing;
-// the commands of a script, one after another
+// what comes next of a text
+mod coming;
+// what a run does behind an item
+mod flow;
+// what a run goes on with
+mod progress;
+// the items of a script and of files, one after another
 mod running;
+// a sink that keeps nothing
+mod discarding;
+// runs over a text that is given whole
+mod text_run;
+// what holds of all runs
+mod laws;
 
 pub use answering::{Answering, Command};
-pub use running::run_script;
+pub use counts::Counts;
+pub use deed::Deed;
+pub use laws::items_have_bytes;
+pub use running::{LOAD_LIMIT, run_script};
 pub use script_fault::ScriptFault;
 pub use status::Status;
+pub use text_run::{TextRun, run_text};

@@ -1,10 +1,12 @@
-ghost use Rattle.std.specs.Prelude.{◌≡◌, false};
-ghost use Rattle.script_runs.specs.Tallies.{AddsFault, AddsResult, tally_status};
+ghost use Rattle.std.specs.Prelude.{◌≡◌};
+ghost use Rattle.script_runs.specs.Tallies.{AddsFault, AddsResult, nothing, tally_status};
 
 use crate::answering::Answering;
+use crate::counts::Counts;
+use crate::deed::Deed;
 use crate::status::Status;
 
-/// Which kinds of refusals there were so far.
+/// Which kinds of refusals there were so far, and how many commands were answered.
 #[derive(Clone, Copy)]
 pub(crate) struct Tally {
     /// Some command was refused.
@@ -13,23 +15,26 @@ pub(crate) struct Tally {
     pub(crate) store: bool,
     /// Because memory ran out.
     pub(crate) memory: bool,
+    pub(crate) counts: Counts,
 }
 
 impl Tally {
     /// None so far.
     pub(crate) fn new() -> Self
-        ensures { result ≡ record { refused = false; store = false; memory = false } }
+        ensures { result ≡ nothing }
     {
         Tally {
             refused: false,
             store: false,
             memory: false,
+            counts: Counts::none(),
         }
     }
 
     /// With one refusal more.
     pub(crate) fn with<A: Answering>(self, answering: &A, refusal: &A::Refusal) -> Self
-        ensures { AddsFault (A.language answering.now) self refusal.now result }
+        ensures fault { AddsFault (A.language answering.now) self refusal.now result }
+        ensures counts { result.counts ≡ self.counts }
     {
         let store = answering.is_by_store(refusal);
         let memory = answering.is_by_memory(refusal);
@@ -37,14 +42,16 @@ impl Tally {
             refused: true,
             store: self.store || store,
             memory: self.memory || memory,
+            counts: self.counts,
         }
     }
 
-    /// Counts an answer.
-    pub(crate) fn count<A: Answering>(&mut self, answering: &A, answer: &Result<(), A::Refusal>)
-        ensures { AddsResult (A.language answering.now) self.old answer.now self.new }
+    /// Counts a reply.
+    pub(crate) fn count<A: Answering>(&mut self, answering: &A, reply: &Result<Deed, A::Refusal>)
+        ensures { AddsResult (A.language answering.now) self.old reply.now self.new }
     {
-        if let Err(refusal) = answer {
+        self.counts = self.counts.with(reply);
+        if let Err(refusal) = reply {
             *self = self.with(answering, refusal);
         }
     }

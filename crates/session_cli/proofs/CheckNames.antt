@@ -31,14 +31,9 @@ use Rattle.session_cli.specs.FileChecks.{files_loaded}
 use Rattle.session_cli.specs.FormulaOutcomes.{BuiltAnswers, IsVariable, after_tables, bindings_now}
 use Rattle.session_cli.specs.ImageOutcomes.{ImagedAnswers, IsTrackOf, LengthsAnswers, WordTrack, after_old_table, old_mentions}
 use Rattle.session_cli.specs.MorphismChecks.{morphism_loaded}
-use Rattle.session_cli.specs.Outcomes.{WordAnswers, checks_by}
 use Rattle.session_cli.specs.PromoteOutcomes.{after_morphism}
 use Rattle.session_cli.specs.RegOutcomes.{StepsAnswers, TracksAnswers, after_tracks}
 use Rattle.session_cli.specs.SessionLanguage.{failed_at}
-
--- the checks after the length
-abbrev pub after_length : ℕ → Ledger → List ℕ → Check Success
-after_length limit ledger text = Then (Pure (WordAnswers text)) (λ word. checks_by word limit ledger text)
 
 -- what is stored and printed of bytes
 abbrev pub text_success : Folder → List ℕ → List ℕ → Success

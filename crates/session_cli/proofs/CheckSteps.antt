@@ -1,5 +1,6 @@
 -- Checks one after another: they have one answer, and what refuses a check refuses all of them.
 use Rattle.std.proofs.Common.{◌≡◌, Bool, Result, Ok, Err, subst, inl, inr}
+use Rattle.wal_outside.specs.Places.{Place}
 use Rattle.session_cli.specs.declared.fault.Fault.{Fault}
 use Rattle.session_cli.specs.declared.fault.Fault.TheVariants as faults
 use Rattle.session_cli.specs.declared.plan.Made.{Made}
@@ -56,8 +57,11 @@ fails_first first rest faults.MacroLong refused = inl refused
 fails_first first rest (faults.Morphism kind) refused = inl refused
 fails_first first rest (faults.LetterMissing letter) refused = inl refused
 fails_first first rest (faults.CombineShape one two) refused = inl refused
+fails_first first rest (faults.NotPlain of) refused = inl refused
+fails_first first rest (faults.LangShape one two) refused = inl refused
 fails_first first rest (faults.MixedChain byte) refused = inl refused
 fails_first first rest (faults.NotLinear byte) refused = inl refused
+fails_first first rest (faults.LoadDepth of) refused = inl refused
 fails_first first rest (faults.Unknown of file) refused = inl refused
 fails_first first rest (faults.File of file flaw) refused = inl refused
 fails_first first rest (faults.Arity of tracks given) refused = inl refused
@@ -85,8 +89,11 @@ fails_after first rest y faults.MacroLong passed refused = inr (y, passed, refus
 fails_after first rest y (faults.Morphism kind) passed refused = inr (y, passed, refused)
 fails_after first rest y (faults.LetterMissing letter) passed refused = inr (y, passed, refused)
 fails_after first rest y (faults.CombineShape one two) passed refused = inr (y, passed, refused)
+fails_after first rest y (faults.NotPlain of) passed refused = inr (y, passed, refused)
+fails_after first rest y (faults.LangShape one two) passed refused = inr (y, passed, refused)
 fails_after first rest y (faults.MixedChain byte) passed refused = inr (y, passed, refused)
 fails_after first rest y (faults.NotLinear byte) passed refused = inr (y, passed, refused)
+fails_after first rest y (faults.LoadDepth of) passed refused = inr (y, passed, refused)
 fails_after first rest y (faults.Unknown of file) passed refused = inr (y, passed, refused)
 fails_after first rest y (faults.File of file flaw) passed refused = inr (y, passed, refused)
 fails_after first rest y (faults.Arity of tracks given) passed refused = inr (y, passed, refused)
@@ -105,3 +112,35 @@ plans_after custom first rest y shown (Ok plan) passed p = record {
   name_is = p.name_is;
 }
 plans_after custom first rest y shown (Err f) passed refused = fails_after first rest y f passed refused
+
+-- what refuses a check refuses another one that reads at least as much and has its faults
+pub fails_wider : {Y Z : Type 0} (check : Check Y) (wider : Check Z) → ((f : Fault) → check.answers (Err f) → wider.answers (Err f)) → ((place : Place) → check.reads place → wider.reads place) → (f : Fault) → Fails check f → Fails wider f
+fails_wider check wider answers reads (faults.Store folder name) refused = reads (folder, name) refused
+fails_wider check wider answers reads faults.Memory refused = tt
+fails_wider check wider answers reads faults.Command refused = answers faults.Command refused
+fails_wider check wider answers reads (faults.Syntax grammar at) refused = answers (faults.Syntax grammar at) refused
+fails_wider check wider answers reads (faults.Number grammar at) refused = answers (faults.Number grammar at) refused
+fails_wider check wider answers reads (faults.Depth grammar at) refused = answers (faults.Depth grammar at) refused
+fails_wider check wider answers reads (faults.Long bytes) refused = answers (faults.Long bytes) refused
+fails_wider check wider answers reads (faults.SystemUnknown name) refused = answers (faults.SystemUnknown name) refused
+fails_wider check wider answers reads (faults.NotAdmitted name law) refused = answers (faults.NotAdmitted name law) refused
+fails_wider check wider answers reads (faults.Direction one other) refused = answers (faults.Direction one other) refused
+fails_wider check wider answers reads (faults.Letters step) refused = answers (faults.Letters step) refused
+fails_wider check wider answers reads (faults.States step) refused = answers (faults.States step) refused
+fails_wider check wider answers reads faults.ScriptLimit refused = answers faults.ScriptLimit refused
+fails_wider check wider answers reads (faults.MacroArgs of at given) refused = answers (faults.MacroArgs of at given) refused
+fails_wider check wider answers reads (faults.MacroDepth of) refused = answers (faults.MacroDepth of) refused
+fails_wider check wider answers reads faults.MacroLong refused = answers faults.MacroLong refused
+fails_wider check wider answers reads (faults.Morphism kind) refused = answers (faults.Morphism kind) refused
+fails_wider check wider answers reads (faults.LetterMissing letter) refused = answers (faults.LetterMissing letter) refused
+fails_wider check wider answers reads (faults.CombineShape one two) refused = answers (faults.CombineShape one two) refused
+fails_wider check wider answers reads (faults.NotPlain of) refused = answers (faults.NotPlain of) refused
+fails_wider check wider answers reads (faults.LangShape one two) refused = answers (faults.LangShape one two) refused
+fails_wider check wider answers reads (faults.MixedChain byte) refused = answers (faults.MixedChain byte) refused
+fails_wider check wider answers reads (faults.NotLinear byte) refused = answers (faults.NotLinear byte) refused
+fails_wider check wider answers reads (faults.LoadDepth of) refused = answers (faults.LoadDepth of) refused
+fails_wider check wider answers reads (faults.Unknown of file) refused = answers (faults.Unknown of file) refused
+fails_wider check wider answers reads (faults.File of file flaw) refused = answers (faults.File of file flaw) refused
+fails_wider check wider answers reads (faults.Arity of tracks given) refused = answers (faults.Arity of tracks given) refused
+fails_wider check wider answers reads (faults.Clash of one two) refused = answers (faults.Clash of one two) refused
+fails_wider check wider answers reads (faults.Plain of) refused = answers (faults.Plain of) refused

@@ -39,6 +39,7 @@ module _ (ledger : Ledger) (head : CombineHead) (tracks : WordTracks) (names : L
   word_unstored (faults.MixedChain at) refused = absurd refused
   word_unstored (faults.Number grammar at) refused = absurd refused
   word_unstored (faults.NotLinear at) refused = absurd refused
+  word_unstored (faults.LoadDepth of) refused = absurd refused
   word_unstored (faults.Depth grammar at) refused = absurd refused
   word_unstored (faults.Unknown folder name) refused = absurd refused
   word_unstored (faults.File folder name flaw) refused = absurd refused
@@ -58,3 +59,5 @@ module _ (ledger : Ledger) (head : CombineHead) (tracks : WordTracks) (names : L
   word_unstored (faults.Morphism kind) refused = absurd refused
   word_unstored (faults.LetterMissing letter) refused = absurd refused
   word_unstored (faults.CombineShape one two) refused = absurd refused
+  word_unstored (faults.NotPlain of) refused = absurd refused
+  word_unstored (faults.LangShape one two) refused = absurd refused

@@ -14,7 +14,7 @@ use Rattle.definitions.specs.Texts.{HasTextAt, Stores}
 use Rattle.definitions.specs.Trees.{Bytes, Ledger, ledger_of, custom_of}
 use Rattle.system_files.specs.SystemFiles.{Custom}
 use Rattle.session_cli.specs.Outcomes.{checks_of}
-use Rattle.script_runs.specs.Runs.{failed_by}
+use Rattle.script_runs.specs.Replies.{failed_by}
 use Rattle.session_cli.specs.SessionLanguage.{IsAnswer, failed_at}
 use Rattle.session_cli.specs.Plans.{IsPlan}
 use Rattle.session_cli.specs.Commands.{Commands, WritesPlan}
@@ -24,9 +24,9 @@ use Rattle.session_cli.proofs.StoreReads.{rises}
 
 -- a ledger by which a command over these files is answered: that of the files where they are reported, and else that of what was found
 pub record IsAnswering (reported : Option Files) (ledger : Ledger) (found : Files) : Type 0 where
-  known : Ledger
-  known_is : IfSome reported (λ files. known ≡ ledger)
-  stores : Stores known found
+  pub known : Ledger
+  pub known_is : IfSome reported (λ files. known ≡ ledger)
+  pub stores : Stores known found
 
 entry_stores : (custom : Custom) (folder : Folder) (found : Option (List ℕ)) → HasTextAt custom folder (option_map (λ (bytes : List ℕ). Bytes bytes) found) found
 entry_stores custom folder None = tt
@@ -40,6 +40,70 @@ pub answering : (reported : Option Files) (ledger : Ledger) (found : Files) → 
 answering None ledger found stores is = record { known = ledger_of found; known_is = tt; stores = files_store found }
 answering (Some files) ledger found stores is = record { known = ledger; known_is = refl; stores = subst (Stores ledger) (sym is) stores }
 
+-- a store fault comes only where the store's count of faults rose
+pub cause_of : (old new : StoreView) (f : Fault) → IsReadFault f old new → IsTrue (is_store_fault f) → Rose old.faults new.faults
+cause_of old new (faults.Store folder name) read is = read.0
+cause_of old new faults.Memory read is = cc
+cause_of old new faults.Command read is = cc
+cause_of old new (faults.Syntax grammar at) read is = cc
+cause_of old new (faults.Number grammar at) read is = cc
+cause_of old new (faults.Depth grammar at) read is = cc
+cause_of old new (faults.Long bytes) read is = cc
+cause_of old new (faults.SystemUnknown name) read is = cc
+cause_of old new (faults.NotAdmitted name law) read is = cc
+cause_of old new (faults.Direction first other) read is = cc
+cause_of old new (faults.Letters step) read is = cc
+cause_of old new (faults.States step) read is = cc
+cause_of old new faults.ScriptLimit read is = cc
+cause_of old new (faults.MacroArgs of at given) read is = cc
+cause_of old new (faults.MacroDepth of) read is = cc
+cause_of old new faults.MacroLong read is = cc
+cause_of old new (faults.Morphism kind) read is = cc
+cause_of old new (faults.LetterMissing letter) read is = cc
+cause_of old new (faults.CombineShape one two) read is = cc
+cause_of old new (faults.NotPlain of) read is = cc
+cause_of old new (faults.LangShape one two) read is = cc
+cause_of old new (faults.MixedChain byte) read is = cc
+cause_of old new (faults.NotLinear byte) read is = cc
+cause_of old new (faults.LoadDepth of) read is = cc
+cause_of old new (faults.Unknown of file) read is = cc
+cause_of old new (faults.File of file flaw) read is = cc
+cause_of old new (faults.Arity of tracks given) read is = cc
+cause_of old new (faults.Clash of one two) read is = cc
+cause_of old new (faults.Plain of) read is = cc
+
+-- and is the last one then
+pub failed_of : (old new : StoreView) (f : Fault) → IsReadFault f old new → new.failed ≡ failed_by (failed_at f) old.failed
+failed_of old new (faults.Store folder name) read = read.1
+failed_of old new faults.Memory read = read
+failed_of old new faults.Command read = read
+failed_of old new (faults.Syntax grammar at) read = read
+failed_of old new (faults.Number grammar at) read = read
+failed_of old new (faults.Depth grammar at) read = read
+failed_of old new (faults.Long bytes) read = read
+failed_of old new (faults.SystemUnknown name) read = read
+failed_of old new (faults.NotAdmitted name law) read = read
+failed_of old new (faults.Direction first other) read = read
+failed_of old new (faults.Letters step) read = read
+failed_of old new (faults.States step) read = read
+failed_of old new faults.ScriptLimit read = read
+failed_of old new (faults.MacroArgs of at given) read = read
+failed_of old new (faults.MacroDepth of) read = read
+failed_of old new faults.MacroLong read = read
+failed_of old new (faults.Morphism kind) read = read
+failed_of old new (faults.LetterMissing letter) read = read
+failed_of old new (faults.CombineShape one two) read = read
+failed_of old new (faults.NotPlain of) read = read
+failed_of old new (faults.LangShape one two) read = read
+failed_of old new (faults.MixedChain byte) read = read
+failed_of old new (faults.NotLinear byte) read = read
+failed_of old new (faults.LoadDepth of) read = read
+failed_of old new (faults.Unknown of file) read = read
+failed_of old new (faults.File of file flaw) read = read
+failed_of old new (faults.Arity of tracks given) read = read
+failed_of old new (faults.Clash of one two) read = read
+failed_of old new (faults.Plain of) read = read
+
 -- a command that its checks refuse
 pub refused_command : (limit : ℕ) (ledger : Ledger) (old new : StoreView) (text : List ℕ) (shown : Bool) (fault : Fault) (found : Files) → IsAnswering old.files ledger found → ((known : Ledger) → Stores known found → Fails (checks_of limit known text) fault)
     → HasRead {X = Plan} old (Err fault) new → Commands limit ledger old text shown (Err fault) [] new
@@ -49,7 +113,7 @@ refused_command limit ledger old new text shown fault found by refused read = re
   known = by.known;
   known_is = by.known_is;
   answered = answer_of fault (refused by.known by.stores);
-  stored = record { files = read.files; later = read.later; cause = cause_of fault read.cause; failed = failed_of fault read.cause };
+  stored = record { files = read.files; later = read.later; cause = cause_of old new fault read.cause; failed = failed_of old new fault read.cause };
 }
   where
     answer_of : (f : Fault) → Fails (checks_of limit by.known text) f → IsAnswer (checks_of limit by.known text) (Err f)
@@ -72,69 +136,16 @@ refused_command limit ledger old new text shown fault found by refused read = re
     answer_of (faults.Morphism kind) refused = refused
     answer_of (faults.LetterMissing letter) refused = refused
     answer_of (faults.CombineShape one two) refused = refused
+    answer_of (faults.NotPlain of) refused = refused
+    answer_of (faults.LangShape one two) refused = refused
     answer_of (faults.MixedChain byte) refused = refused
     answer_of (faults.NotLinear byte) refused = refused
+    answer_of (faults.LoadDepth of) refused = refused
     answer_of (faults.Unknown of file) refused = refused
     answer_of (faults.File of file flaw) refused = refused
     answer_of (faults.Arity of tracks given) refused = refused
     answer_of (faults.Clash of one two) refused = refused
     answer_of (faults.Plain of) refused = refused
-
-    cause_of : (f : Fault) → IsReadFault f old new → IsTrue (is_store_fault f) → Rose old.faults new.faults
-    cause_of (faults.Store folder name) read is = read.0
-    cause_of faults.Memory read is = cc
-    cause_of faults.Command read is = cc
-    cause_of (faults.Syntax grammar at) read is = cc
-    cause_of (faults.Number grammar at) read is = cc
-    cause_of (faults.Depth grammar at) read is = cc
-    cause_of (faults.Long bytes) read is = cc
-    cause_of (faults.SystemUnknown name) read is = cc
-    cause_of (faults.NotAdmitted name law) read is = cc
-    cause_of (faults.Direction first other) read is = cc
-    cause_of (faults.Letters step) read is = cc
-    cause_of (faults.States step) read is = cc
-    cause_of faults.ScriptLimit read is = cc
-    cause_of (faults.MacroArgs of at given) read is = cc
-    cause_of (faults.MacroDepth of) read is = cc
-    cause_of faults.MacroLong read is = cc
-    cause_of (faults.Morphism kind) read is = cc
-    cause_of (faults.LetterMissing letter) read is = cc
-    cause_of (faults.CombineShape one two) read is = cc
-    cause_of (faults.MixedChain byte) read is = cc
-    cause_of (faults.NotLinear byte) read is = cc
-    cause_of (faults.Unknown of file) read is = cc
-    cause_of (faults.File of file flaw) read is = cc
-    cause_of (faults.Arity of tracks given) read is = cc
-    cause_of (faults.Clash of one two) read is = cc
-    cause_of (faults.Plain of) read is = cc
-
-    failed_of : (f : Fault) → IsReadFault f old new → new.failed ≡ failed_by (failed_at f) old.failed
-    failed_of (faults.Store folder name) read = read.1
-    failed_of faults.Memory read = read
-    failed_of faults.Command read = read
-    failed_of (faults.Syntax grammar at) read = read
-    failed_of (faults.Number grammar at) read = read
-    failed_of (faults.Depth grammar at) read = read
-    failed_of (faults.Long bytes) read = read
-    failed_of (faults.SystemUnknown name) read = read
-    failed_of (faults.NotAdmitted name law) read = read
-    failed_of (faults.Direction first other) read = read
-    failed_of (faults.Letters step) read = read
-    failed_of (faults.States step) read = read
-    failed_of faults.ScriptLimit read = read
-    failed_of (faults.MacroArgs of at given) read = read
-    failed_of (faults.MacroDepth of) read = read
-    failed_of faults.MacroLong read = read
-    failed_of (faults.Morphism kind) read = read
-    failed_of (faults.LetterMissing letter) read = read
-    failed_of (faults.CombineShape one two) read = read
-    failed_of (faults.MixedChain byte) read = read
-    failed_of (faults.NotLinear byte) read = read
-    failed_of (faults.Unknown of file) read = read
-    failed_of (faults.File of file flaw) read = read
-    failed_of (faults.Arity of tracks given) read = read
-    failed_of (faults.Clash of one two) read = read
-    failed_of (faults.Plain of) read = read
 
 same_put : (old : Option Files) (place other : Place) (stored : List ℕ) → place.0 ≡ other.0 → place.1 ≡ other.1 → option_map (λ files. put files place.0 place.1 stored) old ≡ option_map (λ files. put files other.0 other.1 stored) old
 same_put old place other stored folders names = λ i. option_map (λ files. put files (folders i) (names i) stored) old
@@ -202,8 +213,11 @@ planned_command limit ledger old mid new text shown plan result found by plans r
     by_result (Err (faults.Morphism kind)) w = absurd w.cause
     by_result (Err (faults.LetterMissing letter)) w = absurd w.cause
     by_result (Err (faults.CombineShape one two)) w = absurd w.cause
+    by_result (Err (faults.NotPlain of)) w = absurd w.cause
+    by_result (Err (faults.LangShape one two)) w = absurd w.cause
     by_result (Err (faults.MixedChain byte)) w = absurd w.cause
     by_result (Err (faults.NotLinear byte)) w = absurd w.cause
+    by_result (Err (faults.LoadDepth of)) w = absurd w.cause
     by_result (Err (faults.Unknown of file)) w = absurd w.cause
     by_result (Err (faults.File of file flaw)) w = absurd w.cause
     by_result (Err (faults.Arity of tracks given)) w = absurd w.cause

@@ -65,6 +65,7 @@ module _ (files others : Files) (same : SameButMacros files others) where
   unloaded_alike named (faults.MixedChain at) is = absurd is
   unloaded_alike named (faults.Number grammar at) is = absurd is
   unloaded_alike named (faults.NotLinear at) is = absurd is
+  unloaded_alike named (faults.LoadDepth of) is = absurd is
   unloaded_alike named (faults.Depth grammar at) is = absurd is
   unloaded_alike named (faults.Long bytes) is = absurd is
   unloaded_alike named (faults.MacroArgs of n given) is = absurd is
@@ -83,6 +84,8 @@ module _ (files others : Files) (same : SameButMacros files others) where
   unloaded_alike named (faults.Morphism kind) is = absurd is
   unloaded_alike named (faults.LetterMissing letter) is = absurd is
   unloaded_alike named (faults.CombineShape one two) is = absurd is
+  unloaded_alike named (faults.NotPlain of) is = absurd is
+  unloaded_alike named (faults.LangShape one two) is = absurd is
   unloaded_alike named (faults.Store folder name) is = reads_alike named folder name is
   unloaded_alike named faults.Memory is = tt
   unloaded_alike named faults.ScriptLimit is = absurd is

@@ -106,6 +106,7 @@ module _ (custom : Custom) (l : LibraryValue) (bindings : Bindings) (means : Mea
   text_refused place lines (faults.MixedChain at) refused = absurd refused
   text_refused place lines (faults.Number grammar at) refused = absurd refused
   text_refused place lines (faults.NotLinear at) refused = absurd refused
+  text_refused place lines (faults.LoadDepth of) refused = absurd refused
   text_refused place lines (faults.Depth grammar at) refused = absurd refused
   text_refused place lines (faults.Unknown folder name) refused = absurd refused
   text_refused place lines (faults.File folder name flaw) refused = absurd refused
@@ -125,3 +126,5 @@ module _ (custom : Custom) (l : LibraryValue) (bindings : Bindings) (means : Mea
   text_refused place lines (faults.Morphism kind) refused = absurd refused
   text_refused place lines (faults.LetterMissing letter) refused = absurd refused
   text_refused place lines (faults.CombineShape one two) refused = absurd refused
+  text_refused place lines (faults.NotPlain of) refused = absurd refused
+  text_refused place lines (faults.LangShape one two) refused = absurd refused

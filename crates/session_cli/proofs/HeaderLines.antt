@@ -1,11 +1,11 @@
 -- The header of what a file lists: a line of the file is read so, and its systems have one direction.
-use Rattle.std.proofs.Common.{◌≡◌, ℕ, zero, suc, ◌+◌, ◌<◌, Bool, true, false, ◌&&◌, ◌||◌, cond, eqb, List, [], ◌∷◌, length, take, drop, get_or, Option, None, Some, Result, Ok, Err, bytes_eq, refl, sym, ap, ◌∙◌, subst, arith}
+use Rattle.std.proofs.Common.{◌≡◌, ℕ, zero, suc, ◌<◌, Bool, true, false, ◌&&◌, ◌||◌, cond, eqb, List, [], ◌∷◌, length, take, drop, get_or, Option, None, Some, Ok, Err, bytes_eq, refl, sym, ap, ◌∙◌, subst, arith}
 use Rattle.std.specs.Prelude.{codes, nat_le}
 use Rattle.std.specs.List.{AllByRecursion, list_all}
 use Rattle.std.proofs.lemmas.Bool.{eqb-true}
 use Rattle.std.proofs.lemmas.Slice.Eq.{bytes_eq-Decides}
-use Rattle.dfa_reading.specs.Lines.{◌>>=◌, is_passed, lines_of, line_after, parts_of, each_of}
-use Rattle.dfa_reading.specs.Headers.{Header, Truth, Systems, Sets, digits_in, has_states, header_of, truth_of, sets_of, or_else}
+use Rattle.dfa_reading.specs.Lines.{lines_of, line_after, parts_of, each_of}
+use Rattle.dfa_reading.specs.Headers.{Header, Systems, has_states, header_of}
 use Rattle.text_grammar.specs.Bytes.{is_alphanumeric}
 use Rattle.text_grammar.specs.Systems.{is_system, is_direction}
 use Rattle.dfa_reading.specs.Systems.{system_of, directs_as, of_one_direction, systems_of}

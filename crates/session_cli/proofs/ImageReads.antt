@@ -83,6 +83,7 @@ module _ (files others : Files) where
   unloaded_with named (faults.MixedChain at) first = absurd first
   unloaded_with named (faults.Number grammar at) first = absurd first
   unloaded_with named (faults.NotLinear at) first = absurd first
+  unloaded_with named (faults.LoadDepth of) first = absurd first
   unloaded_with named (faults.Depth grammar at) first = absurd first
   unloaded_with named (faults.Long bytes) first = absurd first
   unloaded_with named (faults.Arity of tracks given) first = absurd first
@@ -100,6 +101,8 @@ module _ (files others : Files) where
   unloaded_with named (faults.Morphism kind) first = absurd first
   unloaded_with named (faults.LetterMissing letter) first = absurd first
   unloaded_with named (faults.CombineShape one two) first = absurd first
+  unloaded_with named (faults.NotPlain of) first = absurd first
+  unloaded_with named (faults.LangShape one two) first = absurd first
 
   loads_with : (named : List File) (r : Result (Vec Loaded Global) Fault) → LoadsTables named files r → LoadsTables named (with_morphisms files others) r
   loads_with named (Ok tables) listed = listed_with named tables.items listed

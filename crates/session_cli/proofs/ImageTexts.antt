@@ -135,6 +135,7 @@ module _ (ledger : Ledger) (head : ImageHead) (track : WordTrack) (rules : Rules
   image_unstored (faults.MixedChain at) refused = absurd refused
   image_unstored (faults.Number grammar at) refused = absurd refused
   image_unstored (faults.NotLinear at) refused = absurd refused
+  image_unstored (faults.LoadDepth of) refused = absurd refused
   image_unstored (faults.Depth grammar at) refused = absurd refused
   image_unstored (faults.Unknown folder under) refused = absurd refused
   image_unstored (faults.File folder under flaw) refused = absurd refused
@@ -154,3 +155,5 @@ module _ (ledger : Ledger) (head : ImageHead) (track : WordTrack) (rules : Rules
   image_unstored (faults.Morphism kind) refused = absurd refused
   image_unstored (faults.LetterMissing letter) refused = absurd refused
   image_unstored (faults.CombineShape one two) refused = absurd refused
+  image_unstored (faults.NotPlain of) refused = absurd refused
+  image_unstored (faults.LangShape one two) refused = absurd refused

@@ -11,7 +11,7 @@ pub mod LoadedFiles
 pub mod FilesElsewhere
 pub mod MacroReads
 pub mod FilesAlike
-pub mod ServedWords
+pub mod MadeSteps
 pub mod WholeSteps
 pub mod OneExpression
 pub mod NameLemmas
@@ -32,6 +32,8 @@ pub mod TrackSystemSteps
 pub mod RegexPlans
 pub mod RegSteps
 pub mod HeadSteps
+pub mod LoadedTexts
+pub mod AnsweringSteps
 pub mod StoringTexts
 pub mod TextSteps
 pub mod LoadedMorphisms
@@ -67,6 +69,11 @@ pub mod ImagedSteps
 pub mod ImageTexts
 pub mod ImageChains
 pub mod ImagePlanning
+pub mod LanguageWords
+pub mod NamedLanguages
+pub mod LanguageTexts
+pub mod LanguageTables
+pub mod LanguageChains
 pub mod OneSealed
 pub mod OneHeads
 pub mod OneTexts
@@ -82,5 +89,7 @@ pub mod OneTextCommands
 pub mod OneCombines
 pub mod ImageLaws
 pub mod OneImages
+pub mod OneLanguages
 pub mod OneOutcomes
+pub mod OneReplies
 pub mod OneRuns

@@ -1,6 +1,6 @@
 -- What is known of listed automata whose files are loaded: their tables can be read, a relation is under each name, and it is over the
 -- systems of its header.
-use Rattle.std.proofs.Common.{◌≡◌, ℕ, suc, ◌<◌, Bool, true, false, if◌then◌else◌, List, [], ◌∷◌, length, get_or, None, Some, inl, inr, refl, ◌∙◌, subst, arith, bytes_eq}
+use Rattle.std.proofs.Common.{◌≡◌, ℕ, suc, ◌<◌, Bool, true, false, if◌then◌else◌, List, [], ◌∷◌, length, get_or, None, Some, refl, ◌∙◌, subst, arith, bytes_eq}
 use Rattle.std.specs.List.{AllByRecursion, flat_map}
 use Rattle.std.proofs.lemmas.Option.{none-some}
 use Rattle.wal_outside.specs.Files.{Files}
@@ -12,7 +12,6 @@ use Rattle.dfa_loading.specs.declared.loaded.Loaded.{Loaded}
 use Rattle.formula_parse.specs.Tokens.{Name}
 use Rattle.formula_resolve.specs.FirstMentions.{is_same_file, mentioned_files}
 use Rattle.formula_resolve.specs.Headers.{Headers, automaton_tracks, is_plain}
-use Rattle.formula_resolve.specs.declared.file.File.{File}
 use Rattle.formula_resolve.proofs.FirstLemmas.{first_once}
 use Rattle.formula_build.specs.KnownNames.{IsFileIn}
 use Rattle.formula_build.specs.Libraries.{NamedRelation, AreRelations, relation_named}

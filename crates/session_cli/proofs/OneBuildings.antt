@@ -57,6 +57,7 @@ built_is admitted custom tables formula (Err (faults.Syntax grammar at)) a = abs
 built_is admitted custom tables formula (Err (faults.MixedChain byte)) a = absurd a
 built_is admitted custom tables formula (Err (faults.Number grammar at)) a = absurd a
 built_is admitted custom tables formula (Err (faults.NotLinear byte)) a = absurd a
+built_is admitted custom tables formula (Err (faults.LoadDepth of)) a = absurd a
 built_is admitted custom tables formula (Err (faults.Depth grammar at)) a = absurd a
 built_is admitted custom tables formula (Err (faults.Long bytes)) a = absurd a
 built_is admitted custom tables formula (Err (faults.Unknown folder name)) a = absurd a
@@ -76,6 +77,8 @@ built_is admitted custom tables formula (Err faults.MacroLong) a = absurd a
 built_is admitted custom tables formula (Err (faults.Morphism kind)) a = absurd a
 built_is admitted custom tables formula (Err (faults.LetterMissing letter)) a = absurd a
 built_is admitted custom tables formula (Err (faults.CombineShape one two)) a = absurd a
+built_is admitted custom tables formula (Err (faults.NotPlain of)) a = absurd a
+built_is admitted custom tables formula (Err (faults.LangShape one two)) a = absurd a
 
 module _ (admitted : StepLog) (custom : Custom) (tables : List Loaded) (formula : trees.Formula) (files : Files) (listed : AreListedBy files (first_files (mentions formula)) tables) where
   both_built : (r s : Result (List StepLine) Fault) → IsBuilding admitted custom tables formula r → IsBuilding admitted custom tables formula s → r ≡ s

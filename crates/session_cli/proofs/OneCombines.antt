@@ -62,6 +62,7 @@ plain_is h names (Err (faults.Syntax grammar at)) a = absurd a
 plain_is h names (Err (faults.MixedChain byte)) a = absurd a
 plain_is h names (Err (faults.Number grammar at)) a = absurd a
 plain_is h names (Err (faults.NotLinear byte)) a = absurd a
+plain_is h names (Err (faults.LoadDepth of)) a = absurd a
 plain_is h names (Err (faults.Depth grammar at)) a = absurd a
 plain_is h names (Err (faults.Long bytes)) a = absurd a
 plain_is h names (Err (faults.Unknown folder name)) a = absurd a
@@ -82,6 +83,8 @@ plain_is h names (Err faults.MacroLong) a = absurd a
 plain_is h names (Err (faults.Morphism kind)) a = absurd a
 plain_is h names (Err (faults.LetterMissing letter)) a = absurd a
 plain_is h names (Err (faults.CombineShape one two)) a = absurd a
+plain_is h names (Err (faults.NotPlain of)) a = absurd a
+plain_is h names (Err (faults.LangShape one two)) a = absurd a
 
 plain_single : (h : Headers) (names : List (List ℕ)) → IsSingle (Pure (PlainAnswers h names))
 plain_single h names r s a b = by (plain_is h names r a) (plain_is h names s b)
@@ -107,6 +110,7 @@ shape_is h names (Err (faults.Syntax grammar at)) a = absurd a
 shape_is h names (Err (faults.MixedChain byte)) a = absurd a
 shape_is h names (Err (faults.Number grammar at)) a = absurd a
 shape_is h names (Err (faults.NotLinear byte)) a = absurd a
+shape_is h names (Err (faults.LoadDepth of)) a = absurd a
 shape_is h names (Err (faults.Depth grammar at)) a = absurd a
 shape_is h names (Err (faults.Long bytes)) a = absurd a
 shape_is h names (Err (faults.Unknown folder name)) a = absurd a
@@ -127,6 +131,8 @@ shape_is h names (Err (faults.MacroDepth of)) a = absurd a
 shape_is h names (Err faults.MacroLong) a = absurd a
 shape_is h names (Err (faults.Morphism kind)) a = absurd a
 shape_is h names (Err (faults.LetterMissing letter)) a = absurd a
+shape_is h names (Err (faults.NotPlain of)) a = absurd a
+shape_is h names (Err (faults.LangShape one two)) a = absurd a
 
 module _ (h : Headers) (systems : List (List ℕ)) where
   one_other : (names : List (List ℕ)) (other also : List ℕ) → IsFirstOver h systems names other → IsFirstOver h systems names also → other ≡ also
@@ -247,6 +253,7 @@ combined_is admitted custom tables automata (Err (faults.Syntax grammar at)) a =
 combined_is admitted custom tables automata (Err (faults.MixedChain byte)) a = absurd a
 combined_is admitted custom tables automata (Err (faults.Number grammar at)) a = absurd a
 combined_is admitted custom tables automata (Err (faults.NotLinear byte)) a = absurd a
+combined_is admitted custom tables automata (Err (faults.LoadDepth of)) a = absurd a
 combined_is admitted custom tables automata (Err (faults.Depth grammar at)) a = absurd a
 combined_is admitted custom tables automata (Err (faults.Long bytes)) a = absurd a
 combined_is admitted custom tables automata (Err (faults.Unknown folder name)) a = absurd a
@@ -266,6 +273,8 @@ combined_is admitted custom tables automata (Err faults.MacroLong) a = absurd a
 combined_is admitted custom tables automata (Err (faults.Morphism kind)) a = absurd a
 combined_is admitted custom tables automata (Err (faults.LetterMissing letter)) a = absurd a
 combined_is admitted custom tables automata (Err (faults.CombineShape one two)) a = absurd a
+combined_is admitted custom tables automata (Err (faults.NotPlain of)) a = absurd a
+combined_is admitted custom tables automata (Err (faults.LangShape one two)) a = absurd a
 
 module _ (admitted : StepLog) (custom : Custom) (tables : List Loaded) (automata : List ValuedName) (files : Files) (named : List File) (listed : AreListedBy files named tables) (some : automata ≢ []) where
   -- the relations and what is before the last step are the same

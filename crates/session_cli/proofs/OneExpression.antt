@@ -1,5 +1,5 @@
 -- The steps of an expression over tracks have one answer.
-use Rattle.std.proofs.Common.{◌≡◌, ℤ, List}
+use Rattle.std.proofs.Common.{ℤ, List}
 use Rattle.digit_tuple.specs.declared.step_fault.StepFault.TheVariants.{Memory}
 use Rattle.automaton_steps.specs.Makings.{DoesStep, Gives}
 use Rattle.automaton_steps.specs.Numbered.{numbered}

@@ -76,6 +76,7 @@ resolved_is tables formula (Err (faults.Syntax grammar at)) a = absurd a
 resolved_is tables formula (Err (faults.MixedChain byte)) a = absurd a
 resolved_is tables formula (Err (faults.Number grammar at)) a = absurd a
 resolved_is tables formula (Err (faults.NotLinear byte)) a = absurd a
+resolved_is tables formula (Err (faults.LoadDepth of)) a = absurd a
 resolved_is tables formula (Err (faults.Depth grammar at)) a = absurd a
 resolved_is tables formula (Err (faults.Long bytes)) a = absurd a
 resolved_is tables formula (Err (faults.Unknown folder name)) a = absurd a
@@ -93,6 +94,8 @@ resolved_is tables formula (Err faults.MacroLong) a = absurd a
 resolved_is tables formula (Err (faults.Morphism kind)) a = absurd a
 resolved_is tables formula (Err (faults.LetterMissing letter)) a = absurd a
 resolved_is tables formula (Err (faults.CombineShape one two)) a = absurd a
+resolved_is tables formula (Err (faults.NotPlain of)) a = absurd a
+resolved_is tables formula (Err (faults.LangShape one two)) a = absurd a
 
 resolved_single : (tables : List Loaded) (formula : trees.Formula) → IsSingle (Pure (ResolvedAnswers tables formula))
 resolved_single tables formula r s a b = by_fault (resolved_is tables formula r a) (resolved_is tables formula s b)

@@ -38,6 +38,7 @@ head_is grammar text (Err (faults.Number grammars.Formula at)) a = absurd a
 head_is grammar text (Err faults.Command) a = absurd a
 head_is grammar text (Err (faults.MixedChain byte)) a = absurd a
 head_is grammar text (Err (faults.NotLinear byte)) a = absurd a
+head_is grammar text (Err (faults.LoadDepth of)) a = absurd a
 head_is grammar text (Err (faults.Depth of at)) a = absurd a
 head_is grammar text (Err (faults.Long bytes)) a = absurd a
 head_is grammar text (Err (faults.Unknown folder name)) a = absurd a
@@ -59,6 +60,8 @@ head_is grammar text (Err faults.MacroLong) a = absurd a
 head_is grammar text (Err (faults.Morphism kind)) a = absurd a
 head_is grammar text (Err (faults.LetterMissing letter)) a = absurd a
 head_is grammar text (Err (faults.CombineShape one two)) a = absurd a
+head_is grammar text (Err (faults.NotPlain of)) a = absurd a
+head_is grammar text (Err (faults.LangShape one two)) a = absurd a
 
 pub head_single : {H : Type 0} (grammar : List (List ℕ) → H → Type 0) → HasOneHead grammar → (text : List ℕ) → IsSingle (Pure (HeadAnswers grammar text))
 head_single {H} grammar one text r s a b =

@@ -68,6 +68,7 @@ track_is h old (Err (faults.Syntax grammar at)) a = absurd a
 track_is h old (Err (faults.MixedChain byte)) a = absurd a
 track_is h old (Err (faults.Number grammar at)) a = absurd a
 track_is h old (Err (faults.NotLinear byte)) a = absurd a
+track_is h old (Err (faults.LoadDepth of)) a = absurd a
 track_is h old (Err (faults.Depth grammar at)) a = absurd a
 track_is h old (Err (faults.Long bytes)) a = absurd a
 track_is h old (Err (faults.Unknown folder name)) a = absurd a
@@ -88,6 +89,8 @@ track_is h old (Err faults.MacroLong) a = absurd a
 track_is h old (Err (faults.Morphism kind)) a = absurd a
 track_is h old (Err (faults.LetterMissing letter)) a = absurd a
 track_is h old (Err (faults.CombineShape one two)) a = absurd a
+track_is h old (Err (faults.NotPlain of)) a = absurd a
+track_is h old (Err (faults.LangShape one two)) a = absurd a
 
 one_track_single : (h : Headers) (old : List ℕ) → IsSingle (Pure (OneTrackAnswers h old))
 one_track_single h old r s a b = by (track_is h old r a) (track_is h old s b)
@@ -110,6 +113,7 @@ length_is rules (Err (faults.Syntax grammar at)) a = absurd a
 length_is rules (Err (faults.MixedChain byte)) a = absurd a
 length_is rules (Err (faults.Number grammar at)) a = absurd a
 length_is rules (Err (faults.NotLinear byte)) a = absurd a
+length_is rules (Err (faults.LoadDepth of)) a = absurd a
 length_is rules (Err (faults.Depth grammar at)) a = absurd a
 length_is rules (Err (faults.Long bytes)) a = absurd a
 length_is rules (Err (faults.Unknown folder name)) a = absurd a
@@ -130,6 +134,8 @@ length_is rules (Err (faults.MacroDepth of)) a = absurd a
 length_is rules (Err faults.MacroLong) a = absurd a
 length_is rules (Err (faults.LetterMissing letter)) a = absurd a
 length_is rules (Err (faults.CombineShape one two)) a = absurd a
+length_is rules (Err (faults.NotPlain of)) a = absurd a
+length_is rules (Err (faults.LangShape one two)) a = absurd a
 
 lengths_single : (rules : Rules) → IsMorphism rules → IsSingle (Pure (LengthsAnswers rules))
 lengths_single rules morphism r s a b = by (length_is rules r a) (length_is rules s b)
@@ -210,6 +216,7 @@ imaged_is admitted custom tables old name rules (Err (faults.Syntax grammar at))
 imaged_is admitted custom tables old name rules (Err (faults.MixedChain byte)) a = absurd a
 imaged_is admitted custom tables old name rules (Err (faults.Number grammar at)) a = absurd a
 imaged_is admitted custom tables old name rules (Err (faults.NotLinear byte)) a = absurd a
+imaged_is admitted custom tables old name rules (Err (faults.LoadDepth of)) a = absurd a
 imaged_is admitted custom tables old name rules (Err (faults.Depth grammar at)) a = absurd a
 imaged_is admitted custom tables old name rules (Err (faults.Long bytes)) a = absurd a
 imaged_is admitted custom tables old name rules (Err (faults.Unknown folder of)) a = absurd a
@@ -228,6 +235,8 @@ imaged_is admitted custom tables old name rules (Err (faults.MacroDepth of)) a =
 imaged_is admitted custom tables old name rules (Err faults.MacroLong) a = absurd a
 imaged_is admitted custom tables old name rules (Err (faults.Morphism kind)) a = absurd a
 imaged_is admitted custom tables old name rules (Err (faults.CombineShape one two)) a = absurd a
+imaged_is admitted custom tables old name rules (Err (faults.NotPlain of)) a = absurd a
+imaged_is admitted custom tables old name rules (Err (faults.LangShape one two)) a = absurd a
 
 -- a word under a name is one
 found_word : (words : List NamedWord) (name : List ℕ) (v : WordValue) → AreWords words → word_named words name ≡ Some v → IsWordValue v

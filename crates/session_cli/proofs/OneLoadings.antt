@@ -115,6 +115,7 @@ files_is ledger named (Err (faults.Syntax grammar at)) a = absurd a
 files_is ledger named (Err (faults.MixedChain byte)) a = absurd a
 files_is ledger named (Err (faults.Number grammar at)) a = absurd a
 files_is ledger named (Err (faults.NotLinear byte)) a = absurd a
+files_is ledger named (Err (faults.LoadDepth of)) a = absurd a
 files_is ledger named (Err (faults.Depth grammar at)) a = absurd a
 files_is ledger named (Err (faults.Long bytes)) a = absurd a
 files_is ledger named (Err (faults.Arity name tracks given)) a = absurd a
@@ -134,6 +135,8 @@ files_is ledger named (Err faults.MacroLong) a = absurd a
 files_is ledger named (Err (faults.Morphism kind)) a = absurd a
 files_is ledger named (Err (faults.LetterMissing letter)) a = absurd a
 files_is ledger named (Err (faults.CombineShape one two)) a = absurd a
+files_is ledger named (Err (faults.NotPlain of)) a = absurd a
+files_is ledger named (Err (faults.LangShape one two)) a = absurd a
 
 pub files_single : (ledger : Ledger) (named : List File) → IsSingle (files_loaded ledger named)
 files_single ledger named r s a b = by_cases (files_is ledger named r a) (files_is ledger named s b)

@@ -39,6 +39,7 @@ expansion_of ledger body (Err (faults.Syntax grammars.Rules at)) is = absurd is
 expansion_of ledger body (Err (faults.MixedChain at)) is = absurd is
 expansion_of ledger body (Err (faults.Number grammar at)) is = absurd is
 expansion_of ledger body (Err (faults.NotLinear at)) is = absurd is
+expansion_of ledger body (Err (faults.LoadDepth of)) is = absurd is
 expansion_of ledger body (Err (faults.Depth grammar at)) is = absurd is
 expansion_of ledger body (Err (faults.Long bytes)) is = absurd is
 expansion_of ledger body (Err (faults.MacroArgs of n given)) (files, stores, is) = (files, stores, record { result = Err (expansions.MacroArgs of n given); expands = is; own = ((λ memory. cc), refl); answer = refl })
@@ -57,6 +58,8 @@ expansion_of ledger body (Err (faults.Plain of)) is = absurd is
 expansion_of ledger body (Err (faults.Morphism kind)) is = absurd is
 expansion_of ledger body (Err (faults.LetterMissing letter)) is = absurd is
 expansion_of ledger body (Err (faults.CombineShape one two)) is = absurd is
+expansion_of ledger body (Err (faults.NotPlain of)) is = absurd is
+expansion_of ledger body (Err (faults.LangShape one two)) is = absurd is
 expansion_of ledger body (Err (faults.Store folder name)) is = absurd is
 expansion_of ledger body (Err faults.Memory) is = absurd is
 expansion_of ledger body (Err faults.ScriptLimit) is = absurd is

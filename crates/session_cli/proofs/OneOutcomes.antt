@@ -26,6 +26,9 @@ use Rattle.session_cli.specs.declared.command_word.CommandWord.{CommandWord}
 use Rattle.session_cli.specs.declared.command_word.CommandWord.TheVariants as words
 use Rattle.session_cli.specs.Checks.{Check, Pure}
 use Rattle.definitions.specs.Trees.{Ledger, custom_of}
+use Rattle.language_steps.specs.declared.op.LanguageOp.TheVariants.{Pair, One}
+use Rattle.language_steps.specs.declared.op.OneOp.TheVariants.{Star, Reversal}
+use Rattle.language_steps.specs.declared.op.PairOp.TheVariants.{Union, Intersection, Concatenation}
 use Rattle.definitions.specs.Tracks.{NamedSystem, Tracks, OverSets, OverSystems, letter_sets}
 use Rattle.system_files.specs.SystemFiles.{Custom}
 use Rattle.session_cli.specs.HeadTracks.{AreTracksOf}
@@ -35,8 +38,8 @@ use Rattle.session_cli.specs.RegOutcomes.{systems_named, TracksAnswers, ParsedAn
 use Rattle.session_cli.specs.SystemChecks.{systems_known}
 use Rattle.session_cli.specs.TrackSteps.{DoesExpression}
 use Rattle.session_cli.specs.TrackSystems.{fault_of}
-use Rattle.session_cli.specs.Outcomes.{LengthAnswers, WordAnswers, word_text, checks_by, Outcome}
-use Rattle.session_cli.proofs.CheckNames.{regex_success, after_expression, after_admission, after_length}
+use Rattle.session_cli.specs.Outcomes.{LengthAnswers, WordAnswers, word_text, checks_by, after_length, Outcome}
+use Rattle.session_cli.proofs.CheckNames.{regex_success, after_expression, after_admission}
 use Rattle.session_cli.proofs.CheckSteps.{IsSingle, then_single}
 use Rattle.session_cli.proofs.OneExpression.{expression_one}
 use Rattle.session_cli.proofs.NameLemmas.{one_list_of_systems, not_parted, same_part}
@@ -46,6 +49,7 @@ use Rattle.session_cli.proofs.OneFormulas.{formula_single}
 use Rattle.session_cli.proofs.OneCombines.{combine_single}
 use Rattle.session_cli.proofs.OneImages.{image_single}
 use Rattle.session_cli.proofs.ImageLaws.{one_image_outcome}
+use Rattle.session_cli.proofs.OneLanguages.{language_single}
 use Rattle.session_cli.proofs.OneSystems.{systems_single}
 use Rattle.session_cli.proofs.OneTextCommands.{macro_single, morphism_single, promote_single}
 
@@ -86,8 +90,11 @@ steps_is admitted tracks e (Err faults.MacroLong) a = absurd a
 steps_is admitted tracks e (Err (faults.Morphism kind)) a = absurd a
 steps_is admitted tracks e (Err (faults.LetterMissing letter)) a = absurd a
 steps_is admitted tracks e (Err (faults.CombineShape one two)) a = absurd a
+steps_is admitted tracks e (Err (faults.NotPlain of)) a = absurd a
+steps_is admitted tracks e (Err (faults.LangShape one two)) a = absurd a
 steps_is admitted tracks e (Err (faults.MixedChain byte)) a = absurd a
 steps_is admitted tracks e (Err (faults.NotLinear byte)) a = absurd a
+steps_is admitted tracks e (Err (faults.LoadDepth of)) a = absurd a
 steps_is admitted tracks e (Err (faults.Unknown of file)) a = absurd a
 steps_is admitted tracks e (Err (faults.File of file flaw)) a = absurd a
 steps_is admitted tracks e (Err (faults.Arity of count given)) a = absurd a
@@ -149,8 +156,11 @@ parsed_is sets body (Err faults.MacroLong) a = absurd a
 parsed_is sets body (Err (faults.Morphism kind)) a = absurd a
 parsed_is sets body (Err (faults.LetterMissing letter)) a = absurd a
 parsed_is sets body (Err (faults.CombineShape one two)) a = absurd a
+parsed_is sets body (Err (faults.NotPlain of)) a = absurd a
+parsed_is sets body (Err (faults.LangShape one two)) a = absurd a
 parsed_is sets body (Err (faults.MixedChain byte)) a = absurd a
 parsed_is sets body (Err (faults.NotLinear byte)) a = absurd a
+parsed_is sets body (Err (faults.LoadDepth of)) a = absurd a
 parsed_is sets body (Err (faults.Unknown of file)) a = absurd a
 parsed_is sets body (Err (faults.File of file flaw)) a = absurd a
 parsed_is sets body (Err (faults.Arity of tracks given)) a = absurd a
@@ -190,8 +200,11 @@ names_is custom names (Err faults.MacroLong) a = absurd a
 names_is custom names (Err (faults.Morphism kind)) a = absurd a
 names_is custom names (Err (faults.LetterMissing letter)) a = absurd a
 names_is custom names (Err (faults.CombineShape one two)) a = absurd a
+names_is custom names (Err (faults.NotPlain of)) a = absurd a
+names_is custom names (Err (faults.LangShape one two)) a = absurd a
 names_is custom names (Err (faults.MixedChain byte)) a = absurd a
 names_is custom names (Err (faults.NotLinear byte)) a = absurd a
+names_is custom names (Err (faults.LoadDepth of)) a = absurd a
 names_is custom names (Err (faults.Unknown of file)) a = absurd a
 names_is custom names (Err (faults.File of file flaw)) a = absurd a
 names_is custom names (Err (faults.Arity of tracks given)) a = absurd a
@@ -234,8 +247,11 @@ tracks_single custom (heads.Sets sets) r s a b = single_by (Pure (TracksAnswers 
     is (Err (faults.Morphism kind)) a = absurd a
     is (Err (faults.LetterMissing letter)) a = absurd a
     is (Err (faults.CombineShape one two)) a = absurd a
+    is (Err (faults.NotPlain of)) a = absurd a
+    is (Err (faults.LangShape one two)) a = absurd a
     is (Err (faults.MixedChain byte)) a = absurd a
     is (Err (faults.NotLinear byte)) a = absurd a
+    is (Err (faults.LoadDepth of)) a = absurd a
     is (Err (faults.Unknown of file)) a = absurd a
     is (Err (faults.File of file flaw)) a = absurd a
     is (Err (faults.Arity of tracks given)) a = absurd a
@@ -255,7 +271,7 @@ reg_single limit ledger text =
     stored_single custom (regex_success head.name tracks pattern.tree lines))))))
 
 -- the length, and the first word
-length_single : (text : List ℕ) → IsSingle (Pure (LengthAnswers text))
+pub length_single : (text : List ℕ) → IsSingle (Pure (LengthAnswers text))
 length_single text r s a b = by_length (length_is r a) (length_is s b)
   where
     length_is : (x : Result (Unit {0}) Fault) → LengthAnswers text x → ((length text ≤ 65536) × (x ≡ Ok tt)) ⊎ ((65536 < length text) × (x ≡ Err (faults.Long 65536)))
@@ -279,8 +295,11 @@ length_single text r s a b = by_length (length_is r a) (length_is s b)
     length_is (Err (faults.Morphism kind)) a = absurd a
     length_is (Err (faults.LetterMissing letter)) a = absurd a
     length_is (Err (faults.CombineShape one two)) a = absurd a
+    length_is (Err (faults.NotPlain of)) a = absurd a
+    length_is (Err (faults.LangShape one two)) a = absurd a
     length_is (Err (faults.MixedChain byte)) a = absurd a
     length_is (Err (faults.NotLinear byte)) a = absurd a
+    length_is (Err (faults.LoadDepth of)) a = absurd a
     length_is (Err (faults.Unknown of file)) a = absurd a
     length_is (Err (faults.File of file flaw)) a = absurd a
     length_is (Err (faults.Arity of tracks given)) a = absurd a
@@ -293,19 +312,24 @@ length_single text r s a b = by_length (length_is r a) (length_is s b)
     by_length (inr (long, is)) (inl (short, is')) = absurd (omega arith)
     by_length (inr (long, is)) (inr (long', is')) = is ∙ sym is'
 
--- the words of commands differ in their first two letters
+-- the words of commands differ in their first three letters
 abbrev letters_of_word : List ℕ → ℕ
-letters_of_word xs = 1000 * get_or xs 0 0 + get_or xs 1 0
+letters_of_word xs = 1000000 * get_or xs 0 0 + (1000 * get_or xs 1 0 + get_or xs 2 0)
 
 abbrev word_by_letters : ℕ → CommandWord
 word_by_letters n =
-    if n == 114101 then words.Reg
-    else if n == 101118 then words.Eval
-    else if n == 100101 then words.Def
-    else if n == 109097 then words.Macro
-    else if n == 109111 then words.Morphism
-    else if n == 112114 then words.Promote
-    else if n == 105109 then words.Image
+    if n == 114101103 then words.Reg
+    else if n == 101118097 then words.Eval
+    else if n == 100101102 then words.Def
+    else if n == 109097099 then words.Macro
+    else if n == 109111114 then words.Morphism
+    else if n == 112114111 then words.Promote
+    else if n == 105109097 then words.Image
+    else if n == 117110105 then words.Union
+    else if n == 105110116 then words.Intersect
+    else if n == 99111110 then words.Concat
+    else if n == 115116097 then words.Star
+    else if n == 114101118 then words.Reverse
     else words.Combine
 
 word_again : (word : CommandWord) → word_by_letters (letters_of_word (word_text word)) ≡ word
@@ -317,6 +341,11 @@ word_again words.Morphism = refl
 word_again words.Promote = refl
 word_again words.Combine = refl
 word_again words.Image = refl
+word_again words.Union = refl
+word_again words.Intersect = refl
+word_again words.Concat = refl
+word_again words.Star = refl
+word_again words.Reverse = refl
 
 one_word : (text : List ℕ) (v w : CommandWord) → text ≡ word_text v → text ≡ word_text w → v ≡ w
 one_word text v w a b = sym (word_again v) ∙ (ap (λ (xs : List ℕ). word_by_letters (letters_of_word xs)) (sym a ∙ b) ∙ word_again w)
@@ -345,8 +374,11 @@ word_single text r s a b = by_word (word_is r a) (word_is s b)
     word_is (Err (faults.Morphism kind)) a = absurd a
     word_is (Err (faults.LetterMissing letter)) a = absurd a
     word_is (Err (faults.CombineShape one two)) a = absurd a
+    word_is (Err (faults.NotPlain of)) a = absurd a
+    word_is (Err (faults.LangShape one two)) a = absurd a
     word_is (Err (faults.MixedChain byte)) a = absurd a
     word_is (Err (faults.NotLinear byte)) a = absurd a
+    word_is (Err (faults.LoadDepth of)) a = absurd a
     word_is (Err (faults.Unknown of file)) a = absurd a
     word_is (Err (faults.File of file flaw)) a = absurd a
     word_is (Err (faults.Arity of tracks given)) a = absurd a
@@ -370,8 +402,16 @@ single_by_word promotions words.Morphism limit ledger text = morphism_single led
 single_by_word promotions words.Promote limit ledger text = promote_single promotions limit ledger text
 single_by_word promotions words.Combine limit ledger text = combine_single limit ledger text
 single_by_word promotions words.Image limit ledger text = image_single one_image_outcome limit ledger text
+single_by_word promotions words.Union limit ledger text = language_single (Pair Union) limit ledger text
+single_by_word promotions words.Intersect limit ledger text = language_single (Pair Intersection) limit ledger text
+single_by_word promotions words.Concat limit ledger text = language_single (Pair Concatenation) limit ledger text
+single_by_word promotions words.Star limit ledger text = language_single (One Star) limit ledger text
+single_by_word promotions words.Reverse limit ledger text = language_single (One Reversal) limit ledger text
+
+pub after_length_single : PromotionsHaveOneOutcome → (limit : ℕ) (ledger : Ledger) (text : List ℕ) → IsSingle (after_length limit ledger text)
+after_length_single promotions limit ledger text =
+    then_single (Pure (WordAnswers text)) (λ word. checks_by word limit ledger text) (word_single text) (λ word is. single_by_word promotions word limit ledger text)
 
 pub one_answer : PromotionsHaveOneOutcome → (limit : ℕ) (ledger : Ledger) (text : List ℕ) (answer other : Answer) → Outcome limit ledger text answer → Outcome limit ledger text other → answer ≡ other
 one_answer promotions limit ledger text =
-    then_single (Pure (LengthAnswers text)) (λ done. after_length limit ledger text) (length_single text) (λ done short.
-    then_single (Pure (WordAnswers text)) (λ word. checks_by word limit ledger text) (word_single text) (λ word is. single_by_word promotions word limit ledger text))
+    then_single (Pure (LengthAnswers text)) (λ done. after_length limit ledger text) (length_single text) (λ done short. after_length_single promotions limit ledger text)

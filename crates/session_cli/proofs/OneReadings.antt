@@ -95,6 +95,7 @@ reading_is text (Err (faults.Number grammars.Formula at)) a = record { answer = 
 reading_is text (Err (faults.Depth grammars.Formula at)) a = record { answer = Err (parses.Depth at); holds = ((λ is. cc), a); is = refl }
 reading_is text (Err (faults.MixedChain at)) a = record { answer = Err (parses.MixedChain at); holds = ((λ is. cc), a); is = refl }
 reading_is text (Err (faults.NotLinear at)) a = record { answer = Err (parses.NotLinear at); holds = ((λ is. cc), a); is = refl }
+reading_is text (Err (faults.LoadDepth of)) a = absurd a
 reading_is text (Err (faults.Syntax grammars.Command at)) a = absurd a
 reading_is text (Err (faults.Syntax grammars.Regex at)) a = absurd a
 reading_is text (Err (faults.Syntax grammars.Macro at)) a = absurd a
@@ -128,6 +129,8 @@ reading_is text (Err faults.MacroLong) a = absurd a
 reading_is text (Err (faults.Morphism kind)) a = absurd a
 reading_is text (Err (faults.LetterMissing letter)) a = absurd a
 reading_is text (Err (faults.CombineShape one two)) a = absurd a
+reading_is text (Err (faults.NotPlain of)) a = absurd a
+reading_is text (Err (faults.LangShape one two)) a = absurd a
 
 pub reading_single : (text : List ℕ) → IsSingle (Pure (FormulaAnswers text))
 reading_single text r s a b =

@@ -1,56 +1,76 @@
 -- Runs over one script end alike, unless the store, the sink or memory fails.
-use Rattle.std.proofs.Common.{◌≡◌, ℕ, ◌⊎◌, List, Option, Some, Ok, Err, sym, ◌∙◌, subst, inl, inr}
-use Rattle.std.specs.Option.{option_map}
+use Rattle.std.proofs.Common.{◌≡◌, ℕ, ◌⊎◌, Bool, true, false, List, Option, None, Some, Result, Ok, Err, sym, ap, ◌∙◌, subst, inl, inr}
+use Rattle.std.specs.Option.{is_some, option_map}
 use Rattle.wal_outside.specs.Files.{Files, put}
 use Rattle.wal_outside.specs.Views.{SourceView, SinkView, StoreView}
-use Rattle.script_runs.specs.Ends.{HasRun}
-use Rattle.script_runs.specs.Laws.{IsProper, IsDetermined, IsClean, EndAlike}
+use Rattle.command_line.specs.Words.{GivesOptions}
+use Rattle.command_line.specs.declared.options.Options.{Options}
+use Rattle.wal_outside.specs.Sending.{Sends, HasSent}
+use Rattle.wal_outside.specs.declared.sink.WriteFault.{WriteFault}
+use Rattle.made_script.specs.Scripts.{script_text}
+use Rattle.script_runs.specs.Languages.{CommandLanguage, Deed}
+use Rattle.script_runs.specs.Laws.{IsProper, IsDetermined, IsClean, EndAlike, TextsAlike}
+use Rattle.script_runs.specs.TextRuns.{RanWhole}
+use Rattle.script_runs.specs.declared.counts.Counts.{Counts}
 use Rattle.script_runs.specs.declared.status.Status.{Status}
 use Rattle.script_runs.specs.declared.status.Status.TheVariants as status
-use Rattle.script_runs.proofs.OneRuns.{runs_end_alike, not_memory, not_usage}
+use Rattle.script_runs.proofs.OneRuns.{runs_end_alike, texts_end_alike, not_stopped, not_memory, not_usage}
 use Rattle.definitions.specs.Trees.{Ledger, custom_of}
 use Rattle.definitions.proofs.OneTexts.{one_text_of}
 use Rattle.fixed_points.specs.Laws.{PromotionsHaveOneOutcome}
 use Rattle.system_files.specs.SystemFiles.{Custom}
 use Rattle.session_cli.specs.declared.fault.Fault.TheVariants as faults
-use Rattle.session_cli.specs.Accepting.{Success, Answer}
-use Rattle.session_cli.specs.Outcomes.{checks_of, Outcome}
-use Rattle.session_cli.specs.SessionLanguage.{IsAnswer, StoresEntry, session_language}
-use Rattle.session_cli.specs.Whole.{HasCalled}
-use Rattle.session_cli.specs.ServedWords.{GivesLimit}
+use Rattle.session_cli.specs.declared.fault.Fault.{Fault}
+use Rattle.session_cli.specs.Checks.{Check, Fails}
+use Rattle.session_cli.specs.Accepting.{Success}
+use Rattle.session_cli.specs.RunOutcomes.{run_checks}
+use Rattle.session_cli.specs.SessionLanguage.{IsReply, StoresEntry, failed_at, is_memory_fault, session_language}
+use Rattle.session_cli.specs.Made.{made_line, made_status, HasMade}
+use Rattle.session_cli.specs.Whole.{HasServed, HasCalled}
 use Rattle.session_cli.proofs.WholeSteps.{usage_or_memory}
-use Rattle.session_cli.proofs.ServedWords.{one_limit}
-use Rattle.session_cli.proofs.OneOutcomes.{one_answer}
+use Rattle.command_line.proofs.OneOptions.{one_options}
+use Rattle.session_cli.proofs.OneReplies.{one_reply}
 
--- an answer that is neither the store's nor memory's is the proper outcome
-proper : (limit : ℕ) (ledger : Ledger) (text : List ℕ) (answer : Answer) → IsAnswer (checks_of limit ledger text) answer → IsProper (session_language limit) answer → Outcome limit ledger text answer
-proper limit ledger text (Ok success) is own = is
-proper limit ledger text (Err (faults.Store folder name)) is own = let store = own.store in cc
-proper limit ledger text (Err faults.Memory) is own = let memory = own.memory in cc
-proper limit ledger text (Err faults.ScriptLimit) is own = is
-proper limit ledger text (Err (faults.MacroArgs of at given)) is own = is
-proper limit ledger text (Err (faults.MacroDepth of)) is own = is
-proper limit ledger text (Err faults.MacroLong) is own = is
-proper limit ledger text (Err (faults.Morphism kind)) is own = is
-proper limit ledger text (Err (faults.LetterMissing letter)) is own = is
-proper limit ledger text (Err (faults.CombineShape one two)) is own = is
-proper limit ledger text (Err (faults.MixedChain byte)) is own = is
-proper limit ledger text (Err (faults.NotLinear byte)) is own = is
-proper limit ledger text (Err (faults.Unknown of file)) is own = is
-proper limit ledger text (Err (faults.File of file flaw)) is own = is
-proper limit ledger text (Err (faults.Arity of tracks given)) is own = is
-proper limit ledger text (Err (faults.Clash of one two)) is own = is
-proper limit ledger text (Err (faults.Plain of)) is own = is
-proper limit ledger text (Err faults.Command) is own = is
-proper limit ledger text (Err (faults.Syntax grammar at)) is own = is
-proper limit ledger text (Err (faults.Number grammar at)) is own = is
-proper limit ledger text (Err (faults.Depth grammar at)) is own = is
-proper limit ledger text (Err (faults.Long bytes)) is own = is
-proper limit ledger text (Err (faults.SystemUnknown name)) is own = is
-proper limit ledger text (Err (faults.NotAdmitted name law)) is own = is
-proper limit ledger text (Err (faults.Direction first other)) is own = is
-proper limit ledger text (Err (faults.Letters step)) is own = is
-proper limit ledger text (Err (faults.States step)) is own = is
+-- a check that is not refused by the store or by memory is refused by its answer
+own_answer : (checks : Check (Deed Success)) (f : Fault) → Fails checks f → is_some (failed_at f) ≡ false → is_memory_fault f ≡ false → checks.answers (Err f)
+own_answer checks (faults.Store folder name) fails store memory = cc
+own_answer checks faults.Memory fails store memory = cc
+own_answer checks faults.ScriptLimit fails store memory = fails
+own_answer checks (faults.MacroArgs of at given) fails store memory = fails
+own_answer checks (faults.MacroDepth of) fails store memory = fails
+own_answer checks faults.MacroLong fails store memory = fails
+own_answer checks (faults.Morphism kind) fails store memory = fails
+own_answer checks (faults.LetterMissing letter) fails store memory = fails
+own_answer checks (faults.CombineShape one two) fails store memory = fails
+own_answer checks (faults.NotPlain of) fails store memory = fails
+own_answer checks (faults.LangShape one two) fails store memory = fails
+own_answer checks (faults.MixedChain byte) fails store memory = fails
+own_answer checks (faults.NotLinear byte) fails store memory = fails
+own_answer checks (faults.LoadDepth of) fails store memory = fails
+own_answer checks (faults.Unknown of file) fails store memory = fails
+own_answer checks (faults.File of file flaw) fails store memory = fails
+own_answer checks (faults.Arity of tracks given) fails store memory = fails
+own_answer checks (faults.Clash of one two) fails store memory = fails
+own_answer checks (faults.Plain of) fails store memory = fails
+own_answer checks faults.Command fails store memory = fails
+own_answer checks (faults.Syntax grammar at) fails store memory = fails
+own_answer checks (faults.Number grammar at) fails store memory = fails
+own_answer checks (faults.Depth grammar at) fails store memory = fails
+own_answer checks (faults.Long bytes) fails store memory = fails
+own_answer checks (faults.SystemUnknown name) fails store memory = fails
+own_answer checks (faults.NotAdmitted name law) fails store memory = fails
+own_answer checks (faults.Direction first other) fails store memory = fails
+own_answer checks (faults.Letters step) fails store memory = fails
+own_answer checks (faults.States step) fails store memory = fails
+
+-- a reply that is neither the store's nor memory's is what the checks answer
+proper : (limit : ℕ) (stop : Bool) (depth : ℕ) (ledger : Ledger) (text : List ℕ) (reply : Result (Deed Success) Fault) → IsReply (run_checks limit depth ledger text) reply → IsProper (session_language limit stop) reply → (run_checks limit depth ledger text).answers reply
+proper limit stop depth ledger text (Ok deed) is own = is
+proper limit stop depth ledger text (Err fault) (inl fails) own = own_answer (run_checks limit depth ledger text) fault fails own.store own.memory
+proper limit stop depth ledger text (Err fault) (inr (success, made, is)) own = absurd (by_store (ap (λ (f : Fault). is_some (failed_at f)) (sym is) ∙ own.store))
+  where
+    by_store : true ≡ false → ⊥
+    by_store is = cc
 
 -- an accepted command changes the files in one way
 one_change : (custom : Custom) (success : Success) (old new new' : Option Files) → StoresEntry custom success old new → StoresEntry custom success old new' → new ≡ new'
@@ -60,15 +80,16 @@ one_change custom success old new new' (stored, has, is) (stored', has', is') =
     is ∙ (middle ∙ sym is')
 
 module _ (promotions : PromotionsHaveOneOutcome) where
-  session_is_determined : (limit : ℕ) → IsDetermined (session_language limit)
-  session_is_determined limit = record {
-    one_answer = λ ledger text answer other a b own own'. one_answer promotions limit ledger text answer other (proper limit ledger text answer a own) (proper limit ledger text other b own');
+  session_is_determined : (limit : ℕ) (stop : Bool) → IsDetermined (session_language limit stop)
+  session_is_determined limit stop = record {
+    one_reply = λ depth ledger text reply other a b own own'. one_reply promotions limit depth ledger text reply other (proper limit stop depth ledger text reply a own) (proper limit stop depth ledger text other b own');
     one_change = λ ledger success old new new' a b. one_change (custom_of ledger) success old new new' a b;
     stays_reported = λ ledger success files new (stored, has, is). (put files success.folder success.name stored, is);
   }
 
-  -- a clean call ran with the limit that the words give
-  clean_run : (words : List (List ℕ)) (from to : SourceView) (old new : StoreView) (held now : SinkView) (state : Status) → HasCalled words from to old new held now state → IsClean state → (limit : ℕ) × GivesLimit words limit × HasRun (session_language limit) from to old new held now state
+  -- a clean call ran with the options that the words give
+  clean_run : (words : List (List ℕ)) (from to : SourceView) (old new : StoreView) (held now : SinkView) (state : Status) → HasCalled words from to old new held now state → IsClean state
+      → (options : Options) × GivesOptions words options × HasServed options.limit options.stop options.seed from to old new held now state
   clean_run words from to old new held now state (inl ran) clean = ran
   clean_run words from to old new held now state (inr (inl (none, usage))) clean = absurd (unclean (usage_or_memory usage.shown.0 state usage.shown.2))
     where
@@ -77,14 +98,45 @@ module _ (promotions : PromotionsHaveOneOutcome) where
       unclean (inr is) = not_memory state is clean
   clean_run words from to old new held now state (inr (inr unread)) clean = absurd (not_memory state unread.state_is clean)
 
+  -- a run whose line was printed
+  clean_made : {F : Type 0} (l : CommandLanguage F) (seed : ℕ) (old new : StoreView) (held now : SinkView) (state : Status) → HasMade l seed old new held now state → IsClean state
+      → (counts : Counts) × RanWhole l (script_text seed) old new counts state × HasSent held (made_line seed counts) now
+  clean_made l seed old new held now state (inl made) clean = by_sent made.prints.0 made.prints.1 made.prints.2
+    where
+      by_sent : (sent : Result (Unit {0}) WriteFault) → Sends held (made_line seed made.run.counts) sent now → state ≡ made_status made.run.status sent
+          → (counts : Counts) × RanWhole l (script_text seed) old new counts state × HasSent held (made_line seed counts) now
+      by_sent (Ok done) sends is = (made.run.counts, subst (λ (s : Status). RanWhole l (script_text seed) old new made.run.counts s) (sym is) made.ran, sends)
+      by_sent (Err fault) sends is = absurd (not_stopped fault state is clean)
+  clean_made l seed old new held now state (inr short) clean = absurd (not_memory state short.state_is clean)
+
+  -- runs of one generated script, from the same files, that end clean end alike
+  made_alike : {F : Type 0} (l : CommandLanguage F) → IsDetermined l → (seed : ℕ) (files : Files) (old new old' new' : StoreView) (held now held' now' : SinkView) (state state' : Status)
+      → HasMade l seed old new held now state → HasMade l seed old' new' held' now' state' → old.files ≡ Some files → old'.files ≡ Some files → IsClean state → IsClean state' → EndAlike new new' held now held' now' state state'
+  made_alike l determined seed files old new old' new' held now held' now' state state' made made' reported reported' clean clean' =
+      let a = clean_made l seed old new held now state made clean in
+      let b = clean_made l seed old' new' held' now' state' made' clean' in
+      let same : TextsAlike new new' a.0 b.0 state state' = texts_end_alike l determined (script_text seed) files old new old' new' a.0 b.0 state state' a.1 b.1 reported reported' clean clean' in
+      let P : Counts → Type 0 = λ counts. HasSent held' (made_line seed counts) now' in
+      record { status = same.status; files = same.files; text = made_line seed a.0; printed = a.2; printed' = subst P (sym same.counts) b.2 }
+
+  -- what a call runs ends alike
+  served_alike : (limit : ℕ) (stop : Bool) (seed : Option ℕ) (script : List ℕ) (files : Files) (from to from' to' : SourceView) (old new old' new' : StoreView) (held now held' now' : SinkView) (state state' : Status)
+      → HasServed limit stop seed from to old new held now state → HasServed limit stop seed from' to' old' new' held' now' state'
+      → from.left ≡ Some script → from'.left ≡ Some script → old.files ≡ Some files → old'.files ≡ Some files → IsClean state → IsClean state'
+      → EndAlike new new' held now held' now' state state'
+  served_alike limit stop None script files from to from' to' old new old' new' held now held' now' state state' ran ran' is is' reported reported' clean clean' =
+      runs_end_alike (session_language limit stop) (session_is_determined limit stop) script files from to from' to' old new old' new' held now held' now' state state' ran ran' is is' reported reported' clean clean'
+  served_alike limit stop (Some seed) script files from to from' to' old new old' new' held now held' now' state state' ran ran' is is' reported reported' clean clean' =
+      made_alike (session_language limit stop) (session_is_determined limit stop) seed files old new old' new' held now held' now' state state' ran.1 ran'.1 reported reported' clean clean'
+
   -- calls with the same words over one script, from the same files, that end clean end alike
   pub calls_alike : (words : List (List ℕ)) (script : List ℕ) (files : Files) (from to from' to' : SourceView) (old new old' new' : StoreView) (held now held' now' : SinkView) (state state' : Status)
       → HasCalled words from to old new held now state → HasCalled words from' to' old' new' held' now' state'
       → from.left ≡ Some script → from'.left ≡ Some script → old.files ≡ Some files → old'.files ≡ Some files → IsClean state → IsClean state'
       → EndAlike new new' held now held' now' state state'
   calls_alike words script files from to from' to' old new old' new' held now held' now' state state' call call' is is' reported reported' clean clean' =
-      let ran : (limit : ℕ) × GivesLimit words limit × HasRun (session_language limit) from to old new held now state = clean_run words from to old new held now state call clean in
-      let ran' : (limit : ℕ) × GivesLimit words limit × HasRun (session_language limit) from' to' old' new' held' now' state' = clean_run words from' to' old' new' held' now' state' call' clean' in
-      let limits : ran'.0 ≡ ran.0 = one_limit words ran'.0 ran.0 ran'.1 ran.1 in
-      let P : ℕ → Type 0 = λ limit. HasRun (session_language limit) from' to' old' new' held' now' state' in
-      runs_end_alike (session_language ran.0) (session_is_determined ran.0) script files from to from' to' old new old' new' held now held' now' state state' ran.2 (subst P limits ran'.2) is is' reported reported' clean clean'
+      let ran : (options : Options) × GivesOptions words options × HasServed options.limit options.stop options.seed from to old new held now state = clean_run words from to old new held now state call clean in
+      let ran' : (options : Options) × GivesOptions words options × HasServed options.limit options.stop options.seed from' to' old' new' held' now' state' = clean_run words from' to' old' new' held' now' state' call' clean' in
+      let same : ran'.0 ≡ ran.0 = one_options words ran'.0 ran.0 ran'.1 ran.1 in
+      let P : Options → Type 0 = λ options. HasServed options.limit options.stop options.seed from' to' old' new' held' now' state' in
+      served_alike ran.0.limit ran.0.stop ran.0.seed script files from to from' to' old new old' new' held now held' now' state state' ran.2 (subst P same ran'.2) is is' reported reported' clean clean'

@@ -1,5 +1,5 @@
 -- The systems of names are admitted in one way, or refused by one fault.
-use Rattle.std.proofs.Common.{◌≡◌, ◌≢◌, ℕ, List, Result, Ok, Err, inl, inr, refl, sym, ◌∙◌}
+use Rattle.std.proofs.Common.{◌≡◌, ◌≢◌, ℕ, List, Result, Ok, Err, refl, sym, ◌∙◌}
 use Rattle.std.specs.Prelude.{⊤}
 use Rattle.digit_tuple.specs.Steps.{StepLog}
 use Rattle.digit_tuple.specs.declared.step_fault.StepFault.TheVariants as steps
@@ -44,6 +44,7 @@ systems_is limit custom names (Err (faults.Syntax grammar at)) a = absurd a
 systems_is limit custom names (Err (faults.MixedChain byte)) a = absurd a
 systems_is limit custom names (Err (faults.Number grammar at)) a = absurd a
 systems_is limit custom names (Err (faults.NotLinear byte)) a = absurd a
+systems_is limit custom names (Err (faults.LoadDepth of)) a = absurd a
 systems_is limit custom names (Err (faults.Depth grammar at)) a = absurd a
 systems_is limit custom names (Err (faults.Long bytes)) a = absurd a
 systems_is limit custom names (Err (faults.Unknown folder name)) a = absurd a
@@ -60,6 +61,8 @@ systems_is limit custom names (Err faults.MacroLong) a = absurd a
 systems_is limit custom names (Err (faults.Morphism kind)) a = absurd a
 systems_is limit custom names (Err (faults.LetterMissing letter)) a = absurd a
 systems_is limit custom names (Err (faults.CombineShape one two)) a = absurd a
+systems_is limit custom names (Err (faults.NotPlain of)) a = absurd a
+systems_is limit custom names (Err (faults.LangShape one two)) a = absurd a
 
 pub systems_single : (limit : ℕ) (custom : Custom) (names : List (List ℕ)) → IsSingle (systems_known limit custom names)
 systems_single limit custom names r s a b = by (systems_is limit custom names r a) (systems_is limit custom names s b)

@@ -1,5 +1,5 @@
 -- A `macro`, a `morphism` and a `promote` have one outcome each.
-use Rattle.std.proofs.Common.{◌≡◌, ◌≢◌, ◌⊎◌, ℕ, List, [], ◌∷◌, Result, Ok, Err, codes, inl, inr, refl, sym, ap, ◌∙◌, subst}
+use Rattle.std.proofs.Common.{◌≡◌, ◌≢◌, ℕ, List, Result, Ok, Err, codes, refl, sym, ap, ◌∙◌, subst}
 use Rattle.wal_outside.specs.Files.{Files}
 use Rattle.wal_outside.specs.declared.folder.Folder.TheVariants.{Macros, Morphisms}
 use Rattle.digit_tuple.specs.Steps.{StepLog}
@@ -79,6 +79,7 @@ rules_is body (Err (faults.Number grammars.Regex at)) a = absurd a
 rules_is body (Err (faults.Number grammars.Macro at)) a = absurd a
 rules_is body (Err (faults.Number grammars.Formula at)) a = absurd a
 rules_is body (Err (faults.NotLinear at)) a = absurd a
+rules_is body (Err (faults.LoadDepth of)) a = absurd a
 rules_is body (Err (faults.Depth grammar at)) a = absurd a
 rules_is body (Err (faults.Long bytes)) a = absurd a
 rules_is body (Err (faults.MacroArgs of at given)) a = absurd a
@@ -97,6 +98,8 @@ rules_is body (Err (faults.Plain of)) a = absurd a
 rules_is body (Err (faults.Morphism kind)) a = absurd a
 rules_is body (Err (faults.LetterMissing letter)) a = absurd a
 rules_is body (Err (faults.CombineShape one two)) a = absurd a
+rules_is body (Err (faults.NotPlain of)) a = absurd a
+rules_is body (Err (faults.LangShape one two)) a = absurd a
 rules_is body (Err (faults.Store folder of)) a = absurd a
 rules_is body (Err faults.Memory) a = absurd a
 rules_is body (Err faults.ScriptLimit) a = absurd a
@@ -136,6 +139,7 @@ loading_is ledger name (Err (faults.Syntax grammar at)) a = absurd a
 loading_is ledger name (Err (faults.MixedChain at)) a = absurd a
 loading_is ledger name (Err (faults.Number grammar at)) a = absurd a
 loading_is ledger name (Err (faults.NotLinear at)) a = absurd a
+loading_is ledger name (Err (faults.LoadDepth of)) a = absurd a
 loading_is ledger name (Err (faults.Depth grammar at)) a = absurd a
 loading_is ledger name (Err (faults.Long bytes)) a = absurd a
 loading_is ledger name (Err (faults.MacroArgs of at given)) a = absurd a
@@ -152,6 +156,8 @@ loading_is ledger name (Err (faults.Plain of)) a = absurd a
 loading_is ledger name (Err (faults.Morphism kind)) a = absurd a
 loading_is ledger name (Err (faults.LetterMissing letter)) a = absurd a
 loading_is ledger name (Err (faults.CombineShape one two)) a = absurd a
+loading_is ledger name (Err (faults.NotPlain of)) a = absurd a
+loading_is ledger name (Err (faults.LangShape one two)) a = absurd a
 loading_is ledger name (Err (faults.Store folder of)) a = absurd a
 loading_is ledger name (Err faults.Memory) a = absurd a
 loading_is ledger name (Err faults.ScriptLimit) a = absurd a
@@ -186,6 +192,7 @@ promotion_is limit rules (Err (faults.Syntax grammar at)) a = absurd a
 promotion_is limit rules (Err (faults.MixedChain at)) a = absurd a
 promotion_is limit rules (Err (faults.Number grammar at)) a = absurd a
 promotion_is limit rules (Err (faults.NotLinear at)) a = absurd a
+promotion_is limit rules (Err (faults.LoadDepth of)) a = absurd a
 promotion_is limit rules (Err (faults.Depth grammar at)) a = absurd a
 promotion_is limit rules (Err (faults.Long bytes)) a = absurd a
 promotion_is limit rules (Err (faults.MacroArgs of at given)) a = absurd a
@@ -201,6 +208,8 @@ promotion_is limit rules (Err (faults.Direction one two)) a = absurd a
 promotion_is limit rules (Err (faults.Plain of)) a = absurd a
 promotion_is limit rules (Err (faults.LetterMissing letter)) a = absurd a
 promotion_is limit rules (Err (faults.CombineShape one two)) a = absurd a
+promotion_is limit rules (Err (faults.NotPlain of)) a = absurd a
+promotion_is limit rules (Err (faults.LangShape one two)) a = absurd a
 promotion_is limit rules (Err (faults.Store folder of)) a = absurd a
 promotion_is limit rules (Err faults.Memory) a = absurd a
 promotion_is limit rules (Err faults.ScriptLimit) a = absurd a

@@ -19,6 +19,7 @@ stored_is custom made text has (Err (faults.Syntax grammar at)) a = absurd a
 stored_is custom made text has (Err (faults.MixedChain byte)) a = absurd a
 stored_is custom made text has (Err (faults.Number grammar at)) a = absurd a
 stored_is custom made text has (Err (faults.NotLinear byte)) a = absurd a
+stored_is custom made text has (Err (faults.LoadDepth of)) a = absurd a
 stored_is custom made text has (Err (faults.Depth grammar at)) a = absurd a
 stored_is custom made text has (Err (faults.Unknown folder name)) a = absurd a
 stored_is custom made text has (Err (faults.File folder name flaw)) a = absurd a
@@ -39,6 +40,8 @@ stored_is custom made text has (Err faults.MacroLong) a = absurd a
 stored_is custom made text has (Err (faults.Morphism kind)) a = absurd a
 stored_is custom made text has (Err (faults.LetterMissing letter)) a = absurd a
 stored_is custom made text has (Err (faults.CombineShape one two)) a = absurd a
+stored_is custom made text has (Err (faults.NotPlain of)) a = absurd a
+stored_is custom made text has (Err (faults.LangShape one two)) a = absurd a
 
 some_text : (custom : Custom) (made : Success) (r : Answer) → StoredAnswers custom made r → (text : List ℕ) × HasText custom made.entry text
 some_text custom made (Ok success) (is, (text, has, fits)) = (text, has)
@@ -48,6 +51,7 @@ some_text custom made (Err (faults.Syntax grammar at)) a = absurd a
 some_text custom made (Err (faults.MixedChain byte)) a = absurd a
 some_text custom made (Err (faults.Number grammar at)) a = absurd a
 some_text custom made (Err (faults.NotLinear byte)) a = absurd a
+some_text custom made (Err (faults.LoadDepth of)) a = absurd a
 some_text custom made (Err (faults.Depth grammar at)) a = absurd a
 some_text custom made (Err (faults.Unknown folder name)) a = absurd a
 some_text custom made (Err (faults.File folder name flaw)) a = absurd a
@@ -68,6 +72,8 @@ some_text custom made (Err faults.MacroLong) a = absurd a
 some_text custom made (Err (faults.Morphism kind)) a = absurd a
 some_text custom made (Err (faults.LetterMissing letter)) a = absurd a
 some_text custom made (Err (faults.CombineShape one two)) a = absurd a
+some_text custom made (Err (faults.NotPlain of)) a = absurd a
+some_text custom made (Err (faults.LangShape one two)) a = absurd a
 
 pub stored_single : (custom : Custom) (made : Success) → IsSingle (stored custom made)
 stored_single custom made r s a b =

@@ -84,8 +84,11 @@ made_by_steps custom admitted name tracks body shown pattern lines printed_lines
     by_text (Err (faults.Morphism kind)) refused = absurd refused
     by_text (Err (faults.LetterMissing letter)) refused = absurd refused
     by_text (Err (faults.CombineShape one two)) refused = absurd refused
+    by_text (Err (faults.NotPlain of)) refused = absurd refused
+    by_text (Err (faults.LangShape one two)) refused = absurd refused
     by_text (Err (faults.MixedChain byte)) refused = absurd refused
     by_text (Err (faults.NotLinear byte)) refused = absurd refused
+    by_text (Err (faults.LoadDepth of)) refused = absurd refused
     by_text (Err (faults.Unknown of file)) refused = absurd refused
     by_text (Err (faults.File of file flaw)) refused = absurd refused
     by_text (Err (faults.Arity of tracks given)) refused = absurd refused

@@ -15,7 +15,6 @@ use Rattle.dfa_loading.specs.declared.loaded.Loaded.{Loaded}
 use Rattle.definitions.proofs.FileTables.{word_has_states}
 use Rattle.definitions.specs.TableLaws.{FilesAreTables}
 use Rattle.definitions.specs.TableSteps.{IsTable}
-use Rattle.formula_build.proofs.ReadFormulas.{same_file}
 
 pub same_itself : (file : File) → is_same_file file file ≡ true
 same_itself (Automaton name) = (bytes_eq-Decides name name).1 refl

@@ -8,11 +8,10 @@ use Rattle.session_cli.specs.declared.plan.Plan.{Plan}
 use Rattle.session_cli.specs.declared.command_word.CommandWord.{CommandWord}
 use Rattle.session_cli.specs.Checks.{Pure, Fails}
 use Rattle.definitions.specs.Trees.{Ledger, custom_of}
-use Rattle.session_cli.specs.Outcomes.{LengthAnswers, WordAnswers, word_text, checks_by, checks_of}
+use Rattle.session_cli.specs.Outcomes.{LengthAnswers, WordAnswers, word_text, checks_by, after_length, checks_of}
 use Rattle.session_cli.specs.FormulaOutcomes.{formula_checks}
 use Rattle.session_cli.specs.Plans.{Plans}
 use Rattle.session_cli.specs.declared.step_options.StepOptions.{StepOptions}
-use Rattle.session_cli.proofs.CheckNames.{after_length}
 use Rattle.session_cli.proofs.CheckSteps.{fails_first, fails_after, plans_after}
 
 -- what the checks of a short command of this word give, all its checks give

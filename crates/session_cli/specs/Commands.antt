@@ -1,19 +1,55 @@
 -- One command, and the store before and after it.
-use Rattle.std.specs.Prelude.{◌≡◌, ℕ, ◌≤◌, Bool, List, Option, Some, Result, Ok, Err}
-use Rattle.std.specs.Option.{option_map}
+use Rattle.std.specs.Prelude.{◌≡◌, ℕ, ◌≤◌, Bool, false, List, [], Option, Some, IfSome, IsTrue, Result, Ok, Err}
+use Rattle.std.specs.Option.{is_some, option_map}
 use Rattle.wal_outside.specs.Causes.{Rose}
 use Rattle.wal_outside.specs.Files.{Files, put}
 use Rattle.wal_outside.specs.Places.{Place}
 use Rattle.wal_outside.specs.Views.{StoreView}
-use Rattle.script_runs.specs.Runs.{AnswersCommand}
+use Rattle.script_runs.specs.Replies.{failed_by}
 use Rattle.session_cli.specs.declared.fault.Fault.{Fault}
 use Rattle.session_cli.specs.declared.fault.Fault.TheVariants as faults
-use Rattle.definitions.specs.Trees.{Ledger}
-use Rattle.session_cli.specs.SessionLanguage.{session_language}
+use Rattle.definitions.specs.Trees.{Ledger, custom_of}
+use Rattle.session_cli.specs.Accepting.{Answer}
+use Rattle.session_cli.specs.Lines.{success_text}
+use Rattle.session_cli.specs.Outcomes.{checks_of}
+use Rattle.session_cli.specs.SessionLanguage.{IsAnswer, StoresEntry, failed_at}
 
--- a command has an answer that the call gives
-abbrev pub Commands : ℕ → Ledger → StoreView → List ℕ → Bool → Result (Unit {0}) Fault → List ℕ → StoreView → Type 0
-Commands limit ledger old text shown result printed new = AnswersCommand (session_language limit) ledger old text shown result printed new
+-- A call's result and the text to print are the answer: accepted, with what it prints; or the same fault, and then the text is empty.
+abbrev pub Gives : Bool → Result (Unit {0}) Fault → List ℕ → Answer → Type 0
+Gives shown (Ok _) text (Ok success) = text ≡ success_text shown success
+Gives shown (Ok _) text (Err fault) = ⊥
+Gives shown (Err fault) text (Ok success) = ⊥
+Gives shown (Err fault) text (Err refusal) = (fault ≡ refusal) × (text ≡ [])
+
+-- a refused command changes no file
+abbrev pub Changes : Ledger → Option Files → Answer → Option Files → Type 0
+Changes ledger old (Ok success) new = StoresEntry (custom_of ledger) success old new
+Changes ledger old (Err fault) new = new ≡ old
+
+abbrev pub is_refused_by_store : Answer → Bool
+is_refused_by_store (Ok success) = false
+is_refused_by_store (Err fault) = is_some (failed_at fault)
+
+abbrev pub failed_after : Option (Option Place) → Answer → Option (Option Place)
+failed_after old (Ok success) = old
+failed_after old (Err fault) = failed_by (failed_at fault) old
+
+-- A store before and after a command. A store fault comes only where the store's count of faults rose.
+pub record Leaves (known : Ledger) (old : StoreView) (answer : Answer) (new : StoreView) : Type 0 where
+  pub files : Changes known old.files answer new.files
+  pub later : old.faults ≤ new.faults
+  pub cause : IsTrue (is_refused_by_store answer) → Rose old.faults new.faults
+  pub failed : new.failed ≡ failed_after old.failed answer
+
+-- A command has an answer that the call gives. Where the store reports its files, it is answered by what is known of it, and else by
+-- something that may be known.
+pub record Commands (limit : ℕ) (ledger : Ledger) (old : StoreView) (text : List ℕ) (shown : Bool) (result : Result (Unit {0}) Fault) (printed : List ℕ) (new : StoreView) : Type 0 where
+  pub answer : Answer
+  pub gives : Gives shown result printed answer
+  pub known : Ledger
+  pub known_is : IfSome old.files (λ (files : Files). known ≡ ledger)
+  pub answered : IsAnswer (checks_of limit known text) answer
+  pub stored : Leaves known old answer new
 
 -- files after a write, where they are reported
 abbrev pub WritesFile : Option Files → Place → List ℕ → Result (Unit {0}) Fault → Option Files → Type 0

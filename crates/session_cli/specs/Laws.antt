@@ -1,5 +1,5 @@
 -- What holds of all runs.
-use Rattle.std.specs.Prelude.{◌≡◌, ℕ, List, Some}
+use Rattle.std.specs.Prelude.{◌≡◌, ℕ, Bool, List, Some}
 use Rattle.wal_outside.specs.Files.{Files}
 use Rattle.wal_outside.specs.Views.{SourceView, SinkView, StoreView}
 use Rattle.script_runs.specs.Laws.{IsClean, EndAlike, StoreFaultsAreCounted}
@@ -24,4 +24,4 @@ OneRun = (words : List (List ℕ)) (script : List ℕ) (files : Files) (from to 
 
 -- at most as many answers are store faults as the store's count rose, unless that is at its last value
 abbrev pub StoreFaultsCounted : Type 0
-StoreFaultsCounted = (limit : ℕ) → StoreFaultsAreCounted (session_language limit)
+StoreFaultsCounted = (limit : ℕ) (stop : Bool) → StoreFaultsAreCounted (session_language limit stop)

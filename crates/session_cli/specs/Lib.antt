@@ -19,11 +19,14 @@ pub mod CombineOutcomes
 pub mod RecodedWords
 pub mod ImageSteps
 pub mod ImageOutcomes
+pub mod RefusingChecks
+pub mod LanguageOutcomes
 pub mod Outcomes
+pub mod RunOutcomes
 pub mod Lines
 pub mod Views
 pub mod SessionLanguage
-pub mod ServedWords
+pub mod Made
 pub mod Whole
 pub mod Laws
 -- what functions inside the crate do
@@ -44,6 +47,7 @@ pub mod FormulaMakes
 pub mod MacroMakes
 pub mod CombineMakes
 pub mod ImageMakes
+pub mod LanguageMakes
 pub mod WordPrinting
 pub mod BaseWords
 pub mod TextPlans

@@ -97,9 +97,12 @@ detail (faults.Plain name) = codes ": F21 Plain " ++ name
 detail (faults.Morphism kind) = (codes ": F22 Morphism " ++ refusal_name kind) ++ (codes " " ++ signed_decimal (refusal_letter kind))
 detail (faults.LetterMissing letter) = codes ": F23 LetterMissing " ++ signed_decimal letter
 detail (faults.CombineShape first other) = (codes ": F24 CombineShape " ++ first) ++ (codes " " ++ other)
+detail (faults.LoadDepth name) = codes ": F25 LoadDepth " ++ name
 detail (faults.Store folder name) = (codes ": F26 Store " ++ folder_text folder) ++ (codes "/" ++ name)
 detail faults.Memory = codes ": F27 Memory"
 detail faults.ScriptLimit = codes ": F28 ScriptLimit"
+detail (faults.NotPlain name) = codes ": F29 NotPlain " ++ name
+detail (faults.LangShape first other) = (codes ": F30 LangShape " ++ first) ++ (codes " " ++ other)
 
 -- the line of a command that begins on a line and is refused by a fault
 abbrev pub fault_line : ℕ → Fault → List ℕ

@@ -8,6 +8,9 @@ use Rattle.session_cli.specs.declared.command_word.CommandWord.{CommandWord}
 use Rattle.session_cli.specs.declared.command_word.CommandWord.TheVariants as words
 use Rattle.session_cli.specs.Checks.{Check, Pure, Then}
 use Rattle.definitions.specs.Trees.{Ledger}
+use Rattle.language_steps.specs.declared.op.LanguageOp.TheVariants.{Pair, One}
+use Rattle.language_steps.specs.declared.op.OneOp.TheVariants.{Star, Reversal}
+use Rattle.language_steps.specs.declared.op.PairOp.TheVariants.{Union, Intersection, Concatenation}
 use Rattle.session_cli.specs.Accepting.{Success, Answer}
 use Rattle.session_cli.specs.RegOutcomes.{reg_checks}
 use Rattle.session_cli.specs.FormulaOutcomes.{formula_checks}
@@ -15,6 +18,7 @@ use Rattle.session_cli.specs.TextOutcomes.{macro_checks, morphism_checks}
 use Rattle.session_cli.specs.PromoteOutcomes.{promote_checks}
 use Rattle.session_cli.specs.CombineOutcomes.{combine_checks}
 use Rattle.session_cli.specs.ImageOutcomes.{image_checks}
+use Rattle.session_cli.specs.LanguageOutcomes.{language_checks}
 
 -- a command may have 65,536 bytes
 abbrev pub IsShort : List ℕ → Type 0
@@ -35,6 +39,11 @@ word_text words.Morphism = codes "morphism"
 word_text words.Promote = codes "promote"
 word_text words.Combine = codes "combine"
 word_text words.Image = codes "image"
+word_text words.Union = codes "union"
+word_text words.Intersect = codes "intersect"
+word_text words.Concat = codes "concat"
+word_text words.Star = codes "star"
+word_text words.Reverse = codes "reverse"
 
 -- the first word is that of this command, or none that a command has
 abbrev pub WordAnswers : List ℕ → Result CommandWord Fault → Type 0
@@ -52,13 +61,20 @@ checks_by words.Morphism limit ledger text = morphism_checks ledger text
 checks_by words.Promote limit ledger text = promote_checks limit ledger text
 checks_by words.Combine limit ledger text = combine_checks limit ledger text
 checks_by words.Image limit ledger text = image_checks limit ledger text
+checks_by words.Union limit ledger text = language_checks (Pair Union) limit ledger text
+checks_by words.Intersect limit ledger text = language_checks (Pair Intersection) limit ledger text
+checks_by words.Concat limit ledger text = language_checks (Pair Concatenation) limit ledger text
+checks_by words.Star limit ledger text = language_checks (One Star) limit ledger text
+checks_by words.Reverse limit ledger text = language_checks (One Reversal) limit ledger text
+
+-- the checks behind that of the length: the first word, and those of the command of that word
+abbrev pub after_length : ℕ → Ledger → List ℕ → Check Success
+after_length limit ledger text = Then (Pure (WordAnswers text)) (λ word. checks_by word limit ledger text)
 
 -- all checks of a command that has its terminator: its length, its first word, and those of the command of that word. A step may have
 -- `limit` values.
 abbrev pub checks_of : ℕ → Ledger → List ℕ → Check Success
-checks_of limit ledger text =
-    Then (Pure (LengthAnswers text)) (λ short.
-    Then (Pure (WordAnswers text)) (λ word. checks_by word limit ledger text))
+checks_of limit ledger text = Then (Pure (LengthAnswers text)) (λ short. after_length limit ledger text)
 
 -- the proper outcome of a command that has its terminator
 abbrev pub Outcome : ℕ → Ledger → List ℕ → Answer → Type 0

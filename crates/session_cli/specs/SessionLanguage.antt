@@ -1,9 +1,9 @@
--- The command language of sessions.
-use Rattle.std.specs.Prelude.{◌≡◌, ◌⊎◌, ℕ, Bool, true, false, List, Option, None, Some, Ok, Err}
+-- The command language of scripts.
+use Rattle.std.specs.Prelude.{◌≡◌, ◌⊎◌, ℕ, Bool, true, false, List, Option, None, Some, Result, Ok, Err}
 use Rattle.std.specs.Option.{option_map}
 use Rattle.wal_outside.specs.Files.{Files, put}
 use Rattle.wal_outside.specs.Places.{Place}
-use Rattle.script_runs.specs.Languages.{CommandLanguage}
+use Rattle.script_runs.specs.Languages.{CommandLanguage, Deed, Enters}
 use Rattle.script_runs.specs.declared.script_fault.ScriptFault.{ScriptFault}
 use Rattle.script_runs.specs.declared.script_fault.ScriptFault.TheVariants as script
 use Rattle.session_cli.specs.declared.fault.Grammar.TheVariants as grammars
@@ -14,7 +14,7 @@ use Rattle.definitions.specs.Texts.{HasText, Stores}
 use Rattle.system_files.specs.SystemFiles.{Custom}
 use Rattle.session_cli.specs.Checks.{Check, Fails}
 use Rattle.session_cli.specs.Accepting.{Success, Answer, after}
-use Rattle.session_cli.specs.Outcomes.{checks_of}
+use Rattle.session_cli.specs.RunOutcomes.{run_checks}
 use Rattle.session_cli.specs.Lines.{success_text, fault_line}
 
 -- A command's answer is what its checks answer. Or the store failed at a file that they read, or at the one of what the command makes; or
@@ -23,6 +23,11 @@ abbrev pub IsAnswer : Check Success → Answer → Type 0
 IsAnswer checks (Ok success) = checks.answers (Ok success)
 IsAnswer checks (Err (faults.Store folder name)) = checks.reads (folder, name) ⊎ ((success : Success) × checks.answers (Ok success) × (folder ≡ success.folder) × (name ≡ success.name))
 IsAnswer checks (Err fault) = Fails checks fault
+
+-- So is the reply to a command of a script, which may load a text or end the run.
+abbrev pub IsReply : Check (Deed Success) → Result (Deed Success) Fault → Type 0
+IsReply checks (Ok deed) = checks.answers (Ok deed)
+IsReply checks (Err fault) = Fails checks fault ⊎ ((success : Success) × checks.answers (Ok (Enters success)) × (fault ≡ faults.Store success.folder success.name))
 
 -- an accepted command changes the file of its entry to that entry's text
 abbrev pub StoresEntry : Custom → Success → Option Files → Option Files → Type 0
@@ -43,24 +48,30 @@ script_refusal script.Long = faults.Long 65536
 script_refusal (script.Unterminated at) = faults.Syntax grammars.Command at
 script_refusal script.PastLimit = faults.ScriptLimit
 
+-- The limit ends a run. So does each other refusal where the run is to stop at the first.
+abbrev pub ends_run : Bool → Fault → Bool
+ends_run stop faults.ScriptLimit = true
+ends_run stop _ = stop
+
 -- the ledger at the beginning: the store's files, where these are reported
 abbrev pub first_ledger : Option Files → Ledger
 first_ledger None = λ folder name. None
 first_ledger (Some files) = ledger_of files
 
--- the commands of a session, each step of which may have `limit` values
-abbrev pub session_language : ℕ → CommandLanguage Fault
-session_language limit = record {
+-- the commands of a script, each step of which may have `limit` values, in a run that stops at the first refusal or does not
+abbrev pub session_language : ℕ → Bool → CommandLanguage Fault
+session_language limit stop = record {
   Ledger = Ledger;
   Success = Success;
   first = first_ledger;
   stores = Stores;
-  answers = λ ledger text answer. IsAnswer (checks_of limit ledger text) answer;
+  answers = λ depth ledger text reply. IsReply (run_checks limit depth ledger text) reply;
   changes = λ ledger success old new. StoresEntry (custom_of ledger) success old new;
   after = after;
   failed_at = failed_at;
   is_memory = is_memory_fault;
   of_script = script_refusal;
+  ends_run = ends_run stop;
   success_text = success_text;
   fault_line = fault_line;
 }

@@ -1,5 +1,5 @@
 -- The files that sessions leave are those of the ledger.
-use Rattle.std.proofs.Common.{◌≡◌, ℕ, Bool, true, false, if◌then◌else◌, List, Option, None, Some, IfSome, refl, sym, subst, inl}
+use Rattle.std.proofs.Common.{◌≡◌, ℕ, Bool, true, false, if◌then◌else◌, List, Option, None, Some, IfSome, Ok, refl, sym, subst, inl}
 use Rattle.std.specs.Option.{option_map}
 use Rattle.wal_outside.specs.Files.{Files, same_file, put}
 use Rattle.wal_outside.specs.declared.folder.Folder.{Folder}
@@ -7,10 +7,13 @@ use Rattle.definitions.proofs.CustomTexts.{entered_custom}
 use Rattle.definitions.specs.Texts.{HasText, HasTextIn, HasTextAt, Stores}
 use Rattle.definitions.specs.Trees.{Entry, Bytes, Ledger, tree_of, entered, custom_of, ledger_of}
 use Rattle.system_files.specs.SystemFiles.{Custom}
-use Rattle.script_runs.specs.Languages.{IsSound}
+use Rattle.script_runs.specs.Languages.{Enters, IsSound}
 use Rattle.script_runs.specs.declared.script_fault.ScriptFault.{ScriptFault}
 use Rattle.script_runs.specs.declared.script_fault.ScriptFault.TheVariants as script
+use Rattle.session_cli.specs.declared.run_word.RunWord.TheVariants as words
 use Rattle.session_cli.specs.Accepting.{Success, after}
+use Rattle.session_cli.specs.Outcomes.{after_length, checks_of}
+use Rattle.session_cli.specs.RunOutcomes.{run_checks}
 use Rattle.session_cli.specs.SessionLanguage.{StoresEntry, failed_at, script_refusal, first_ledger, session_language}
 use Rattle.session_cli.specs.StoredEntries.{Stands, stands_there, success_stands}
 
@@ -45,10 +48,21 @@ not_by_store script.Long = refl
 not_by_store (script.Unterminated at) = refl
 not_by_store script.PastLimit = refl
 
-pub session_is_sound : (limit : ℕ) → IsSound (session_language limit)
-session_is_sound limit = record {
+-- only what makes an entry is a command's success
+entering : (limit depth : ℕ) (ledger : Ledger) (text : List ℕ) (success : Success) → (run_checks limit depth ledger text).answers (Ok (Enters success)) → (checks_of limit ledger text).answers (Ok success)
+entering limit depth ledger text success (short, is_short, (None, other, (made, made_by, is))) = (short, is_short, subst (λ (s : Success). (after_length limit ledger text).answers (Ok s)) (same made success is) made_by)
+  where
+    same : (made success : Success) → Enters success ≡ Enters made → made ≡ success
+    same made success is = cc
+entering limit depth ledger text success (short, is_short, (Some words.Load, is_word, (loaded, read, is))) = absurd (cc)
+entering limit depth ledger text success (short, is_short, (Some words.Exit, is_word, (done, head, is))) = absurd (cc)
+entering limit depth ledger text success (short, is_short, (Some words.Quit, is_word, (done, head, is))) = absurd (cc)
+
+pub session_is_sound : (limit : ℕ) (stop : Bool) → IsSound (session_language limit stop)
+session_is_sound limit stop = record {
   first_stores = stores_first;
-  after_stores = λ ledger known text success old new answered stores known_is changed. stores_after ledger known success old new (success_stands limit known text success answered) stores known_is changed;
-  too_long = λ ledger text long. inl (refl, long);
+  after_stores = λ depth ledger known text success old new answered stores known_is changed. stores_after ledger known success old new (success_stands limit known text success (entering limit depth known text success answered)) stores known_is changed;
+  too_long = λ depth ledger text long. inl (inl (refl, long));
   not_by_store = not_by_store;
+  ends_at_limit = refl;
 }

@@ -1,18 +1,23 @@
--- What an accepted command makes may be in its folder, which is not that of users' systems: no expression and no formula is among words, and
--- what a word means is there.
+-- What an accepted command makes may be in its folder, which is not that of users' systems: no expression, no formula and no language is among
+-- words, and what a word means is there.
 use Rattle.std.proofs.Common.{◌≡◌, ◌≢◌, ℕ, true, eqb, List, Ok, bytes_eq, refl, sym, subst}
 use Rattle.std.proofs.lemmas.Bool.{and_parts}
 use Rattle.wal_outside.specs.Files.{same_file}
 use Rattle.wal_outside.specs.Folders.{folder_index}
 use Rattle.wal_outside.specs.declared.folder.Folder.{Folder}
 use Rattle.wal_outside.specs.declared.folder.Folder.TheVariants.{Automata, Words, Bases, Macros, Morphisms, Transducers, Results, Commands}
-use Rattle.definitions.specs.Trees.{Tree, File, Regex, Formula, Fixed, Image, Combine, MayStandIn, Ledger, tree_of}
+use Rattle.definitions.specs.Trees.{Tree, File, Regex, Formula, Fixed, Image, Combine, Language, MayStandIn, Ledger, tree_of}
+use Rattle.language_steps.specs.declared.op.LanguageOp.{LanguageOp}
+use Rattle.language_steps.specs.declared.op.LanguageOp.TheVariants.{Pair, One}
+use Rattle.language_steps.specs.declared.op.OneOp.TheVariants.{Star, Reversal}
+use Rattle.language_steps.specs.declared.op.PairOp.TheVariants.{Union, Intersection, Concatenation}
 use Rattle.session_cli.specs.declared.command_word.CommandWord.{CommandWord}
 use Rattle.session_cli.specs.declared.command_word.CommandWord.TheVariants as words
 use Rattle.session_cli.specs.Accepting.{Success}
 use Rattle.session_cli.specs.CombineOutcomes.{combine_checks}
 use Rattle.session_cli.specs.FormulaOutcomes.{formula_checks}
 use Rattle.session_cli.specs.ImageOutcomes.{image_checks}
+use Rattle.session_cli.specs.LanguageOutcomes.{language_checks}
 use Rattle.session_cli.specs.Outcomes.{checks_of, checks_by, word_text}
 use Rattle.session_cli.specs.PromoteOutcomes.{promote_checks}
 use Rattle.session_cli.specs.RegOutcomes.{reg_checks}
@@ -65,6 +70,9 @@ promote_stands limit ledger text success (head, h, (rules, r, (lines, l, (is, fi
 combine_stands : (limit : ℕ) (ledger : Ledger) (text : List ℕ) (success : Success) → (combine_checks limit ledger text).answers (Ok success) → Stands success
 combine_stands limit ledger text success (head, h, (tables, t, (admitted, a, (none, p, (one, s, (lines, l, (tracks, u, (is, fits)))))))) = subst Stands (sym is) (words_no_base, refl)
 
+language_stands : (op : LanguageOp) (limit : ℕ) (ledger : Ledger) (text : List ℕ) (success : Success) → (language_checks op limit ledger text).answers (Ok success) → Stands success
+language_stands op limit ledger text success (head, h, (tables, t, (plain, p, (sets, s, (lines, l, (is, fits)))))) = subst Stands (sym is) (automata_no_base, (automata_no_word, automata_no_base))
+
 by_word : (word : CommandWord) (limit : ℕ) (ledger : Ledger) (text : List ℕ) (success : Success) → (checks_by word limit ledger text).answers (Ok success) → Stands success
 by_word words.Reg limit ledger text success is = reg_stands limit ledger text success is
 by_word words.Eval limit ledger text success is = formula_stands (word_text words.Eval) Results limit ledger text success results_no_word results_no_base is
@@ -74,6 +82,11 @@ by_word words.Macro limit ledger text success is = macro_stands ledger text succ
 by_word words.Morphism limit ledger text success is = morphism_stands ledger text success is
 by_word words.Promote limit ledger text success is = promote_stands limit ledger text success is
 by_word words.Combine limit ledger text success is = combine_stands limit ledger text success is
+by_word words.Union limit ledger text success is = language_stands (Pair Union) limit ledger text success is
+by_word words.Intersect limit ledger text success is = language_stands (Pair Intersection) limit ledger text success is
+by_word words.Concat limit ledger text success is = language_stands (Pair Concatenation) limit ledger text success is
+by_word words.Star limit ledger text success is = language_stands (One Star) limit ledger text success is
+by_word words.Reverse limit ledger text success is = language_stands (One Reversal) limit ledger text success is
 
 pub success_stands : (limit : ℕ) (ledger : Ledger) (text : List ℕ) (success : Success) → (checks_of limit ledger text).answers (Ok success) → Stands success
 success_stands limit ledger text success (short, s, (word, w, is)) = by_word word limit ledger text success is
@@ -131,3 +144,4 @@ stands_there at folder under name tree same may = by tree may
     by (Fixed rules) stands = among stands
     by (Image direction system rules image) stands = among stands
     by (Combine direction named parts) stands = among stands
+    by (Language sets op trees) stands = apart stands

@@ -24,6 +24,16 @@ pub(crate) enum CommandWord {
     Combine,
     /// `image`: a word whose letters are mapped by a morphism.
     Image,
+    /// `union`: the words that are in one of some languages.
+    Union,
+    /// `intersect`: the words that are in all of them.
+    Intersect,
+    /// `concat`: the words joined of one word of each.
+    Concat,
+    /// `star`: the words joined of any number of words of a language.
+    Star,
+    /// `reverse`: the reversed words of a language.
+    Reverse,
 }
 
 /// The command whose word comes first in a text. None where it is none that a command has.
@@ -39,6 +49,11 @@ pub(crate) fn command_word(text: &[u8]) -> Option<CommandWord>
         b"promote" => Some(CommandWord::Promote),
         b"combine" => Some(CommandWord::Combine),
         b"image" => Some(CommandWord::Image),
+        b"union" => Some(CommandWord::Union),
+        b"intersect" => Some(CommandWord::Intersect),
+        b"concat" => Some(CommandWord::Concat),
+        b"star" => Some(CommandWord::Star),
+        b"reverse" => Some(CommandWord::Reverse),
         _ => None,
     }
 }

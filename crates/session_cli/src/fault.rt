@@ -90,12 +90,18 @@ pub enum Fault {
     LetterMissing(i32),
     /// F24: the first listed automaton, and the first later one that has other systems; the first twice where it has no track.
     CombineShape(Name, Name),
+    /// F25: a load of the file of this name is within 8 others.
+    LoadDepth(Name),
     /// F26: the store failed at this file.
     Store(Folder, Name),
     /// F27: there was not enough memory.
     Memory,
     /// F28: the script goes on past the bytes that may be read.
     ScriptLimit,
+    /// F29: the automaton of this name is not over sets.
+    NotPlain(Name),
+    /// F30: the first named automaton, and the first later one that is over other sets.
+    LangShape(Name, Name),
 }
 
 impl From<OutOfMemory> for Fault {

@@ -45,14 +45,20 @@ mod letter_parts;
 mod imaging;
 // the command `image`
 mod image;
+// the commands that make languages of others
+mod language;
 // what a command stores and prints, from its text
 mod planning;
 // one command
 mod session;
+// the words of commands that load a file or end a run
+mod run_word;
+// the text that a command loads
+mod loading;
 // the commands of a script, answered by a session
 mod answering;
-// the words of the command line that are served
-mod served_words;
+// runs of the generated script of a seed
+mod making;
 // the whole call
 mod whole;
 // what holds of all runs

@@ -92,9 +92,18 @@ fn send_detail<K: Sink>(out: &mut K, fault: &Fault) -> Result<(), WriteFault>
             b" ",
             other.as_bytes(),
         ),
+        Fault::LoadDepth(name) => send_two(out, b": F25 LoadDepth ", name.as_bytes()),
         Fault::Store(folder, name) => send_file(out, b": F26 Store ", *folder, name),
         Fault::Memory => send(out, b": F27 Memory"),
         Fault::ScriptLimit => send(out, b": F28 ScriptLimit"),
+        Fault::NotPlain(name) => send_two(out, b": F29 NotPlain ", name.as_bytes()),
+        Fault::LangShape(first, other) => send_four(
+            out,
+            b": F30 LangShape ",
+            first.as_bytes(),
+            b" ",
+            other.as_bytes(),
+        ),
     }
 }
 

@@ -12,11 +12,13 @@ use crate::command_word::{CommandWord, command_word};
 use crate::fault::Fault;
 use crate::formula::{FormulaCommand, plan_formula};
 use crate::image::plan_image;
+use crate::language::plan_language;
 use crate::plan::Plan;
 use crate::promote::plan_promote;
 use crate::reg::plan_reg;
 use crate::step_options::StepOptions;
 use crate::texts::{plan_macro, plan_morphism};
+use language_steps::{LanguageOp, OneOp, PairOp};
 use named_systems::SealedSystems;
 use std::alloc::Global;
 use wal_outside::{Folder, Store};
@@ -73,6 +75,39 @@ pub(crate) fn plan_of<T: Store>(
         Some(CommandWord::Promote) => plan_promote(alloc, options, text, store),
         Some(CommandWord::Combine) => plan_combine(alloc, options, text, systems, store),
         Some(CommandWord::Image) => plan_image(alloc, options, text, systems, store),
+        Some(CommandWord::Union) => {
+            plan_language(alloc, options, LanguageOp::Pair(PairOp::Union), text, store)
+        }
+        Some(CommandWord::Intersect) => {
+            plan_language(
+                alloc,
+                options,
+                LanguageOp::Pair(PairOp::Intersection),
+                text,
+                store,
+            )
+        }
+        Some(CommandWord::Concat) => {
+            plan_language(
+                alloc,
+                options,
+                LanguageOp::Pair(PairOp::Concatenation),
+                text,
+                store,
+            )
+        }
+        Some(CommandWord::Star) => {
+            plan_language(alloc, options, LanguageOp::One(OneOp::Star), text, store)
+        }
+        Some(CommandWord::Reverse) => {
+            plan_language(
+                alloc,
+                options,
+                LanguageOp::One(OneOp::Reversal),
+                text,
+                store,
+            )
+        }
         None => Err(Fault::Command),
     }
 }

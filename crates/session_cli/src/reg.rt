@@ -153,7 +153,7 @@ fn parsed(alloc: Global, body: &[u8], header: &Header) -> Result<Regex, Fault>
 }
 
 /// The text of an automaton, and what is printed of the steps.
-fn made_of(
+pub(crate) fn made_of(
     alloc: Global,
     header: &Header,
     automaton: &Dfa,

@@ -1,11 +1,12 @@
 ghost use Rattle.std.specs.Prelude.{◌≡◌, ◌⊎◌, map, string_bytes};
 ghost use Rattle.wal_outside.specs.Causes.{Rose};
-ghost use Rattle.session_cli.specs.ServedWords.{GivesNoLimit};
+ghost use Rattle.command_line.specs.Words.{GivesNone};
 ghost use Rattle.session_cli.specs.Whole.{HasCalled, PrintsUsage};
 
-use crate::served_words::limit_of;
+use crate::answering::Answerer;
+use crate::making::run_generated;
 use crate::session::Session;
-use command_line::WordsFault;
+use command_line::{WordsFault, options_of};
 use script_runs::{Status, run_script};
 use std::alloc::Global;
 use wal_outside::{Sink, Source, Store, WriteFault, send};
@@ -13,7 +14,9 @@ use wal_outside::{Sink, Source, Store, WriteFault, send};
 /// Runs a script: answers its commands in order, each as soon as its terminator was read, and prints what they print: the lines of
 /// steps that are shown, and the lines of the refused ones. At most 65,537 bytes of the script are held at once. `words` are those
 /// of the command line, the program's name first. They may have the option `--states N`, in two words or as `--states=N`: a step
-/// may have N values, from 16 to 1,000,000, and 100,000 without the option.
+/// may have N values, from 16 to 1,000,000, and 100,000 without the option. With the option `--stop` the run ends with the first
+/// command that is refused, also within a file that was loaded. With the option `--make SEED` the script is not read: the generated script
+/// of the seed runs, and one line is printed in place of the answers, which says how many there are of each kind.
 ///
 /// The status is the first of these that applies: `Usage` where the words are refused, and then the usage line is printed, or what the
 /// sink takes of it; `Outside` where source or sink failed; `Memory`; `Outside` where the store failed; `Refused`; `Done`. Out of
@@ -28,14 +31,23 @@ pub fn run<S: Source, K: Sink, T: Store>(
     store: &mut T,
 ) -> Status
     ensures run { HasCalled (map string_bytes words.now) (S.view script.old) (S.view script.new) (T.view store.old) (T.view store.new) (K.view out.old) (K.view out.new) result }
-    ensures usage { result ≡ Status.Usage → GivesNoLimit (map string_bytes words.now) }
-    ensures refused { GivesNoLimit (map string_bytes words.now) → (result ≡ Status.Usage) ⊎ (result ≡ Status.Memory) }
+    ensures usage { result ≡ Status.Usage → GivesNone (map string_bytes words.now) }
+    ensures refused { GivesNone (map string_bytes words.now) → (result ≡ Status.Usage) ⊎ (result ≡ Status.Memory) }
     ensures outside { result ≡ Status.Outside → Rose (S.view script.old).faults (S.view script.new).faults
         ⊎ (Rose (K.view out.old).faults (K.view out.new).faults ⊎ Rose (T.view store.old).faults (T.view store.new).faults) }
     ensures memory { result ≡ Status.Memory → ((S.view script.new).faults ≡ (S.view script.old).faults) × ((K.view out.new).faults ≡ (K.view out.old).faults) }
 {
-    match limit_of(alloc, words) {
-        Ok(limit) => run_script(alloc, &mut Session::new(alloc, limit), script, out, store),
+    match options_of(alloc, words) {
+        Ok(options) => {
+            let answerer = Answerer {
+                session: Session::new(alloc, options.limit),
+                stop: options.stop,
+            };
+            match options.seed {
+                None => run_script(alloc, answerer, script, out, store),
+                Some(seed) => run_generated(alloc, answerer, seed, out, store),
+            }
+        }
         Err(WordsFault::Refused) => print_usage(out),
         Err(WordsFault::Memory) => Status::Memory,
     }

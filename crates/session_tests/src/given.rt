@@ -1,7 +1,7 @@
 //! Runs over stores that hold given files, and tables of such runs.
 
 use crate::no_answer::NoAnswer;
-use crate::whole::{Ran, SURE, ended, expect, expect_printed, expect_stored, run_over};
+use crate::whole::{Outside, Ran, SURE, ended, expect, expect_printed, expect_stored, run_over};
 use std::alloc::Global;
 use std::process::Abort;
 use wal_outside::{Folder, MemStore};
@@ -35,8 +35,25 @@ pub fn run_given(alloc: Global, files: &[FileRow], line: &str, script: &str) -> 
 
 /// Runs a script over a store with these files, whose call of this number fails.
 pub fn run_failing(alloc: Global, files: &[FileRow], script: &str, failing: u64) -> Ran {
+    run_line_failing(alloc, files, "walnut", script, failing)
+}
+
+/// Runs a script over a store with these files, whose call of this number fails, with the words of this command line.
+pub fn run_line_failing(
+    alloc: Global,
+    files: &[FileRow],
+    line: &str,
+    script: &str,
+    failing: u64,
+) -> Ran {
     let store = store_of(alloc, files, failing)?;
-    run_over(alloc, "walnut", script.as_bytes(), &SURE, store)
+    run_over(alloc, line, script.as_bytes(), &SURE, store)
+}
+
+/// Runs a script over a store with these files, whose bytes come and go so.
+pub fn run_outside(alloc: Global, files: &[FileRow], script: &str, outside: &Outside) -> Ran {
+    let store = store_of(alloc, files, 0)?;
+    run_over(alloc, "walnut", script.as_bytes(), outside, store)
 }
 
 /// Asserts that each script prints what is listed, and ends so.

@@ -118,6 +118,30 @@ mod combine_steps;
 #[cfg(test)]
 mod combine_texts;
 
+// automata that language commands read
+#[cfg(test)]
+mod language_files;
+
+// the lines of their steps
+#[cfg(test)]
+mod language_lines;
+
+// the texts that they store
+#[cfg(test)]
+mod language_texts;
+
+// their first faults
+#[cfg(test)]
+mod language_refusals;
+
+// languages by commands and by expressions
+#[cfg(test)]
+mod language_twins;
+
+// language commands at their limits, and over stores that fail
+#[cfg(test)]
+mod language_limits;
+
 // theorems on words that commands make
 #[cfg(test)]
 mod word_command_theorems;
@@ -133,6 +157,14 @@ mod user_system_files;
 mod user_system_rows;
 #[cfg(test)]
 mod user_system_steps;
+
+// files of commands, and ends of runs
+#[cfg(test)]
+mod load_rows;
+
+// generated scripts
+#[cfg(test)]
+mod make_rows;
 
 // words of the command line
 #[cfg(test)]

@@ -14,7 +14,7 @@ const SHOWN: &str = "step 1 regex 33 32\n";
 const EXCEEDED: &str = "error 1: F19 States step 1\n";
 
 /// Command lines, what is printed of the script, and the status.
-static WORDS: [(&str, &str, u8); 28] = [
+static WORDS: [(&str, &str, u8); 37] = [
     ("walnut", SHOWN, 0),
     ("walnut --states 33", SHOWN, 0),
     ("walnut --states=33", SHOWN, 0),
@@ -34,10 +34,19 @@ static WORDS: [(&str, &str, u8); 28] = [
     ("walnut --states +33", USAGE, 2),
     ("walnut --states -33", USAGE, 2),
     ("walnut --states many", USAGE, 2),
-    ("walnut --stop", USAGE, 2),
-    ("walnut --make 0", USAGE, 2),
-    ("walnut --states 33 --stop", USAGE, 2),
-    ("walnut --make=0 --states=33", USAGE, 2),
+    ("walnut --stop", SHOWN, 0),
+    ("walnut --states 33 --stop", SHOWN, 0),
+    ("walnut --stop --states=32", EXCEEDED, 1),
+    ("walnut --stop --stop", USAGE, 2),
+    ("walnut --stop=yes", USAGE, 2),
+    ("walnut --make", USAGE, 2),
+    ("walnut --make=", USAGE, 2),
+    ("walnut --make 00", USAGE, 2),
+    ("walnut --make +1", USAGE, 2),
+    ("walnut --make -1", USAGE, 2),
+    ("walnut --make some", USAGE, 2),
+    ("walnut --make 18446744073709551616", USAGE, 2),
+    ("walnut --make 0 --make 0", USAGE, 2),
     ("walnut --help", USAGE, 2),
     ("walnut -h", USAGE, 2),
     ("walnut --version", USAGE, 2),

@@ -1,8 +1,10 @@
-use Rattle.command_head.specs.Grammar.{DerivesReg, DerivesNamed, DerivesPromote, DerivesImage, DerivesCombine}
+use Rattle.command_head.specs.Grammar.{DerivesReg, DerivesNamed, DerivesPromote, DerivesImage, DerivesCombine, DerivesLanguages, DerivesLanguage, DerivesLoad, DerivesAlone}
 use Rattle.command_head.proofs.OneFault.{one_head, one_reg}
 use Rattle.command_head.proofs.NamedHeads.{one_named}
 use Rattle.command_head.proofs.WordHeads.{one_promote, one_image}
 use Rattle.command_head.proofs.CombineHeads.{one_combine}
+use Rattle.command_head.proofs.LanguageHeads.{one_languages, one_language}
+use Rattle.command_head.proofs.RunHeads.{one_load, one_alone}
 use Rattle.command_head.proofs.laws.one_head.Goals as goal
 
 pub returns-clause-reg : goal.returns-clause-reg
@@ -19,3 +21,15 @@ returns-clause-image c = one_head DerivesImage one_image
 
 pub returns-clause-combine : goal.returns-clause-combine
 returns-clause-combine c = one_head DerivesCombine one_combine
+
+pub returns-clause-languages : goal.returns-clause-languages
+returns-clause-languages c word = one_head (DerivesLanguages word) (one_languages word)
+
+pub returns-clause-language : goal.returns-clause-language
+returns-clause-language c word = one_head (DerivesLanguage word) (one_language word)
+
+pub returns-clause-load : goal.returns-clause-load
+returns-clause-load c = one_head DerivesLoad one_load
+
+pub returns-clause-alone : goal.returns-clause-alone
+returns-clause-alone c word = one_head (DerivesAlone word) (one_alone word)

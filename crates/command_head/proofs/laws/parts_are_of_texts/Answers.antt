@@ -1,5 +1,5 @@
 use Rattle.command_head.proofs.JoinedParts.{reg_text, named_text}
-use Rattle.command_head.proofs.JoinedHeads.{promote_text, image_text, combine_text}
+use Rattle.command_head.proofs.JoinedHeads.{promote_text, image_text, combine_text, languages_text, language_text}
 use Rattle.command_head.proofs.laws.parts_are_of_texts.Goals as goal
 
 pub returns-clause-reg : goal.returns-clause-reg
@@ -16,3 +16,9 @@ returns-clause-image c parts head derives = image_text parts head derives
 
 pub returns-clause-combine : goal.returns-clause-combine
 returns-clause-combine c parts head derives = combine_text parts head derives
+
+pub returns-clause-languages : goal.returns-clause-languages
+returns-clause-languages c word named parts head derives = languages_text word parts head named derives
+
+pub returns-clause-language : goal.returns-clause-language
+returns-clause-language c word named parts head derives = language_text word parts head named derives

@@ -3,4 +3,4 @@ use Rattle.session_cli.specs.SessionLanguage.{session_language}
 use Rattle.session_cli.proofs.laws.store_faults_counted.Goals as goal
 
 pub returns : goal.returns
-returns c = λ limit. store_faults_are_counted (session_language limit)
+returns c = λ limit stop. store_faults_are_counted (session_language limit stop)

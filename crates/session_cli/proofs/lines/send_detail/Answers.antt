@@ -71,3 +71,12 @@ returns-in-LetterMissing g c =
 
 pub returns-in-CombineShape : goal.returns-in-CombineShape
 returns-in-CombineShape g c = rw c.in-CombineShape.is (rw (c.as_bytes-in-CombineShape.ensures, c.as_bytes-in-CombineShape-2.ensures) at c.send_four-in-CombineShape.ensures)
+
+pub returns-in-LoadDepth : goal.returns-in-LoadDepth
+returns-in-LoadDepth g c = rw c.in-LoadDepth.is (rw c.as_bytes-in-LoadDepth.ensures at c.send_two-in-LoadDepth.ensures)
+
+pub returns-in-NotPlain : goal.returns-in-NotPlain
+returns-in-NotPlain g c = rw c.in-NotPlain.is (rw c.as_bytes-in-NotPlain.ensures at c.send_two-in-NotPlain.ensures)
+
+pub returns-in-LangShape : goal.returns-in-LangShape
+returns-in-LangShape g c = rw c.in-LangShape.is (rw (c.as_bytes-in-LangShape.ensures, c.as_bytes-in-LangShape-2.ensures) at c.send_four-in-LangShape.ensures)

@@ -62,6 +62,31 @@ returns-in-Some-Image g c =
     from_part _ _ _ _ c.plan_image.result c.plan_image.ensures
     (λ found plans ledger stores. planned_by_word words.Image c.args.options.limit ledger c.args.text.now c.args.options.shown c.plan_image.result c.if-text-gt-COMMAND_LIMIT.false (rw c.in-Some-Image.field-0-is at c.in-Some-Image.ensures) (plans ledger stores))
 
+pub returns-in-Some-Union : goal.returns-in-Some-Union
+returns-in-Some-Union g c =
+    from_part _ _ _ _ c.plan_language.result c.plan_language.ensures
+    (λ found plans ledger stores. planned_by_word words.Union c.args.options.limit ledger c.args.text.now c.args.options.shown c.plan_language.result c.if-text-gt-COMMAND_LIMIT.false (rw c.in-Some-Union.field-0-is at c.in-Some-Union.ensures) (plans ledger stores))
+
+pub returns-in-Some-Intersect : goal.returns-in-Some-Intersect
+returns-in-Some-Intersect g c =
+    from_part _ _ _ _ c.plan_language-in-Some-Intersect.result c.plan_language-in-Some-Intersect.ensures
+    (λ found plans ledger stores. planned_by_word words.Intersect c.args.options.limit ledger c.args.text.now c.args.options.shown c.plan_language-in-Some-Intersect.result c.if-text-gt-COMMAND_LIMIT.false (rw c.in-Some-Intersect.field-0-is at c.in-Some-Intersect.ensures) (plans ledger stores))
+
+pub returns-in-Some-Concat : goal.returns-in-Some-Concat
+returns-in-Some-Concat g c =
+    from_part _ _ _ _ c.plan_language-in-Some-Concat.result c.plan_language-in-Some-Concat.ensures
+    (λ found plans ledger stores. planned_by_word words.Concat c.args.options.limit ledger c.args.text.now c.args.options.shown c.plan_language-in-Some-Concat.result c.if-text-gt-COMMAND_LIMIT.false (rw c.in-Some-Concat.field-0-is at c.in-Some-Concat.ensures) (plans ledger stores))
+
+pub returns-in-Some-Star : goal.returns-in-Some-Star
+returns-in-Some-Star g c =
+    from_part _ _ _ _ c.plan_language-in-Some-Star.result c.plan_language-in-Some-Star.ensures
+    (λ found plans ledger stores. planned_by_word words.Star c.args.options.limit ledger c.args.text.now c.args.options.shown c.plan_language-in-Some-Star.result c.if-text-gt-COMMAND_LIMIT.false (rw c.in-Some-Star.field-0-is at c.in-Some-Star.ensures) (plans ledger stores))
+
+pub returns-in-Some-Reverse : goal.returns-in-Some-Reverse
+returns-in-Some-Reverse g c =
+    from_part _ _ _ _ c.plan_language-in-Some-Reverse.result c.plan_language-in-Some-Reverse.ensures
+    (λ found plans ledger stores. planned_by_word words.Reverse c.args.options.limit ledger c.args.text.now c.args.options.shown c.plan_language-in-Some-Reverse.result c.if-text-gt-COMMAND_LIMIT.false (rw c.in-Some-Reverse.field-0-is at c.in-Some-Reverse.ensures) (plans ledger stores))
+
 pub returns-then-text-gt-COMMAND_LIMIT : goal.returns-then-text-gt-COMMAND_LIMIT
 returns-then-text-gt-COMMAND_LIMIT g c = from_none _ _ _ refl (λ found ledger stores. too_long c.args.options.limit ledger c.args.text.now c.if-text-gt-COMMAND_LIMIT.true)
 

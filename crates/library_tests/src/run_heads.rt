@@ -1,0 +1,80 @@
+//! The heads of commands that load a file or end a run: what they have, and their first faults.
+
+use command_head::{HeadFault, load_name, word_alone};
+use std::alloc::Global;
+use std::process::Abort;
+use std::test::Fail;
+
+// The name in a `load`, or its fault.
+fn read_load(alloc: Global, text: &str) -> Result<Result<String, HeadFault>, Fail> {
+    match load_name(alloc, text.as_bytes()) {
+        Ok(name) => Ok(Ok(String::from_str(alloc, name.as_str())?)),
+        Err(fault) => Ok(Err(fault)),
+    }
+}
+
+// Heads of loads and their files.
+static LOADS: [(&str, &str); 6] = [
+    ("load a", "a"),
+    ("load a.txt", "a"),
+    ("load\tE_1 \n", "E_1"),
+    ("load load.txt ", "load"),
+    (
+        "load a123456789012345678901234567890123456789012345678901234567890123",
+        "a123456789012345678901234567890123456789012345678901234567890123",
+    ),
+    (
+        "load a123456789012345678901234567890123456789012345678901234567890123.txt",
+        "a123456789012345678901234567890123456789012345678901234567890123",
+    ),
+];
+
+// Heads of loads and the bytes of their faults.
+static LOAD_FAULTS: [(&str, usize); 11] = [
+    ("load", 4),
+    ("load ", 5),
+    ("loada", 0),
+    ("load a b", 7),
+    ("load a.txt b", 11),
+    ("load a.tx", 6),
+    ("load a.txtx", 10),
+    ("load a=1", 5),
+    ("load 1", 5),
+    ("load \"a\"", 5),
+    (
+        "load a1234567890123456789012345678901234567890123456789012345678901234",
+        5,
+    ),
+];
+
+#[test]
+fn heads_of_loads_are_read(rt: HostRuntime) -> Result<(), Fail> {
+    for (text, wanted) in &LOADS {
+        let found = read_load(rt.alloc(), text)?;
+        let wanted = Ok(String::from_str(rt.alloc(), wanted)?);
+        assert!(rt; found == wanted, "of {text}");
+    }
+    for (text, at) in &LOAD_FAULTS {
+        let found = read_load(rt.alloc(), text)?;
+        assert!(rt; found == Err(HeadFault::Syntax(*at)), "of {text}");
+    }
+    Ok(())
+}
+
+// Texts, and the byte at which each is not the word `exit` alone.
+static ALONE: [(&str, Result<(), HeadFault>); 6] = [
+    ("exit", Ok(())),
+    ("exit \n\t", Ok(())),
+    ("exits", Err(HeadFault::Syntax(0))),
+    ("quit", Err(HeadFault::Syntax(0))),
+    ("exit now", Err(HeadFault::Syntax(5))),
+    ("exit\"a\"", Err(HeadFault::Syntax(4))),
+];
+
+#[test]
+fn words_are_alone_or_not(rt: HostRuntime) {
+    for (text, wanted) in &ALONE {
+        let found = word_alone(b"exit", text.as_bytes());
+        assert!(rt; found == *wanted, "of {text}");
+    }
+}

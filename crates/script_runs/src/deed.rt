@@ -1,0 +1,10 @@
+/// What an accepted command does.
+#[derive(Debug, Drop)]
+pub enum Deed {
+    /// It makes something, and these bytes are printed.
+    Enters(Vec<u8>),
+    /// The commands of this text come next, and then those behind it.
+    Loads(Vec<u8>),
+    /// The run ends.
+    Ends,
+}

@@ -1,0 +1,14 @@
+use wal_outside::WriteFault;
+
+/// What a run does behind an item, or behind a file that it loaded.
+#[derive(Clone, Copy)]
+pub(crate) enum Flow {
+    /// The next item comes.
+    GoesOn,
+    /// It ends with an item.
+    Ends,
+    /// The sink stopped it.
+    Stopped(WriteFault),
+    /// There was no memory to cut the next command of a file.
+    WantsMemory,
+}

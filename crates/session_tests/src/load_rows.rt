@@ -1,0 +1,332 @@
+//! Files of commands that scripts load, and ends of runs.
+
+use crate::given::{
+    FailingRow, FileRow, expect_scripts, run_failing, run_line_failing, run_outside,
+};
+use crate::whole::{Outside, Ran, SURE, ended, expect, expect_printed, run_over};
+use std::alloc::Global;
+use wal_outside::{Folder, MemStore};
+
+/// Which files of commands a store has.
+#[derive(Clone, Copy)]
+enum Given {
+    Nothing,
+    Eight,
+    Nine,
+    Faulty,
+    Open,
+    Ending,
+    Making,
+    Itself,
+    Quitting,
+    TwoFaults,
+}
+
+/// The files that a store has.
+fn files_of(given: Given) -> &'static [FileRow] {
+    match given {
+        Given::Nothing => &[],
+        Given::Eight => &EIGHT,
+        Given::Nine => &NINE,
+        Given::Faulty => &FAULTY,
+        Given::Open => &OPEN,
+        Given::Ending => &ENDING,
+        Given::Making => &MAKING,
+        Given::Itself => &ITSELF,
+        Given::Quitting => &QUITTING,
+        Given::TwoFaults => &TWO_FAULTS,
+    }
+}
+
+/// Files, a script, what it prints, the status, and how many texts the store has then.
+type LoadRow = (Given, &'static str, &'static str, u8, usize);
+
+/// Eight files, each of which loads the next.
+static EIGHT: [FileRow; 8] = [
+    (Folder::Commands, "a1", "load a2;"),
+    (Folder::Commands, "a2", "load a3;"),
+    (Folder::Commands, "a3", "load a4;"),
+    (Folder::Commands, "a4", "load a5;"),
+    (Folder::Commands, "a5", "load a6;"),
+    (Folder::Commands, "a6", "load a7;"),
+    (Folder::Commands, "a7", "load a8;"),
+    (Folder::Commands, "a8", "prove;"),
+];
+
+/// The same, where the last one loads a ninth that is not there.
+static NINE: [FileRow; 8] = [
+    (Folder::Commands, "a1", "load a2;"),
+    (Folder::Commands, "a2", "load a3;"),
+    (Folder::Commands, "a3", "load a4;"),
+    (Folder::Commands, "a4", "load a5;"),
+    (Folder::Commands, "a5", "load a6;"),
+    (Folder::Commands, "a6", "load a7;"),
+    (Folder::Commands, "a7", "load a8;"),
+    (Folder::Commands, "a8", "load a9;"),
+];
+
+/// A file with faults on its own lines.
+static FAULTY: [FileRow; 1] = [(Folder::Commands, "c", "\n\nprove;\n def p \"x<\";")];
+
+/// A file that ends within a command.
+static OPEN: [FileRow; 1] = [(Folder::Commands, "c", "prove; eval t \"1=1")];
+
+/// A file that loads one that ends the run.
+static ENDING: [FileRow; 2] = [
+    (Folder::Commands, "c", "load d; prove;"),
+    (Folder::Commands, "d", "eval t \"1=1\"; exit; prove;"),
+];
+
+/// A file that makes something.
+static MAKING: [FileRow; 1] = [(Folder::Commands, "c", "eval t \"1=1\";")];
+
+/// A file that loads itself.
+static ITSELF: [FileRow; 1] = [(Folder::Commands, "l", "load l;")];
+
+/// A file that ends the run at once.
+static QUITTING: [FileRow; 1] = [(Folder::Commands, "c", "quit")];
+
+/// Loads and ends.
+static ROWS: [LoadRow; 14] = [
+    (
+        Given::Eight,
+        "load a1; prove;",
+        "error 1: F01 Command\nerror 1: F01 Command\n",
+        1,
+        8,
+    ),
+    (
+        Given::Nine,
+        "load a1; prove;",
+        "error 1: F25 LoadDepth a9\nerror 1: F01 Command\n",
+        1,
+        8,
+    ),
+    (
+        Given::Faulty,
+        "prove;\nload c;\nprove;",
+        "error 1: F01 Command\nerror 3: F01 Command\nerror 4: F02 Syntax in formula at 2\nerror 3: F01 Command\n",
+        1,
+        1,
+    ),
+    (
+        Given::Open,
+        "load c; prove;",
+        "error 1: F01 Command\nerror 1: F02 Syntax in command at 11\nerror 1: F01 Command\n",
+        1,
+        1,
+    ),
+    (Given::Ending, "load c; prove;", "TRUE\n", 0, 3),
+    (
+        Given::Nothing,
+        "load; load a b; load a.tx; load a.txtx; load a=1; exit now; exit\"a\";",
+        "error 1: F02 Syntax in command at 4\nerror 1: F02 Syntax in command at 7\nerror 1: F02 Syntax in command at 6\nerror 1: F02 Syntax in command at 10\nerror 1: F02 Syntax in command at 5\nerror 1: F02 Syntax in command at 5\nerror 1: F02 Syntax in command at 4\n",
+        1,
+        0,
+    ),
+    (
+        Given::Making,
+        "load c.txt; exit; eval u \"1=1\";",
+        "TRUE\n",
+        0,
+        2,
+    ),
+    (Given::Making, "load c; load c;", "TRUE\nTRUE\n", 0, 2),
+    (Given::Itself, "load l;", "error 1: F25 LoadDepth l\n", 1, 1),
+    (
+        Given::Nothing,
+        "load x; prove;",
+        "error 1: F11 Unknown Command Files/x\nerror 1: F01 Command\n",
+        1,
+        0,
+    ),
+    (
+        Given::Quitting,
+        "load c; prove;",
+        "error 1: F02 Syntax in command at 4\nerror 1: F01 Command\n",
+        1,
+        1,
+    ),
+    (Given::Nothing, "quit ; prove;", "", 0, 0),
+    (
+        Given::Nothing,
+        "prove; exit:: prove;",
+        "error 1: F01 Command\n",
+        1,
+        0,
+    ),
+    (
+        Given::Nothing,
+        "load exit; quitexit;",
+        "error 1: F11 Unknown Command Files/exit\nerror 1: F01 Command\n",
+        1,
+        0,
+    ),
+];
+
+#[test]
+fn files_are_loaded_and_runs_end_as_listed(rt: HostRuntime) {
+    for (given, script, printed, code, count) in &ROWS {
+        let rows = [(*script, *printed, *code, *count)];
+        expect_scripts(&rt, rt.alloc(), files_of(*given), "walnut", &rows);
+    }
+}
+
+/// Pieces of one byte.
+static ONES: [usize; 128] = [1; 128];
+
+#[test]
+fn loads_are_the_same_where_bytes_come_and_go_one_by_one(rt: HostRuntime) {
+    let outside = Outside {
+        reads: &ONES,
+        writes: &ONES,
+        ..SURE
+    };
+    for (given, script, printed, code, count) in &ROWS {
+        let ran = run_outside(rt.alloc(), files_of(*given), script, &outside);
+        expect_printed(&rt, script, &ran, printed);
+        expect(&rt, script, &ended(&ran), &(*code, *count));
+    }
+}
+
+/// A script that loads a file twice.
+const TWICE: &str = "load c; load c; eval u \"1=1\";";
+
+/// What is printed where one call of the store fails: it reads the file and writes the text of `t`, both twice, and then that of `u`.
+static FAILING: [FailingRow; 6] = [
+    (1, "error 1: F26 Store Command Files/c\nTRUE\nTRUE\n", 3, 3),
+    (2, "error 1: F26 Store Result/t\nTRUE\nTRUE\n", 3, 3),
+    (3, "TRUE\nerror 1: F26 Store Command Files/c\nTRUE\n", 3, 3),
+    (4, "TRUE\nerror 1: F26 Store Result/t\nTRUE\n", 3, 3),
+    (5, "TRUE\nTRUE\nerror 1: F26 Store Result/u\n", 3, 2),
+    (6, "TRUE\nTRUE\nTRUE\n", 0, 3),
+];
+
+#[test]
+fn each_store_call_of_a_load_may_fail(rt: HostRuntime) {
+    for (failing, printed, code, count) in &FAILING {
+        let ran = run_failing(rt.alloc(), &MAKING, TWICE, *failing);
+        expect_printed(&rt, printed, &ran, printed);
+        expect(&rt, printed, &ended(&ran), &(*code, *count));
+    }
+}
+
+/// A file with two faults.
+static TWO_FAULTS: [FileRow; 1] = [(Folder::Commands, "c", "prove a; prove c;")];
+
+/// Runs that end with the first refusal.
+static STOPPING: [LoadRow; 9] = [
+    (
+        Given::Nothing,
+        "prove a; eval t \"1=1\";",
+        "error 1: F01 Command\n",
+        1,
+        0,
+    ),
+    (
+        Given::Nothing,
+        "eval t \"1=1\"; prove a; eval u \"1=1\";",
+        "TRUE\nerror 1: F01 Command\n",
+        1,
+        1,
+    ),
+    (
+        Given::TwoFaults,
+        "load c; prove b;",
+        "error 1: F01 Command\n",
+        1,
+        1,
+    ),
+    (
+        Given::Nothing,
+        "load x; eval t \"1=1\";",
+        "error 1: F11 Unknown Command Files/x\n",
+        1,
+        0,
+    ),
+    (
+        Given::Nine,
+        "load a1; prove;",
+        "error 1: F25 LoadDepth a9\n",
+        1,
+        8,
+    ),
+    (
+        Given::Open,
+        "load c; prove;",
+        "error 1: F01 Command\n",
+        1,
+        1,
+    ),
+    (
+        Given::Nothing,
+        "eval t \"1=1\";\n eval u \"1=1",
+        "TRUE\nerror 2: F02 Syntax in command at 11\n",
+        1,
+        1,
+    ),
+    (Given::Ending, "load c; prove;", "TRUE\n", 0, 3),
+    (Given::Nothing, "exit; prove;", "", 0, 0),
+];
+
+#[test]
+fn runs_stop_at_the_first_refusal_as_listed(rt: HostRuntime) {
+    for (given, script, printed, code, count) in &STOPPING {
+        let rows = [(*script, *printed, *code, *count)];
+        expect_scripts(&rt, rt.alloc(), files_of(*given), "walnut --stop", &rows);
+    }
+}
+
+/// What is printed of a run that ends with the first refusal, where a call of the store fails.
+static STOPPED: [FailingRow; 4] = [
+    (1, "error 1: F26 Store Command Files/c\n", 3, 1),
+    (2, "error 1: F26 Store Result/t\n", 3, 1),
+    (3, "TRUE\nerror 1: F26 Store Command Files/c\n", 3, 2),
+    (5, "TRUE\nTRUE\nerror 1: F26 Store Result/u\n", 3, 2),
+];
+
+#[test]
+fn a_store_that_fails_stops_a_run(rt: HostRuntime) {
+    for (failing, printed, code, count) in &STOPPED {
+        let ran = run_line_failing(rt.alloc(), &MAKING, "walnut --stop", TWICE, *failing);
+        expect_printed(&rt, printed, &ran, printed);
+        expect(&rt, printed, &ended(&ran), &(*code, *count));
+    }
+}
+
+/// Runs a script over a store with a file `c` of so many blanks, and perhaps a file `d` that loads it.
+fn run_blanks(alloc: Global, script: &str, length: usize) -> Ran {
+    let blanks = " ".repeat(alloc, length)?;
+    let mut store = MemStore::new(alloc, Vec::new(alloc));
+    store.put(Folder::Commands, "c", blanks.as_bytes())?;
+    store.put(Folder::Commands, "d", b"prove;\n load c; prove;")?;
+    run_over(alloc, "walnut", script.as_bytes(), &SURE, store)
+}
+
+/// Scripts over a file of so many bytes, what they print, and the status.
+static LIMITS: [(&str, usize, &str, u8); 5] = [
+    ("load c;", 16_777_209, "", 0),
+    ("load c;", 16_777_210, "error 1: F28 ScriptLimit\n", 1),
+    ("load c; ", 16_777_209, "error 1: F28 ScriptLimit\n", 1),
+    (
+        "load c; prove;",
+        16_777_217,
+        "error 1: F12 File Command Files/c too long\nerror 1: F01 Command\n",
+        1,
+    ),
+    (
+        "load d; prove;",
+        16_777_196,
+        "error 1: F01 Command\nerror 2: F28 ScriptLimit\n",
+        1,
+    ),
+];
+
+#[test]
+fn bytes_of_scripts_and_of_files_count_together(rt: HostRuntime) {
+    for (script, length, printed, code) in &LIMITS {
+        let ran = run_blanks(rt.alloc(), script, *length);
+        expect_printed(&rt, script, &ran, printed);
+        expect(&rt, script, &ended(&ran), &(*code, 2));
+    }
+}
