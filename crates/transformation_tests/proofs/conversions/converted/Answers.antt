@@ -1,0 +1,18 @@
+use Rattle.std.proofs.Common.{ap, ◌∙◌, ◌∷◌, []}
+use Rattle.numeration.specs.Systems.{System}
+use Rattle.num_system.specs.Tracks.{systems_of}
+use Rattle.transformation_tests.proofs.conversions.converted.Goals as goal
+
+pub convert-requires : goal.convert-requires
+convert-requires c = record {
+  old_base = c.in_ok-old.old;
+  new_base = c.args.to.base;
+  old_range = (c.if-old-lt-LEAST_BASE.false, c.if-old-gt-GREATEST_BASE.false);
+  new_range = (c.args.to.at_least, c.args.to.at_most);
+  old_is = c.in_ok-old.ensures;
+  new_is = c.in-Ok.ensures;
+  root = c.in-Some.ensures;
+}
+
+pub returns : goal.returns
+returns c = (c.args.to.base, ap systems_of c.in_ok-made.ensures.1 ∙ ap (λ (s : System). s ∷ []) c.in-Ok.ensures)

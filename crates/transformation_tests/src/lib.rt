@@ -1,0 +1,36 @@
+//! Tests of what changes automatic words: files of transducers with their states or the line of their first fault, and the
+//! transducers of a store; words read from their other end; the letters of words over bases that are powers of one integer, and
+//! words over another base.
+#![tactic(auto)]
+
+// rows without an answer
+#[cfg(test)]
+mod no_answer;
+
+// what calls give, as texts
+#[cfg(test)]
+mod outcomes;
+
+// files of transducers that are read, and files that break at a line
+#[cfg(test)]
+mod transducer_files;
+
+// transducers in stores
+#[cfg(test)]
+mod stored_transducers;
+
+// fixed points that are changed
+#[cfg(test)]
+mod fixed_words;
+
+// words read from their other end
+#[cfg(test)]
+mod reversals;
+
+// roots of bases, and letters of words over powers of them
+#[cfg(test)]
+mod related_bases;
+
+// words over other bases
+#[cfg(test)]
+mod conversions;

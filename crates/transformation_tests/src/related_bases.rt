@@ -1,0 +1,135 @@
+//! Bases that are powers of one integer, and the letters of a word over such bases.
+
+ghost use Rattle.std.specs.Prelude.{◌≡◌, ◌∷◌, [], IsTrue};
+
+use crate::fixed_words::{THUE_MORSE, fixed_word};
+use crate::no_answer::NoAnswer;
+use crate::outcomes::{expect, lines_of, table_of};
+use base_change::join::join_letters;
+use base_change::related::related;
+use base_change::split::split_letters;
+use base_k::base_k::{GREATEST_BASE, LEAST_BASE};
+use digit_tuple::step_fault::StepFault;
+use digit_tuple::steps::Steps;
+use std::alloc::Global;
+use word_output::letter_function::LetterFunction;
+
+// The least root of two bases with the exponents, or a dash where there is none.
+fn root_of(alloc: Global, old: u32, new: u32) -> Result<String, NoAnswer> {
+    if old < LEAST_BASE || GREATEST_BASE < old || new < LEAST_BASE || GREATEST_BASE < new {
+        return Err(NoAnswer);
+    }
+    match related(old, new) {
+        Some(common) => {
+            Ok(format!(in alloc; "{} {} {}", common.root, common.old_power, common.new_power)?)
+        }
+        None => Ok(String::from_str(alloc, "-")?),
+    }
+}
+
+// An old base, a new one, and the least root with the exponents.
+static ROOTS: [(u32, u32, &str); 14] = [
+    (2, 2, "2 1 1"),
+    (2, 4, "2 1 2"),
+    (4, 2, "2 2 1"),
+    (4, 4, "2 2 2"),
+    (8, 4, "2 3 2"),
+    (8, 32, "2 3 5"),
+    (16, 16, "2 4 4"),
+    (27, 9, "3 3 2"),
+    (6, 36, "6 1 2"),
+    (40, 40, "40 1 1"),
+    // one divides the other, or they have a common divisor
+    (2, 6, "-"),
+    (36, 4, "-"),
+    (12, 6, "-"),
+    (40, 39, "-"),
+];
+
+#[test]
+fn roots_are_those_worked_out(rt: HostRuntime) {
+    for (old, new, wanted) in &ROOTS {
+        expect(&rt, wanted, &root_of(rt.alloc(), *old, *new), wanted);
+    }
+}
+
+// Whether the words of a function are over so many digits, on one track.
+fn is_over(function: &LetterFunction, digits: u32) -> bool
+    ensures { IsTrue result → function.now.automaton.sizes ≡ digits ∷ [] }
+{
+    match function.dfa().alphabet().sizes() {
+        [size] => *size == digits,
+        _ => false,
+    }
+}
+
+// The letters of words over 2 digits as those over 4, and these again as those over 2.
+fn by_pairs(
+    alloc: Global,
+    function: &LetterFunction,
+    steps: &mut Steps,
+) -> Result<LetterFunction, StepFault> {
+    if !is_over(function, 2) {
+        return Err(StepFault::Memory);
+    }
+    let joined = join_letters(alloc, function, 2, 2, steps)?;
+    if !is_over(&joined, 4) {
+        return Err(StepFault::Memory);
+    }
+    split_letters(alloc, &joined, 2, 2, steps)
+}
+
+// The same over 8 digits.
+fn by_threes(
+    alloc: Global,
+    function: &LetterFunction,
+    steps: &mut Steps,
+) -> Result<LetterFunction, StepFault> {
+    if !is_over(function, 2) {
+        return Err(StepFault::Memory);
+    }
+    let joined = join_letters(alloc, function, 2, 3, steps)?;
+    if !is_over(&joined, 8) {
+        return Err(StepFault::Memory);
+    }
+    split_letters(alloc, &joined, 2, 3, steps)
+}
+
+// The lines of the steps there and back, and whether the automaton is the same then; or the lines and the fault.
+fn changed(alloc: Global, threes: bool, limit: u32) -> Result<String, NoAnswer> {
+    let word = fixed_word(alloc, THUE_MORSE)?;
+    let function = word.function();
+    let mut steps = Steps::new(alloc, limit);
+    let back = if threes {
+        by_threes(alloc, function, &mut steps)
+    } else {
+        by_pairs(alloc, function, &mut steps)
+    };
+    let answer = match back {
+        Ok(back) => {
+            let same = table_of(alloc, back.dfa())? == table_of(alloc, function.dfa())?;
+            format!(in alloc; "{same}")?
+        }
+        Err(fault) => format!(in alloc; "{fault:?}")?,
+    };
+    let lines = lines_of(alloc, &steps)?;
+    Ok(format!(in alloc; "{lines}{answer}")?)
+}
+
+// Whether by three digits, the limit, and what is given. The widths are those of an independent program.
+static CHANGED: [(bool, u32, &str); 6] = [
+    (false, 6, "join 2 2, split 6 2, true"),
+    (true, 14, "join 2 2, split 14 2, true"),
+    // the first step past the limit
+    (false, 5, "join 2 2, States(2)"),
+    (true, 13, "join 2 2, States(2)"),
+    (false, 1, "States(1)"),
+    (true, 1, "States(1)"),
+];
+
+#[test]
+fn widths_of_splits_and_joins_are_those_worked_out(rt: HostRuntime) {
+    for (threes, limit, wanted) in &CHANGED {
+        expect(&rt, wanted, &changed(rt.alloc(), *threes, *limit), wanted);
+    }
+}

@@ -1,0 +1,139 @@
+//! Words read from their other end: the widths, tables and letters, worked by hand.
+
+use crate::fixed_words::{DOUBLING, THUE_MORSE, fixed_word};
+use crate::no_answer::NoAnswer;
+use crate::outcomes::{expect, function_text, lines_of, table_of};
+use class_reversal::reversal::reverse_classes;
+use digit_tuple::faults::OpFault;
+use digit_tuple::steps::Steps;
+use letter_reversal::letter_reversal::reverse_letters;
+use std::alloc::Global;
+use word_output::letter_function::LetterFunction;
+
+// The lines of steps and the function that they make, or the lines and the fault.
+fn reversed(alloc: Global, rules: &str, limit: u32) -> Result<String, NoAnswer> {
+    let word = fixed_word(alloc, rules)?;
+    let mut steps = Steps::new(alloc, limit);
+    let answer = match reverse_letters(alloc, word.function(), &mut steps) {
+        Ok(made) => function_text(alloc, &made)?,
+        Err(fault) => format!(in alloc; "{fault:?}")?,
+    };
+    let lines = lines_of(alloc, &steps)?;
+    Ok(format!(in alloc; "{lines}{answer}")?)
+}
+
+// The parity of all ones is that of the reversed word; that of the last ones needs two states until the first zero, and two after.
+static REVERSED: [(&str, &str, u32, &str); 5] = [
+    (
+        "Thue and Morse",
+        THUE_MORSE,
+        2,
+        "reverse 2 2, /! 0>0 1>1/! 0>1 1>0 = 0 1",
+    ),
+    ("Thue and Morse, one less", THUE_MORSE, 1, "States(1)"),
+    (
+        "doubling",
+        DOUBLING,
+        4,
+        "reverse 4 4, /! 0>1 1>2/! 0>1 1>1/! 0>3 1>0/! 0>3 1>3 = 0 0 1 1",
+    ),
+    ("doubling, one less", DOUBLING, 3, "States(1)"),
+    ("one letter", "0->00", 1, "reverse 1 1, /! 0>0 1>0 = 0"),
+];
+
+#[test]
+fn reversed_letters_are_those_worked_out(rt: HostRuntime) {
+    for (row, rules, limit, wanted) in &REVERSED {
+        expect(&rt, row, &reversed(rt.alloc(), rules, *limit), wanted);
+    }
+}
+
+// The lines of the steps there and back, and the function then.
+fn reversed_twice(alloc: Global, rules: &str) -> Result<String, NoAnswer> {
+    let word = fixed_word(alloc, rules)?;
+    let mut steps = Steps::new(alloc, 4);
+    let there = reverse_letters(alloc, word.function(), &mut steps)?;
+    let back = reverse_letters(alloc, &there, &mut steps)?;
+    let lines = lines_of(alloc, &steps)?;
+    let text = function_text(alloc, &back)?;
+    Ok(format!(in alloc; "{lines}{text}")?)
+}
+
+// The state after a zero is the first one, and after a one the other, if it was the first.
+#[test]
+fn a_function_is_the_reversal_of_its_reversal(rt: HostRuntime) {
+    let found = reversed_twice(rt.alloc(), DOUBLING);
+    let wanted = "reverse 4 4, reverse 2 2, /! 0>0 1>1/! 0>0 1>0 = 0 1";
+    expect(&rt, "doubling", &found, wanted);
+}
+
+// The width, the table and the classes of the reversal of these classes, or the fault.
+fn reversed_classes(
+    alloc: Global,
+    function: &LetterFunction,
+    classes: &[u32],
+    limit: u32,
+) -> Result<String, NoAnswer> {
+    let dfa = function.dfa();
+    if classes.len() as u64 != u64::from(dfa.states()) {
+        return Err(NoAnswer);
+    }
+    match reverse_classes(alloc, dfa, classes, limit) {
+        Ok(stepped) => {
+            let (table, classes) = stepped.result;
+            let text = table_of(alloc, &table)?;
+            Ok(format!(in alloc; "{} {text} {classes:?}", stepped.width)?)
+        }
+        Err(OpFault::States) => Ok(String::from_str(alloc, "States")?),
+        Err(_) => Err(NoAnswer),
+    }
+}
+
+// The same of the automaton of a fixed point.
+fn of_fixed(alloc: Global, rules: &str, classes: &[u32], limit: u32) -> Result<String, NoAnswer> {
+    let word = fixed_word(alloc, rules)?;
+    reversed_classes(alloc, word.function(), classes, limit)
+}
+
+// Classes of the two states of a fixed point. What has no class counts in the width, and has no state.
+static CLASSES: [(&str, &[u32], u32, &str); 7] = [
+    (
+        "two classes",
+        &[1, 2],
+        4,
+        "4 /! 0>1 1>2/! 0>1 1>1/! 0>3 1>0/! 0>3 1>3 [1, 1, 2, 2]",
+    ),
+    ("two classes, one less", &[1, 2], 3, "States"),
+    (
+        "the other order",
+        &[7, 3],
+        4,
+        "4 /! 0>1 1>2/! 0>1 1>1/! 0>3 1>0/! 0>3 1>3 [7, 7, 3, 3]",
+    ),
+    ("one class", &[5, 5], 1, "1 /! 0>0 1>0 [5]"),
+    (
+        "no class after an even number",
+        &[0, 1],
+        4,
+        "4 / 1>1/! 0>2 1>0/! 0>2 1>2 [0, 1, 1]",
+    ),
+    (
+        "no class after an odd number",
+        &[1, 0],
+        4,
+        "4 /! 0>1 1>2/! 0>1 1>1/ 1>0 [1, 1, 0]",
+    ),
+    ("no class", &[0, 0], 1, "1 / [0]"),
+];
+
+#[test]
+fn reversed_classes_are_those_worked_out(rt: HostRuntime) {
+    for (row, classes, limit, wanted) in &CLASSES {
+        expect(
+            &rt,
+            row,
+            &of_fixed(rt.alloc(), DOUBLING, classes, *limit),
+            wanted,
+        );
+    }
+}

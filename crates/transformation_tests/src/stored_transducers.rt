@@ -1,0 +1,124 @@
+//! Transducers in stores: what is found under a name, and why there is none.
+
+use crate::no_answer::NoAnswer;
+use crate::outcomes::{expect, expect_value};
+use dfa_loading::{FileFlaw, LoadFault};
+use digit_tuple::name::Name;
+use std::alloc::Global;
+use std::process::Abort;
+use transducer_loading::load_transducer;
+use transducer_reading::Transducer;
+use wal_outside::{Folder, MemStore, TEXT_LIMIT};
+
+// How many states and lines a transducer has, or why there is none.
+fn answer_text(alloc: Global, answer: &Result<Transducer, LoadFault>) -> Result<String, NoAnswer> {
+    match answer {
+        Ok(t) => Ok(format!(in alloc; "{} {}", t.states(), t.lines().len())?),
+        Err(fault) => fault_text(alloc, fault),
+    }
+}
+
+// A fault with its folder and its name.
+fn fault_text(alloc: Global, fault: &LoadFault) -> Result<String, NoAnswer> {
+    match fault {
+        LoadFault::Unknown(folder, name) => Ok(format!(in alloc;
+            "unknown {}",
+            at(alloc, *folder, name)?
+        )?),
+        LoadFault::File(folder, name, FileFlaw::Line(line)) => {
+            Ok(format!(in alloc; "line {line} {}", at(alloc, *folder, name)?)?)
+        }
+        LoadFault::File(folder, name, FileFlaw::TooLong) => {
+            Ok(format!(in alloc; "too long {}", at(alloc, *folder, name)?)?)
+        }
+        LoadFault::Store(folder, name) => Ok(format!(in alloc;
+            "store {}",
+            at(alloc, *folder, name)?
+        )?),
+        LoadFault::Memory => Err(NoAnswer),
+    }
+}
+
+// A folder and a name.
+fn at(alloc: Global, folder: Folder, name: &Name) -> Result<String, NoAnswer> {
+    Ok(format!(in alloc; "{folder:?} {}", name.as_str())?)
+}
+
+// What is loaded under a name.
+fn loaded(alloc: Global, store: &mut MemStore, name: &str) -> Result<String, NoAnswer> {
+    let name = Name::new(alloc, name)?;
+    answer_text(alloc, &load_transducer(alloc, &name, store))
+}
+
+// What a store has in the folders of transducers and of words.
+static TEXTS: [(Folder, &str, &str); 5] = [
+    (
+        Folder::Transducers,
+        "runs",
+        "{0,1}\n0\n* -> 1 / 0\n1\n0 -> 0 / 1\n1 -> 1 / 1\n",
+    ),
+    (Folder::Transducers, "none", "{0}\n7\n"),
+    (Folder::Transducers, "broken", "{0,1}\n0\n2 -> 0 / 1\n"),
+    (Folder::Transducers, "empty", ""),
+    (Folder::Words, "word", "{0}\n7\n"),
+];
+
+// A store of these texts, whose call of this number fails.
+fn store_of(alloc: Global, failing: u64) -> Result<MemStore, NoAnswer> {
+    let mut store = MemStore::new(alloc, vec![in alloc; failing]?);
+    for (folder, name, text) in &TEXTS {
+        store.put(*folder, name, text.as_bytes())?;
+    }
+    Ok(store)
+}
+
+// A name, and what is loaded under it: so many states and lines, or the fault. The fifth call fails.
+static LOADED: [(&str, &str); 8] = [
+    ("runs", "2 3"),
+    ("none", "1 0"),
+    ("broken", "line 3 Transducers broken"),
+    ("empty", "line 1 Transducers empty"),
+    ("runs", "store Transducers runs"),
+    ("runs", "2 3"),
+    ("absent", "unknown Transducers absent"),
+    ("word", "unknown Transducers word"),
+];
+
+// Asserts that the names give this, one after another, and that no text is changed.
+fn expect_loaded(rt: &impl Abort, alloc: Global, store: &mut MemStore) {
+    for (name, wanted) in &LOADED {
+        expect(rt, name, &loaded(alloc, store, name), wanted);
+    }
+    for (folder, name, text) in &TEXTS {
+        expect_value(rt, name, &store.text(*folder, name), &Some(text.as_bytes()));
+    }
+    expect_value(rt, "texts", &store.len(), &TEXTS.len());
+    expect_value(rt, "calls", &store.calls(), &8);
+}
+
+#[test]
+fn transducers_of_a_store_are_loaded_as_listed(rt: HostRuntime) {
+    match store_of(rt.alloc(), 5) {
+        Ok(mut store) => expect_loaded(&rt, rt.alloc(), &mut store),
+        Err(_) => assert!(rt; false, "no store"),
+    }
+}
+
+// What is loaded of a text of so many bytes, a transducer of one state and a comment.
+fn long_loaded(alloc: Global, length: usize) -> Result<String, NoAnswer> {
+    let mut text = vec![in alloc; b'#'; length]?;
+    for (place, byte) in text.iter_mut().zip(b"{0}\n7\n") {
+        *place = *byte;
+    }
+    let mut store = MemStore::new(alloc, Vec::new(alloc));
+    store.put(Folder::Transducers, "long", &text)?;
+    loaded(alloc, &mut store, "long")
+}
+
+#[test]
+fn a_text_that_is_loaded_has_at_most_16777216_bytes(rt: HostRuntime) {
+    let found = long_loaded(rt.alloc(), TEXT_LIMIT);
+    expect(&rt, "the limit", &found, "1 0");
+    let found = long_loaded(rt.alloc(), TEXT_LIMIT + 1);
+    expect(&rt, "one more", &found, "too long Transducers long");
+}
