@@ -1,5 +1,5 @@
 -- Words that give options are no fault to clap.
-use Rattle.std.proofs.Common.{◌≡◌, ◌≢◌, ℕ, ◌+◌, ◌<◌, ◌≤◌, ◌^◌, Bool, true, false, is_some, if◌then◌else◌, List, [], ◌∷◌, ◌++◌, length, drop, get_or, Option, None, Some, Err, refl, sym, ap, ◌∙◌, subst, inl, inr, arith, codes, decimal, rules as all_rules}
+use Rattle.std.proofs.Common.{◌≡◌, ◌≢◌, ℕ, ◌+◌, ◌<◌, ◌≤◌, ◌^◌, Bool, true, false, is_some, if◌then◌else◌, List, [], ◌∷◌, ◌++◌, length, drop, Option, None, Some, Err, refl, sym, ap, ◌∙◌, subst, inl, inr, arith, codes, decimal, rules as all_rules}
 use Rattle.std.specs.List.{fold}
 use Rattle.std.specs.Prelude.{◌==◌, ⊤}
 use Rattle.std.specs.Str.{bytes_eq}
@@ -8,7 +8,7 @@ use Rattle.std.proofs.lemmas.Fmt.{decimal_is_IsNumeral}
 use Rattle.std.proofs.lemmas.List.{append_assoc}
 use Rattle.std.proofs.lemmas.Str.Parse.{digit_from_value}
 use Rattle.clap.specs.Lexer.{long_of, short_of}
-use Rattle.clap.specs.Walk.{Held, Row, Text, Waiting, Walk, idle, option, finished, settled, settled_rows, used, walked}
+use Rattle.clap.specs.Walk.{Held, Row, Text, Walk, idle, option, finished, settled, settled_rows, used, walked}
 use Rattle.clap.specs.Simple.{built, entered}
 use Rattle.clap.specs.Faults.{check_fault, entered_fault, fault_of, settle_fault, turn_fault, use_fault, walk_fault}
 use Rattle.clap.specs.Kinds.{Kinds, HasKind, or_else}
@@ -20,7 +20,7 @@ use Rattle.command_line.specs.declared.words.WordsFault.{WordsFault}
 use Rattle.command_line.specs.declared.words.WordsFault.TheVariants as faults
 use Rattle.command_line.specs.WordReading.{ReadsNames}
 use Rattle.command_line.specs.Program.{walnut_app}
-use Rattle.command_line.specs.Words.{Given, states, stop, make, AreNameAndValue, AreWordsOfAll, IsEnd, states_in, seeds_in, stops_in, at_most_one, Names, IsLimit, IsSeed, GivesOptions}
+use Rattle.command_line.specs.Words.{Given, states, stop, make, AreNameAndValue, AreWordsOfAll, IsEnd, states_in, seeds_in, stops_in, at_most_one, IsLimit, IsSeed, GivesOptions}
 use Rattle.command_line.proofs.ClapTurns.{shape, rules, stop_rule, Valued, of_states, of_make, id_of, rule_at, holds, stand, turn, or_else_nil, or_else_both, turn_at_mark, fault_at_value, turn_at_value, fault_at_name, turn_at_name, fault_at_stop, turn_at_stop, after_push, value_where_waiting}
 use Rattle.command_line.proofs.ClapUses.{AreUsed, count_of, limits_counted, seeds_counted, stops_counted, once_used, argument_of, seen, defaults_pass}
 use Rattle.command_line.proofs.ClapWalks.{faults_from, end_of, at_idle, at_option}

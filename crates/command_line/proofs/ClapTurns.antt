@@ -1,10 +1,10 @@
 -- One word of the command line, as clap reads it where the command has the options `--states` and `--make` with a value, and the flag `--stop`.
-use Rattle.std.proofs.Common.{◌≡◌, ◌+◌, ◌⊎◌, ℕ, Bool, true, false, zero, suc, nat_lt, if◌then◌else◌, List, [], ◌∷◌, ◌++◌, length, take, drop, Option, None, Some, unwrap_or, refl, sym, ap, ◌∙◌, subst, inl, inr, arith, rules as all_rules, codes}
+use Rattle.std.proofs.Common.{◌≡◌, ◌+◌, ◌⊎◌, ℕ, Bool, true, false, zero, suc, if◌then◌else◌, List, [], ◌∷◌, ◌++◌, length, take, drop, Option, None, Some, unwrap_or, refl, sym, ap, ◌∙◌, subst, inl, inr, arith, rules as all_rules, codes}
 use Rattle.std.specs.Str.{bytes_eq, chars}
 use Rattle.std.specs.Prelude.{slice_get, option_and_then, ◌==◌}
 use Rattle.std.proofs.lemmas.Slice.Eq.{bytes_eq-Decides}
 use Rattle.clap.specs.Lexer.{has_byte, long_of, long_of_rest, name_and_value, short_of, strip_byte}
-use Rattle.clap.specs.Walk.{Held, plain, Row, Rule, Text, Waiting, Walk, idle, option, positional, walked, pending_count, pushed, reacted, settled, short_word, bundle_met}
+use Rattle.clap.specs.Walk.{Held, plain, Row, Rule, Text, Waiting, Walk, idle, option, positional, walked, reacted, settled, short_word, bundle_met}
 use Rattle.clap.specs.Simple.{Shape, built}
 use Rattle.clap.specs.Faults.{bundle_fault, flags_fault, react_fault, settle_fault, step_fault, turn_fault}
 use Rattle.clap.specs.Kinds.{Kinds, or_else}

@@ -1,6 +1,6 @@
 -- What clap holds after options were used one after another, and when such a use is refused.
-use Rattle.std.proofs.Common.{◌≡◌, ◌⊎◌, ◌||◌, ℕ, ◌+◌, ◌<◌, ◌≤◌, zero, suc, Bool, true, false, if◌then◌else◌, List, [], ◌∷◌, ◌++◌, length, map, Option, None, Some, refl, sym, ap, ◌∙◌, subst, inl, inr, arith, codes}
-use Rattle.std.specs.List.{fold, list_any}
+use Rattle.std.proofs.Common.{◌≡◌, ◌⊎◌, ◌||◌, ℕ, ◌+◌, ◌<◌, ◌≤◌, Bool, true, false, if◌then◌else◌, List, [], ◌∷◌, ◌++◌, length, map, None, Some, refl, sym, ap, ◌∙◌, subst, inl, inr, arith, codes}
+use Rattle.std.specs.List.{fold}
 use Rattle.std.specs.Prelude.{slice_get, ⊤}
 use Rattle.std.specs.Str.{bytes_eq}
 use Rattle.std.proofs.lemmas.List.{append-nil, append_assoc}
@@ -13,7 +13,7 @@ use Rattle.clap.specs.Kinds.{Kinds}
 use Rattle.clap.specs.declared.builder.value_parser.Reading.{Reading}
 use Rattle.clap.specs.declared.parser.matches.ValueSource.{ValueSource}
 use Rattle.clap.specs.declared.parser.matches.ValueSource.TheVariants.{DefaultValue, CommandLine}
-use Rattle.command_line.specs.Words.{Given, states, stop, make, states_in, seeds_in, stops_in, at_most_one}
+use Rattle.command_line.specs.Words.{Given, states, stop, make, states_in, seeds_in, stops_in}
 use Rattle.command_line.proofs.ClapTurns.{rules, rule_at, stop_rule, of_states, of_make, or_else_both}
 
 -- the argument of an option, and the values that it has

@@ -5,7 +5,7 @@ use Rattle.command_line.specs.declared.options.Options.{Options}
 use Rattle.command_line.specs.declared.words.Named.{Named}
 use Rattle.command_line.specs.declared.words.WordsFault.{WordsFault}
 use Rattle.command_line.specs.declared.words.WordsFault.TheVariants as faults
-use Rattle.command_line.specs.Words.{Names, IsLimit, IsSeed, GivesOptions, GivesNone}
+use Rattle.command_line.specs.Words.{Names, IsLimit, GivesOptions, GivesNone}
 
 -- the options; or there are none, or no memory to find them
 abbrev pub ReadsOptions : List (List ℕ) → Result Options WordsFault → Type 0

@@ -6,7 +6,7 @@ use Rattle.formula_parse.specs.Tokens.{Name, equal, less}
 use Rattle.formula_parse.specs.Trees.{and}
 use Rattle.formula_plan.specs.Tracks.{Track, fresh}
 use Rattle.formula_plan.specs.Plans.{Plan, compared, added, number, constant, joined, Made}
-use Rattle.formula_plan.specs.TermPlans.{Placed, TermPlan, no_times, linked, multiple, parted, below, quotient_made, Scaling, by_numeral, by_divisor, scaling_made, closing, scaled, scaled_all}
+use Rattle.formula_plan.specs.TermPlans.{Placed, TermPlan, no_times, linked, multiple, parted, below, quotient_made, Scaling, scaling_made, closing, scaled, scaled_all}
 use Rattle.formula_plan.specs.Makings.{plan_at}
 use Rattle.formula_plan.specs.Planning.{Adds, IsAt, Does, DoesTerm, linked_at, base_made, constant_made, closed_made, standing, placed_at, IsWithin}
 use Rattle.formula_plan.specs.TermPlanning.{scaling_view}

@@ -3,11 +3,11 @@ use Rattle.std.proofs.lemmas.Bool.{eqb-true, eqb-false}
 use Rattle.std.proofs.lemmas.Nat.{div-mul-add, div-add-mod'}
 use Rattle.std.proofs.lemmas.Option.{none-some, same_Some}
 use Rattle.std.proofs.Math.Nat.{mod-lt, div-one}
-use Rattle.std.proofs.Common.{◌≡◌, ◌≢◌, ◌↔◌, ℕ, zero, suc, ◌+◌, ◌*◌, ◌/◌, ◌%◌, ◌<◌, ◌≤◌, ◌==◌, Bool, true, false, if◌then◌else◌, [], ◌∷◌, ◌++◌, Option, None, Some, refl, sym, ◌∙◌, ap, subst, arith}
+use Rattle.std.proofs.Common.{◌≡◌, ◌≢◌, ◌↔◌, ℕ, zero, suc, ◌+◌, ◌*◌, ◌/◌, ◌%◌, ◌<◌, ◌==◌, Bool, true, false, if◌then◌else◌, [], ◌++◌, Option, None, Some, refl, sym, ◌∙◌, ap, subst, arith}
 use Rattle.formula_parse.specs.Tokens.{Name, equal}
 use Rattle.formula_truth.specs.Truth.{Meanings}
 use Rattle.formula_truth.specs.Values.{quotient}
-use Rattle.formula_plan.specs.Tracks.{Track, fresh, same_track, Numbers, with_number}
+use Rattle.formula_plan.specs.Tracks.{Track, fresh, Numbers, with_number}
 use Rattle.formula_plan.specs.Plans.{Plan, compared, Made}
 use Rattle.formula_plan.specs.TermPlans.{linked, multiple, parted, below, quotient_made, Scaling, by_numeral, by_divisor, scaling_made}
 use Rattle.formula_plan.specs.Means.{Means}

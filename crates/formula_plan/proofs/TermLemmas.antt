@@ -1,12 +1,12 @@
 -- The value of a term is where its plan places it.
-use Rattle.std.proofs.Common.{◌≡◌, ◌↔◌, ℕ, zero, suc, ◌+◌, ◌-◌, ◌*◌, ◌/◌, ◌%◌, ◌==◌, ◌≤◌, Bool, true, false, if◌then◌else◌, List, [], ◌∷◌, ◌++◌, map, slice_index_or, Option, None, Some, refl, sym, ◌∙◌, ap, subst, arith}
+use Rattle.std.proofs.Common.{◌≡◌, ℕ, zero, suc, ◌+◌, ◌-◌, ◌*◌, ◌/◌, ◌%◌, ◌==◌, ◌≤◌, Bool, true, false, if◌then◌else◌, List, [], ◌∷◌, ◌++◌, map, slice_index_or, Option, None, Some, refl, sym, ◌∙◌, ap, subst, arith}
 use Rattle.std.specs.Prelude.{⊤}
 use Rattle.std.specs.Option.{option_and_then}
 use Rattle.std.proofs.lemmas.Option.{none-some, same_Some}
 use Rattle.formula_parse.specs.Tokens.{Name, Sign, plus, minus, equal}
 use Rattle.formula_parse.specs.Trees.{Term, variable, numeral, product, sum, Factors, no_factors, factors, times, divided, Terms, no_terms, terms, Addends, no_addends, addends}
 use Rattle.formula_truth.specs.Assignments.{Assignment}
-use Rattle.formula_truth.specs.Values.{both, by_sign, multiplied, quotient, value, product_value, sum_value, and_value, values}
+use Rattle.formula_truth.specs.Values.{both, by_sign, multiplied, value, product_value, sum_value, and_value, values}
 use Rattle.formula_truth.specs.Truth.{Meanings}
 use Rattle.formula_plan.specs.Tracks.{Track, own, fresh, Numbers, of_variables}
 use Rattle.formula_plan.specs.Plans.{Plan, compared, added, Made}

@@ -84,8 +84,8 @@ module _ (a b : Automaton) (one : IsCanonical a) (two : IsCanonical b) (same : b
       subst (λ k. Path n k w (r + states_of a)) at (shifted_path b two.table (states_of a) n back w 0 r two.table.initial leads)
 
   -- after a word of the first language the second automaton is led to the state
-  abbrev IsBehind : List ℕ → ℕ → Type 0
-  IsBehind w r = (x : List ℕ) × IsRest Accepted w x × (run_of b 0 x ≡ Some r)
+  abbrev IsAfter : List ℕ → ℕ → Type 0
+  IsAfter w r = (x : List ℕ) × IsRest Accepted w x × (run_of b 0 x ≡ Some r)
 
   first_members : (w : List ℕ) (q : ℕ) → q < states_of a → Contains (Set w) q → run_of a 0 w ≡ Some q
   first_members w q low there = let found = (key_run-members n is.table w first q).0 there in by found.0 found.2 ((starts.members found.0).0 found.1)
@@ -104,24 +104,24 @@ module _ (a b : Automaton) (one : IsCanonical a) (two : IsCanonical b) (same : b
   first_there : (w : List ℕ) (q : ℕ) → run_of a 0 w ≡ Some q → Contains (Set w) q
   first_there w q leads = (key_run-members n is.table w first q).1 (0, (starts.members 0).1 (inl refl), path_from_run a one.table link n prefix w 0 q one.table.initial leads)
 
-  second_members : (w : List ℕ) (r : ℕ) → Contains (Set w) (r + states_of a) → (¬ IsDead b 0) × IsBehind w r
+  second_members : (w : List ℕ) (r : ℕ) → Contains (Set w) (r + states_of a) → (¬ IsDead b 0) × IsAfter w r
   second_members w r there = let found = (key_run-members n is.table w first (r + states_of a)).0 there in by found.0 found.2 ((starts.members found.0).0 found.1)
     where
-      behind : (l : ℕ) → link ≡ Some l → (u v : List ℕ) → w ≡ u ++ v → accepts_of a u ≡ true → Path n l v (r + states_of a) → (¬ IsDead b 0) × IsBehind w r
-      behind l to u v cut accepts path =
+      after_prefix : (l : ℕ) → link ≡ Some l → (u v : List ℕ) → w ≡ u ++ v → accepts_of a u ≡ true → Path n l v (r + states_of a) → (¬ IsDead b 0) × IsAfter w r
+      after_prefix l to u v cut accepts path =
           let found = from_link l to v (r + states_of a) path in
           let at : found.0 ≡ r = omega (arith, found.1) in
           ((link_is l to).1, (v, (u, cut, accepts), found.2 ∙ ap Some at))
 
-      through : (run_of a 0 w ≡ Some (r + states_of a)) ⊎ IsCut a one.table link n prefix 0 w (r + states_of a) → (¬ IsDead b 0) × IsBehind w r
+      through : (run_of a 0 w ≡ Some (r + states_of a)) ⊎ IsCut a one.table link n prefix 0 w (r + states_of a) → (¬ IsDead b 0) × IsAfter w r
       through (inl run) = let low = run_within a w 0 (r + states_of a) one.table one.table.initial run in absurd (omega (arith, low))
-      through (inr cut) = behind cut.state cut.to cut.prefix cut.rest cut.is cut.accepted cut.path
+      through (inr cut) = after_prefix cut.state cut.to cut.prefix cut.rest cut.is cut.accepted cut.path
 
-      by : (p : ℕ) → Path n p w (r + states_of a) → (p ≡ 0) ⊎ ((accepting_of a 0 ≡ true) × (link ≡ Some p)) → (¬ IsDead b 0) × IsBehind w r
+      by : (p : ℕ) → Path n p w (r + states_of a) → (p ≡ 0) ⊎ ((accepting_of a 0 ≡ true) × (link ≡ Some p)) → (¬ IsDead b 0) × IsAfter w r
       by p path (inl zero) = through (cut_from_path a one.table link n prefix w 0 (r + states_of a) one.table.initial (subst (λ k. Path n k w (r + states_of a)) zero path))
-      by p path (inr to) = behind p to.1 [] w refl to.0 path
+      by p path (inr to) = after_prefix p to.1 [] w refl to.0 path
 
-  second_there : (w : List ℕ) (r : ℕ) → ¬ IsDead b 0 → IsBehind w r → Contains (Set w) (r + states_of a)
+  second_there : (w : List ℕ) (r : ℕ) → ¬ IsDead b 0 → IsAfter w r → Contains (Set w) (r + states_of a)
   second_there w r alive found = by found.1.0 found.1.1 found.1.2
     where
       by : (u : List ℕ) → w ≡ u ++ found.0 → Accepted u → Contains (Set w) (r + states_of a)

@@ -48,11 +48,11 @@ module _ (a : Automaton) (canonical : IsCanonical a) (empty : accepting_of a 0 �
   pub returning_apart : (k : ℕ) → HasApart (LeadAlike (set_after n) (0 ∷ [])) (letters_of a) k → HasApart (StarAlike a) (letters_of a) k
   returning_apart k = HasApart-same (LeadAlike (set_after n) (0 ∷ [])) (StarAlike a) (letters_of a) k returning_back
 
--- the empty word is told from others where it is no word of the language
+-- the empty word is distinguished from others where it is no word of the language
 module _ (a : Automaton) (none : accepting_of a 0 ≡ false) where
-  nil_front : (u y : List ℕ) → [] ≡ u ++ y → y ≡ []
-  nil_front [] y is = sym is
-  nil_front (c ∷ u) y is = absurd (let size = ap (λ (v : List ℕ). length v) is in omega (arith, size))
+  nil_suffix : (u y : List ℕ) → [] ≡ u ++ y → y ≡ []
+  nil_suffix [] y is = sym is
+  nil_suffix (c ∷ u) y is = absurd (let size = ap (λ (v : List ℕ). length v) is in omega (arith, size))
 
   pub empty_apart : (c : ℕ) (v : List ℕ) → ¬ StarAlike a [] (c ∷ v)
   empty_apart c v alike = by (last_piece a (c ∷ v) (alike.inside.0 (starred_empty a)))
@@ -61,7 +61,7 @@ module _ (a : Automaton) (none : accepting_of a 0 ≡ false) where
       by (inl nothing) = let size = ap (λ (x : List ℕ). length x) nothing in omega (arith, size)
       by (inr (z, rest, accepts)) =
           let other = alike.rests.back z rest (some_after_accepted a z accepts) in
-          let nothing : other.0 ≡ [] = nil_front other.1.0 other.0 other.1.1 in
+          let nothing : other.0 ≡ [] = nil_suffix other.1.0 other.0 other.1.1 in
           true≢false (sym accepts ∙ same_accepted a z other.0 other.2 ∙ ap (accepts_of a) nothing ∙ none)
 
 module _ (a : Automaton) (canonical : IsCanonical a) (none : accepting_of a 0 ≡ false) (row : Branch) (n : Branching) (is : IsStarTable a (row ∷ []) n) (start : IsStarStart a row) where

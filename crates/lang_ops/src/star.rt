@@ -29,7 +29,7 @@ use std::alloc::Global;
 ///
 /// Words lead to sets of states of a nondeterministic automaton, as in Michael Rabin and Dana Scott, "Finite automata and
 /// their decision problems": what leads to an accepting state leads to the initial one too. Where that does not accept,
-/// words begin at a state of their own, so that the empty word is told from others that lead to the initial state alone.
+/// words begin at a state of their own, so that the empty word is distinguished from others that lead to the initial state alone.
 pub fn star(alloc: Global, a: &Dfa, limit: u32) -> Result<Stepped<Dfa>, OpFault>
     requires { IsCanonical a.now }
     ensures sizes { IfOk result (λ stepped. stepped.result.sizes ≡ a.now.sizes) }

@@ -9,7 +9,7 @@ use Rattle.std.specs.declared.alloc.Global.{Global}
 use Rattle.script_cut.specs.Texts.{is_gap, AreGaps, quoted, unbroken, Starts, IsOpen, terminator_of, line_ends}
 use Rattle.script_cut.specs.Cuts.{Ended, Terminated, Unterminated, Next, HasNoCommand}
 use Rattle.script_cut.specs.Kept.{Kept}
-use Rattle.script_cut.specs.Cutting.{place_of, MayCome, HasCut, HasFailed}
+use Rattle.script_cut.specs.Cutting.{place_of, MayCome, HasCut}
 use Rattle.script_cut.specs.Passing.{Passes, IsBounded, AllGave, IsOver, Stops, IsAtText, PassesGaps, PassesText, HasScanned, IsAfterText, IsAfterAll}
 use Rattle.script_cut.specs.Reading.{IsStillInGaps}
 use Rattle.script_cut.specs.declared.cut.Cut.TheVariants as cuts

@@ -5,5 +5,7 @@ pub mod PassingSteps
 pub mod CutSteps
 pub mod FirstCut
 pub mod OneList
+pub mod FoundItems
+pub mod LongerTexts
 pub mod ReportedItem
 pub mod ReadingSteps

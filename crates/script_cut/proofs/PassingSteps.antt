@@ -10,7 +10,7 @@ use Rattle.script_cut.proofs.AskingSteps.{gives-none, gives-then, gave_once, ask
 use Rattle.script_cut.specs.Texts.{all_gaps, commented, quoted, unbroken, Starts}
 use Rattle.script_cut.specs.Lengths.{gap_count, gap_open, text_count, text_open}
 use Rattle.script_cut.specs.Kept.{Kept, advance}
-use Rattle.script_cut.specs.Passing.{Passes, IsBounded, AllGave, AsksOnce, IsSupplied, HasHeld, IsOver, Stops, PassesGaps, PassesText}
+use Rattle.script_cut.specs.Passing.{Passes, IsBounded, AllGave, IsSupplied, HasHeld, IsOver, Stops, PassesGaps, PassesText}
 use Rattle.script_cut.specs.declared.cut.CutFault.{CutFault}
 use Rattle.script_cut.proofs.Gaps.{line_ends-append, commented-append, all_gaps-append, all_gaps-prefix, commented-prefix, starts-suffix, starts-take}
 use Rattle.script_cut.proofs.Commands.{quoted-append, unbroken-append, unbroken-prefix, quoted-prefix, Ends, ends-suffix, ends-take, ends-first}

@@ -7,3 +7,4 @@ pub mod Cutting
 pub mod Passing
 pub mod Reading
 pub mod Laws
+pub mod Prefixes

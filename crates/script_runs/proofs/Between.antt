@@ -34,19 +34,19 @@ use Rattle.script_runs.specs.Coming.{coming_of, IsItem}
 use Rattle.script_runs.specs.Taking.{TakesItem, TakesText, HasAnswered, state}
 use Rattle.script_runs.proofs.MoreBytes.{some_more, may_come_before, reported_left, reported_when}
 use Rattle.script_runs.proofs.Counting.{status_counted}
-use Rattle.script_runs.proofs.Standing.{Grown, Stands, begins, stands_more, stands_cut, stands_end}
+use Rattle.script_runs.proofs.Reached.{Grown, Reached, begins, reached_more, reached_cut, reached_end}
 use Rattle.script_runs.proofs.Cutting.{Comes, comes, is_past, ended_before, no_memory_past, takes_past, room_falls}
 
 -- where a run over a script is at a place
-abbrev pub StandsAt : {F : Type 0} (l : CommandLanguage F) → List ℕ → StoreView → StoreView → Rest → ℕ → SinkView → SinkView → Tally → Type 0
-StandsAt l script old now place room held out tally = (ledger : l.Ledger) × Stands l 0 (start script) (first_state l old) place (state l ledger now room) held out nothing tally
+abbrev pub HasReached : {F : Type 0} (l : CommandLanguage F) → List ℕ → StoreView → StoreView → Rest → ℕ → SinkView → SinkView → Tally → Type 0
+HasReached l script old now place room held out tally = (ledger : l.Ledger) × Reached l 0 (start script) (first_state l old) place (state l ledger now room) held out nothing tally
 
 -- the items so far are those of what the source gave, with whatever may come after that
 pub record IsBetween {F : Type 0} (l : CommandLanguage F) (from to : SourceView) (kept : Kept) (old now : StoreView) (held out : SinkView) (tally : Tally) : Type 0 where
   pub gave : List ℕ
   pub taken : Consumes from.left to.left gave
   pub ended : kept.over ≡ true → HasGivenAll to.left
-  pub stands : (more : List ℕ) → MayCome kept.over to.left more → StandsAt l (gave ++ more) old now (place_of kept more) kept.room held out tally
+  pub reached : (more : List ℕ) → MayCome kept.over to.left more → HasReached l (gave ++ more) old now (place_of kept more) kept.room held out tally
   pub source_kept : to.faults ≡ from.faults
   pub room : kept.room + length gave ≤ 16777216 + length kept.held
   pub few : length gave ≤ 16777217
@@ -56,7 +56,7 @@ between_first l sound from old held = record {
   gave = [];
   taken = consumes-none from.left;
   ended = λ is. cc;
-  stands = λ more may. (l.first old.files, begins l 0 (start more) (first_state l old) held nothing (sound.first_stores old.files));
+  reached = λ more may. (l.first old.files, begins l 0 (start more) (first_state l old) held nothing (sound.first_stores old.files));
   source_kept = refl;
   room = omega arith;
   few = omega arith;
@@ -84,11 +84,11 @@ module _ {F : Type 0} (l : CommandLanguage F) (from to now : SourceView) (kept n
     reported = is;
   }
 
-  -- where the run stands before the item
-  stands_before : (more : List ℕ) → MayCome next.over now.left more → StandsAt l ((b.gave ++ concat c.pieces) ++ more) old mid (place_of kept (concat c.pieces ++ more)) kept.room held out tally
-  stands_before more may =
-      let P : List ℕ → Type 0 = λ script. StandsAt l script old mid (place_of kept (concat c.pieces ++ more)) kept.room held out tally in
-      subst P (sym (append_assoc b.gave (concat c.pieces) more)) (b.stands (concat c.pieces ++ more) (came kept next to now result more begun c may))
+  -- where the run is before the item
+  reached_before : (more : List ℕ) → MayCome next.over now.left more → HasReached l ((b.gave ++ concat c.pieces) ++ more) old mid (place_of kept (concat c.pieces ++ more)) kept.room held out tally
+  reached_before more may =
+      let P : List ℕ → Type 0 = λ script. HasReached l script old mid (place_of kept (concat c.pieces ++ more)) kept.room held out tally in
+      subst P (sym (append_assoc b.gave (concat c.pieces) more)) (b.reached (concat c.pieces ++ more) (came kept next to now result more begun c may))
 
   module _ (item : Item) (item_is : coming_of result ≡ coming.Item item) (flow : Flow) (room : ℕ) (new : StoreView) (later : SinkView) (counted : Tally)
       (taken : (cut : CutItem) → IsItem item cut → (ledger : l.Ledger) → IfSome mid.files (l.stores ledger) → (after : l.Ledger) × TakesItem l 0 (state l ledger mid next.room) cut out tally flow (state l after new room) later counted) where
@@ -101,14 +101,14 @@ module _ {F : Type 0} (l : CommandLanguage F) (from to now : SourceView) (kept n
       gave = b.gave ++ concat c.pieces;
       taken = consumes-then from.left to.left now.left b.gave (concat c.pieces) b.taken c.given.taken;
       ended = c.ended begun;
-      stands = λ more may.
-          let s = stands_before more may in
+      reached = λ more may.
+          let s = reached_before more may in
           let co : Comes item (place_of kept (concat c.pieces ++ more)) (place_of next more) = coming_next more may in
           let t = taken co.cut co.is_item s.0 s.1.stores in
           let P : Rest → Type 0 = λ place. Next (place_of kept (concat c.pieces ++ more)) co.cut place in
           let Q : Flow → Type 0 = λ f. TakesItem l 0 (state l s.0 mid next.room) co.cut out tally f (state l t.0 new room) later counted in (
             t.0,
-            stands_more l 0 (start ((b.gave ++ concat c.pieces) ++ more)) (first_state l old) held nothing (place_of kept (concat c.pieces ++ more)) (place_of next more) co.cut (state l s.0 mid kept.room) (state l t.0 new room) out later tally counted
+            reached_more l 0 (start ((b.gave ++ concat c.pieces) ++ more)) (first_state l old) held nothing (place_of kept (concat c.pieces ++ more)) (place_of next more) co.cut (state l s.0 mid kept.room) (state l t.0 new room) out later tally counted
                 (subst P (co.follows (ended_before item co.cut co.is_item other)) co.next) s.1 (subst Q on t.1),
           );
       source_kept = source ∙ b.source_kept;
@@ -126,18 +126,18 @@ module _ {F : Type 0} (l : CommandLanguage F) (from to now : SourceView) (kept n
 
     text_ends : (more : List ℕ) → MayCome next.over now.left more → flow ≢ flows.GoesOn → TextEnds more
     text_ends more may ends =
-        let s = stands_before more may in
+        let s = reached_before more may in
         let co : Comes item (place_of kept (concat c.pieces ++ more)) (place_of next more) = coming_next more may in
         let t = taken co.cut co.is_item s.0 s.1.stores in
         by_place co s.0 s.1 t.0 t.1 (is_past co.cut.ended)
       where
-        by_place : (co : Comes item (place_of kept (concat c.pieces ++ more)) (place_of next more)) (ledger : l.Ledger) → Stands l 0 (start ((b.gave ++ concat c.pieces) ++ more)) (first_state l old) (place_of kept (concat c.pieces ++ more)) (state l ledger mid kept.room) held out nothing tally
+        by_place : (co : Comes item (place_of kept (concat c.pieces ++ more)) (place_of next more)) (ledger : l.Ledger) → Reached l 0 (start ((b.gave ++ concat c.pieces) ++ more)) (first_state l old) (place_of kept (concat c.pieces ++ more)) (state l ledger mid kept.room) held out nothing tally
             → (after : l.Ledger) → TakesItem l 0 (state l ledger mid next.room) co.cut out tally flow (state l after new room) later counted → (co.cut.ended ≡ PastLimit) ⊎ (co.cut.ended ≢ PastLimit) → TextEnds more
         by_place co ledger s after t (inl past) = record {
           ledger = after;
           left = co.last.room;
           end = co.last;
-          text = stands_cut l 0 (start ((b.gave ++ concat c.pieces) ++ more)) (first_state l old) held nothing (place_of kept (concat c.pieces ++ more)) co.last co.cut (state l ledger mid kept.room) (state l after new co.last.room) out later tally counted co.next
+          text = reached_cut l 0 (start ((b.gave ++ concat c.pieces) ++ more)) (first_state l old) held nothing (place_of kept (concat c.pieces ++ more)) co.last co.cut (state l ledger mid kept.room) (state l after new co.last.room) out later tally counted co.next
               ((b.gave ++ concat c.pieces) ++ more) flow ends refl s (takes_past l 0 (state l ledger mid next.room) (state l after new room) co.cut out later tally counted flow co.last.room past t);
           left_is = λ memory. absurd (no_memory_past l 0 (state l ledger mid next.room) (state l after new room) co.cut out later tally counted
               (let P : Flow → Type 0 = λ f. TakesItem l 0 (state l ledger mid next.room) co.cut out tally f (state l after new room) later counted in subst P memory t) past);
@@ -148,7 +148,7 @@ module _ {F : Type 0} (l : CommandLanguage F) (from to now : SourceView) (kept n
               ledger = after;
               left = room;
               end = record (place_of next more) { room = room };
-              text = stands_cut l 0 (start ((b.gave ++ concat c.pieces) ++ more)) (first_state l old) held nothing (place_of kept (concat c.pieces ++ more)) (place_of next more) co.cut (state l ledger mid kept.room) (state l after new room) out later tally counted
+              text = reached_cut l 0 (start ((b.gave ++ concat c.pieces) ++ more)) (first_state l old) held nothing (place_of kept (concat c.pieces ++ more)) (place_of next more) co.cut (state l ledger mid kept.room) (state l after new room) out later tally counted
                   (subst P (co.follows other) co.next) ((b.gave ++ concat c.pieces) ++ more) flow ends refl s t;
               left_is = λ memory. refl;
             }
@@ -248,11 +248,11 @@ module _ {F : Type 0} (l : CommandLanguage F) (from to now : SourceView) (kept n
   between_fault rest ended cause which =
       let more : (more : List ℕ) × MayCome false now.left more = some_more false now.left in
       let before : MayCome kept.over to.left (concat c.pieces ++ more.0) = rw begun (may_come_before false to.left now.left (concat c.pieces) more.0 c.given.taken (λ is. cc) more.1) in
-      let P : List ℕ → Type 0 = λ script. StandsAt l script old mid (place_of kept (concat c.pieces ++ more.0)) kept.room held out tally in
-      let s : P ((b.gave ++ concat c.pieces) ++ more.0) = subst P (sym (append_assoc b.gave (concat c.pieces) more.0)) (b.stands (concat c.pieces ++ more.0) before) in
+      let P : List ℕ → Type 0 = λ script. HasReached l script old mid (place_of kept (concat c.pieces ++ more.0)) kept.room held out tally in
+      let s : P ((b.gave ++ concat c.pieces) ++ more.0) = subst P (sym (append_assoc b.gave (concat c.pieces) more.0)) (b.reached (concat c.pieces ++ more.0) before) in
       let place : Rest = place_of kept (concat c.pieces ++ more.0) in
-      let g : Grown l 0 (start ((b.gave ++ concat c.pieces) ++ more.0)) (first_state l old) s.1.front rest place (state l s.0 mid kept.room) = s.1.grow rest place (state l s.0 mid kept.room) (stays rest which place (state l s.0 mid kept.room)) in
-      let order : in_order l g.turns ≡ s.1.front = g.order ∙ (ap (λ (xs : List (Answered l)). s.1.front ++ xs) (none rest which) ∙ append-nil s.1.front) in (
+      let g : Grown l 0 (start ((b.gave ++ concat c.pieces) ++ more.0)) (first_state l old) s.1.prefix rest place (state l s.0 mid kept.room) = s.1.grow rest place (state l s.0 mid kept.room) (stays rest which place (state l s.0 mid kept.room)) in
+      let split : in_order l g.turns ≡ s.1.prefix = g.split ∙ (ap (λ (xs : List (Answered l)). s.1.prefix ++ xs) (none rest which) ∙ append-nil s.1.prefix) in (
         b.gave ++ concat c.pieces,
         more.0,
         given_next more.0 (reported_left now.left more.0 more.1),
@@ -262,7 +262,7 @@ module _ {F : Type 0} (l : CommandLanguage F) (from to now : SourceView) (kept n
           has_turns = record { ledger = s.0; room = kept.room; run = g.run; stores = s.1.stores };
           suffix = kept.held ++ concat c.pieces;
           left_is = rw begun (sym (append_assoc kept.held (concat c.pieces) more.0));
-          sent = let Q : List (Answered l) → Type 0 = λ xs. HasSent held (printed l xs) out in subst Q (sym order) s.1.sent;
+          sent = let Q : List (Answered l) → Type 0 = λ xs. HasSent held (printed l xs) out in subst Q (sym split) s.1.sent;
           cause = cause g.turns g.due g.cut;
         }),
       )
@@ -270,14 +270,14 @@ module _ {F : Type 0} (l : CommandLanguage F) (from to now : SourceView) (kept n
       stays : (rest : Turns l) → (rest ≡ no_more) ⊎ (rest ≡ cut_off) → (place : Rest) (now : State l) → Run l 0 place now rest place now
       stays no_more which place now = (refl, refl)
       stays cut_off which place now = (refl, refl)
-      stays (turn first inside behind) (inl is) place now = absurd (cc)
-      stays (turn first inside behind) (inr is) place now = absurd (cc)
+      stays (turn first inside after) (inl is) place now = absurd (cc)
+      stays (turn first inside after) (inr is) place now = absurd (cc)
 
       none : (rest : Turns l) → (rest ≡ no_more) ⊎ (rest ≡ cut_off) → in_order l rest ≡ []
       none no_more which = refl
       none cut_off which = refl
-      none (turn first inside behind) (inl is) = absurd (cc)
-      none (turn first inside behind) (inr is) = absurd (cc)
+      none (turn first inside after) (inl is) = absurd (cc)
+      none (turn first inside after) (inr is) = absurd (cc)
 
   -- the source failed
   pub between_failed : result ≡ Err cut_faults.Failed → Rose to.faults now.faults → HasAnswered l from now old mid held out (Err status.Outside)
@@ -303,9 +303,9 @@ none_left place is = record { gaps = rw is refl; within = omega (arith, ap lengt
 
 -- the script's end
 end_at : {F : Type 0} (l : CommandLanguage F) (script : List ℕ) (from to : SourceView) (old mid : StoreView) (held out : SinkView) (tally : Tally) (place : Rest) (room : ℕ)
-    → StandsAt l script old mid place room held out tally → IsAtEnd place → to.faults ≡ from.faults → (through : RanThrough l script from to old mid held out (tally_status tally)) × Counts l nothing (in_order l through.turns) tally
+    → HasReached l script old mid place room held out tally → IsAtEnd place → to.faults ≡ from.faults → (through : RanThrough l script from to old mid held out (tally_status tally)) × Counts l nothing (in_order l through.turns) tally
 end_at l script from to old mid held out tally place room s end source =
-    let t : TakesText l 0 (first_state l old) script held nothing flows.GoesOn place (state l s.0 mid room) out tally = stands_end l 0 (start script) (first_state l old) held nothing script place (state l s.0 mid room) out tally refl end s.1 in (
+    let t : TakesText l 0 (first_state l old) script held nothing flows.GoesOn place (state l s.0 mid room) out tally = reached_end l 0 (start script) (first_state l old) held nothing script place (state l s.0 mid room) out tally refl end s.1 in (
       record {
         turns = t.turns;
         last = place;
@@ -324,7 +324,7 @@ pub between_end : {F : Type 0} (l : CommandLanguage F) (over : Bool) (from to no
     → HasAnswered l from now old mid held out (Ok tally)
 between_end l false from to now kept next old mid held out tally begun b c source still =
     let more : (more : List ℕ) × MayCome next.over now.left more = some_more next.over now.left in
-    let s = stands_before l from to now kept next (Ok cuts.End) old mid held out tally begun b c more.0 more.1 in
+    let s = reached_before l from to now kept next (Ok cuts.End) old mid held out tally begun b c more.0 more.1 in
     let e = end_at l ((b.gave ++ concat c.pieces) ++ more.0) from now old mid held out tally (place_of kept (concat c.pieces ++ more.0)) kept.room s (c.item more.0 more.1) (source ∙ b.source_kept) in (
       b.gave ++ concat c.pieces,
       more.0,
@@ -337,7 +337,7 @@ between_end l true from to now kept next old mid held out tally over b c source 
     let none : (place_of kept []).left ≡ [] = rw over refl in
     let P : SourceView → Type 0 = λ end. HasAnswered l from end old mid held out (Ok tally) in
     let given : HasGiven from to b.gave [] = record { taken = b.taken; within = b.few; reported = reported_when kept.over to.left [] b.ended may } in
-    let e = end_at l (b.gave ++ []) from to old mid held out tally (place_of kept []) kept.room (b.stands [] may) (none_left (place_of kept []) none) b.source_kept in
+    let e = end_at l (b.gave ++ []) from to old mid held out tally (place_of kept []) kept.room (b.reached [] may) (none_left (place_of kept []) none) b.source_kept in
     subst P (sym (still over)) (b.gave, [], given, e.0, e.1)
 
 -- with each item that more follows fewer bytes may still be passed

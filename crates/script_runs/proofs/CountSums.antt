@@ -16,10 +16,10 @@ module _ {X : Type 0} (p : X → Bool) where
   adds_none old = λ few. omega arith
 
   -- some, and then more
-  pub adds_then : (old mid new : ℕ) (front more : List X) → Adds old (count_by p front) mid → Adds mid (count_by p more) new → Adds old (count_by p (front ++ more)) new
-  adds_then old mid new front more a b few =
-      let all : count_by p (front ++ more) ≡ count_by p front + count_by p more = count_by-append front more in
-      let first : mid ≡ old + count_by p front = a (omega (arith, few, all)) in
+  pub adds_then : (old mid new : ℕ) (prefix more : List X) → Adds old (count_by p prefix) mid → Adds mid (count_by p more) new → Adds old (count_by p (prefix ++ more)) new
+  adds_then old mid new prefix more a b few =
+      let all : count_by p (prefix ++ more) ≡ count_by p prefix + count_by p more = count_by-append prefix more in
+      let first : mid ≡ old + count_by p prefix = a (omega (arith, few, all)) in
       let second : new ≡ mid + count_by p more = b (omega (arith, few, all, first)) in
       omega (arith, all, first, second)
 

@@ -134,7 +134,7 @@ module _ {F : Type 0} (l : CommandLanguage F) where
   no_items : (turns : Turns l) → turns ≡ no_more → (length (in_order l turns) ≡ 0) × (past_limit l (in_order l turns) ≡ 0)
   no_items no_more is = (refl, refl)
   no_items cut_off is = absurd (cc)
-  no_items (turn first inside behind) is = absurd (cc)
+  no_items (turn first inside after) is = absurd (cc)
 
   -- the items of the text that an item loads, if it does
   inside_bytes : (inside : Turns l) (depth : ℕ) (old later : State l) (store : StoreView) (reply : Reply l) → old.room ≤ 16777216 → ((loaded : List ℕ) → reply ≡ Ok (Loads loaded) → length loaded ≤ old.room)
@@ -167,25 +167,25 @@ module _ {F : Type 0} (l : CommandLanguage F) where
       let room : new.room ≡ old.room = ap (λ (s : State l). s.room) run.1 in
       let left : length last.left ≡ length place.left = ap (λ (r : Rest). length r.left) run.0 in
       (omega (arith, room, left), refl)
-  nested_bytes (turn first inside behind) depth place last old new few within (mid, store, later, next, replies, loaded, ends, run) =
+  nested_bytes (turn first inside after) depth place last old new few within (mid, store, later, next, replies, loaded, ends, run) =
       let byte : HasByte place first.item.ended mid = next_byte first.item.ended place next.before first.item.text mid within next.cut in
       let here = inside_bytes inside (suc depth) old later store first.reply few
       (λ text is. fits first.item.ended (suc depth) old.room replies.known first.item.text first.reply text is replies.replied)
       (λ place end here later. nested_bytes inside (suc depth) place end here later) loaded in
       let inside_few : later.room + length (in_order l inside) ≤ old.room = here.0 in
-      let more = nested_bytes behind depth mid last later new (omega (arith, few, inside_few)) byte.within run in
-      let behind_few : new.room + length last.left + length (in_order l behind) ≤ later.room + length mid.left = more.0 in
-      let long : length (in_order l inside ++ in_order l behind) ≡ length (in_order l inside) + length (in_order l behind) = length-append (in_order l inside) (in_order l behind) in
-      let split : past_limit l (in_order l inside ++ in_order l behind) ≡ past_limit l (in_order l inside) + past_limit l (in_order l behind) = past-append (in_order l inside) (in_order l behind) in
-      let first_is : past_limit l (first ∷ (in_order l inside ++ in_order l behind)) ≡ weight (is_past_limit first.item.ended) + past_limit l (in_order l inside ++ in_order l behind) = past-cons first (in_order l inside ++ in_order l behind) in
+      let more = nested_bytes after depth mid last later new (omega (arith, few, inside_few)) byte.within run in
+      let after_few : new.room + length last.left + length (in_order l after) ≤ later.room + length mid.left = more.0 in
+      let long : length (in_order l inside ++ in_order l after) ≡ length (in_order l inside) + length (in_order l after) = length-append (in_order l inside) (in_order l after) in
+      let split : past_limit l (in_order l inside ++ in_order l after) ≡ past_limit l (in_order l inside) + past_limit l (in_order l after) = past-append (in_order l inside) (in_order l after) in
+      let first_is : past_limit l (first ∷ (in_order l inside ++ in_order l after)) ≡ weight (is_past_limit first.item.ended) + past_limit l (in_order l inside ++ in_order l after) = past-cons first (in_order l inside ++ in_order l after) in
       let no : weight (is_past_limit first.item.ended) ≡ 0 = ap weight byte.inside in
-      (omega (arith, inside_few, behind_few, long, byte.shorter), omega (arith, here.1, more.1, split, first_is, no))
+      (omega (arith, inside_few, after_few, long, byte.shorter), omega (arith, here.1, more.1, split, first_is, no))
 
   -- after the script's end no item comes
   ended_bytes : (turns : Turns l) (place last : Rest) (old new : State l) → length place.left ≡ 0 → Run l 0 place old turns last new → (length (in_order l turns) ≡ 0) × (past_limit l (in_order l turns) ≡ 0) × (last.room ≡ place.room)
   ended_bytes no_more place last old new none run = (refl, refl, ap (λ (r : Rest). r.room) run.0)
   ended_bytes cut_off place last old new none run = (refl, refl, ap (λ (r : Rest). r.room) run.0)
-  ended_bytes (turn first inside behind) place last old new none (mid, store, later, next, replies, loaded, ends, run) = absurd (no_next first.item.ended place next.before first.item.text mid none next.cut)
+  ended_bytes (turn first inside after) place last old new none (mid, store, later, next, replies, loaded, ends, run) = absurd (no_next first.item.ended place next.before first.item.text mid none next.cut)
 
   script_bytes : (turns : Turns l) (place last : Rest) (old new : State l) → place.room ≤ 16777216 → Run l 0 place old turns last new → HaveBytes l place.room (in_order l turns) last.room
   script_bytes no_more place last old new few run =
@@ -194,29 +194,29 @@ module _ {F : Type 0} (l : CommandLanguage F) where
   script_bytes cut_off place last old new few run =
       let room : last.room ≡ place.room = ap (λ (r : Rest). r.room) run.0 in
       record { counted = omega (arith, room); once = omega arith }
-  script_bytes (turn first inside behind) place last old new few (mid, store, later, next, replies, loaded, ends, run) = by_place (λ fewer. script_bytes behind (record mid { room = later.room }) last later new fewer run) (by_limit first.item.ended)
+  script_bytes (turn first inside after) place last old new few (mid, store, later, next, replies, loaded, ends, run) = by_place (λ fewer. script_bytes after (record mid { room = later.room }) last later new fewer run) (by_limit first.item.ended)
     where
       bound : mid.room ≤ 16777216 → (later.room + length (in_order l inside) ≤ mid.room) × (past_limit l (in_order l inside) ≡ 0)
       bound fewer = inside_bytes inside 0 (with_room l old mid.room) later store first.reply fewer
           (λ text is. fits first.item.ended 0 mid.room replies.known first.item.text first.reply text is replies.replied)
           (λ place end here later. nested_bytes inside 0 place end here later) loaded
 
-      long : length (in_order l inside ++ in_order l behind) ≡ length (in_order l inside) + length (in_order l behind)
-      long = length-append (in_order l inside) (in_order l behind)
+      long : length (in_order l inside ++ in_order l after) ≡ length (in_order l inside) + length (in_order l after)
+      long = length-append (in_order l inside) (in_order l after)
 
-      split : past_limit l (in_order l inside ++ in_order l behind) ≡ past_limit l (in_order l inside) + past_limit l (in_order l behind)
-      split = past-append (in_order l inside) (in_order l behind)
+      split : past_limit l (in_order l inside ++ in_order l after) ≡ past_limit l (in_order l inside) + past_limit l (in_order l after)
+      split = past-append (in_order l inside) (in_order l after)
 
-      first_is : past_limit l (first ∷ (in_order l inside ++ in_order l behind)) ≡ weight (is_past_limit first.item.ended) + past_limit l (in_order l inside ++ in_order l behind)
-      first_is = past-cons first (in_order l inside ++ in_order l behind)
+      first_is : past_limit l (first ∷ (in_order l inside ++ in_order l after)) ≡ weight (is_past_limit first.item.ended) + past_limit l (in_order l inside ++ in_order l after)
+      first_is = past-cons first (in_order l inside ++ in_order l after)
 
-      by_place : (later.room ≤ 16777216 → HaveBytes l later.room (in_order l behind) last.room) → ((first.item.ended ≡ PastLimit) × (is_past_limit first.item.ended ≡ true)) ⊎ ((first.item.ended ≢ PastLimit) × (is_past_limit first.item.ended ≡ false)) → HaveBytes l place.room (first ∷ (in_order l inside ++ in_order l behind)) last.room
+      by_place : (later.room ≤ 16777216 → HaveBytes l later.room (in_order l after) last.room) → ((first.item.ended ≡ PastLimit) × (is_past_limit first.item.ended ≡ true)) ⊎ ((first.item.ended ≢ PastLimit) × (is_past_limit first.item.ended ≡ false)) → HaveBytes l place.room (first ∷ (in_order l inside ++ in_order l after)) last.room
       by_place rest (inl (is, at_limit)) =
           let none = nothing_past first.item.ended place next.before first.item.text mid is next.cut in
           let zero_room : mid.room ≡ 0 = none.1 in
           let here = bound (omega (arith, zero_room)) in
           let inside_few : later.room + length (in_order l inside) ≤ mid.room = here.0 in
-          let more = ended_bytes behind (record mid { room = later.room }) last later new none.0 run in
+          let more = ended_bytes after (record mid { room = later.room }) last later new none.0 run in
           let one : weight (is_past_limit first.item.ended) ≡ 1 = ap weight at_limit in
           record {
             counted = omega (arith, zero_room, inside_few, here.1, more.0, more.1, more.2, long, split, first_is, one);
@@ -226,7 +226,7 @@ module _ {F : Type 0} (l : CommandLanguage F) where
           let falls : mid.room < place.room = next_room first.item.ended place first.item.text first.item.line mid next other in
           let here = bound (omega (arith, few, falls)) in
           let inside_few : later.room + length (in_order l inside) ≤ mid.room = here.0 in
-          let more : HaveBytes l later.room (in_order l behind) last.room = rest (omega (arith, few, falls, inside_few)) in
+          let more : HaveBytes l later.room (in_order l after) last.room = rest (omega (arith, few, falls, inside_few)) in
           let one : weight (is_past_limit first.item.ended) ≡ 0 = ap weight before_limit in
           record {
             counted = omega (arith, falls, inside_few, here.1, more.counted, long, split, first_is, one);

@@ -38,22 +38,22 @@ or_one : (v w : Bool) → (v || w) ≡ (v || (w || false))
 or_one true w = refl
 or_one false w = or_false w
 
-pub printed-append : {F : Type 0} (l : CommandLanguage F) (front more : List (Answered l)) → printed l (front ++ more) ≡ printed l front ++ printed l more
+pub printed-append : {F : Type 0} (l : CommandLanguage F) (prefix more : List (Answered l)) → printed l (prefix ++ more) ≡ printed l prefix ++ printed l more
 printed-append l [] more = refl
-printed-append l (a ∷ front) more = ap (λ (text : List ℕ). line_of l a.item a.reply ++ text) (printed-append l front more) ∙ sym (append_assoc (line_of l a.item a.reply) (printed l front) (printed l more))
+printed-append l (a ∷ prefix) more = ap (λ (text : List ℕ). line_of l a.item a.reply ++ text) (printed-append l prefix more) ∙ sym (append_assoc (line_of l a.item a.reply) (printed l prefix) (printed l more))
 
-pub some_of-append : {F : Type 0} (l : CommandLanguage F) (p : Reply l → Bool) (front more : List (Answered l)) → some_of l p (front ++ more) ≡ (some_of l p front || some_of l p more)
+pub some_of-append : {F : Type 0} (l : CommandLanguage F) (p : Reply l → Bool) (prefix more : List (Answered l)) → some_of l p (prefix ++ more) ≡ (some_of l p prefix || some_of l p more)
 some_of-append l p [] more = refl
-some_of-append l p (a ∷ front) more = ap (λ (v : Bool). p a.reply || v) (some_of-append l p front more) ∙ sym (or-assoc (p a.reply) (some_of l p front) (some_of l p more))
+some_of-append l p (a ∷ prefix) more = ap (λ (v : Bool). p a.reply || v) (some_of-append l p prefix more) ∙ sym (or-assoc (p a.reply) (some_of l p prefix) (some_of l p more))
 
 counted_then : (u v w x y z : Bool) → v ≡ (u || x) → w ≡ (v || y) → z ≡ (x || y) → w ≡ (u || z)
 counted_then u v w x y z a b c = b ∙ (ap (λ (t : Bool). t || y) a ∙ (or-assoc u x y ∙ ap (λ (t : Bool). u || t) (sym c)))
 
 -- how many more
-long_then : {X : Type 0} (old mid new : ℕ) (front more : List X) → Adds old (length front) mid → Adds mid (length more) new → Adds old (length (front ++ more)) new
-long_then old mid new front more a b few =
-    let all : length (front ++ more) ≡ length front + length more = length-append front more in
-    let first : mid ≡ old + length front = a (omega (arith, few, all)) in
+long_then : {X : Type 0} (old mid new : ℕ) (prefix more : List X) → Adds old (length prefix) mid → Adds mid (length more) new → Adds old (length (prefix ++ more)) new
+long_then old mid new prefix more a b few =
+    let all : length (prefix ++ more) ≡ length prefix + length more = length-append prefix more in
+    let first : mid ≡ old + length prefix = a (omega (arith, few, all)) in
     let second : new ≡ mid + length more = b (omega (arith, few, all, first)) in
     omega (arith, all, first, second)
 
@@ -65,13 +65,13 @@ record AddsPrinted (old new : Numbers) (text : List ℕ) : Type 0 where
   other : new.other ≡ one_more_if (not (bytes_eq text true_line || bytes_eq text false_line)) old.other
   refused : new.refused ≡ old.refused
 
-numbers_then : {F : Type 0} (l : CommandLanguage F) (old mid new : Numbers) (front more : List (Answered l)) → AddsCounts l old front mid → AddsCounts l mid more new → AddsCounts l old (front ++ more) new
-numbers_then l old mid new front more a b = record {
-  commands = long_then old.commands mid.commands new.commands front more a.commands b.commands;
-  yes = adds_then (prints_only l true_line) old.yes mid.yes new.yes front more a.yes b.yes;
-  no = adds_then (prints_only l false_line) old.no mid.no new.no front more a.no b.no;
-  other = adds_then (prints_other l) old.other mid.other new.other front more a.other b.other;
-  refused = adds_then (is_refused l) old.refused mid.refused new.refused front more a.refused b.refused;
+numbers_then : {F : Type 0} (l : CommandLanguage F) (old mid new : Numbers) (prefix more : List (Answered l)) → AddsCounts l old prefix mid → AddsCounts l mid more new → AddsCounts l old (prefix ++ more) new
+numbers_then l old mid new prefix more a b = record {
+  commands = long_then old.commands mid.commands new.commands prefix more a.commands b.commands;
+  yes = adds_then (prints_only l true_line) old.yes mid.yes new.yes prefix more a.yes b.yes;
+  no = adds_then (prints_only l false_line) old.no mid.no new.no prefix more a.no b.no;
+  other = adds_then (prints_other l) old.other mid.other new.other prefix more a.other b.other;
+  refused = adds_then (is_refused l) old.refused mid.refused new.refused prefix more a.refused b.refused;
 }
 
 -- what is handed over of an accepted command is what is printed of it
@@ -137,12 +137,12 @@ counts_none l tally = record {
 }
 
 -- some, and then more
-pub counts_then : {F : Type 0} (l : CommandLanguage F) (old mid new : Tally) (front more : List (Answered l)) → Counts l old front mid → Counts l mid more new → Counts l old (front ++ more) new
-counts_then l old mid new front more a b = record {
-  refused = counted_then old.refused mid.refused new.refused (some_of l (is_refusal l) front) (some_of l (is_refusal l) more) (some_of l (is_refusal l) (front ++ more)) a.refused b.refused (some_of-append l (is_refusal l) front more);
-  store = counted_then old.store mid.store new.store (some_of l (is_by_store l) front) (some_of l (is_by_store l) more) (some_of l (is_by_store l) (front ++ more)) a.store b.store (some_of-append l (is_by_store l) front more);
-  memory = counted_then old.memory mid.memory new.memory (some_of l (is_by_memory l) front) (some_of l (is_by_memory l) more) (some_of l (is_by_memory l) (front ++ more)) a.memory b.memory (some_of-append l (is_by_memory l) front more);
-  counts = numbers_then l old.counts mid.counts new.counts front more a.counts b.counts;
+pub counts_then : {F : Type 0} (l : CommandLanguage F) (old mid new : Tally) (prefix more : List (Answered l)) → Counts l old prefix mid → Counts l mid more new → Counts l old (prefix ++ more) new
+counts_then l old mid new prefix more a b = record {
+  refused = counted_then old.refused mid.refused new.refused (some_of l (is_refusal l) prefix) (some_of l (is_refusal l) more) (some_of l (is_refusal l) (prefix ++ more)) a.refused b.refused (some_of-append l (is_refusal l) prefix more);
+  store = counted_then old.store mid.store new.store (some_of l (is_by_store l) prefix) (some_of l (is_by_store l) more) (some_of l (is_by_store l) (prefix ++ more)) a.store b.store (some_of-append l (is_by_store l) prefix more);
+  memory = counted_then old.memory mid.memory new.memory (some_of l (is_by_memory l) prefix) (some_of l (is_by_memory l) more) (some_of l (is_by_memory l) (prefix ++ more)) a.memory b.memory (some_of-append l (is_by_memory l) prefix more);
+  counts = numbers_then l old.counts mid.counts new.counts prefix more a.counts b.counts;
 }
 
 -- one result more
@@ -158,23 +158,23 @@ counts_one {F} l tally counted first result gives adds = by_reply first.reply re
         record { refused = a.refused ∙ or_true tally.refused; store = a.store ∙ or_one tally.store (is_store_fault l refusal); memory = a.memory ∙ or_one tally.memory (l.is_memory refusal); counts = counts }
 
 -- all lines so far, and then more
-pub prints_then : {F : Type 0} (l : CommandLanguage F) (held mid now : SinkView) (front more : List (Answered l)) (flow : Flow) → HasSent held (printed l front) mid → Prints l mid more flow now → Prints l held (front ++ more) flow now
-prints_then {F} l held mid now front more flow sent prints = by_flow flow prints
+pub prints_then : {F : Type 0} (l : CommandLanguage F) (held mid now : SinkView) (prefix more : List (Answered l)) (flow : Flow) → HasSent held (printed l prefix) mid → Prints l mid more flow now → Prints l held (prefix ++ more) flow now
+prints_then {F} l held mid now prefix more flow sent prints = by_flow flow prints
   where
-    whole : HasSent mid (printed l more) now → HasSent held (printed l (front ++ more)) now
-    whole later = let P : List ℕ → Type 0 = λ text. HasSent held text now in subst P (sym (printed-append l front more)) (sends_then held mid now (printed l front) (printed l more) (Ok tt) sent later)
+    whole : HasSent mid (printed l more) now → HasSent held (printed l (prefix ++ more)) now
+    whole later = let P : List ℕ → Type 0 = λ text. HasSent held text now in subst P (sym (printed-append l prefix more)) (sends_then held mid now (printed l prefix) (printed l more) (Ok tt) sent later)
 
-    part : (fault : WriteFault) → PrintsPart l mid more fault now → PrintsPart l held (front ++ more) fault now
+    part : (fault : WriteFault) → PrintsPart l mid more fault now → PrintsPart l held (prefix ++ more) fault now
     part fault p = record {
-      front = front ++ p.front;
+      prefix = prefix ++ p.prefix;
       last = p.last;
-      order = ap (λ (xs : List (Answered l)). front ++ xs) p.order ∙ sym (append_assoc front p.front (p.last ∷ []));
+      split = ap (λ (xs : List (Answered l)). prefix ++ xs) p.split ∙ sym (append_assoc prefix p.prefix (p.last ∷ []));
       mid = p.mid;
-      sent = let P : List ℕ → Type 0 = λ text. HasSent held text p.mid in subst P (sym (printed-append l front p.front)) (sends_then held mid p.mid (printed l front) (printed l p.front) (Ok tt) sent p.sent);
+      sent = let P : List ℕ → Type 0 = λ text. HasSent held text p.mid in subst P (sym (printed-append l prefix p.prefix)) (sends_then held mid p.mid (printed l prefix) (printed l p.prefix) (Ok tt) sent p.sent);
       stopped = p.stopped;
     }
 
-    by_flow : (flow : Flow) → Prints l mid more flow now → Prints l held (front ++ more) flow now
+    by_flow : (flow : Flow) → Prints l mid more flow now → Prints l held (prefix ++ more) flow now
     by_flow flows.GoesOn prints = whole prints
     by_flow flows.Ends prints = whole prints
     by_flow (flows.Stopped fault) prints = part fault prints

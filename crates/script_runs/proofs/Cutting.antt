@@ -26,7 +26,7 @@ use Rattle.script_runs.specs.Runs.{with_room}
 use Rattle.script_runs.specs.Coming.{coming_of, IsTextOf, IsItem}
 use Rattle.script_runs.specs.Flows.{Loaded}
 use Rattle.script_runs.specs.Taking.{TakesItem, OnlySpends}
-use Rattle.script_runs.proofs.Standing.{both_ways}
+use Rattle.script_runs.proofs.Reached.{both_ways}
 
 -- An item is the next one from a place on. The place after it is known, unless it is past the limit, where nothing is left.
 pub record Comes (item : Item) (place suffix : Rest) : Type 0 where

@@ -89,7 +89,7 @@ module _ {F : Type 0} (l : CommandLanguage F) (sound : IsSound l) (depth : ℕ) 
     item_stopped result fault r sends other adds stores =
         let P : List ℕ → Type 0 = λ text. Sends held text (Err fault) out in
         let own : Sends held (reply_text l item.line result) (Err fault) out = subst (λ (n : ℕ). Sends held (reply_text l n result) (Err fault) out) (sym line_is) sends in
-        item_alone result (flows.Stopped fault) r (λ loaded is. other loaded r.reply r.gives is) tt (record { front = []; last = one result r; order = refl; mid = held; sent = none_sent held; stopped = subst P (text_same item result r.reply r.gives) own }) adds stores
+        item_alone result (flows.Stopped fault) r (λ loaded is. other loaded r.reply r.gives is) tt (record { prefix = []; last = one result r; split = refl; mid = held; sent = none_sent held; stopped = subst P (text_same item result r.reply r.gives) own }) adds stores
 
     pub item_enters : (printed_text : Vec ℕ Global) → HasReplied l depth (state l ledger old room) item (Ok (deeds.Enters printed_text)) new left → HasSent held (reply_text l line (Ok (deeds.Enters printed_text))) out → AddsResult l tally (Ok (deeds.Enters printed_text)) counted → IfSome old.files (l.stores ledger)
         → (known : l.Ledger) × TakesItem l depth (state l ledger old room) item held tally flows.GoesOn (state l known new left) out counted

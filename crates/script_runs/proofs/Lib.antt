@@ -2,7 +2,7 @@
 pub mod ReplySteps
 pub mod CountSums
 pub mod Counting
-pub mod Standing
+pub mod Reached
 pub mod MoreBytes
 pub mod Cutting
 pub mod ItemSteps
@@ -12,3 +12,4 @@ pub mod CountedItems
 pub mod WholeTexts
 pub mod Statuses
 pub mod OneRuns
+pub mod LongerRuns

@@ -24,9 +24,9 @@ use Rattle.script_runs.proofs.Counting.{some_of-append}
 use Rattle.script_runs.proofs.Statuses.{of_loaded}
 
 -- the count of store faults
-faults-append : {F : Type 0} (l : CommandLanguage F) (front more : List (Answered l)) → store_faults l (front ++ more) ≡ store_faults l front + store_faults l more
+faults-append : {F : Type 0} (l : CommandLanguage F) (prefix more : List (Answered l)) → store_faults l (prefix ++ more) ≡ store_faults l prefix + store_faults l more
 faults-append l [] more = omega arith
-faults-append l (a ∷ front) more = omega (arith, faults-append l front more)
+faults-append l (a ∷ prefix) more = omega (arith, faults-append l prefix more)
 
 pub store_faults_are_counted : {F : Type 0} (l : CommandLanguage F) → StoreFaultsAreCounted l
 store_faults_are_counted l = λ depth turns. counted turns depth
@@ -38,16 +38,16 @@ store_faults_are_counted l = λ depth turns. counted turns depth
     none : (inside : Turns l) (n : ℕ) → inside ≡ no_more → min (n + store_faults l (in_order l inside)) (2 ^ 64 - 1) ≤ n
     none no_more n is = omega arith
     none cut_off n is = absurd (cc)
-    none (turn first inside behind) n is = absurd (cc)
+    none (turn first inside after) n is = absurd (cc)
 
     counted : (turns : Turns l) (depth : ℕ) (place last : Rest) (old new : State l) → Run l depth place old turns last new → min (old.store.faults + store_faults l (in_order l turns)) (2 ^ 64 - 1) ≤ new.store.faults
     counted no_more depth place last old new run = let same : new.store.faults ≡ old.store.faults = ap (λ (s : State l). s.store.faults) run.1 in omega arith
     counted cut_off depth place last old new run = let same : new.store.faults ≡ old.store.faults = ap (λ (s : State l). s.store.faults) run.1 in omega arith
-    counted (turn first inside behind) depth place last old new (mid, store, later, next, replies, loaded, ends, run) =
-        more (is_by_store l first.reply) (store_faults l (in_order l inside)) (store_faults l (in_order l behind)) (store_faults l (in_order l inside ++ in_order l behind)) old.store.faults store.faults later.store.faults new.store.faults
-        (faults-append l (in_order l inside) (in_order l behind)) replies.stored.later replies.stored.cause
+    counted (turn first inside after) depth place last old new (mid, store, later, next, replies, loaded, ends, run) =
+        more (is_by_store l first.reply) (store_faults l (in_order l inside)) (store_faults l (in_order l after)) (store_faults l (in_order l inside ++ in_order l after)) old.store.faults store.faults later.store.faults new.store.faults
+        (faults-append l (in_order l inside) (in_order l after)) replies.stored.later replies.stored.cause
         (of_loaded l inside (suc depth) (λ here later. min (here.store.faults + store_faults l (in_order l inside)) (2 ^ 64 - 1) ≤ later.store.faults) (λ here is. none inside here.store.faults is) (counted inside (suc depth)) first.reply (state_after l (with_room l old (room_at depth mid old.room)) first.reply store) later loaded)
-        (counted behind depth (place_with depth mid later.room) last later new run)
+        (counted after depth (place_with depth mid later.room) last later new run)
 
 -- where the files are reported, an item is answered by its ledger
 known_same : {L : Type 0} (reported : Option Files) (files : Files) (ledger known : L) → reported ≡ Some files → IfSome reported (λ (files : Files). known ≡ ledger) → known ≡ ledger
@@ -63,15 +63,19 @@ none_later true w is = cc
 none_later false w is = is
 
 -- no reply is the store's or memory's
-record AreProper {F : Type 0} (l : CommandLanguage F) (answered : List (Answered l)) : Type 0 where
-  store : some_of l (is_by_store l) answered ≡ false
-  memory : some_of l (is_by_memory l) answered ≡ false
+pub record AreProper {F : Type 0} (l : CommandLanguage F) (answered : List (Answered l)) : Type 0 where
+  pub store : some_of l (is_by_store l) answered ≡ false
+  pub memory : some_of l (is_by_memory l) answered ≡ false
 
 module _ {F : Type 0} (l : CommandLanguage F) where
-  parted : (p : Reply l → Bool) (front more : List (Answered l)) → some_of l p (front ++ more) ≡ false → (some_of l p front ≡ false) × (some_of l p more ≡ false)
-  parted p front more none =
-      let both : (some_of l p front || some_of l p more) ≡ false = sym (some_of-append l p front more) ∙ none in
-      (none_first (some_of l p front) (some_of l p more) both, none_later (some_of l p front) (some_of l p more) both)
+  parted : (p : Reply l → Bool) (prefix more : List (Answered l)) → some_of l p (prefix ++ more) ≡ false → (some_of l p prefix ≡ false) × (some_of l p more ≡ false)
+  parted p prefix more none =
+      let both : (some_of l p prefix || some_of l p more) ≡ false = sym (some_of-append l p prefix more) ∙ none in
+      (none_first (some_of l p prefix) (some_of l p more) both, none_later (some_of l p prefix) (some_of l p more) both)
+
+  -- so of the first ones
+  pub proper_prefix : (prefix more : List (Answered l)) → AreProper l (prefix ++ more) → AreProper l prefix
+  proper_prefix prefix more are = record { store = (parted (is_by_store l) prefix more are.store).0; memory = (parted (is_by_memory l) prefix more are.memory).0 }
 
   proper_first : (first : Answered l) (answered : List (Answered l)) → AreProper l (first ∷ answered) → IsProper l first.reply
   proper_first first answered are = record {
@@ -79,10 +83,10 @@ module _ {F : Type 0} (l : CommandLanguage F) where
     memory = none_first (is_by_memory l first.reply) (some_of l (is_by_memory l) answered) are.memory;
   }
 
-  proper_rest : (first : Answered l) (inside behind : List (Answered l)) → AreProper l (first ∷ (inside ++ behind)) → AreProper l inside × AreProper l behind
-  proper_rest first inside behind are =
-      let store = parted (is_by_store l) inside behind (none_later (is_by_store l first.reply) (some_of l (is_by_store l) (inside ++ behind)) are.store) in
-      let memory = parted (is_by_memory l) inside behind (none_later (is_by_memory l first.reply) (some_of l (is_by_memory l) (inside ++ behind)) are.memory) in
+  proper_rest : (first : Answered l) (inside after : List (Answered l)) → AreProper l (first ∷ (inside ++ after)) → AreProper l inside × AreProper l after
+  proper_rest first inside after are =
+      let store = parted (is_by_store l) inside after (none_later (is_by_store l first.reply) (some_of l (is_by_store l) (inside ++ after)) are.store) in
+      let memory = parted (is_by_memory l) inside after (none_later (is_by_memory l first.reply) (some_of l (is_by_memory l) (inside ++ after)) are.memory) in
       (record { store = store.0; memory = memory.0 }, record { store = store.1; memory = memory.1 })
 
 -- how a text without terminator is refused
@@ -99,7 +103,7 @@ clean_store refused true false (inl is) = cc
 clean_store refused true false (inr is) = cc
 clean_store refused false false clean = (refl, refl)
 
-clean_replies : {F : Type 0} (l : CommandLanguage F) (answered : List (Answered l)) (state : Status) → state ≡ status_of l answered → IsClean state → AreProper l answered
+pub clean_replies : {F : Type 0} (l : CommandLanguage F) (answered : List (Answered l)) (state : Status) → state ≡ status_of l answered → IsClean state → AreProper l answered
 clean_replies l answered state is clean =
     let P : Status → Type 0 = λ s. IsClean s in
     let both : (some_of l (is_by_store l) answered ≡ false) × (some_of l (is_by_memory l) answered ≡ false) = clean_store (some_of l (is_refusal l) answered) (some_of l (is_by_store l) answered) (some_of l (is_by_memory l) answered) (subst P is clean) in
@@ -135,7 +139,7 @@ whole_script None to gave more script taken reported is = cc
 whole_script (Some left) None gave more script taken reported is = absurd taken
 whole_script (Some left) (Some rest) gave more script taken reported is = let same : left ≡ script = cc in ap (λ (xs : List ℕ). gave ++ xs) reported ∙ (sym taken ∙ same)
 
-clean_through : {F : Type 0} (l : CommandLanguage F) (script : List ℕ) (from to : SourceView) (old new : StoreView) (held now : SinkView) (state : Status) → HasRun l from to old new held now state → from.left ≡ Some script → IsClean state → RanThrough l script from to old new held now state
+pub clean_through : {F : Type 0} (l : CommandLanguage F) (script : List ℕ) (from to : SourceView) (old new : StoreView) (held now : SinkView) (state : Status) → HasRun l from to old new held now state → from.left ≡ Some script → IsClean state → RanThrough l script from to old new held now state
 clean_through l script from to old new held now state (gave, more, given, inl ran) is clean =
     let same : gave ++ more ≡ script = whole_script from.left to.left gave more script given.taken given.reported is in
     let Q : List ℕ → Type 0 = λ s. RanThrough l s from to old new held now state in subst Q same ran
@@ -143,12 +147,12 @@ clean_through l script from to old new held now state (gave, more, given, inr (i
 clean_through l script from to old new held now state (gave, more, given, inr (inr ran)) is clean = absurd (no_fault l ran.turns from to gave ran.suffix state ran.cause clean)
 
 -- two states of which the same is known, with as many bytes that may be read, and the same files, which are reported
-record Alike {F : Type 0} (l : CommandLanguage F) (s t : State l) : Type 0 where
-  ledger : s.ledger ≡ t.ledger
-  room : s.room ≡ t.room
-  files : Files
-  reported : s.store.files ≡ Some files
-  reported' : t.store.files ≡ Some files
+pub record Alike {F : Type 0} (l : CommandLanguage F) (s t : State l) : Type 0 where
+  pub ledger : s.ledger ≡ t.ledger
+  pub room : s.room ≡ t.room
+  pub files : Files
+  pub reported : s.store.files ≡ Some files
+  pub reported' : t.store.files ≡ Some files
 
 module _ {F : Type 0} (l : CommandLanguage F) (determined : IsDetermined l) where
   alike_to : (s t s' t' : State l) → s' ≡ s → t' ≡ t → Alike l s t → Alike l s' t'
@@ -217,7 +221,7 @@ module _ {F : Type 0} (l : CommandLanguage F) (determined : IsDetermined l) wher
       }
 
   -- turns are the same, and lead to states that are alike
-  abbrev SameEnds : Turns l → Turns l → State l → State l → Type 0
+  abbrev pub SameEnds : Turns l → Turns l → State l → State l → Type 0
   SameEnds turns turns' new new' = (turns ≡ turns') × Alike l new new'
 
   abbrev AreSame : Turns l → Turns l → ℕ → Type 0
@@ -231,40 +235,40 @@ module _ {F : Type 0} (l : CommandLanguage F) (determined : IsDetermined l) wher
   same_loaded inside inside' depth same (Ok Ends) here here' later later' alike (is, to) (is', to') = (is ∙ sym is', alike_to here here' later later' to to' alike)
   same_loaded inside inside' depth same (Err fault) here here' later later' alike (is, to) (is', to') = (is ∙ sym is', alike_to here here' later later' to to' alike)
 
-  -- and of what comes behind it, where more may come or not
-  same_behind : (behind behind' : Turns l) (depth : ℕ) → (IsDue l behind → IsDue l behind' → AreSame behind behind' depth) → (v : Bool) (place place' last last' : Rest) (later later' new new' : State l) → place ≡ place' → Alike l later later'
-      → (v ≡ false → behind ≡ cut_off) → (v ≡ false → behind' ≡ cut_off) → (v ≡ true → IsDue l behind) → (v ≡ true → IsDue l behind') → Run l depth place later behind last new → Run l depth place' later' behind' last' new'
-      → (is_cut_off l behind ≡ false → IsAtEnd last) → (is_cut_off l behind' ≡ false → IsAtEnd last') → SameEnds behind behind' new new'
-  same_behind behind behind' depth same true place place' last last' later later' new new' places alike off off' due due' run run' end end' =
-      same (due refl) (due' refl) place last last' later later' new new' alike run (subst (λ (p : Rest). Run l depth p later' behind' last' new') (sym places) run') end end'
-  same_behind behind behind' depth same false place place' last last' later later' new new' places alike off off' due due' run run' end end' =
+  -- and of what comes after it, where more may come or not
+  same_rest : (after after' : Turns l) (depth : ℕ) → (IsDue l after → IsDue l after' → AreSame after after' depth) → (v : Bool) (place place' last last' : Rest) (later later' new new' : State l) → place ≡ place' → Alike l later later'
+      → (v ≡ false → after ≡ cut_off) → (v ≡ false → after' ≡ cut_off) → (v ≡ true → IsDue l after) → (v ≡ true → IsDue l after') → Run l depth place later after last new → Run l depth place' later' after' last' new'
+      → (is_cut_off l after ≡ false → IsAtEnd last) → (is_cut_off l after' ≡ false → IsAtEnd last') → SameEnds after after' new new'
+  same_rest after after' depth same true place place' last last' later later' new new' places alike off off' due due' run run' end end' =
+      same (due refl) (due' refl) place last last' later later' new new' alike run (subst (λ (p : Rest). Run l depth p later' after' last' new') (sym places) run') end end'
+  same_rest after after' depth same false place place' last last' later later' new new' places alike off off' due due' run run' end end' =
       let stays : Run l depth place later cut_off last new = subst (λ (t : Turns l). Run l depth place later t last new) (off refl) run in
       let stays' : Run l depth place' later' cut_off last' new' = subst (λ (t : Turns l). Run l depth place' later' t last' new') (off' refl) run' in
       (off refl ∙ sym (off' refl), alike_to later later' new new' stays.1 stays'.1 alike)
 
-  same_turns : (turns turns' : Turns l) (depth : ℕ) → AreProper l (in_order l turns) → AreProper l (in_order l turns') → IsDue l turns → IsDue l turns' → AreSame turns turns' depth
+  pub same_turns : (turns turns' : Turns l) (depth : ℕ) → AreProper l (in_order l turns) → AreProper l (in_order l turns') → IsDue l turns → IsDue l turns' → AreSame turns turns' depth
   same_turns no_more no_more depth are are' due due' = λ place last last' old old' new new' alike run run' end end'. (refl, alike_to old old' new new' run.1 run'.1 alike)
   same_turns no_more cut_off depth are are' due due' = absurd due'
-  same_turns no_more (turn first inside behind) depth are are' due due' = λ place last last' old old' new new' alike run run' end end'.
+  same_turns no_more (turn first inside after) depth are are' due due' = λ place last last' old old' new new' alike run run' end end'.
       absurd (none_next place first.item run'.0 run'.3 (subst IsAtEnd run.0 (end refl)))
   same_turns cut_off turns' depth are are' due due' = absurd due
-  same_turns (turn first inside behind) no_more depth are are' due due' = λ place last last' old old' new new' alike run run' end end'.
+  same_turns (turn first inside after) no_more depth are are' due due' = λ place last last' old old' new new' alike run run' end end'.
       absurd (none_next place first.item run.0 run.3 (subst IsAtEnd run'.0 (end' refl)))
-  same_turns (turn first inside behind) cut_off depth are are' due due' = absurd due'
-  same_turns (turn first inside behind) (turn first' inside' behind') depth are are' due due' = λ place last last' old old' new new' alike (mid, store, later, next, replies, loaded, off, run) (mid', store', later', next', replies', loaded', off', run') end end'.
+  same_turns (turn first inside after) cut_off depth are are' due due' = absurd due'
+  same_turns (turn first inside after) (turn first' inside' after') depth are are' due due' = λ place last last' old old' new new' alike (mid, store, later, next, replies, loaded, off, run) (mid', store', later', next', replies', loaded', off', run') end end'.
       let items : Same first.item first'.item mid mid' = same_next place first.item first'.item mid mid' next next' in
-      let rest = proper_rest l first (in_order l inside) (in_order l behind) are in
-      let rest' = proper_rest l first' (in_order l inside') (in_order l behind') are' in
+      let rest = proper_rest l first (in_order l inside) (in_order l after) are in
+      let rest' = proper_rest l first' (in_order l inside') (in_order l after') are' in
       let at : State l = with_room l old (room_at depth mid old.room) in
       let at' : State l = with_room l old' (room_at depth mid' old'.room) in
       let begin : Alike l at at' = record { ledger = alike.ledger; room = λ i. room_at depth (items.place i) (alike.room i); files = alike.files; reported = alike.reported; reported' = alike.reported' } in
-      let reply : first.reply ≡ first'.reply = same_reply depth at at' first.item first'.item first.reply first'.reply store store' begin items.item replies replies' (proper_first l first (in_order l inside ++ in_order l behind) are) (proper_first l first' (in_order l inside' ++ in_order l behind') are') in
+      let reply : first.reply ≡ first'.reply = same_reply depth at at' first.item first'.item first.reply first'.reply store store' begin items.item replies replies' (proper_first l first (in_order l inside ++ in_order l after) are) (proper_first l first' (in_order l inside' ++ in_order l after') are') in
       let here : Alike l (state_after l at first.reply store) (state_after l at' first'.reply store') = same_after depth at at' first.item first'.item first.reply first'.reply store store' begin reply replies replies' in
       let load : Loaded l (suc depth) first.reply (state_after l at' first'.reply store') inside' later' = subst (λ (r : Reply l). Loaded l (suc depth) r (state_after l at' first'.reply store') inside' later') (sym reply) loaded' in
       let in_file : SameEnds inside inside' later later' = same_loaded inside inside' (suc depth) (same_turns inside inside' (suc depth) rest.0 rest'.0 due.0 due'.0) first.reply (state_after l at first.reply store) (state_after l at' first'.reply store') later later' here loaded load in
       let going : goes_on l first.reply inside ≡ goes_on l first'.reply inside' = λ i. goes_on l (reply i) (in_file.0 i) in
       let places : place_with depth mid later.room ≡ place_with depth mid' later'.room = λ i. place_with depth (items.place i) (in_file.1.room i) in
-      let ends : SameEnds behind behind' new new' = same_behind behind behind' depth (λ due due'. same_turns behind behind' depth rest.1 rest'.1 due due') (goes_on l first.reply inside) (place_with depth mid later.room) (place_with depth mid' later'.room) last last' later later' new new' places in_file.1
+      let ends : SameEnds after after' new new' = same_rest after after' depth (λ due due'. same_turns after after' depth rest.1 rest'.1 due due') (goes_on l first.reply inside) (place_with depth mid later.room) (place_with depth mid' later'.room) last last' later later' new new' places in_file.1
       off (λ ends. off' (sym going ∙ ends)) due.1 (λ on. due'.1 (sym going ∙ on)) run run' end end' in
       (λ i. turn (record { item = items.item i; reply = reply i }) (in_file.0 i) (ends.0 i), ends.1)
 

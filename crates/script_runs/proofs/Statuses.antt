@@ -32,42 +32,42 @@ module _ {F : Type 0} (l : CommandLanguage F) where
   pub later_of_run : (turns : Turns l) (depth : ℕ) (place last : Rest) (old new : State l) → Run l depth place old turns last new → old.store.faults ≤ new.store.faults
   later_of_run no_more depth place last old new run = let same : new.store.faults ≡ old.store.faults = ap (λ (s : State l). s.store.faults) run.1 in omega arith
   later_of_run cut_off depth place last old new run = let same : new.store.faults ≡ old.store.faults = ap (λ (s : State l). s.store.faults) run.1 in omega arith
-  later_of_run (turn first inside behind) depth place last old new (mid, store, later, next, replies, loaded, ends, run) =
+  later_of_run (turn first inside after) depth place last old new (mid, store, later, next, replies, loaded, ends, run) =
       omega (
         arith,
         replies.stored.later,
         of_loaded inside (suc depth) (λ here later. here.store.faults ≤ later.store.faults) (λ here is. omega arith) (later_of_run inside (suc depth)) first.reply (state_after l (with_room l old (room_at depth mid old.room)) first.reply store) later loaded,
-        later_of_run behind depth (place_with depth mid later.room) last later new run,
+        later_of_run after depth (place_with depth mid later.room) last later new run,
       )
 
-  -- a store fault that is told of one of the turns
+  -- a store fault that is the reply to one of the turns
   rose_first : (u v w : Bool) (a b c d : ℕ) → a ≤ b → b ≤ c → c ≤ d → (u ≡ true → Rose a b) → (v ≡ true → Rose b c) → (w ≡ true → Rose c d) → (u || (v || w)) ≡ true → Rose a d
   rose_first true v w a b c d ab bc cd p q r is = omega (arith, ab, bc, cd, p refl)
   rose_first false true w a b c d ab bc cd p q r is = omega (arith, ab, bc, cd, q refl)
   rose_first false false w a b c d ab bc cd p q r is = omega (arith, ab, bc, cd, r is)
 
-  some_among : (first : Answered l) (inside behind : List (Answered l)) → IsTrue (some_of l (is_by_store l) (first ∷ (inside ++ behind))) → (is_by_store l first.reply || (some_of l (is_by_store l) inside || some_of l (is_by_store l) behind)) ≡ true
-  some_among first inside behind some = sym (ap (λ (v : Bool). is_by_store l first.reply || v) (some_of-append l (is_by_store l) inside behind)) ∙ some
+  some_among : (first : Answered l) (inside after : List (Answered l)) → IsTrue (some_of l (is_by_store l) (first ∷ (inside ++ after))) → (is_by_store l first.reply || (some_of l (is_by_store l) inside || some_of l (is_by_store l) after)) ≡ true
+  some_among first inside after some = sym (ap (λ (v : Bool). is_by_store l first.reply || v) (some_of-append l (is_by_store l) inside after)) ∙ some
 
   -- and rose where some reply is a store fault
   pub rose_of_run : (turns : Turns l) (depth : ℕ) (place last : Rest) (old new : State l) → Run l depth place old turns last new → IsTrue (some_of l (is_by_store l) (in_order l turns)) → Rose old.store.faults new.store.faults
   rose_of_run no_more depth place last old new run some = absurd (cc)
   rose_of_run cut_off depth place last old new run some = absurd (cc)
-  rose_of_run (turn first inside behind) depth place last old new (mid, store, later, next, replies, loaded, ends, run) some =
+  rose_of_run (turn first inside after) depth place last old new (mid, store, later, next, replies, loaded, ends, run) some =
       let here : State l = state_after l (with_room l old (room_at depth mid old.room)) first.reply store in
-      rose_first (is_by_store l first.reply) (some_of l (is_by_store l) (in_order l inside)) (some_of l (is_by_store l) (in_order l behind)) old.store.faults store.faults later.store.faults new.store.faults
+      rose_first (is_by_store l first.reply) (some_of l (is_by_store l) (in_order l inside)) (some_of l (is_by_store l) (in_order l after)) old.store.faults store.faults later.store.faults new.store.faults
       replies.stored.later
       (of_loaded inside (suc depth) (λ here later. here.store.faults ≤ later.store.faults) (λ here is. omega arith) (later_of_run inside (suc depth)) first.reply here later loaded)
-      (later_of_run behind depth (place_with depth mid later.room) last later new run)
+      (later_of_run after depth (place_with depth mid later.room) last later new run)
       replies.stored.cause
       (of_loaded inside (suc depth) (λ here later. some_of l (is_by_store l) (in_order l inside) ≡ true → Rose here.store.faults later.store.faults) (λ here is some. absurd (none_some inside is some)) (λ place last old new run some. rose_of_run inside (suc depth) place last old new run some) first.reply here later loaded)
-      (λ some. rose_of_run behind depth (place_with depth mid later.room) last later new run some)
-      (some_among first (in_order l inside) (in_order l behind) some)
+      (λ some. rose_of_run after depth (place_with depth mid later.room) last later new run some)
+      (some_among first (in_order l inside) (in_order l after) some)
     where
       none_some : (inside : Turns l) → inside ≡ no_more → some_of l (is_by_store l) (in_order l inside) ≡ true → ⊥
       none_some no_more is some = cc
       none_some cut_off is some = cc
-      none_some (turn first inside behind) is some = cc
+      none_some (turn first inside after) is some = cc
 
   store_of_outside : (refused store memory : Bool) → status_by refused store memory ≡ status.Outside → store ≡ true
   store_of_outside refused store true is = cc

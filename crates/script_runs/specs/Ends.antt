@@ -46,11 +46,11 @@ pub record RanThrough {F : Type 0} (l : CommandLanguage F) (script : List ℕ) (
 
 -- some lines were printed whole, and a part of the last one, in which the sink stopped
 pub record PrintsPart {F : Type 0} (l : CommandLanguage F) (held : SinkView) (answered : List (Answered l)) (fault : WriteFault) (now : SinkView) : Type 0 where
-  pub front : List (Answered l)
+  pub prefix : List (Answered l)
   pub last : Answered l
-  pub order : answered ≡ front ++ last ∷ []
+  pub split : answered ≡ prefix ++ last ∷ []
   pub mid : SinkView
-  pub sent : HasSent held (printed l front) mid
+  pub sent : HasSent held (printed l prefix) mid
   pub stopped : Sends mid (line_of l last.item last.reply) (Err fault) now
 
 -- The sink stopped the run in the line of its last reply. The source did not fail.

@@ -1,4 +1,4 @@
--- What a run does behind an item, and behind a file.
+-- What a run does after an item, and after a file.
 use Rattle.std.specs.Prelude.{◌≡◌, ℕ, true, false, if◌then◌else◌, List, ⊤}
 use Rattle.wal_outside.specs.Sending.{HasSent}
 use Rattle.wal_outside.specs.Views.{SinkView}
@@ -19,21 +19,21 @@ Prints l held answered flows.Ends now = HasSent held (printed l answered) now
 Prints l held answered (flows.Stopped fault) now = PrintsPart l held answered fault now
 Prints l held answered flows.WantsMemory now = HasSent held (printed l answered) now
 
--- behind an item a run goes on, or ends where it has to; or is ended by the sink, or by want of memory in what the item loaded
+-- after an item a run goes on, or ends where it has to; or is ended by the sink, or because memory ran out in what the item loaded
 abbrev pub ItemEndsBy : {F : Type 0} (l : CommandLanguage F) → Reply l → Turns l → Flow → Type 0
 ItemEndsBy l reply inside flows.GoesOn = (goes_on l reply inside ≡ true) × IsDue l inside
 ItemEndsBy l reply inside flows.Ends = (goes_on l reply inside ≡ false) × IsDue l inside
 ItemEndsBy l reply inside (flows.Stopped fault) = ⊤
 ItemEndsBy l reply inside flows.WantsMemory = is_cut_off l inside ≡ true
 
--- behind a text a run goes on where that was not cut off
+-- after a text a run goes on where that was not cut off
 abbrev pub TextEndsBy : {F : Type 0} (l : CommandLanguage F) → Turns l → Flow → Type 0
 TextEndsBy l turns flows.GoesOn = (is_cut_off l turns ≡ false) × IsDue l turns
 TextEndsBy l turns flows.Ends = (is_cut_off l turns ≡ true) × IsDue l turns
 TextEndsBy l turns (flows.Stopped fault) = is_cut_off l turns ≡ true
 TextEndsBy l turns flows.WantsMemory = is_cut_off l turns ≡ true
 
--- behind a command that is refused
+-- after a command that is refused
 abbrev pub flow_after : {F : Type 0} → CommandLanguage F → F → Flow
 flow_after l fault = if l.ends_run fault then flows.Ends else flows.GoesOn
 

@@ -11,7 +11,7 @@ reply_text l line (Ok (deeds.Loads text)) = []
 reply_text l line (Ok deeds.Ends) = []
 reply_text l line (Err fault) = l.fault_line line fault
 
--- no load stands in eight others
+-- no load is nested in eight others
 abbrev pub MayLoad : {F : Type 0} → ℕ → Result Deed F → Type 0
 MayLoad depth (Ok (deeds.Enters printed)) = ⊤
 MayLoad depth (Ok (deeds.Loads text)) = depth < 8

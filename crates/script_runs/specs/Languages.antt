@@ -20,7 +20,7 @@ pub record CommandLanguage (Fault : Type 0) : Type 1 where
   -- what is known at the beginning, by the store's files where these are reported; and whether files are those that are known
   pub first : Option Files → Ledger
   pub stores : Ledger → Files → Type 0
-  -- how a command is answered that has its terminator and stands in so many loads
+  -- how a command is answered that has its terminator and is nested in so many loads
   pub answers : ℕ → Ledger → List ℕ → Result (Deed Success) Fault → Type 0
   -- what a command that makes something changes of the files, where these are reported, and what is known afterwards
   pub changes : Ledger → Success → Option Files → Option Files → Type 0

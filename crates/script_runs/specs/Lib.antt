@@ -9,6 +9,7 @@ pub mod Ends
 pub mod Counted
 pub mod TextRuns
 pub mod Laws
+pub mod Prefixes
 -- what functions inside the crate do
 pub mod Tallies
 pub mod Handing

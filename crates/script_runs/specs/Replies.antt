@@ -28,7 +28,7 @@ FitsIn l room (Err fault) = ⊤
 abbrev pub PassesLimit : {F : Type 0} (l : CommandLanguage F) → ℕ → ℕ → l.Ledger → List ℕ → Reply l → Type 0
 PassesLimit l depth room ledger text reply = (loaded : List ℕ) × l.answers depth ledger text (Ok (Loads loaded)) × (room < length loaded) × (reply ≡ Err (l.of_script script.PastLimit))
 
--- the reply to an item that stands in so many loads, where so many bytes may still be read, by how the item ended
+-- the reply to an item that is nested in so many loads, where so many bytes may still be read, by how the item ended
 abbrev pub IsReplyOf : {F : Type 0} (l : CommandLanguage F) → Ended → ℕ → ℕ → l.Ledger → List ℕ → Reply l → Type 0
 IsReplyOf l (Terminated shown) depth room ledger text reply = (l.answers depth ledger text reply × FitsIn l room reply) ⊎ PassesLimit l depth room ledger text reply
 IsReplyOf l Unterminated depth room ledger text reply = IsOpenReply l text reply
@@ -84,7 +84,7 @@ pub record Stored {F : Type 0} (l : CommandLanguage F) (known : l.Ledger) (old :
   pub cause : IsTrue (is_by_store l reply) → Rose old.faults new.faults
   pub failed : new.failed ≡ failed_after l old.failed reply
 
--- where a run stands: what is known, the store, and how many bytes of the script and of files may still be read
+-- the state of a run: what is known, the store, and how many bytes of the script and of files may still be read
 pub record State {F : Type 0} (l : CommandLanguage F) : Type 0 where
   pub ledger : l.Ledger
   pub store : StoreView
@@ -95,7 +95,7 @@ pub record Answered {F : Type 0} (l : CommandLanguage F) : Type 0 where
   pub item : Item
   pub reply : Reply l
 
--- One item that stands in so many loads: it has this reply, and then the store is so. Where the store reports its files, the command is
+-- One item that is nested in so many loads: it has this reply, and then the store is so. Where the store reports its files, the command is
 -- answered by what is known of it, and else by something that may be known.
 pub record Replies {F : Type 0} (l : CommandLanguage F) (depth : ℕ) (old : State l) (answered : Answered l) (new : StoreView) : Type 0 where
   pub known : l.Ledger
@@ -103,7 +103,7 @@ pub record Replies {F : Type 0} (l : CommandLanguage F) (depth : ℕ) (old : Sta
   pub replied : IsReplyOf l answered.item.ended depth old.room known answered.item.text answered.reply
   pub stored : Stored l known old.store answered.reply new
 
--- where a run stands after a reply
+-- the state of a run after a reply
 abbrev pub state_after : {F : Type 0} (l : CommandLanguage F) → State l → Reply l → StoreView → State l
 state_after l old reply new = record { ledger = ledger_after l old.ledger reply; store = new; room = room_after l old.room reply }
 

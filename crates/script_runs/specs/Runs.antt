@@ -25,19 +25,19 @@ by_load l (Ok (Loads loaded)) P Q = P loaded
 by_load l (Ok Ends) P Q = Q
 by_load l (Err fault) P Q = Q
 
--- The items of a text that stands in so many loads come in turn, from a place and a state to others. A text that is loaded runs from its
+-- The items of a text that is nested in so many loads come in turn, from a place and a state to others. A text that is loaded runs from its
 -- start, and to its end unless the run ends in it.
 abbrev pub Run : {F : Type 0} (l : CommandLanguage F) → ℕ → Rest → State l → Turns l → Rest → State l → Type 0
 Run l depth place old no_more last new = (last ≡ place) × (new ≡ old)
 Run l depth place old cut_off last new = (last ≡ place) × (new ≡ old)
-Run l depth place old (turn first inside behind) last new =
+Run l depth place old (turn first inside after) last new =
     (mid : Rest) × (store : StoreView) × (later : State l) × Next place first.item mid
     × Replies l depth (with_room l old (room_at depth mid old.room)) first store
     × by_load l first.reply
     (λ loaded. (end : Rest) × Run l (suc depth) (start loaded) (state_after l (with_room l old (room_at depth mid old.room)) first.reply store) inside end later × (is_cut_off l inside ≡ false → IsAtEnd end))
     ((inside ≡ no_more) × (later ≡ state_after l (with_room l old (room_at depth mid old.room)) first.reply store))
-    × (goes_on l first.reply inside ≡ false → behind ≡ cut_off)
-    × Run l depth (place_with depth mid later.room) later behind last new
+    × (goes_on l first.reply inside ≡ false → after ≡ cut_off)
+    × Run l depth (place_with depth mid later.room) later after last new
 
 -- where a run begins: nothing was read of the script, and 16,777,216 bytes may be
 abbrev pub first_state : {F : Type 0} (l : CommandLanguage F) → StoreView → State l

@@ -25,7 +25,7 @@ pub record HasReplied {F : Type 0} (l : CommandLanguage F) (depth : ℕ) (old : 
   pub replies : Replies l depth old (record { item = item; reply = reply }) store
   pub room_is : room ≡ room_after l old.room reply
 
--- An item that stands in so many loads was answered, and so were those of the text that it loaded. Their lines were printed and counted.
+-- An item that is nested in so many loads was answered, and so were those of the text that it loaded. Their lines were printed and counted.
 pub record TakesItem {F : Type 0} (l : CommandLanguage F) (depth : ℕ) (old : State l) (item : Item) (held : SinkView) (tally : Tally) (flow : Flow) (later : State l) (now : SinkView) (counted : Tally) : Type 0 where
   pub reply : Reply l
   pub store : StoreView
@@ -37,7 +37,7 @@ pub record TakesItem {F : Type 0} (l : CommandLanguage F) (depth : ℕ) (old : S
   pub counts : Counts l tally (record { item = item; reply = reply } ∷ in_order l inside) counted
   pub stores : IfSome later.store.files (l.stores later.ledger)
 
--- The items of a text that stands in so many loads were answered, to its end unless the run ended in it. Their lines were printed and counted.
+-- The items of a text that is nested in so many loads were answered, to its end unless the run ended in it. Their lines were printed and counted.
 pub record TakesText {F : Type 0} (l : CommandLanguage F) (depth : ℕ) (old : State l) (text : List ℕ) (held : SinkView) (tally : Tally) (flow : Flow) (end : Rest) (later : State l) (now : SinkView) (counted : Tally) : Type 0 where
   pub turns : Turns l
   pub run : Run l depth (start text) old turns end later
@@ -47,7 +47,7 @@ pub record TakesText {F : Type 0} (l : CommandLanguage F) (depth : ℕ) (old : S
   pub counts : Counts l tally (in_order l turns) counted
   pub stores : IfSome later.store.files (l.stores later.ledger)
 
--- where a run stands, by what is known, the store, and how many bytes may still be read
+-- the state of a run, by what is known, the store, and how many bytes may still be read
 abbrev pub state : {F : Type 0} (l : CommandLanguage F) → l.Ledger → StoreView → ℕ → State l
 state l ledger store room = record { ledger = ledger; store = store; room = room }
 

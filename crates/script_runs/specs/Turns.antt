@@ -10,17 +10,17 @@ pub data Turns {F : Type 0} (l : CommandLanguage F) : Type 0 where
   cut_off : Turns l
   turn : Answered l → Turns l → Turns l → Turns l
 
--- the answered items: one, those of the text that it loaded, and those behind it
+-- the answered items: one, those of the text that it loaded, and those after it
 abbrev pub in_order : {F : Type 0} (l : CommandLanguage F) → Turns l → List (Answered l)
 in_order l no_more = []
 in_order l cut_off = []
-in_order l (turn first inside behind) = first ∷ (in_order l inside ++ in_order l behind)
+in_order l (turn first inside after) = first ∷ (in_order l inside ++ in_order l after)
 
 -- whether the run ended there
 abbrev pub is_cut_off : {F : Type 0} (l : CommandLanguage F) → Turns l → Bool
 is_cut_off l no_more = false
 is_cut_off l cut_off = true
-is_cut_off l (turn first inside behind) = is_cut_off l behind
+is_cut_off l (turn first inside after) = is_cut_off l after
 
 -- whether a run ends with a reply
 abbrev pub ends_with : {F : Type 0} (l : CommandLanguage F) → Reply l → Bool
@@ -29,7 +29,7 @@ ends_with l (Ok (Loads loaded)) = false
 ends_with l (Ok Ends) = true
 ends_with l (Err fault) = l.ends_run fault
 
--- whether more may come behind an item
+-- whether more may come after an item
 abbrev pub goes_on : {F : Type 0} (l : CommandLanguage F) → Reply l → Turns l → Bool
 goes_on l reply inside = not (ends_with l reply || is_cut_off l inside)
 
@@ -37,4 +37,4 @@ goes_on l reply inside = not (ends_with l reply || is_cut_off l inside)
 abbrev pub IsDue : {F : Type 0} (l : CommandLanguage F) → Turns l → Type 0
 IsDue l no_more = ⊤
 IsDue l cut_off = ⊥
-IsDue l (turn first inside behind) = IsDue l inside × (goes_on l first.reply inside ≡ true → IsDue l behind)
+IsDue l (turn first inside after) = IsDue l inside × (goes_on l first.reply inside ≡ true → IsDue l after)

@@ -18,7 +18,7 @@ pub struct Command<'a> {
     pub text: &'a [u8],
     /// Whether the lines of its steps are shown.
     pub shown: bool,
-    /// In how many loads it stands.
+    /// In how many loads it is nested.
     pub depth: usize,
 }
 
@@ -30,7 +30,7 @@ pub trait Answering: Drop {
     /// The language of the commands.
     ghost language: { Self → CommandLanguage Self.Refusal };
 
-    /// Answers one command, and says what it does. A command that stands in eight loads loads nothing.
+    /// Answers one command, and says what it does. A command that is nested in eight loads loads nothing.
     ///
     /// # Errors
     /// Why it is refused; the store's texts are as before.

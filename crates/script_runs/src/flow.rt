@@ -1,6 +1,6 @@
 use wal_outside::WriteFault;
 
-/// What a run does behind an item, or behind a file that it loaded.
+/// What a run does after an item, or after a file that it loaded.
 #[derive(Clone, Copy)]
 pub(crate) enum Flow {
     /// The next item comes.

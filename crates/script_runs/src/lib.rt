@@ -17,7 +17,7 @@ mod tally;
 mod handing;
 // what comes next of a text
 mod coming;
-// what a run does behind an item
+// what a run does after an item
 mod flow;
 // what a run goes on with
 mod progress;
@@ -33,7 +33,7 @@ mod laws;
 pub use answering::{Answering, Command};
 pub use counts::Counts;
 pub use deed::Deed;
-pub use laws::items_have_bytes;
+pub use laws::{items_have_bytes, longer_runs};
 pub use running::{LOAD_LIMIT, run_script};
 pub use script_fault::ScriptFault;
 pub use status::Status;

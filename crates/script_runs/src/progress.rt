@@ -43,7 +43,7 @@ impl<A: Answering> Progress<A> {
         }
     }
 
-    /// Answers an item that stands in so many loads, and counts the reply.
+    /// Answers an item that is nested in so many loads, and counts the reply.
     ///
     /// # Errors
     /// Why it is refused.
@@ -66,7 +66,7 @@ impl<A: Answering> Progress<A> {
         reply
     }
 
-    /// Answers an item that stands in so many loads.
+    /// Answers an item that is nested in so many loads.
     fn answer<T: Store>(
         &mut self,
         item: &Item,

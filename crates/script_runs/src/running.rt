@@ -21,11 +21,11 @@ use script_cut::Cutter;
 use std::alloc::Global;
 use wal_outside::{Sink, Source, Store, SureSource};
 
-/// In how many loads a command may stand.
+/// In how many loads a command may be nested.
 pub const LOAD_LIMIT: usize = 8;
 
 /// Answers the commands of a script one after another, each as its terminator comes, and hands over what they print, or the lines of
-/// the refused ones. Where a command loads a text, the commands of that come before those behind it. The run goes on to the script's
+/// the refused ones. Where a command loads a text, the commands of that come before those after it. The run goes on to the script's
 /// end, or to a command that ends it. At most 65,537 bytes of the script are held at once, and each text that is loaded while it runs.
 ///
 /// The status is the first of these that applies: `Outside` where source or sink failed; `Memory`; `Outside` where the store failed;
@@ -76,7 +76,7 @@ pub(crate) fn answer_script<A: Answering, S: Source, K: Sink, T: Store>(
     }
 }
 
-/// Answers an item that stands in so many loads, and those of the text that it loads.
+/// Answers an item that is nested in so many loads, and those of the text that it loads.
 #[cycle(loads)]
 fn answer_item<A: Answering, K: Sink, T: Store>(
     progress: &mut Progress<A>,
@@ -102,12 +102,12 @@ fn answer_item<A: Answering, K: Sink, T: Store>(
         Ok(Deed::Enters(_printed)) => Flow::GoesOn,
         Ok(Deed::Loads(text)) => answer_text(progress, text, depth + 1, out, store),
         Ok(Deed::Ends) => Flow::Ends,
-        Err(refusal) => flow_behind(&progress.answering, refusal),
+        Err(refusal) => flow_of_refusal(&progress.answering, refusal),
     }
 }
 
-/// Whether the run goes on behind a command that is refused.
-fn flow_behind<A: Answering>(answering: &A, refusal: A::Refusal) -> Flow
+/// Whether the run goes on after a command that is refused.
+fn flow_of_refusal<A: Answering>(answering: &A, refusal: A::Refusal) -> Flow
     ensures { result ≡ flow_after (A.language answering.now) refusal }
 {
     if answering.ends_run(&refusal) {
@@ -117,7 +117,7 @@ fn flow_behind<A: Answering>(answering: &A, refusal: A::Refusal) -> Flow
     }
 }
 
-/// Answers the items of a text that was loaded and stands in so many loads.
+/// Answers the items of a text that was loaded and is nested in so many loads.
 #[cycle(loads)]
 fn answer_text<A: Answering, K: Sink, T: Store>(
     progress: &mut Progress<A>,

@@ -1,4 +1,4 @@
-use Rattle.std.proofs.Common.{◌≡◌, rules, map, string_bytes, List, Bool, true, false, Option, Some, [], codes, refl, sym, ap, ◌∙◌, subst}
+use Rattle.std.proofs.Common.{◌≡◌, map, string_bytes, List, Bool, true, false, Option, Some, [], codes, refl, sym, ap, ◌∙◌, subst}
 use Rattle.clap.specs.Walk.{Text, first_of, one_of, rows_of, Row}
 use Rattle.clap.specs.Simple.{App, app_of, is_simple, matches_of}
 use Rattle.clap.specs.Faults.{fault_of, is_simple_and_free}

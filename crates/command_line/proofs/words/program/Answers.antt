@@ -1,7 +1,7 @@
-use Rattle.std.proofs.Common.{◌≡◌, rules, true, refl, sym, ap, ap₂, ◌∙◌}
+use Rattle.std.proofs.Common.{◌≡◌, rules, true, ap, ap₂, ◌∙◌}
 use Rattle.clap.specs.Walk.{rule_of}
 use Rattle.clap.specs.Simple.{app_of, app_of_fields, on_top, with_rule}
-use Rattle.command_line.specs.Program.{states_arg, stop_arg, make_arg, bare_app, walnut_app}
+use Rattle.command_line.specs.Program.{states_arg, stop_arg, make_arg, bare_app}
 use Rattle.command_line.proofs.words.program.Goals as goal
 
 pub returns : goal.returns

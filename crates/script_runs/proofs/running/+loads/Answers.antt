@@ -28,7 +28,7 @@ answer_item-returns-in-Ok-Ends-clause-takes g t c = λ cut is ledger stores.
 
 pub answer_item-returns-in-Err-reply-clause-takes : goal.answer_item-returns-in-Err-reply-clause-takes
 answer_item-returns-in-Err-reply-clause-takes g t c = λ cut is ledger stores.
-    result_refused _ (g.met.A.Answering.sound c.args.progress.now.answering) c.args.depth ledger (g.T.Store.view c.args.store.now) (g.T.Store.view c.reply_to-reply.new.store) c.args.progress.now.script.room c.reply_to-reply.new.self.script.room cut c.args.item.now.line is.line (g.K.Sink.view c.args.out.now) (g.K.Sink.view c.hand_over.new.out) c.args.progress.now.tally c.reply_to-reply.new.self.tally c.reply_to-reply.result (c.reply_to-reply.ensures.reply cut is ledger stores) c.reply_to-reply.ensures.counts stores c.in-Err-reply.refusal c.in-Err-reply.is (rw c.reply_to-reply.ensures.kept at c.in-Ok.ensures) c.flow_behind.result (rw c.reply_to-reply.ensures.kept at c.flow_behind.ensures)
+    result_refused _ (g.met.A.Answering.sound c.args.progress.now.answering) c.args.depth ledger (g.T.Store.view c.args.store.now) (g.T.Store.view c.reply_to-reply.new.store) c.args.progress.now.script.room c.reply_to-reply.new.self.script.room cut c.args.item.now.line is.line (g.K.Sink.view c.args.out.now) (g.K.Sink.view c.hand_over.new.out) c.args.progress.now.tally c.reply_to-reply.new.self.tally c.reply_to-reply.result (c.reply_to-reply.ensures.reply cut is ledger stores) c.reply_to-reply.ensures.counts stores c.in-Err-reply.refusal c.in-Err-reply.is (rw c.reply_to-reply.ensures.kept at c.in-Ok.ensures) c.flow_of_refusal.result (rw c.reply_to-reply.ensures.kept at c.flow_of_refusal.ensures)
 
 pub answer_item-answer_text-requires : goal.answer_item-answer_text-requires
 answer_item-answer_text-requires g t c κs within =
@@ -46,11 +46,11 @@ answer_item-returns-in-Ok-Loads-clause-limit g t c = λ past. absurd (not_both c
 
 pub answer_item-returns-in-Err-reply-clause-limit : goal.answer_item-returns-in-Err-reply-clause-limit
 answer_item-returns-in-Err-reply-clause-limit g t c = λ past.
-    limit_ends (g.A.Answering.language c.args.progress.now.answering) (g.met.A.Answering.sound c.args.progress.now.answering) c.reply_to-reply.result c.in-Err-reply.refusal (c.reply_to-reply.ensures.limit past) c.in-Err-reply.is c.flow_behind.result (rw c.reply_to-reply.ensures.kept at c.flow_behind.ensures)
+    limit_ends (g.A.Answering.language c.args.progress.now.answering) (g.met.A.Answering.sound c.args.progress.now.answering) c.reply_to-reply.result c.in-Err-reply.refusal (c.reply_to-reply.ensures.limit past) c.in-Err-reply.is c.flow_of_refusal.result (rw c.reply_to-reply.ensures.kept at c.flow_of_refusal.ensures)
 
 pub answer_text-items-init : goal.answer_text-items-init
 answer_text-items-init g t c = record {
-  stands = rw c.new-cutter.ensures (text_first _ (sure_left c.new-source.result) (g.T.Store.view c.args.store.now) c.args.progress.now.script.room (g.K.Sink.view c.args.out.now) c.args.progress.now.tally c.args.depth);
+  reached = rw c.new-cutter.ensures (text_first _ (sure_left c.new-source.result) (g.T.Store.view c.args.store.now) c.args.progress.now.script.room (g.K.Sink.view c.args.out.now) c.args.progress.now.tally c.args.depth);
   answering = refl;
   spent = record { only = refl; falls = omega arith };
 }
@@ -61,7 +61,7 @@ answer_text-items-smaller-in-GoesOn g t c =
 
 pub answer_text-items-preserved-in-GoesOn : goal.answer_text-items-preserved-in-GoesOn
 answer_text-items-preserved-in-GoesOn g t c = record {
-  stands = text_next _ (sure_left c.new-source.result) (g.T.Store.view c.args.store.now) c.args.progress.now.script.room (g.K.Sink.view c.args.out.now) c.args.progress.now.tally _ _ c.items.cutter c.cut.new.self c.cut.result (sure_left c.items.source) (sure_left c.cut.new.from) c.cut.ensures.cut refl refl (g.T.Store.view c.items.store) c.items.progress.script.room (g.K.Sink.view c.items.out) c.items.progress.tally c.in-Item.item (sym c.in-Item.ensures) flows.GoesOn (g.T.Store.view c.answer_item.new.store) c.answer_item.new.progress.script.room (g.K.Sink.view c.answer_item.new.out) c.answer_item.new.progress.tally c.args.depth c.requires.some refl (λ past. c.in-GoesOn.ensures.limit past refl) (under g.A.Answering.language (λ l. TakesOne l c.args.depth c.in-Item.item (g.T.Store.view c.items.store) c.items.progress.script.room (g.T.Store.view c.answer_item.new.store) c.answer_item.new.progress.script.room (g.K.Sink.view c.items.out) (g.K.Sink.view c.answer_item.new.out) c.items.progress.tally c.answer_item.new.progress.tally flows.GoesOn) _ _ c.items.invariant.answering c.in-GoesOn.ensures.takes) c.items.invariant.stands;
+  reached = text_next _ (sure_left c.new-source.result) (g.T.Store.view c.args.store.now) c.args.progress.now.script.room (g.K.Sink.view c.args.out.now) c.args.progress.now.tally _ _ c.items.cutter c.cut.new.self c.cut.result (sure_left c.items.source) (sure_left c.cut.new.from) c.cut.ensures.cut refl refl (g.T.Store.view c.items.store) c.items.progress.script.room (g.K.Sink.view c.items.out) c.items.progress.tally c.in-Item.item (sym c.in-Item.ensures) flows.GoesOn (g.T.Store.view c.answer_item.new.store) c.answer_item.new.progress.script.room (g.K.Sink.view c.answer_item.new.out) c.answer_item.new.progress.tally c.args.depth c.requires.some refl (λ past. c.in-GoesOn.ensures.limit past refl) (under g.A.Answering.language (λ l. TakesOne l c.args.depth c.in-Item.item (g.T.Store.view c.items.store) c.items.progress.script.room (g.T.Store.view c.answer_item.new.store) c.answer_item.new.progress.script.room (g.K.Sink.view c.items.out) (g.K.Sink.view c.answer_item.new.out) c.items.progress.tally c.answer_item.new.progress.tally flows.GoesOn) _ _ c.items.invariant.answering c.in-GoesOn.ensures.takes) c.items.invariant.reached;
   answering = c.in-GoesOn.ensures.kept ∙ c.items.invariant.answering;
   spent = spends_then c.args.progress.now.script c.items.progress.script c.answer_item.new.progress.script c.items.invariant.spent c.in-GoesOn.ensures.spent;
 }
@@ -72,7 +72,7 @@ answer_text-items-smaller g t c =
 
 pub answer_text-items-preserved : goal.answer_text-items-preserved
 answer_text-items-preserved g t c = record {
-  stands = text_next _ (sure_left c.new-source.result) (g.T.Store.view c.args.store.now) c.args.progress.now.script.room (g.K.Sink.view c.args.out.now) c.args.progress.now.tally _ _ c.items.cutter c.cut.new.self c.cut.result (sure_left c.items.source) (sure_left c.cut.new.from) c.cut.ensures.cut refl refl (g.T.Store.view c.items.store) c.items.progress.script.room (g.K.Sink.view c.items.out) c.items.progress.tally c.in-Item.item (sym c.in-Item.ensures) flows.GoesOn (g.T.Store.view c.answer_item.new.store) c.answer_item.new.progress.script.room (g.K.Sink.view c.answer_item.new.out) c.answer_item.new.progress.tally c.args.depth c.requires.some refl (λ past. c.in-GoesOn.ensures.limit past refl) (under g.A.Answering.language (λ l. TakesOne l c.args.depth c.in-Item.item (g.T.Store.view c.items.store) c.items.progress.script.room (g.T.Store.view c.answer_item.new.store) c.answer_item.new.progress.script.room (g.K.Sink.view c.items.out) (g.K.Sink.view c.answer_item.new.out) c.items.progress.tally c.answer_item.new.progress.tally flows.GoesOn) _ _ c.items.invariant.answering c.in-GoesOn.ensures.takes) c.items.invariant.stands;
+  reached = text_next _ (sure_left c.new-source.result) (g.T.Store.view c.args.store.now) c.args.progress.now.script.room (g.K.Sink.view c.args.out.now) c.args.progress.now.tally _ _ c.items.cutter c.cut.new.self c.cut.result (sure_left c.items.source) (sure_left c.cut.new.from) c.cut.ensures.cut refl refl (g.T.Store.view c.items.store) c.items.progress.script.room (g.K.Sink.view c.items.out) c.items.progress.tally c.in-Item.item (sym c.in-Item.ensures) flows.GoesOn (g.T.Store.view c.answer_item.new.store) c.answer_item.new.progress.script.room (g.K.Sink.view c.answer_item.new.out) c.answer_item.new.progress.tally c.args.depth c.requires.some refl (λ past. c.in-GoesOn.ensures.limit past refl) (under g.A.Answering.language (λ l. TakesOne l c.args.depth c.in-Item.item (g.T.Store.view c.items.store) c.items.progress.script.room (g.T.Store.view c.answer_item.new.store) c.answer_item.new.progress.script.room (g.K.Sink.view c.items.out) (g.K.Sink.view c.answer_item.new.out) c.items.progress.tally c.answer_item.new.progress.tally flows.GoesOn) _ _ c.items.invariant.answering c.in-GoesOn.ensures.takes) c.items.invariant.reached;
   answering = c.in-GoesOn.ensures.kept ∙ c.items.invariant.answering;
   spent = spends_then c.args.progress.now.script c.items.progress.script c.answer_item.new.progress.script c.items.invariant.spent c.in-GoesOn.ensures.spent;
 }
@@ -81,13 +81,13 @@ pub answer_text-returns-in_default : goal.answer_text-returns-in_default
 answer_text-returns-in_default g t c = record {
   kept = c.answer_item.ensures.kept ∙ c.items.invariant.answering;
   spent = spends_then c.args.progress.now.script c.items.progress.script c.answer_item.new.progress.script c.items.invariant.spent c.answer_item.ensures.spent;
-  takes = rw c.new-source.ensures at (text_cut _ (sure_left c.new-source.result) (g.T.Store.view c.args.store.now) c.args.progress.now.script.room (g.K.Sink.view c.args.out.now) c.args.progress.now.tally _ _ c.items.cutter c.cut.new.self c.cut.result (sure_left c.items.source) (sure_left c.cut.new.from) c.cut.ensures.cut refl refl (g.T.Store.view c.items.store) c.items.progress.script.room (g.K.Sink.view c.items.out) c.items.progress.tally c.in-Item.item (sym c.in-Item.ensures) c.answer_item.result (g.T.Store.view c.answer_item.new.store) c.answer_item.new.progress.script.room (g.K.Sink.view c.answer_item.new.out) c.answer_item.new.progress.tally c.args.depth c.requires.some c.in_default.not-GoesOn (under g.A.Answering.language (λ l. TakesOne l c.args.depth c.in-Item.item (g.T.Store.view c.items.store) c.items.progress.script.room (g.T.Store.view c.answer_item.new.store) c.answer_item.new.progress.script.room (g.K.Sink.view c.items.out) (g.K.Sink.view c.answer_item.new.out) c.items.progress.tally c.answer_item.new.progress.tally c.answer_item.result) _ _ c.items.invariant.answering c.answer_item.ensures.takes) c.items.invariant.stands);
+  takes = rw c.new-source.ensures at (text_cut _ (sure_left c.new-source.result) (g.T.Store.view c.args.store.now) c.args.progress.now.script.room (g.K.Sink.view c.args.out.now) c.args.progress.now.tally _ _ c.items.cutter c.cut.new.self c.cut.result (sure_left c.items.source) (sure_left c.cut.new.from) c.cut.ensures.cut refl refl (g.T.Store.view c.items.store) c.items.progress.script.room (g.K.Sink.view c.items.out) c.items.progress.tally c.in-Item.item (sym c.in-Item.ensures) c.answer_item.result (g.T.Store.view c.answer_item.new.store) c.answer_item.new.progress.script.room (g.K.Sink.view c.answer_item.new.out) c.answer_item.new.progress.tally c.args.depth c.requires.some c.in_default.not-GoesOn (under g.A.Answering.language (λ l. TakesOne l c.args.depth c.in-Item.item (g.T.Store.view c.items.store) c.items.progress.script.room (g.T.Store.view c.answer_item.new.store) c.answer_item.new.progress.script.room (g.K.Sink.view c.items.out) (g.K.Sink.view c.answer_item.new.out) c.items.progress.tally c.answer_item.new.progress.tally c.answer_item.result) _ _ c.items.invariant.answering c.answer_item.ensures.takes) c.items.invariant.reached);
 }
 
 pub answer_text-returns-in-End-clause-takes : goal.answer_text-returns-in-End-clause-takes
 answer_text-returns-in-End-clause-takes g t c =
-    rw c.new-source.ensures at (text_ends _ (sure_left c.new-source.result) (g.T.Store.view c.args.store.now) c.args.progress.now.script.room (g.K.Sink.view c.args.out.now) c.args.progress.now.tally _ _ c.items.cutter c.cut.new.self c.cut.result (sure_left c.items.source) (sure_left c.cut.new.from) c.cut.ensures.cut refl refl (g.T.Store.view c.items.store) c.items.progress.script.room (g.K.Sink.view c.items.out) c.items.progress.tally c.args.depth (end_of c.cut.result (sym c.in-End.ensures)) c.items.invariant.stands)
+    rw c.new-source.ensures at (text_ends _ (sure_left c.new-source.result) (g.T.Store.view c.args.store.now) c.args.progress.now.script.room (g.K.Sink.view c.args.out.now) c.args.progress.now.tally _ _ c.items.cutter c.cut.new.self c.cut.result (sure_left c.items.source) (sure_left c.cut.new.from) c.cut.ensures.cut refl refl (g.T.Store.view c.items.store) c.items.progress.script.room (g.K.Sink.view c.items.out) c.items.progress.tally c.args.depth (end_of c.cut.result (sym c.in-End.ensures)) c.items.invariant.reached)
 
 pub answer_text-returns-in-Failed-clause-takes : goal.answer_text-returns-in-Failed-clause-takes
 answer_text-returns-in-Failed-clause-takes g t c =
-    rw c.new-source.ensures at (text_memory _ (sure_left c.new-source.result) (g.T.Store.view c.args.store.now) c.args.progress.now.script.room (g.K.Sink.view c.args.out.now) c.args.progress.now.tally c.args.depth (place_of c.items.cutter (sure_left c.items.source)) (g.T.Store.view c.items.store) c.items.progress.script.room (g.K.Sink.view c.items.out) c.items.progress.tally c.items.invariant.stands)
+    rw c.new-source.ensures at (text_memory _ (sure_left c.new-source.result) (g.T.Store.view c.args.store.now) c.args.progress.now.script.room (g.K.Sink.view c.args.out.now) c.args.progress.now.tally c.args.depth (place_of c.items.cutter (sure_left c.items.source)) (g.T.Store.view c.items.store) c.items.progress.script.room (g.K.Sink.view c.items.out) c.items.progress.tally c.items.invariant.reached)

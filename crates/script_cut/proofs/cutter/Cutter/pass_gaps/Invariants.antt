@@ -1,4 +1,4 @@
-use Rattle.std.proofs.Common.{◌≡◌, ◌≤◌}
+use Rattle.std.proofs.Common.{◌≡◌}
 use Rattle.script_cut.proofs.PassingSteps.{IsInGaps}
 use Rattle.script_cut.specs.Reading.{IsStillInGaps}
 use Rattle.script_cut.proofs.cutter.Cutter.pass_gaps.Given as goal

@@ -1,4 +1,4 @@
-use Rattle.std.proofs.Common.{◌≡◌, ◌≤◌}
+use Rattle.std.proofs.Common.{◌≡◌}
 use Rattle.script_cut.proofs.PassingSteps.{IsInText}
 use Rattle.script_cut.specs.Reading.{IsStillInText}
 use Rattle.script_cut.proofs.cutter.Cutter.pass_text.Given as goal

@@ -1,4 +1,4 @@
-use Rattle.std.proofs.Common.{◌≡◌, ◌+◌, ◌≤◌, List, [], length, arith, subst}
+use Rattle.std.proofs.Common.{◌≡◌, ◌+◌, ◌≤◌, [], length, arith, subst}
 use Rattle.std.proofs.lemmas.List.{nil_from_length}
 use Rattle.script_cut.specs.Kept.{Kept}
 use Rattle.script_cut.specs.Passing.{IsSupplied}
