@@ -127,7 +127,7 @@ name_first (b ∷ bs) h first =
     let high = letter-high b (and_parts (is_letter b) (all_in NameByte (b ∷ bs) && nat_le (length (b ∷ bs)) 64) h).0 in
     let low = first.1 in omega arith
 
-system_first : (part : List ℕ) → is_system part ≡ true → FirstOfNumber part → ⊥
+pub system_first : (part : List ℕ) → is_system part ≡ true → FirstOfNumber part → ⊥
 system_first [] h first = first
 system_first (b ∷ bs) h first =
     let low = first.1 in

@@ -25,7 +25,7 @@ take_more : (prefix tail : List (List ℕ)) (part : List ℕ) → take (length p
 take_more [] tail part = refl
 take_more (first ∷ prefix) tail part = ap (λ (n : ℕ). take n ((first ∷ prefix) ++ part ∷ tail)) (let e : length (first ∷ prefix) + 1 ≡ suc (length prefix + 1) = omega arith in e) ∙ ap (λ (l : List (List ℕ)). first ∷ l) (take_more prefix tail part)
 
-part_after : (prefix tail : List (List ℕ)) → part_at (prefix ++ tail) (length prefix) ≡ get_or tail 0 []
+pub part_after : (prefix tail : List (List ℕ)) → part_at (prefix ++ tail) (length prefix) ≡ get_or tail 0 []
 part_after [] tail = refl
 part_after (first ∷ prefix) tail = part_after prefix tail
 
@@ -39,7 +39,7 @@ module _ {H : Type 0} (grammar : List (List ℕ) → H → Type 0) (prefix : Lis
   no_head (part ∷ tail) unended at_end head derives = let more = length-append prefix (part ∷ tail) in absurd (omega arith)
 
   -- a part of another kind, or none, breaks the grammar
-  breaks_after : (tail : List (List ℕ)) → (kind (get_or tail 0 []) → ⊥) → (tail ≡ [] → (head : H) → grammar prefix head → ⊥) → BreaksAt grammar (prefix ++ tail) (length prefix)
+  pub breaks_after : (tail : List (List ℕ)) → (kind (get_or tail 0 []) → ⊥) → (tail ≡ [] → (head : H) → grammar prefix head → ⊥) → BreaksAt grammar (prefix ++ tail) (length prefix)
   breaks_after tail refused unended = record {
     within = omega (arith, length-append prefix tail);
     before = subst (Begins grammar) (sym (take_at prefix tail (length prefix) refl)) expects.goes_on;
@@ -81,13 +81,13 @@ syntax_at grammar prefix kind text part at expects left unended refused form =
       form = λ exceeds. no_number grammar prefix kind expects left.tail form' (subst (λ (l : List (List ℕ)). ExceedsAt grammar l (length prefix)) left.texts exceeds);
     }
 
-abbrev left_at : (text : List ℕ) (prefix : List (List ℕ)) (whole : ℕ) (blank : Bool) (rest part : List ℕ) (at : ℕ) → IsRead text prefix whole blank rest → at ≡ whole - length rest → part ≡ first_in blank rest → IsLeftAt text prefix part at
+abbrev pub left_at : (text : List ℕ) (prefix : List (List ℕ)) (whole : ℕ) (blank : Bool) (rest part : List ℕ) (at : ℕ) → IsRead text prefix whole blank rest → at ≡ whole - length rest → part ≡ first_in blank rest → IsLeftAt text prefix part at
 left_at text prefix whole blank rest part at read at_is part_is =
     let next = next_of text prefix whole blank rest read in
     record { tail = next.tail; texts = next.texts; first = next.first ∙ sym part_is; place = next.place ∙ sym at_is }
 
 -- where no part is left, no byte is
-ended_there : {Y : Type 0} {tail : List (List ℕ)} (rest : List ℕ) → (rest ≢ [] → tail ≢ []) → tail ≡ [] → (rest ≡ [] → Y) → Y
+pub ended_there : {Y : Type 0} {tail : List (List ℕ)} (rest : List ℕ) → (rest ≢ [] → tail ≢ []) → tail ≡ [] → (rest ≡ [] → Y) → Y
 ended_there [] some none f = f refl
 ended_there (b ∷ bs) some none f = absurd (some (λ e. cc) none)
 
@@ -106,15 +106,15 @@ left_syntax grammar prefix text whole blank rest expects read some =
     syntax_at grammar prefix (λ part. ⊥) text (first_in blank rest) (whole - length rest) expects record { tail = next.tail; texts = next.texts; first = next.first; place = next.place }
     (λ e. absurd (next.some some e)) (λ none. none) (λ long. long.taken)
 
-word_place : (text : List ℕ) → place_of text 0 ≡ 0
+pub word_place : (text : List ℕ) → place_of text 0 ≡ 0
 unfolding parts_of
 word_place text = refl
 
-word_text : (text : List ℕ) → get_or (texts_of (parts_of text)) 0 [] ≡ first_word_of text
+pub word_text : (text : List ℕ) → get_or (texts_of (parts_of text)) 0 [] ≡ first_word_of text
 unfolding parts_of
 word_text text = refl
 
-some_texts : (text : List ℕ) → texts_of (parts_of text) ≢ []
+pub some_texts : (text : List ℕ) → texts_of (parts_of text) ≢ []
 unfolding parts_of
 some_texts text e = cc
 

@@ -2,11 +2,12 @@
 use Rattle.std.proofs.Common.{◌≡◌, ◌≢◌, ℕ, ◌-◌, Bool, true, false, List, [], ◌∷◌, ◌++◌, length, take, map, refl, sym, ◌∙◌, ap, codes, subst, inl}
 use Rattle.std.proofs.lemmas.List.{append-nil}
 use Rattle.std.proofs.lemmas.Bool.{false≢true}
+use Rattle.text_grammar.specs.Systems.{is_system}
 use Rattle.command_head.specs.Parts.{first_word_of, first_in, number_place, is_name, is_word, is_quoted}
 use Rattle.command_head.specs.Grammar.{NamesFile, quoted}
 use Rattle.command_head.specs.Breaks.{IsSyntaxAt}
 use Rattle.command_head.proofs.PartShape.{word_name}
-use Rattle.command_head.proofs.ValuedParts.{numbered_name, numbered_quoted}
+use Rattle.command_head.proofs.ValuedParts.{numbered_name, numbered_quoted, numbered_system}
 use Rattle.command_head.proofs.FileNames.{numbered_file}
 use Rattle.command_head.proofs.PartsRead.{IsRead}
 use Rattle.command_head.proofs.Expecting.{Expects, IsLong, refused_syntax, left_syntax, word_syntax}
@@ -16,6 +17,7 @@ pub data Kind : Type 0 where
   This : List ℕ → Kind
   AName : Kind
   AWord : Kind
+  ASystem : Kind
   -- a text in quotes
   AText : Kind
   -- a name of a file
@@ -25,6 +27,7 @@ abbrev pub Takes : Kind → List ℕ → Type 0
 Takes (This bytes) part = part ≡ bytes
 Takes AName part = is_name part ≡ true
 Takes AWord part = is_word part ≡ true
+Takes ASystem part = is_system part ≡ true
 Takes AText part = is_quoted part ≡ true
 Takes AFile part = (name : List ℕ) × NamesFile part name
 
@@ -44,13 +47,16 @@ abbrev example : Kind → List ℕ
 example (This bytes) = bytes
 example AName = codes "a"
 example AWord = codes "a"
+example ASystem = codes "msd_2"
 example AText = quoted []
 example AFile = codes "a"
 
 example_fits : (kind : Kind) → Takes kind (example kind)
+unfolding is_system
 example_fits (This bytes) = refl
 example_fits AName = refl
 example_fits AWord = refl
+example_fits ASystem = refl
 example_fits AText = refl
 example_fits AFile = (codes "a", record { named = refl; part_is = inl refl })
 
@@ -87,6 +93,7 @@ abbrev pub Plain : Kind → Type 0
 Plain (This bytes) = is_name bytes ≡ true
 Plain AName = Unit {0}
 Plain AWord = Unit {0}
+Plain ASystem = Unit {0}
 Plain AText = Unit {0}
 Plain AFile = Unit {0}
 
@@ -94,6 +101,7 @@ plain_long : (kind : Kind) (part : List ℕ) → Plain kind → IsLong (Takes ki
 plain_long (This bytes) part named long = numbered_name part long.other long.other_number (subst (λ (l : List ℕ). is_name l ≡ true) (sym long.taken) named)
 plain_long AName part plain long = numbered_name part long.other long.other_number long.taken
 plain_long AWord part plain long = numbered_name part long.other long.other_number (word_name (take (number_place part) part ++ long.other) long.taken)
+plain_long ASystem part plain long = numbered_system part long.other long.other_number long.taken
 plain_long AText part plain long = numbered_quoted part long.other long.other_number long.taken
 plain_long AFile part plain long = numbered_file part long.other long.other_number long.taken.0 long.taken.1
 

@@ -1,4 +1,4 @@
--- The parts of a `promote`, an `image`, a `combine` and of heads of languages are those of some text.
+-- The parts of the heads of words, of languages, and of words of automata are those of some text.
 use Rattle.std.proofs.Common.{◌≡◌, ℕ, suc, ◌+◌, ◌<◌, Bool, true, false, not, cond, ◌==◌, ◌&&◌, List, [], ◌∷◌, ◌++◌, ℤ, length, Option, None, Some, refl, sym, ◌∙◌, ap, subst, arith, codes, length-append}
 use Rattle.std.specs.List.{AllByRecursion}
 use Rattle.std.proofs.lemmas.List.{append-nil, append_assoc}
@@ -6,13 +6,13 @@ use Rattle.std.proofs.lemmas.Bool.{and_parts, ne_eqb, false≢true}
 use Rattle.text_grammar.specs.declared.class.Class.TheVariants.{Digit, NameByte}
 use Rattle.text_grammar.specs.Bytes.{is_letter}
 use Rattle.text_grammar.specs.Prefixes.{all_in, begins_in, prefix_len}
-use Rattle.text_grammar.specs.Numbers.{is_number, number_len, unsigned}
+use Rattle.text_grammar.specs.Numbers.{are_digits, is_number, number_len, unsigned}
 use Rattle.command_head.specs.Parts.{ending_len, part_len, parts_of, texts_of, is_name}
-use Rattle.command_head.specs.Heads.{ValuedName, PromoteHead, ImageHead, CombineHead, LanguagesHead}
-use Rattle.command_head.specs.Grammar.{DerivesValue, DerivesValued, DeriveEach, DerivesPromote, DerivesImage, DerivesCombine, DerivesLanguages, DerivesLanguage}
+use Rattle.command_head.specs.Heads.{ValuedName, PromoteHead, ImageHead, ConvertHead, CombineHead, LanguagesHead, TestHead}
+use Rattle.command_head.specs.Grammar.{DerivesValue, DerivesValued, DeriveEach, DerivesPromote, DerivesImage, DerivesConvert, DerivesCombine, DerivesLanguages, DerivesLanguage, DerivesName, DerivesAfter, DerivesTest}
 use Rattle.command_head.proofs.PrefixSteps.{prefix_len-append, after_prefix-append}
 use Rattle.command_head.proofs.PartShape.{all_in-all, name_bytes, word_name}
-use Rattle.command_head.proofs.JoinedParts.{Stands, stands_name, letter_solid, letter_len, text_of, word_bytes, word_first}
+use Rattle.command_head.proofs.JoinedParts.{Stands, stands_name, stands_system, stands_digits, stands_quoted, letter_solid, letter_len, text_of, word_bytes, word_first}
 
 -- digits before a blank
 digits_prefix : (digits rest : List ℕ) → (not (length digits == 0) && all_in Digit digits) ≡ true → (begins_in Digit (digits ++ 32 ∷ rest) ≡ true) × (prefix_len Digit (digits ++ 32 ∷ rest) ≡ length digits)
@@ -86,11 +86,17 @@ promote_text parts head s =
     let others = head.word ∷ head.morphism ∷ [] in
     (text_of (codes "promote") others, word_first (codes "promote") others (word_bytes (codes "promote") refl) (stands_name head.word (word_name head.word s.word), (stands_name head.morphism s.morphism, tt)) ∙ sym s.parts_are)
 
-pub image_text : (parts : List (List ℕ)) (head : ImageHead) → DerivesImage parts head → (text : List ℕ) × (texts_of (parts_of text) ≡ parts)
-image_text parts head s =
-    let others = head.word ∷ head.morphism ∷ head.old ∷ [] in
-    let all : AllByRecursion Stands others = (stands_name head.word (word_name head.word s.word), (stands_name head.morphism s.morphism, (stands_name head.old (word_name head.old s.old), tt))) in
-    (text_of (codes "image") others, word_first (codes "image") others (word_bytes (codes "image") refl) all ∙ sym s.parts_are)
+pub image_text : (word : List ℕ) (parts : List (List ℕ)) (head : ImageHead) → is_name word ≡ true → DerivesImage word parts head → (text : List ℕ) × (texts_of (parts_of text) ≡ parts)
+image_text word parts head h s =
+    let others = head.word ∷ head.mapping ∷ head.old ∷ [] in
+    let all : AllByRecursion Stands others = (stands_name head.word (word_name head.word s.new), (stands_name head.mapping s.mapping, (stands_name head.old (word_name head.old s.old), tt))) in
+    (text_of word others, word_first word others (word_bytes word h) all ∙ sym s.parts_are)
+
+pub convert_text : (parts : List (List ℕ)) (head : ConvertHead) → DerivesConvert parts head → (text : List ℕ) × (texts_of (parts_of text) ≡ parts)
+convert_text parts head s =
+    let others = head.word ∷ head.system ∷ head.old ∷ [] in
+    let all : AllByRecursion Stands others = (stands_name head.word (word_name head.word s.word), (stands_system head.system s.system, (stands_name head.old (word_name head.old s.old), tt))) in
+    (text_of (codes "convert") others, word_first (codes "convert") others (word_bytes (codes "convert") refl) all ∙ sym s.parts_are)
 
 pub combine_text : (parts : List (List ℕ)) (head : CombineHead) → DerivesCombine parts head → (text : List ℕ) × (texts_of (parts_of text) ≡ parts)
 combine_text parts head s =
@@ -110,3 +116,31 @@ pub language_text : (word : List ℕ) (parts : List (List ℕ)) (head : Language
 language_text word parts head h s =
     let others = head.name ∷ s.language ∷ [] in
     (text_of word others, word_first word others (word_bytes word h) (stands_name head.name s.name, (stands_name s.language s.is_named, tt)) ∙ sym s.parts_are)
+
+pub name_text : (word : List ℕ) (parts : List (List ℕ)) (name : List ℕ) → is_name word ≡ true → DerivesName word parts name → (text : List ℕ) × (texts_of (parts_of text) ≡ parts)
+name_text word parts name h s =
+    let others = name ∷ [] in
+    (text_of word others, word_first word others (word_bytes word h) (stands_name name s.named, tt) ∙ sym s.parts_are)
+
+stands_count : (part : List ℕ) → are_digits part ≡ true → Stands part
+stands_count part digits =
+    let p = and_parts (not (length part == 0)) (all_in Digit part) digits in
+    stands_digits part (some p.0) (all_in-all Digit part p.1)
+  where
+    not_true : (t : Bool) → not t ≡ true → t ≡ false
+    not_true true e = sym e
+    not_true false e = refl
+
+    some : not (length part == 0) ≡ true → (length part == 0) ≡ false
+    some h = not_true (length part == 0) h
+
+stand_after : (others : List (List ℕ)) (place : Option (List (List ℤ))) → DerivesAfter others place → AllByRecursion Stands others
+stand_after others None after = subst (AllByRecursion Stands) (sym after) tt
+stand_after others (Some letters) after =
+    let s = after.2 in
+    subst (AllByRecursion Stands) (sym after.1) (subst Stands (sym s.part_is) (stands_quoted s.body s.unquoted), tt)
+
+pub test_text : (parts : List (List ℕ)) (head : TestHead) → DerivesTest parts head → (text : List ℕ) × (texts_of (parts_of text) ≡ parts)
+test_text parts head s =
+    let others = head.name ∷ s.count ∷ s.others in
+    (text_of (codes "test") others, word_first (codes "test") others (word_bytes (codes "test") refl) (stands_name head.name s.name, (stands_count s.count s.counted.digits, stand_after s.others head.place s.after)) ∙ sym s.parts_are)

@@ -108,7 +108,7 @@ stands_name [] h = absurd (false≢true h)
 stands_name (b ∷ bs) h =
     stands_letter b bs (and_parts (is_letter b) (all_in NameByte (b ∷ bs) && nat_le (length (b ∷ bs)) 64) h).0 (name_bytes (b ∷ bs) h)
 
-stands_system : (part : List ℕ) → is_system part ≡ true → Stands part
+pub stands_system : (part : List ℕ) → is_system part ≡ true → Stands part
 unfolding is_system
 stands_system [] h = absurd (false≢true h)
 stands_system (b ∷ bs) h =
@@ -151,7 +151,7 @@ stands_signed : (bs : List ℕ) → (length bs == 0) ≡ false → AllByRecursio
 stands_signed [] some all = absurd (false≢true (sym some))
 stands_signed (d ∷ ds) some all = record { first = 45; others = d ∷ ds; is = refl; solid = refl; len = λ rest. signed_len d ds rest all }
 
-stands_digits : (bs : List ℕ) → (length bs == 0) ≡ false → AllByRecursion (λ c. is_in Digit c ≡ true) bs → Stands bs
+pub stands_digits : (bs : List ℕ) → (length bs == 0) ≡ false → AllByRecursion (λ c. is_in Digit c ≡ true) bs → Stands bs
 stands_digits [] some all = absurd (false≢true (sym some))
 stands_digits (d ∷ ds) some all =
     let range = digit_range d all.0 in
@@ -184,7 +184,7 @@ quoted_length body rest all =
     let n : prefix_len Unquoted ((body ++ 34 ∷ []) ++ 32 ∷ rest) ≡ length body = ap (prefix_len Unquoted) (append_assoc body (34 ∷ []) (32 ∷ rest)) ∙ prefix_len-append Unquoted body (34 ∷ 32 ∷ rest) in_body refl in
     rw n (omega (arith, length-append body (34 ∷ []), length-append (body ++ 34 ∷ []) (32 ∷ rest)))
 
-stands_quoted : (body : List ℕ) → AreUnquoted body → Stands (quoted body)
+pub stands_quoted : (body : List ℕ) → AreUnquoted body → Stands (quoted body)
 stands_quoted body all = record { first = 34; others = body ++ 34 ∷ []; is = refl; solid = refl; len = λ rest. quoted_length body rest all }
 
 -- the parts of a head

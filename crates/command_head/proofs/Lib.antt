@@ -21,6 +21,8 @@ pub mod Forms
 pub mod NamedHeads
 pub mod WordHeads
 pub mod RunHeads
+pub mod ListingHeads
+pub mod TestHeads
 pub mod CombineHeads
 pub mod Listing
 pub mod LanguageHeads

@@ -37,10 +37,11 @@ same_2 a b x y xs ys e = ap (λ (l : List (List ℕ)). get_or l 1 []) e
 pub same_3 : (a b c d x y : List ℕ) (xs ys : List (List ℕ)) → a ∷ c ∷ x ∷ xs ≡ b ∷ d ∷ y ∷ ys → x ≡ y
 same_3 a b c d x y xs ys e = ap (λ (l : List (List ℕ)). get_or l 2 []) e
 
--- parts derive from at most one such head
-same_body : (a b : List ℕ) → AreUnquoted a → AreUnquoted b → quoted a ≡ quoted b → a ≡ b
+-- texts in quotes that are one have one text in them
+pub same_body : (a b : List ℕ) → AreUnquoted a → AreUnquoted b → quoted a ≡ quoted b → a ≡ b
 same_body a b all all' e = sym (quoted_is a all).inside ∙ ap unquoted e ∙ (quoted_is b all').inside
 
+-- parts derive from at most one such head
 pub one_named : (word : List ℕ) (parts : List (List ℕ)) (head other : NamedHead) → DerivesNamed word parts head → DerivesNamed word parts other → head ≡ other
 one_named word parts head other a b =
     let same = sym a.parts_are ∙ b.parts_are in

@@ -48,7 +48,7 @@ one_kind grammar text at byte form number =
     let one = breaks_once grammar (texts_of (parts_of text)) number.first.count form.first.count number.first.breaks form.first.breaks in
     form.form (subst (ExceedsAt grammar (texts_of (parts_of text))) one number.exceeds)
 
-one_break : {H : Type 0} (grammar : List (List ℕ) → H → Type 0) (text : List ℕ) (at byte : ℕ) → BreaksIn grammar text at → BreaksIn grammar text byte → at ≡ byte
+pub one_break : {H : Type 0} (grammar : List (List ℕ) → H → Type 0) (text : List ℕ) (at byte : ℕ) → BreaksIn grammar text at → BreaksIn grammar text byte → at ≡ byte
 one_break grammar text at byte here there =
     same_place text here.count there.count at byte (breaks_once grammar (texts_of (parts_of text)) here.count there.count here.breaks there.breaks) here.place there.place
 

@@ -10,7 +10,7 @@ use Rattle.text_grammar.specs.Systems.{is_system}
 use Rattle.command_head.specs.Parts.{is_name, is_quoted, number_place}
 use Rattle.command_head.proofs.PrefixSteps.{prefix_split, prefix_of-all, begins_with-split, prefix_len-append, after_prefix-append}
 use Rattle.command_head.proofs.PartShape.{letter-high, name_bytes, system_bytes}
-use Rattle.command_head.proofs.Completions.{number_first, name_first, quoted_first}
+use Rattle.command_head.proofs.Completions.{number_first, name_first, system_first, quoted_first}
 
 -- bytes of names that begin with a letter, `=`, and more
 pub record IsAfterName (part : List ℕ) : Type 0 where
@@ -115,6 +115,12 @@ numbered_name part other number named = ⊎_elim (λ n. number_name (take (numbe
 
 pub numbered_quoted : (part other : List ℕ) → is_number other ≡ true → is_quoted (take (number_place part) part ++ other) ≡ true → ⊥
 numbered_quoted part other number q = ⊎_elim (λ n. number_quoted (take (number_place part) part ++ other) n q) (λ v. letter_quoted (take (number_place part) part ++ other) v.letter q) (numbered part other number)
+
+-- nor a system
+pub numbered_system : (part other : List ℕ) → is_number other ≡ true → is_system (take (number_place part) part ++ other) ≡ true → ⊥
+numbered_system part other number system =
+    let whole = take (number_place part) part ++ other in
+    ⊎_elim (λ n. system_first whole system (number_first whole n)) (λ v. valued_system whole v system) (numbered part other number)
 
 -- the number of a part that is one begins at its first byte
 pub number_place-number : (part : List ℕ) → is_number part ≡ true → number_place part ≡ 0

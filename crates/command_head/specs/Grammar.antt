@@ -1,12 +1,14 @@
 -- The grammars of heads: which head derives which parts, one after another.
-use Rattle.std.specs.Prelude.{◌≡◌, ◌≢◌, ◌⊎◌, ℕ, true, List, [], ◌∷◌, ◌++◌, ℤ, codes, ◌↔◌, Option, None, Some, Ok, ⊤, ◌^◌}
+use Rattle.std.specs.Prelude.{◌≡◌, ◌≢◌, ◌⊎◌, ℕ, ◌<◌, true, List, [], ◌∷◌, ◌++◌, ℤ, codes, ◌↔◌, Option, None, Some, Ok, ⊤, ◌^◌}
 use Rattle.std.specs.List.{AllByRecursion, AllPairs}
 use Rattle.digit_tuple.specs.Sets.{IsAscending}
-use Rattle.text_grammar.specs.Numbers.{is_number, is_short, number_of}
+use Rattle.text_grammar.specs.Numbers.{are_digits, is_number, is_short, number_of, value_of}
+use Rattle.place_text.specs.Lexemes.{lexemes}
+use Rattle.place_text.specs.Grammar.{Derives}
 use Rattle.command_head.specs.Members.{has}
 use Rattle.text_grammar.specs.Systems.{is_system}
 use Rattle.command_head.specs.Parts.{parts_of, texts_of, is_name, is_word}
-use Rattle.command_head.specs.Heads.{Alphabets, Sets, Systems, RegHead, NamedHead, PromoteHead, ImageHead, ValuedName, CombineHead, LanguagesHead, reg_at}
+use Rattle.command_head.specs.Heads.{Alphabets, Sets, Systems, RegHead, NamedHead, PromoteHead, ImageHead, ConvertHead, ValuedName, CombineHead, LanguagesHead, TestHead, reg_at}
 
 -- a part denotes a number of 32 bits, signed
 pub record DerivesNumber (part : List ℕ) (n : ℤ) : Type 0 where
@@ -72,11 +74,18 @@ pub record DerivesPromote (parts : List (List ℕ)) (head : PromoteHead) : Type 
   pub word : is_word head.word ≡ true
   pub morphism : is_name head.morphism ≡ true
 
--- the word `image`, the new word, the morphism, and the old word
-pub record DerivesImage (parts : List (List ℕ)) (head : ImageHead) : Type 0 where
-  pub parts_are : parts ≡ codes "image" ∷ head.word ∷ head.morphism ∷ head.old ∷ []
+-- a word, the new word, what maps the letters, and the old word
+pub record DerivesImage (word : List ℕ) (parts : List (List ℕ)) (head : ImageHead) : Type 0 where
+  pub parts_are : parts ≡ word ∷ head.word ∷ head.mapping ∷ head.old ∷ []
+  pub new : is_word head.word ≡ true
+  pub mapping : is_name head.mapping ≡ true
+  pub old : is_word head.old ≡ true
+
+-- the word `convert`, the new word, its system, and the old word
+pub record DerivesConvert (parts : List (List ℕ)) (head : ConvertHead) : Type 0 where
+  pub parts_are : parts ≡ codes "convert" ∷ head.word ∷ head.system ∷ head.old ∷ []
   pub word : is_word head.word ≡ true
-  pub morphism : is_name head.morphism ≡ true
+  pub system : is_system head.system ≡ true
   pub old : is_word head.old ≡ true
 
 -- a part that names a file: a name, with `.txt` after it or not
@@ -89,6 +98,11 @@ pub record DerivesLoad (parts : List (List ℕ)) (name : List ℕ) : Type 0 wher
   pub part : List ℕ
   pub parts_are : parts ≡ codes "load" ∷ part ∷ []
   pub file : NamesFile part name
+
+-- a word, and a name
+pub record DerivesName (word : List ℕ) (parts : List (List ℕ)) (name : List ℕ) : Type 0 where
+  pub parts_are : parts ≡ word ∷ name ∷ []
+  pub named : is_name name ≡ true
 
 -- a word alone
 abbrev pub DerivesAlone : List ℕ → List (List ℕ) → Unit {0} → Type 0
@@ -135,6 +149,33 @@ pub record DerivesLanguage (word : List ℕ) (parts : List (List ℕ)) (head : L
   pub name : is_name head.name ≡ true
   pub is_named : is_name language ≡ true
   pub one : head.languages ≡ language ∷ []
+
+-- digits alone, of a number below 2 ^ 64
+pub record DerivesCount (part : List ℕ) (n : ℕ) : Type 0 where
+  pub digits : are_digits part ≡ true
+  pub value : value_of part ≡ n
+  pub within : n < 2 ^ 64
+
+-- a place in quotes
+pub record DerivesPlace (part : List ℕ) (letters : List (List ℤ)) : Type 0 where
+  pub body : List ℕ
+  pub part_is : part ≡ quoted body
+  pub unquoted : AreUnquoted body
+  pub derived : Derives (lexemes body) letters
+
+-- such a part, if there is a place
+abbrev pub DerivesAfter : List (List ℕ) → Option (List (List ℤ)) → Type 0
+DerivesAfter parts None = parts ≡ []
+DerivesAfter parts (Some letters) = (part : List ℕ) × (parts ≡ part ∷ []) × DerivesPlace part letters
+
+-- the word `test`, the automaton, the number of words, and the place after which they are listed, if one is given
+pub record DerivesTest (parts : List (List ℕ)) (head : TestHead) : Type 0 where
+  pub count : List ℕ
+  pub others : List (List ℕ)
+  pub parts_are : parts ≡ codes "test" ∷ head.name ∷ count ∷ others
+  pub name : is_name head.name ≡ true
+  pub counted : DerivesCount count head.count
+  pub after : DerivesAfter others head.place
 
 -- what is read of a text is the head that derives its parts
 abbrev pub ReadsGrammar : Type 0

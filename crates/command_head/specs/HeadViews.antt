@@ -6,9 +6,11 @@ use Rattle.command_head.specs.declared.head.RegParts.{RegParts}
 use Rattle.command_head.specs.declared.head.NamedParts.{NamedParts}
 use Rattle.command_head.specs.declared.head.PromoteParts.{PromoteParts}
 use Rattle.command_head.specs.declared.head.ImageParts.{ImageParts}
+use Rattle.command_head.specs.declared.head.ConvertParts.{ConvertParts}
 use Rattle.command_head.specs.declared.head.ValuedName as valued
 use Rattle.command_head.specs.declared.head.CombineParts.{CombineParts}
 use Rattle.command_head.specs.declared.head.LanguagesParts.{LanguagesParts}
+use Rattle.command_head.specs.declared.head.TestParts.{TestParts}
 use Rattle.command_head.specs.declared.combining.ValueText.{ValueText}
 use Rattle.command_head.specs.declared.combining.ValueText.TheVariants as values
 use Rattle.command_head.specs.declared.stage.Stage.{Stage}
@@ -16,7 +18,7 @@ use Rattle.command_head.specs.declared.stage.Stage.TheVariants as stages
 use Rattle.command_head.specs.Values.{IsValueText, IsLongValue}
 use Rattle.command_head.specs.Grammar.{DerivesValue}
 use Rattle.command_head.specs.Heads as heads
-use Rattle.command_head.specs.Heads.{RegHead, NamedHead, PromoteHead, ImageHead, ValuedName, CombineHead, LanguagesHead, Sets, Systems}
+use Rattle.command_head.specs.Heads.{RegHead, NamedHead, PromoteHead, ImageHead, ConvertHead, ValuedName, CombineHead, LanguagesHead, TestHead, Sets, Systems}
 
 abbrev pub alphabets_of : Alphabets → heads.Alphabets
 alphabets_of (alphabets.Sets sets) = Sets sets
@@ -32,7 +34,13 @@ abbrev pub promote_view : PromoteParts → PromoteHead
 promote_view parts = record { word = parts.word; morphism = parts.morphism }
 
 abbrev pub image_view : ImageParts → ImageHead
-image_view parts = record { word = parts.word; morphism = parts.morphism; old = parts.old }
+image_view parts = record { word = parts.word; mapping = parts.mapping; old = parts.old }
+
+abbrev pub convert_view : ConvertParts → ConvertHead
+convert_view parts = record { word = parts.word; system = parts.system; old = parts.old }
+
+abbrev pub test_view : TestParts → TestHead
+test_view parts = record { name = parts.name; count = parts.count; place = parts.place }
 
 abbrev pub valued_view : valued.ValuedName → ValuedName
 valued_view name = record { name = name.name; value = name.value }

@@ -29,10 +29,16 @@ pub record PromoteHead : Type 0 where
   pub word : List ℕ
   pub morphism : List ℕ
 
--- the parts of an `image`: the new word, the morphism, and the old word
+-- the parts of a head that maps a word: the new word, what maps the letters, and the old word
 pub record ImageHead : Type 0 where
   pub word : List ℕ
-  pub morphism : List ℕ
+  pub mapping : List ℕ
+  pub old : List ℕ
+
+-- the parts of a `convert`: the new word, its system, and the old word
+pub record ConvertHead : Type 0 where
+  pub word : List ℕ
+  pub system : List ℕ
   pub old : List ℕ
 
 -- a name of an automaton, and the value that follows it, if one does
@@ -49,6 +55,12 @@ pub record CombineHead : Type 0 where
 pub record LanguagesHead : Type 0 where
   pub name : List ℕ
   pub languages : List (List ℕ)
+
+-- the parts of a `test`: the automaton, the number of words, and the place after which they are listed, if one is given
+pub record TestHead : Type 0 where
+  pub name : List ℕ
+  pub count : ℕ
+  pub place : Option (List (List ℤ))
 
 -- What was read of a `reg`, by the place in it.
 pub data Stage : Type 0 where

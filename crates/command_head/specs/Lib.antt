@@ -7,3 +7,5 @@ pub mod Values
 pub mod Grammar
 pub mod Formed
 pub mod Breaks
+pub mod TestBreaks
+pub mod TestParts

@@ -3,6 +3,7 @@ ghost use Rattle.command_head.specs.Values.{value_at as value_of};
 
 use digit_tuple::name::Name;
 use digit_tuple::sets::Sets;
+use place_text::Place;
 
 /// What the tracks of a `reg` are over.
 #[derive(Drop)]
@@ -42,13 +43,24 @@ pub struct PromoteParts {
     pub morphism: Name,
 }
 
-/// The parts of an `image`.
+/// The parts of a head that maps a word.
 #[derive(Drop)]
 pub struct ImageParts {
     /// The name of the new word.
     pub word: Name,
-    /// The name of the morphism.
-    pub morphism: Name,
+    /// The name of what maps the letters: a morphism or a transducer.
+    pub mapping: Name,
+    /// The name of the old word.
+    pub old: Name,
+}
+
+/// The parts of a `convert`.
+#[derive(Drop)]
+pub struct ConvertParts {
+    /// The name of the new word.
+    pub word: Name,
+    /// The name of the new word's system.
+    pub system: Name,
     /// The name of the old word.
     pub old: Name,
 }
@@ -92,4 +104,15 @@ pub struct LanguagesParts {
     pub name: Name,
     /// The names of the automata of the others in the order in which they are listed, one at least.
     pub languages: Vec<Name>,
+}
+
+/// The parts of a `test`.
+#[derive(Drop)]
+pub struct TestParts {
+    /// The name of the automaton.
+    pub name: Name,
+    /// How many words are listed.
+    pub count: u64,
+    /// The place after which they are listed, where one is given.
+    pub place: Option<Place>,
 }

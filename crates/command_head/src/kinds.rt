@@ -3,6 +3,7 @@ ghost use Rattle.std.specs.Prelude.{◌≡◌, ◌≢◌, ℕ, ◌-◌, List, []
 ghost use Rattle.command_head.specs.declared.fault.HeadFault.TheVariants.{Syntax};
 ghost use Rattle.text_grammar.specs.declared.class.Class.TheVariants.{Blank};
 ghost use Rattle.text_grammar.specs.Prefixes.{begins_in};
+ghost use Rattle.text_grammar.specs.Systems.{is_system as is_system_part};
 ghost use Rattle.command_head.specs.Grammar.{NamesFile};
 ghost use Rattle.command_head.specs.Parts.{first_word_of, after_blanks, after_word as after_the_word, is_name as is_name_part, is_word as is_word_part, is_quoted as is_quoted_part, unquoted as inside_quotes};
 
@@ -10,7 +11,7 @@ use crate::bytes::place;
 use crate::fault::HeadFault;
 use crate::parts::{is_name, is_quoted, is_word, unquoted};
 use crate::rest::{FirstPart, Rest, rest_of};
-use text_grammar::{Class, prefix_len};
+use text_grammar::{Class, is_system, prefix_len};
 
 /// What is left after the first word of a text, which has to be this one.
 pub(crate) fn after_word<'a>(word: &[u8], text: &'a [u8]) -> Result<Rest<'a>, HeadFault>
@@ -44,6 +45,18 @@ pub(crate) fn word_in<'a>(part: &FirstPart<'a>) -> Result<&'a [u8], HeadFault>
         (λ fault. (is_word_part part.now.bytes.now ≡ false) × (fault ≡ Syntax part.now.at)) }
 {
     if is_word(part.bytes) {
+        Ok(part.bytes)
+    } else {
+        Err(HeadFault::Syntax(part.at))
+    }
+}
+
+/// The name of a system that a part has to be.
+pub(crate) fn system_in<'a>(part: &FirstPart<'a>) -> Result<&'a [u8], HeadFault>
+    ensures { MatchResult result (λ system. (system.now ≡ part.now.bytes.now) × (is_system_part part.now.bytes.now ≡ true))
+        (λ fault. (is_system_part part.now.bytes.now ≡ false) × (fault ≡ Syntax part.now.at)) }
+{
+    if is_system(part.bytes) {
         Ok(part.bytes)
     } else {
         Err(HeadFault::Syntax(part.at))

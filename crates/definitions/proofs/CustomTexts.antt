@@ -4,7 +4,7 @@ use Rattle.wal_outside.specs.declared.folder.Folder.{Folder}
 use Rattle.wal_outside.specs.declared.folder.Folder.TheVariants.{Bases, Words}
 use Rattle.wal_outside.specs.Files.{Files, same_file}
 use Rattle.system_files.specs.SystemFiles.{Custom}
-use Rattle.definitions.specs.Trees.{File, Regex, Formula, Fixed, Image, Combine, Language, Entry, Bytes, Defined, Ledger, ledger_of, entered, bytes_of, tree_of, custom_of}
+use Rattle.definitions.specs.Trees.{File, Regex, Formula, Fixed, Image, Combine, Language, Transduced, Converted, Entry, Bytes, Defined, Ledger, ledger_of, entered, bytes_of, tree_of, custom_of}
 use Rattle.definitions.specs.Texts.{HasTextIn, HasTextAt, Stores}
 use Rattle.definitions.specs.Laws.{CustomTextsAreFiles}
 
@@ -18,6 +18,8 @@ entry_text custom (Defined (Fixed rules)) text has = absurd (let no : Bases ≡ 
 entry_text custom (Defined (Image direction system rules tree)) text has = absurd (let no : Bases ≡ Words = has.0 in cc)
 entry_text custom (Defined (Combine direction named parts)) text has = absurd (let no : Bases ≡ Words = has.0 in cc)
 entry_text custom (Defined (Language sets op trees)) text has = absurd (has.0.1 refl)
+entry_text custom (Defined (Transduced system transducer tree)) text has = absurd (let no : Bases ≡ Words = has.0 in cc)
+entry_text custom (Defined (Converted direction system tree)) text has = absurd (let no : Bases ≡ Words = has.0 in cc)
 
 entry_there : (custom : Custom) (entry : Option Entry) (text : Option (List ℕ)) → HasTextAt custom Bases entry text → option_and_then (λ e. bytes_of (tree_of e)) entry ≡ text
 entry_there custom None None has = refl

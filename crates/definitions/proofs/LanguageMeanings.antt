@@ -15,7 +15,7 @@ use Rattle.dfa_text.specs.Meaning.{FileAccepts}
 use Rattle.dfa_text.specs.RelationText.{relation_text}
 use Rattle.dfa_text.proofs.PrintedRelations.{text_lists}
 use Rattle.definitions.specs.Tracks.{NamedSystem, Tracks, OverSets, OverSystems, systems_of, header_of}
-use Rattle.definitions.specs.Trees.{Variable, File, Regex, Formula, Fixed, Image, Combine, Language, Bindings}
+use Rattle.definitions.specs.Trees.{Variable, File, Regex, Formula, Fixed, Image, Combine, Language, Transduced, Converted, Bindings}
 use Rattle.system_files.specs.SystemFiles.{Custom}
 use Rattle.definitions.specs.Named.{AreNamed}
 use Rattle.definitions.specs.FormulaTexts.{named_systems, IsFormulaText}
@@ -63,4 +63,6 @@ language_text_means custom (Formula variables formula bindings) text may is word
 language_text_means custom (Fixed rules) text may is word = not_among may
 language_text_means custom (Image direction system rules tree) text may is word = not_among may
 language_text_means custom (Combine direction named parts) text may is word = not_among may
+language_text_means custom (Transduced system transducer tree) text may is word = not_among may
+language_text_means custom (Converted direction system tree) text may is word = not_among may
 language_text_means custom (Language sets op trees) text may is word = is.accepts word

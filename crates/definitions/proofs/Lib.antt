@@ -20,3 +20,5 @@ pub mod TableSystems
 pub mod TableWords
 pub mod TableRelations
 pub mod OneTable
+pub mod ShortestWords
+pub mod ListedWords

@@ -1,7 +1,7 @@
 -- The text of a definition that may be among words, read as a word's file, has the letters of the definition.
 use Rattle.std.proofs.Common.{◌≡◌, ℕ, List, [], ◌∷◌, length, ℤ, refl, sym, ap, subst}
 use Rattle.digit_tuple.specs.declared.direction.Direction.TheVariants.{Msd}
-use Rattle.definitions.specs.Trees.{Tree, File, Regex, Formula, Fixed, Image, Combine, Language}
+use Rattle.definitions.specs.Trees.{Tree, File, Regex, Formula, Fixed, Image, Combine, Language, Transduced, Converted}
 use Rattle.definitions.specs.TreeMeanings.{AtNumber, tree_letter}
 use Rattle.definitions.specs.WordFiles.{FileLetter}
 use Rattle.definitions.specs.WordTexts.{msd_base}
@@ -25,3 +25,5 @@ word_text_means custom (Fixed rules) text may is ns letter = word_text_letters c
 word_text_means custom (Image direction system rules tree) text may is ns letter = word_text_letters custom direction (system ∷ []) (letters_of custom (Image direction system rules tree)) text is (λ ms b has. one_number _ ms has) ns letter
 word_text_means custom (Combine direction named parts) text may is ns letter = word_text_letters custom direction named (letters_of custom (Combine direction named parts)) text is (λ ms b has. has.0) ns letter
 word_text_means custom (Language sets op trees) text may is ns letter = absurd (may.0 refl)
+word_text_means custom (Transduced system transducer tree) text may is ns letter = word_text_letters custom Msd (system ∷ []) (letters_of custom (Transduced system transducer tree)) text is (λ ms b has. one_number _ ms has) ns letter
+word_text_means custom (Converted direction system tree) text may is ns letter = word_text_letters custom direction (system ∷ []) (letters_of custom (Converted direction system tree)) text is (λ ms b has. one_number _ ms has) ns letter

@@ -22,12 +22,14 @@ use Rattle.numeration.specs.Representation.{Represents, letters_in, sizes_of}
 use Rattle.numeration.specs.Systems.{System}
 use Rattle.system_names.specs.Names.{system_name}
 use Rattle.system_names.specs.declared.system_kind.SystemKind.TheVariants.{Base}
+use Rattle.transducer_reading.specs.LetterRuns.{Makes}
+use Rattle.transducer_reading.specs.Transducers.{Transducer}
 use Rattle.word_output.specs.LetterFunctions.{letter_after, outputs_of}
 use Rattle.word_output.specs.Words.{HasLetter, IsWordValue, RepresentsPlace, WordValue}
 use Rattle.word_output.proofs.PlaceLaws.{letter_of_place, place_of_letter}
 use Rattle.system_files.specs.SystemFiles.{Custom}
 use Rattle.definitions.specs.Tracks.{NamedSystem, OverSystems, systems_of, header_of}
-use Rattle.definitions.specs.Trees.{Tree, Fixed, Image, Combine, Parts}
+use Rattle.definitions.specs.Trees.{Tree, Fixed, Image, Combine, Transduced, Converted, Parts}
 use Rattle.definitions.specs.Named.{IsSystemNamed, AreNamed}
 use Rattle.definitions.specs.TreeMeanings.{AtNumber, tree_letter, first_letter}
 use Rattle.definitions.specs.WordTexts.{IsWordText, msd_base}
@@ -146,6 +148,20 @@ pub combined_word_text : (custom : Custom) (read_direction : Direction) (named :
 combined_word_text custom read_direction named parts v is says =
     word_value_text custom read_direction named v is (λ ns letter. tree_letter custom (Combine read_direction named parts) ns letter)
     (λ ns letter long. (λ has. (long, (says ns letter long).0 has), λ has. (says ns letter long).1 has.1))
+
+-- the text of a word of a transducer's outputs
+pub transduced_word_text : (custom : Custom) (system : NamedSystem) (t : Transducer) (tree : Tree) (v : WordValue) → IsWordNamed custom Msd (system ∷ []) v
+    → ((n : ℕ) (letter : ℤ) → HasLetter v (n ∷ []) letter ↔ Makes t (λ m of_word. tree_letter custom tree (m ∷ []) of_word) n letter) → HasTreeText custom (Transduced system t tree) (text_of_word Msd (system ∷ []) v)
+transduced_word_text custom system t tree v is says =
+    word_value_text custom Msd (system ∷ []) v is (λ ns letter. tree_letter custom (Transduced system t tree) ns letter)
+    (at_numbers v system (λ n letter. Makes t (λ m of_word. tree_letter custom tree (m ∷ []) of_word) n letter) says)
+
+-- the text of a word over another system
+pub converted_word_text : (custom : Custom) (read_direction : Direction) (system : NamedSystem) (tree : Tree) (v : WordValue) → IsWordNamed custom read_direction (system ∷ []) v
+    → ((n : ℕ) (letter : ℤ) → HasLetter v (n ∷ []) letter ↔ tree_letter custom tree (n ∷ []) letter) → HasTreeText custom (Converted read_direction system tree) (text_of_word read_direction (system ∷ []) v)
+converted_word_text custom read_direction system tree v is says =
+    word_value_text custom read_direction (system ∷ []) v is (λ ns letter. tree_letter custom (Converted read_direction system tree) ns letter)
+    (at_numbers v system (λ n letter. tree_letter custom tree (n ∷ []) letter) says)
 
 -- images are those of the same word where the letters are the same
 pub same_image : (rules : Rules) (P Q : ℕ → ℤ → Type 0) → ((n : ℕ) (letter : ℤ) → P n letter → Q n letter) → (place : ℕ) (letter : ℤ) → IsImageLetter rules P place letter → IsImageLetter rules Q place letter

@@ -11,3 +11,5 @@ pub mod Laws
 pub mod TableSteps
 pub mod TableLaws
 pub mod WordLaws
+pub mod Listings
+pub mod ListingLaws

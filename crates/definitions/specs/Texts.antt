@@ -19,7 +19,7 @@ use Rattle.reg_steps.specs.Relations.{IsRelation}
 use Rattle.definitions.specs.Tracks.{NamedSystem, systems_of, Tracks, OverSets, OverSystems, letter_sets, header_of}
 use Rattle.morph_words.specs.MorphismKinds.{HasFixedPoint}
 use Rattle.morph_words.specs.Rules.{Rules}
-use Rattle.definitions.specs.Trees.{Tree, File, Regex, Formula, Fixed, Image, Combine, Language, MayStandIn, Entry, Bytes, Defined, Ledger, tree_of, custom_of}
+use Rattle.definitions.specs.Trees.{Tree, File, Regex, Formula, Fixed, Image, Combine, Language, Transduced, Converted, MayStandIn, Entry, Bytes, Defined, Ledger, tree_of, custom_of}
 use Rattle.definitions.specs.TreeMeanings.{tree_letter, tree_words}
 use Rattle.definitions.specs.WordTexts.{IsWordText, msd_base}
 use Rattle.system_files.specs.SystemFiles.{Custom}
@@ -73,6 +73,8 @@ HasTreeText custom (Fixed rules) text = IsFixedText custom rules text
 HasTreeText custom (Image direction system rules tree) text = IsWordText custom direction (system ∷ []) (λ ns letter. tree_letter custom (Image direction system rules tree) ns letter) text
 HasTreeText custom (Combine direction named parts) text = IsWordText custom direction named (λ ns letter. tree_letter custom (Combine direction named parts) ns letter) text
 HasTreeText custom (Language sets op trees) text = IsLanguageText sets (λ word. tree_words custom (Language sets op trees) word) text
+HasTreeText custom (Transduced system transducer tree) text = IsWordText custom Msd (system ∷ []) (λ ns letter. tree_letter custom (Transduced system transducer tree) ns letter) text
+HasTreeText custom (Converted direction system tree) text = IsWordText custom direction (system ∷ []) (λ ns letter. tree_letter custom (Converted direction system tree) ns letter) text
 
 -- the text of an entry
 abbrev pub HasText : Custom → Entry → List ℕ → Type 0

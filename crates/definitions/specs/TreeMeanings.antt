@@ -13,8 +13,9 @@ use Rattle.regex_build.specs.Matches.{Matches}
 use Rattle.regex_build.specs.Patterns.{AreMembers}
 use Rattle.dfa_text.specs.Meaning.{FileAccepts}
 use Rattle.reg_steps.specs.Relations.{HasMatch}
+use Rattle.transducer_reading.specs.LetterRuns.{Makes}
 use Rattle.definitions.specs.Tracks.{Tracks, OverSets, OverSystems, systems_of, letter_sets}
-use Rattle.definitions.specs.Trees.{Variable, Tree, File, Regex, Formula, Fixed, Image, Combine, Language, Bindings, unbound, bound, Parts, no_parts, part, LanguageOp, Union, Intersection, Concatenation, Star, Reversal, Trees, no_trees, tree_then}
+use Rattle.definitions.specs.Trees.{Variable, Tree, File, Regex, Formula, Fixed, Image, Combine, Language, Transduced, Converted, Bindings, unbound, bound, Parts, no_parts, part, LanguageOp, Union, Intersection, Concatenation, Star, Reversal, Trees, no_trees, tree_then}
 use Rattle.system_files.specs.SystemFiles.{Custom}
 use Rattle.definitions.specs.Files.{FileHolds}
 use Rattle.definitions.specs.WordFiles.{FileLetter}
@@ -50,6 +51,8 @@ abbrev mutual
   tree_holds custom (Image direction system rules tree) ns = ⊥
   tree_holds custom (Combine direction named parts) ns = ⊥
   tree_holds custom (Language sets op trees) ns = ⊥
+  tree_holds custom (Transduced system transducer tree) ns = ⊥
+  tree_holds custom (Converted direction system tree) ns = ⊥
 
   -- what a name is bound to holds of the numbers
   pub bound_holds : Custom → Bindings → Folder → List ℕ → List ℕ → Type 0
@@ -58,7 +61,8 @@ abbrev mutual
 
   -- A file has the letters that it lists; an expression, a formula and a language are no words. A fixed point has its letters, and the image of a word
   -- those of the images of the word's letters, with none where the word has none. Definitions in a list make their letter at each tuple of
-  -- numbers, one for each system.
+  -- numbers, one for each system. A transducer makes its outputs on the run over the word's letters, and none from the place on at which it
+  -- stops: where the word has no letter, or the state no line for it. Over another system a word has its letters.
   pub tree_letter : Custom → Tree → List ℕ → ℤ → Type 0
   tree_letter custom (File bytes) ns letter = FileLetter custom bytes ns letter
   tree_letter custom (Regex tracks expression) ns letter = ⊥
@@ -67,6 +71,8 @@ abbrev mutual
   tree_letter custom (Image direction system rules tree) ns letter = AtNumber (λ n. IsImageLetter rules (λ m of_word. tree_letter custom tree (m ∷ []) of_word) n letter) ns
   tree_letter custom (Combine direction named parts) ns letter = (length ns ≡ length named) × first_letter custom parts ns letter
   tree_letter custom (Language sets op trees) ns letter = ⊥
+  tree_letter custom (Transduced system transducer tree) ns letter = AtNumber (λ n. Makes transducer (λ m of_word. tree_letter custom tree (m ∷ []) of_word) n letter) ns
+  tree_letter custom (Converted direction system tree) ns letter = AtNumber (λ n. tree_letter custom tree (n ∷ []) letter) ns
 
   -- the letter of the first definition that holds of the numbers, and 0 where none holds
   pub first_letter : Custom → Parts → List ℕ → ℤ → Type 0
@@ -93,6 +99,8 @@ abbrev mutual
   tree_words custom (Fixed rules) word = ⊥
   tree_words custom (Image direction system rules tree) word = ⊥
   tree_words custom (Combine direction named parts) word = ⊥
+  tree_words custom (Transduced system transducer tree) word = ⊥
+  tree_words custom (Converted direction system tree) word = ⊥
   tree_words custom (Language sets op trees) word = AllByRecursion (AreMembers sets) word × made_words custom op trees word
 
   -- The words that are in some; in all; joined of one of each, in order; joined of any number of words of the one, and of none; and those

@@ -11,6 +11,7 @@ use Rattle.formula_resolve.specs.declared.file.File as formula_file
 use Rattle.formula_resolve.specs.declared.file.File.TheVariants.{Automaton, Word}
 use Rattle.morph_words.specs.Rules.{Rules}
 use Rattle.regex_build.specs.Expression.{Expression}
+use Rattle.transducer_reading.specs.Transducers.{Transducer}
 use Rattle.system_files.specs.SystemFiles.{Custom}
 use Rattle.definitions.specs.Tracks.{NamedSystem, Tracks}
 
@@ -31,7 +32,9 @@ pub data LanguageOp : Type 0 where
 mutual
   -- A definition: the bytes of a file; an expression over tracks; a formula, with its free variables in byte order and the definitions that
   -- its names mean; the fixed point of a morphism; the image of a word, over the word's system; the word that definitions in a list
-  -- make together, over systems that are read in one direction; or the language that an operation makes of those of definitions, over sets.
+  -- make together, over systems that are read in one direction; the language that an operation makes of those of definitions, over sets;
+  -- the word of the outputs of a transducer that runs over a word, over the word's system with the most significant digit first; or a word
+  -- over another system.
   pub data Tree : Type 0 where
     File : List ℕ → Tree
     Regex : Tracks → Expression (List ℤ) → Tree
@@ -40,6 +43,8 @@ mutual
     Image : Direction → NamedSystem → Rules → Tree → Tree
     Combine : Direction → List NamedSystem → Parts → Tree
     Language : List (List ℤ) → LanguageOp → Trees → Tree
+    Transduced : NamedSystem → Transducer → Tree → Tree
+    Converted : Direction → NamedSystem → Tree → Tree
 
   -- definitions in a list, each with a letter
   pub data Parts : Type 0 where
@@ -66,6 +71,8 @@ MayStandIn folder (Fixed rules) = folder ≡ Words
 MayStandIn folder (Image direction system rules tree) = folder ≡ Words
 MayStandIn folder (Combine direction named parts) = folder ≡ Words
 MayStandIn folder (Language sets op trees) = (folder ≢ Words) × (folder ≢ Bases)
+MayStandIn folder (Transduced system transducer tree) = folder ≡ Words
+MayStandIn folder (Converted direction system tree) = folder ≡ Words
 
 -- what is under a name: bytes, or a definition
 pub data Entry : Type 0 where
@@ -93,6 +100,8 @@ bytes_of (Fixed rules) = None
 bytes_of (Image direction system rules tree) = None
 bytes_of (Combine direction named parts) = None
 bytes_of (Language sets op trees) = None
+bytes_of (Transduced system transducer tree) = None
+bytes_of (Converted direction system tree) = None
 
 -- the definition of an entry
 abbrev pub tree_of : Entry → Tree

@@ -34,7 +34,7 @@ one_branching listed n m one other =
     one.table other.table
 
 -- it has too many letters, or one automaton is read
-table_one : (listed : Listed) → HasOneAnswer Memory (DoesPlainTable listed)
+pub table_one : (listed : Listed) → HasOneAnswer Memory (DoesPlainTable listed)
 table_one listed old new next result other (inl a) (inl b) = inl (a.refused ∙ sym b.refused, a.same ∙ sym b.same)
 table_one listed old new next result other (inl a) (inr (inl out)) = inr (inr out)
 table_one listed old new next result other (inl a) (inr (inr (n, over, reads))) = absurd (not_too_large (sizes_of listed) over.alphabet a.large)

@@ -53,8 +53,11 @@ fn named(alloc: Global, name: &Name, language: Dfa) -> Result<NamedLanguage, Out
     })
 }
 
-// The language of what is listed over sets, by the step `read` as the next one.
-fn read_language(alloc: Global, listed: &Listed, steps: &mut Steps) -> Result<Dfa, StepFault>
+/// The language of what is listed over sets, as a canonical automaton, by the step `read` as the next one.
+///
+/// # Errors
+/// `Letters` and `States` exactly where the step passes a limit, with its number.
+pub fn read_language(alloc: Global, listed: &Listed, steps: &mut Steps) -> Result<Dfa, StepFault>
     requires states { 0 < length listed.now.outputs }
     requires given { AreGiven listed.now.header [] }
     ensures { DoesPlainTable listed.now steps.old result steps.new }

@@ -6,7 +6,7 @@ use command_line::{Options, WordsFault, options_of};
 use digit_tuple::faults::OutOfMemory;
 use std::alloc::Global;
 
-// The limit, and behind it `stop` and the seed, where they are given.
+// The limit, and after it `stop` and the seed, where they are given.
 fn shown(alloc: Global, options: Options) -> Result<String, RowFault> {
     let stop = if options.stop { " stop" } else { "" };
     match options.seed {

@@ -97,7 +97,7 @@ struct Row {
     made: &'static str,
 }
 
-// The words of one 1 behind 0s, and no word.
+// The words of one 1 after 0s, and no word.
 const AB: &str = "x:2 = 0*1";
 
 const NOTHING: &str = "x:2 = /";
@@ -108,7 +108,7 @@ static STARS: [Row; 13] = [
         lines: &[AB],
         made: "star 3 2, /! 0>1 1>0/ 0>1 1>0",
     },
-    // the empty word is told from the other words
+    // the empty word is distinguished from the other words
     Row {
         operation: Operation::Star,
         lines: &[NOTHING],
@@ -329,7 +329,7 @@ struct Limited {
     done: u64,
 }
 
-// The words of which the twelfth letter from the start is 1: the reversal tells the last twelve letters.
+// The words of which the twelfth letter from the start is 1: the reversal distinguishes the last twelve letters.
 const TWELFTH: &str = "x:2 = ...........1.*";
 
 static LIMITS: [Limited; 15] = [

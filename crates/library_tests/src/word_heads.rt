@@ -21,12 +21,12 @@ fn read_promote(alloc: Global, text: &str) -> Result<Result<String, HeadFault>, 
 
 // The word, the morphism and the old word of an `image`, or its fault.
 fn read_image(alloc: Global, text: &str) -> Result<Result<String, HeadFault>, Fail> {
-    match image_parts(alloc, text.as_bytes()) {
+    match image_parts(alloc, b"image", text.as_bytes()) {
         Ok(parts) => {
             let word = parts.word.as_str();
-            let morphism = parts.morphism.as_str();
+            let mapping = parts.mapping.as_str();
             let old = parts.old.as_str();
-            Ok(Ok(format!(in alloc; "{word} {morphism} {old}")?))
+            Ok(Ok(format!(in alloc; "{word} {mapping} {old}")?))
         }
         Err(fault) => Ok(Err(fault)),
     }

@@ -1,10 +1,3 @@
-pub mod ListSteps
-pub mod Walks
-pub mod Complete
-pub mod Sound
-pub mod Breaking
-pub mod OneParse
-pub mod ReadingSteps
 pub mod TrackLemmas
 pub mod WordLineLemmas
 pub mod NextLemmas

@@ -1,9 +1,9 @@
 -- Digits of letters, and where they are in the sets of their tracks.
-use Rattle.std.proofs.Common.{◌≡◌, ℕ, zero, suc, ◌+◌, ◌<◌, ◌≤◌, List, [], ◌∷◌, ◌++◌, length, refl, sym, ap, ◌∙◌, subst, arith, take, get_or, None, Some, Option, false, true}
+use Rattle.std.proofs.Common.{◌≡◌, ℕ, zero, suc, ◌+◌, ◌<◌, List, [], ◌∷◌, ◌++◌, length, refl, sym, ap, ◌∙◌, subst, arith, take, get_or, None, Some, Option, false, true}
 use Rattle.std.specs.Prelude.{ℤ, pos, ◌↔◌, IfOk, IsSome, MatchOption, Result}
 use Rattle.std.proofs.lemmas.Result.{IfOk-weaker}
 use Rattle.std.specs.List.{Contains}
-use Rattle.std.proofs.lemmas.List.{take_more, take_all}
+use Rattle.std.proofs.lemmas.List.{take_more}
 use Rattle.digit_tuple.specs.Letters.{AreDigits, code_of}
 use Rattle.digit_tuple.specs.Sets.{sizes_of, members_at}
 use Rattle.digit_tuple.specs.Tuples.{Codes, IsLetterOf}

@@ -1,13 +1,13 @@
 -- Lines of words that grow.
-use Rattle.std.proofs.Common.{◌≡◌, ℕ, suc, ◌<◌, Bool, true, false, List, [], ◌∷◌, ◌++◌, length, get_or, eqb, codes, refl, sym, ap, ◌∙◌, subst, arith, append_assoc, ℤ}
-use Rattle.std.specs.List.{flat_map, AllByRecursion}
+use Rattle.std.proofs.Common.{◌≡◌, ℕ, ◌<◌, true, false, List, [], ◌∷◌, ◌++◌, length, get_or, eqb, codes, sym, ap, ◌∙◌, arith, append_assoc, ℤ}
+use Rattle.std.specs.List.{flat_map}
 use Rattle.std.proofs.lemmas.Bool.Decides.{nat_tests}
 use Rattle.std.proofs.lemmas.List.{get_or_default}
 use Rattle.std.proofs.lemmas.List.Folds.{flat_map-map}
 use Rattle.std.proofs.lemmas.List.Elements.{All-from_recursion}
-use Rattle.digit_tuple.specs.Letters.{product, code_of, AreDigits, IsWord}
-use Rattle.digit_tuple.specs.Sets.{sizes_of, members_at}
-use Rattle.digit_tuple.specs.Tuples.{Codes, IsLetterOf}
+use Rattle.digit_tuple.specs.Letters.{product, IsWord}
+use Rattle.digit_tuple.specs.Sets.{sizes_of}
+use Rattle.digit_tuple.specs.Tuples.{IsLetterOf}
 use Rattle.digit_tuple.proofs.LetterLemmas.{digits_from_letter}
 use Rattle.dfa_text.specs.RelationText.{tuple_of}
 use Rattle.dfa_text.proofs.TupleSteps.{tuple_at_code}

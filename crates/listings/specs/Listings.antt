@@ -6,7 +6,7 @@ use Rattle.digit_tuple.specs.Tuples.{Codes}
 use Rattle.digit_tuple.specs.Deterministic.{Automaton, IsTable, letters_of}
 use Rattle.digit_tuple.specs.declared.direction.Direction.{Direction}
 use Rattle.word_walk.specs.Following.{AreNext}
-use Rattle.word_walk.specs.Listed.{is_listed, IsListing}
+use Rattle.word_walk.specs.Listed.{is_listed}
 use Rattle.listings.specs.declared.line_fault.LineFault.{LineFault}
 use Rattle.listings.specs.declared.line_fault.LineFault.TheVariants.{Long, Memory}
 use Rattle.listings.specs.declared.listed_lines.Bounds.{Bounds}

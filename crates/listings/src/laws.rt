@@ -1,12 +1,6 @@
 //! Laws of the definitions, each a call that does nothing.
 
-ghost use Rattle.listings.specs.Laws.{OneAnswer};
 ghost use Rattle.listings.specs.Listings.{ListingsAreOne, ListingsAreOver, SameListsHaveSameLines, WordsHaveTuples};
-
-/// Reading a text has one answer, where memory is left.
-pub fn one_answer()
-    ensures { OneAnswer }
-{}
 
 /// A word over tracks is the word of its tuples.
 pub fn words_have_tuples()

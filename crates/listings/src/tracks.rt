@@ -7,12 +7,11 @@ ghost use Rattle.digit_tuple.specs.Sets.{IsLetterSet, sizes_of};
 ghost use Rattle.digit_tuple.specs.Tuples.{Codes, IsLetterOf};
 ghost use Rattle.listings.specs.Tracks.{AreAt, HasDigits, IsOnTracks};
 
-use crate::letter::Letter;
-use crate::place::Place;
 use digit_tuple::alphabet::Alphabet;
 use digit_tuple::faults::OutOfMemory;
 use digit_tuple::letter_set::LetterSet;
 use digit_tuple::sets::Sets;
+use place_text::{Letter, Place};
 use std::alloc::Global;
 
 /// The place as a word of letters of an automaton whose tracks have these sets as their digits. None comes if and only if a

@@ -16,7 +16,7 @@ use Rattle.session_cli.specs.HeadAnswers.{HeadAnswers}
 use Rattle.session_cli.specs.Outcomes.{LengthAnswers, checks_of}
 use Rattle.session_cli.specs.RunOutcomes.{run_word_text, RunWordAnswers, load_checks, checks_by_word, run_checks, LoadsText}
 use Rattle.session_cli.specs.SessionLanguage.{IsAnswer, IsReply, session_language}
-use Rattle.session_cli.specs.Accepting.{Success, Answer}
+use Rattle.session_cli.specs.Accepting.{Success, Accepted, Storing, Answer}
 use Rattle.session_cli.specs.Commands.{Commands, Gives, Leaves}
 use Rattle.session_cli.specs.StoreReads.{FromFiles, HasRead}
 use Rattle.definitions.specs.Texts.{Stores}
@@ -29,7 +29,7 @@ use Rattle.session_cli.proofs.CheckSteps.{fails_first, fails_after, fails_wider}
 use Rattle.session_cli.proofs.CommandSteps.{IsAnswering, answering, cause_of, failed_of}
 
 -- an answer that is a fault is a fault of the checks, or the store's at the file that the command makes
-failed_answer : (checks : Check Success) (f : Fault) → IsAnswer checks (Err f) → Fails checks f ⊎ ((success : Success) × checks.answers (Ok success) × (f ≡ faults.Store success.folder success.name))
+failed_answer : (checks : Check Accepted) (f : Fault) → IsAnswer checks (Err f) → Fails checks f ⊎ ((success : Success) × checks.answers (Ok (Storing success)) × (f ≡ faults.Store success.folder success.name))
 failed_answer checks (faults.Store folder name) (inl read) = inl read
 failed_answer checks (faults.Store folder name) (inr (success, made, folders, names)) = inr (success, made, λ i. faults.Store (folders i) (names i))
 failed_answer checks faults.Memory is = inl tt
@@ -52,6 +52,10 @@ failed_answer checks (faults.LetterMissing letter) is = inl is
 failed_answer checks (faults.CombineShape one two) is = inl is
 failed_answer checks (faults.NotPlain of) is = inl is
 failed_answer checks (faults.LangShape one two) is = inl is
+failed_answer checks faults.TestLong is = inl is
+failed_answer checks (faults.Place of) is = inl is
+failed_answer checks (faults.BaseNeeded of systems) is = inl is
+failed_answer checks (faults.NotRelated one two) is = inl is
 failed_answer checks (faults.MixedChain byte) is = inl is
 failed_answer checks (faults.NotLinear byte) is = inl is
 failed_answer checks (faults.LoadDepth of) is = inl is
@@ -63,7 +67,7 @@ failed_answer checks (faults.Plain of) is = inl is
 
 module _ (limit : ℕ) (stop : Bool) (depth : ℕ) (text : List ℕ) (short : length text ≤ 65536) where
   -- the checks of a word, behind those of the length and of the word
-  by_word : (ledger : Ledger) (word : Option RunWord) → RunWordAnswers text (Ok word) → (deed : Deed Success) → (checks_by_word word limit depth ledger text).answers (Ok deed) → (run_checks limit depth ledger text).answers (Ok deed)
+  by_word : (ledger : Ledger) (word : Option RunWord) → RunWordAnswers text (Ok word) → (deed : Deed Accepted) → (checks_by_word word limit depth ledger text).answers (Ok deed) → (run_checks limit depth ledger text).answers (Ok deed)
   by_word ledger word is deed made = (tt, short, (word, is, made))
 
   fails_by_word : (ledger : Ledger) (word : Option RunWord) → RunWordAnswers text (Ok word) → (f : Fault) → Fails (checks_by_word word limit depth ledger text) f → Fails (run_checks limit depth ledger text) f
@@ -81,13 +85,13 @@ module _ (limit : ℕ) (stop : Bool) (depth : ℕ) (text : List ℕ) (short : le
         (λ f refused. elim refused [ inl long ↦ inl long | inr rest ↦ inr (rest.0, rest.1, inr (None, none, inl rest.2)) ])
         (λ place reads. elim reads [ inl never ↦ absurd never | inr rest ↦ inr (rest.0, rest.1, inr (None, none, inl rest.2)) ]) f refused
 
-    entered : (ledger : Ledger) (success : Success) → (checks_of limit ledger text).answers (Ok success) → (run_checks limit depth ledger text).answers (Ok (Enters success))
+    entered : (ledger : Ledger) (success : Accepted) → (checks_of limit ledger text).answers (Ok success) → (run_checks limit depth ledger text).answers (Ok (Enters success))
     entered ledger success (done, is_short, made) = (done, is_short, (None, none, (success, made, refl)))
 
     reply_refused : (ledger : Ledger) (f : Fault) → IsAnswer (checks_of limit ledger text) (Err f) → IsReply (run_checks limit depth ledger text) (Err f)
     reply_refused ledger f is = elim (failed_answer (checks_of limit ledger text) f is) [
       | inl refused ↦ inl (wider ledger f refused)
-      | inr stored ↦ inr (stored.0, entered ledger stored.0 stored.1, stored.2)
+      | inr stored ↦ inr (stored.0, entered ledger (Storing stored.0) stored.1, stored.2)
     ]
 
     pub command_enters : (ledger : Ledger) (old new : StoreView) (shown : Bool) (printed : List ℕ) (bytes : Vec ℕ Global) → bytes.items ≡ printed → Commands limit ledger old text shown (Ok tt) printed new
@@ -151,7 +155,7 @@ module _ (limit : ℕ) (stop : Bool) (depth : ℕ) (text : List ℕ) (short : le
   load_refused ledger old new shown fault word stores from =
       refused_read ledger old new shown fault from.found (answering old.files ledger from.found stores from.reported)
       (λ known stores. fails_by_word known (Some words.Load) (inl (words.Load, word, refl)) fault
-      (fails_first (load_checks depth known text) (λ loaded. Passing (λ (deed : Deed Success). deed ≡ Loads loaded)) fault (from.gives known stores))) from.has_read
+      (fails_first (load_checks depth known text) (λ loaded. Passing (λ (deed : Deed Accepted). deed ≡ Loads loaded)) fault (from.gives known stores))) from.has_read
 
   -- a word alone
   alone_ends : (ledger : Ledger) (store : StoreView) (shown : Bool) (word : RunWord) → first_word_of text ≡ run_word_text word → (checks_by_word (Some word) limit depth ledger text).answers (Ok Ends) → AnswersCommand (session_language limit stop) depth ledger store text shown (Ok deeds.Ends) store
@@ -180,7 +184,7 @@ module _ (limit : ℕ) (stop : Bool) (depth : ℕ) (text : List ℕ) (short : le
   pub exit_refused : (ledger : Ledger) (store : StoreView) (shown : Bool) (fault : Fault) → first_word_of text ≡ run_word_text words.Exit → IfSome store.files (Stores ledger) → Fails (Pure (HeadAnswers (DerivesAlone (codes "exit")) text)) fault
       → AnswersCommand (session_language limit stop) depth ledger store text shown (Err fault) store
   exit_refused ledger store shown fault is stores refused = alone_refused ledger store shown fault words.Exit is stores (head_own (codes "exit") fault refused)
-      (λ known. fails_first (Pure (HeadAnswers (DerivesAlone (codes "exit")) text)) (λ done. Passing (λ (deed : Deed Success). deed ≡ Ends)) fault refused)
+      (λ known. fails_first (Pure (HeadAnswers (DerivesAlone (codes "exit")) text)) (λ done. Passing (λ (deed : Deed Accepted). deed ≡ Ends)) fault refused)
 
   pub quit_ends : (ledger : Ledger) (store : StoreView) (shown : Bool) → first_word_of text ≡ run_word_text words.Quit → HeadAnswers (DerivesAlone (codes "quit")) text (Ok tt) → AnswersCommand (session_language limit stop) depth ledger store text shown (Ok deeds.Ends) store
   quit_ends ledger store shown is head = alone_ends ledger store shown words.Quit is (tt, head, refl)
@@ -188,7 +192,7 @@ module _ (limit : ℕ) (stop : Bool) (depth : ℕ) (text : List ℕ) (short : le
   pub quit_refused : (ledger : Ledger) (store : StoreView) (shown : Bool) (fault : Fault) → first_word_of text ≡ run_word_text words.Quit → IfSome store.files (Stores ledger) → Fails (Pure (HeadAnswers (DerivesAlone (codes "quit")) text)) fault
       → AnswersCommand (session_language limit stop) depth ledger store text shown (Err fault) store
   quit_refused ledger store shown fault is stores refused = alone_refused ledger store shown fault words.Quit is stores (head_own (codes "quit") fault refused)
-      (λ known. fails_first (Pure (HeadAnswers (DerivesAlone (codes "quit")) text)) (λ done. Passing (λ (deed : Deed Success). deed ≡ Ends)) fault refused)
+      (λ known. fails_first (Pure (HeadAnswers (DerivesAlone (codes "quit")) text)) (λ done. Passing (λ (deed : Deed Accepted). deed ≡ Ends)) fault refused)
 
 -- a command that is too long
 pub long_refused : (limit : ℕ) (stop : Bool) (depth : ℕ) (ledger : Ledger) (store : StoreView) (text : List ℕ) (shown : Bool) → 65536 < length text → AnswersCommand (session_language limit stop) depth ledger store text shown (Err (faults.Long 65536)) store

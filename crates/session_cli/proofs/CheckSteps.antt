@@ -1,12 +1,12 @@
 -- Checks one after another: they have one answer, and what refuses a check refuses all of them.
-use Rattle.std.proofs.Common.{◌≡◌, Bool, Result, Ok, Err, subst, inl, inr}
+use Rattle.std.proofs.Common.{◌≡◌, Bool, Result, Ok, Err, sym, ap, ◌∙◌, subst, inl, inr}
 use Rattle.wal_outside.specs.Places.{Place}
 use Rattle.session_cli.specs.declared.fault.Fault.{Fault}
 use Rattle.session_cli.specs.declared.fault.Fault.TheVariants as faults
 use Rattle.session_cli.specs.declared.plan.Made.{Made}
 use Rattle.session_cli.specs.declared.plan.Plan.{Plan}
 use Rattle.system_files.specs.SystemFiles.{Custom}
-use Rattle.session_cli.specs.Checks.{Check, Then, Fails}
+use Rattle.session_cli.specs.Checks.{Check, Passing, Then, Fails}
 use Rattle.session_cli.specs.Accepting.{Success}
 use Rattle.session_cli.specs.Plans.{Makes, Plans}
 
@@ -36,6 +36,12 @@ module _ {Y Z : Type 0} (first : Check Y) (rest : Y → Check Z) (one : IsSingle
   then_single (Err f) (Err g) (inr (y, a, b)) (inl refused) = absurd (not_both y g a refused)
   then_single (Err f) (Err g) (inr (y, a, b)) (inr (y', a', b')) = let P : Y → Type 0 = λ w. (rest w).answers (Err g) in each y a (Err f) (Err g) b (subst P (same_value y' y a' a) b')
 
+-- a check that passes on one value has one answer
+pub passing_single : {Y : Type 0} (made : Y) → IsSingle (Passing (λ (y : Y). y ≡ made))
+passing_single {Y} made (Ok y) (Ok other) a b = ap (λ (z : Y). let r : Result Y Fault = Ok z in r) (a ∙ sym b)
+passing_single {Y} made (Ok y) (Err fault) a b = absurd b
+passing_single {Y} made (Err fault) other a b = absurd a
+
 -- what refuses the first check refuses all
 pub fails_first : {Y Z : Type 0} (first : Check Y) (rest : Y → Check Z) (f : Fault) → Fails first f → Fails (Then first rest) f
 fails_first first rest (faults.Store folder name) refused = inl refused
@@ -59,6 +65,10 @@ fails_first first rest (faults.LetterMissing letter) refused = inl refused
 fails_first first rest (faults.CombineShape one two) refused = inl refused
 fails_first first rest (faults.NotPlain of) refused = inl refused
 fails_first first rest (faults.LangShape one two) refused = inl refused
+fails_first first rest faults.TestLong refused = inl refused
+fails_first first rest (faults.Place of) refused = inl refused
+fails_first first rest (faults.BaseNeeded of systems) refused = inl refused
+fails_first first rest (faults.NotRelated one two) refused = inl refused
 fails_first first rest (faults.MixedChain byte) refused = inl refused
 fails_first first rest (faults.NotLinear byte) refused = inl refused
 fails_first first rest (faults.LoadDepth of) refused = inl refused
@@ -91,6 +101,10 @@ fails_after first rest y (faults.LetterMissing letter) passed refused = inr (y, 
 fails_after first rest y (faults.CombineShape one two) passed refused = inr (y, passed, refused)
 fails_after first rest y (faults.NotPlain of) passed refused = inr (y, passed, refused)
 fails_after first rest y (faults.LangShape one two) passed refused = inr (y, passed, refused)
+fails_after first rest y faults.TestLong passed refused = inr (y, passed, refused)
+fails_after first rest y (faults.Place of) passed refused = inr (y, passed, refused)
+fails_after first rest y (faults.BaseNeeded of systems) passed refused = inr (y, passed, refused)
+fails_after first rest y (faults.NotRelated one two) passed refused = inr (y, passed, refused)
 fails_after first rest y (faults.MixedChain byte) passed refused = inr (y, passed, refused)
 fails_after first rest y (faults.NotLinear byte) passed refused = inr (y, passed, refused)
 fails_after first rest y (faults.LoadDepth of) passed refused = inr (y, passed, refused)
@@ -136,6 +150,10 @@ fails_wider check wider answers reads (faults.LetterMissing letter) refused = an
 fails_wider check wider answers reads (faults.CombineShape one two) refused = answers (faults.CombineShape one two) refused
 fails_wider check wider answers reads (faults.NotPlain of) refused = answers (faults.NotPlain of) refused
 fails_wider check wider answers reads (faults.LangShape one two) refused = answers (faults.LangShape one two) refused
+fails_wider check wider answers reads faults.TestLong refused = answers faults.TestLong refused
+fails_wider check wider answers reads (faults.Place of) refused = answers (faults.Place of) refused
+fails_wider check wider answers reads (faults.BaseNeeded of systems) refused = answers (faults.BaseNeeded of systems) refused
+fails_wider check wider answers reads (faults.NotRelated one two) refused = answers (faults.NotRelated one two) refused
 fails_wider check wider answers reads (faults.MixedChain byte) refused = answers (faults.MixedChain byte) refused
 fails_wider check wider answers reads (faults.NotLinear byte) refused = answers (faults.NotLinear byte) refused
 fails_wider check wider answers reads (faults.LoadDepth of) refused = answers (faults.LoadDepth of) refused

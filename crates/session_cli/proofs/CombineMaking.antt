@@ -61,3 +61,7 @@ module _ (ledger : Ledger) (head : CombineHead) (tracks : WordTracks) (names : L
   word_unstored (faults.CombineShape one two) refused = absurd refused
   word_unstored (faults.NotPlain of) refused = absurd refused
   word_unstored (faults.LangShape one two) refused = absurd refused
+  word_unstored faults.TestLong refused = absurd refused
+  word_unstored (faults.Place of) refused = absurd refused
+  word_unstored (faults.BaseNeeded of systems) refused = absurd refused
+  word_unstored (faults.NotRelated one two) refused = absurd refused

@@ -8,6 +8,8 @@ use Rattle.wal_outside.specs.declared.folder.Folder.{Folder}
 use Rattle.wal_outside.specs.Views.{StoreView}
 use Rattle.session_cli.specs.declared.fault.Fault.{Fault}
 use Rattle.session_cli.specs.declared.fault.Fault.TheVariants as faults
+use Rattle.session_cli.specs.declared.plan.Action.{Action}
+use Rattle.session_cli.specs.declared.plan.Action.TheVariants as actions
 use Rattle.session_cli.specs.declared.plan.Plan.{Plan}
 use Rattle.session_cli.specs.Checks.{Fails}
 use Rattle.definitions.specs.Texts.{HasTextAt, Stores}
@@ -16,8 +18,10 @@ use Rattle.system_files.specs.SystemFiles.{Custom}
 use Rattle.session_cli.specs.Outcomes.{checks_of}
 use Rattle.script_runs.specs.Replies.{failed_by}
 use Rattle.session_cli.specs.SessionLanguage.{IsAnswer, failed_at}
-use Rattle.session_cli.specs.Plans.{IsPlan}
-use Rattle.session_cli.specs.Commands.{Commands, WritesPlan}
+use Rattle.session_cli.specs.Accepting.{Success, Said, Accepted, Storing, Saying}
+use Rattle.session_cli.specs.Plans.{IsPlanOf, IsAction, IsActionOf}
+use Rattle.session_cli.specs.Commands.{Commands, DoesAction, WritesPlan}
+use Rattle.session_cli.specs.Lines.{said_text}
 use Rattle.session_cli.specs.StoreReads.{IsReadFault, HasRead}
 use Rattle.session_cli.proofs.CheckNames.{is_store_fault}
 use Rattle.session_cli.proofs.StoreReads.{rises}
@@ -63,6 +67,10 @@ cause_of old new (faults.LetterMissing letter) read is = cc
 cause_of old new (faults.CombineShape one two) read is = cc
 cause_of old new (faults.NotPlain of) read is = cc
 cause_of old new (faults.LangShape one two) read is = cc
+cause_of old new faults.TestLong read is = cc
+cause_of old new (faults.Place of) read is = cc
+cause_of old new (faults.BaseNeeded of systems) read is = cc
+cause_of old new (faults.NotRelated one two) read is = cc
 cause_of old new (faults.MixedChain byte) read is = cc
 cause_of old new (faults.NotLinear byte) read is = cc
 cause_of old new (faults.LoadDepth of) read is = cc
@@ -95,6 +103,10 @@ failed_of old new (faults.LetterMissing letter) read = read
 failed_of old new (faults.CombineShape one two) read = read
 failed_of old new (faults.NotPlain of) read = read
 failed_of old new (faults.LangShape one two) read = read
+failed_of old new faults.TestLong read = read
+failed_of old new (faults.Place of) read = read
+failed_of old new (faults.BaseNeeded of systems) read = read
+failed_of old new (faults.NotRelated one two) read = read
 failed_of old new (faults.MixedChain byte) read = read
 failed_of old new (faults.NotLinear byte) read = read
 failed_of old new (faults.LoadDepth of) read = read
@@ -106,7 +118,7 @@ failed_of old new (faults.Plain of) read = read
 
 -- a command that its checks refuse
 pub refused_command : (limit : ℕ) (ledger : Ledger) (old new : StoreView) (text : List ℕ) (shown : Bool) (fault : Fault) (found : Files) → IsAnswering old.files ledger found → ((known : Ledger) → Stores known found → Fails (checks_of limit known text) fault)
-    → HasRead {X = Plan} old (Err fault) new → Commands limit ledger old text shown (Err fault) [] new
+    → HasRead {X = Action} old (Err fault) new → Commands limit ledger old text shown (Err fault) [] new
 refused_command limit ledger old new text shown fault found by refused read = record {
   answer = Err fault;
   gives = (refl, refl);
@@ -138,6 +150,10 @@ refused_command limit ledger old new text shown fault found by refused read = re
     answer_of (faults.CombineShape one two) refused = refused
     answer_of (faults.NotPlain of) refused = refused
     answer_of (faults.LangShape one two) refused = refused
+    answer_of faults.TestLong refused = refused
+    answer_of (faults.Place of) refused = refused
+    answer_of (faults.BaseNeeded of systems) refused = refused
+    answer_of (faults.NotRelated one two) refused = refused
     answer_of (faults.MixedChain byte) refused = refused
     answer_of (faults.NotLinear byte) refused = refused
     answer_of (faults.LoadDepth of) refused = refused
@@ -150,76 +166,119 @@ refused_command limit ledger old new text shown fault found by refused read = re
 same_put : (old : Option Files) (place other : Place) (stored : List ℕ) → place.0 ≡ other.0 → place.1 ≡ other.1 → option_map (λ files. put files place.0 place.1 stored) old ≡ option_map (λ files. put files other.0 other.1 stored) old
 same_put old place other stored folders names = λ i. option_map (λ files. put files (folders i) (names i) stored) old
 
--- what is to be printed of a planned command: its text where it is accepted, and else nothing
-abbrev pub printed_by : Result (Unit {0}) Fault → List ℕ → List ℕ
-printed_by (Ok _) printed = printed
-printed_by (Err fault) printed = []
-
--- a command whose text was to be stored, after its files were read
-pub planned_command : (limit : ℕ) (ledger : Ledger) (old mid new : StoreView) (text : List ℕ) (shown : Bool) (plan : Plan) (result : Result (Unit {0}) Fault) (found : Files) → IsAnswering old.files ledger found
-    → ((known : Ledger) → Stores known found → IsPlan (custom_of known) (checks_of limit known text) shown plan) → HasRead {X = Plan} old (Ok plan) mid → WritesPlan mid (plan.folder, plan.name) plan.made.stored.items result new
-    → Commands limit ledger old text shown result (printed_by result plan.made.printed) new
-planned_command limit ledger old mid new text shown plan result found by plans read wrote = by_result result wrote
-  where
-    by_result : (r : Result (Unit {0}) Fault) → WritesPlan mid (plan.folder, plan.name) plan.made.stored.items r new → Commands limit ledger old text shown r (printed_by r plan.made.printed) new
-    by_result (Ok x) w = record {
-      answer = Ok (plans by.known by.stores).made.success;
-      gives = (plans by.known by.stores).made.printed_is;
+-- a command whose files were read, and whose action was to be done
+module _ (limit : ℕ) (ledger : Ledger) (old mid new : StoreView) (text : List ℕ) (shown : Bool) (found : Files) (by : IsAnswering old.files ledger found) where
+  module _ (plan : Plan) (success : Success) (answers : (checks_of limit by.known text).answers (Ok (Storing success))) (is_of : IsPlanOf (custom_of by.known) success shown plan) (read : HasRead {X = Action} old (Ok (actions.Write plan)) mid) where
+    -- it stores something
+    stored_command : (printed : List ℕ) → WritesPlan {X = List ℕ} mid (plan.folder, plan.name) plan.made.stored.items (Ok printed) new → printed ≡ plan.made.printed → Commands limit ledger old text shown (Ok tt) printed new
+    stored_command printed w is = record {
+      answer = Ok (Storing success);
+      gives = is ∙ is_of.printed_is;
       known = by.known;
       known_is = by.known_is;
-      answered = (plans by.known by.stores).made.answers;
+      answered = answers;
       stored = record {
-        files = (plan.made.stored.items, (plans by.known by.stores).made.has_text, w.files ∙ (ap (λ (o : Option Files). option_map (λ files. put files plan.folder plan.name plan.made.stored.items) o) read.files ∙ same_put old.files (plan.folder, plan.name) ((plans by.known by.stores).made.success.folder, (plans by.known by.stores).made.success.name) plan.made.stored.items (plans by.known by.stores).folder_is (plans by.known by.stores).name_is));
+        files = (plan.made.stored.items, is_of.has_text, w.files ∙ (ap (λ (o : Option Files). option_map (λ files. put files plan.folder plan.name plan.made.stored.items) o) read.files ∙ same_put old.files (plan.folder, plan.name) (success.folder, success.name) plan.made.stored.items is_of.folder_is is_of.name_is));
         later = omega (arith, w.later, read.later);
         cause = λ is. cc;
         failed = w.cause ∙ read.cause;
       };
     }
-    by_result (Err (faults.Store folder at)) w = record {
-      answer = Err (faults.Store folder at);
-      gives = (refl, refl);
-      known = by.known;
-      known_is = by.known_is;
-      answered = inr ((plans by.known by.stores).made.success, (plans by.known by.stores).made.answers, w.cause.0 ∙ (plans by.known by.stores).folder_is, w.cause.1 ∙ (plans by.known by.stores).name_is);
-      stored = record {
-        files = w.files ∙ read.files;
-        later = omega (arith, w.later, read.later);
-        cause = λ is. rises old.faults mid.faults new.faults read.later w.cause.2;
-        failed = w.cause.3 ∙ ap (λ (o : Option (Option Place)). option_map (λ _. Some (folder, at)) o) read.cause;
-      };
-    }
-    by_result (Err faults.Memory) w = record {
-      answer = Err faults.Memory;
-      gives = (refl, refl);
-      known = by.known;
-      known_is = by.known_is;
-      answered = tt;
-      stored = record { files = w.files ∙ read.files; later = omega (arith, w.later, read.later); cause = λ is. cc; failed = w.cause ∙ read.cause };
-    }
-    by_result (Err faults.Command) w = absurd w.cause
-    by_result (Err (faults.Syntax grammar at)) w = absurd w.cause
-    by_result (Err (faults.Number grammar at)) w = absurd w.cause
-    by_result (Err (faults.Depth grammar at)) w = absurd w.cause
-    by_result (Err (faults.Long bytes)) w = absurd w.cause
-    by_result (Err (faults.SystemUnknown of)) w = absurd w.cause
-    by_result (Err (faults.NotAdmitted of law)) w = absurd w.cause
-    by_result (Err (faults.Direction first other)) w = absurd w.cause
-    by_result (Err (faults.Letters step)) w = absurd w.cause
-    by_result (Err (faults.States step)) w = absurd w.cause
-    by_result (Err faults.ScriptLimit) w = absurd w.cause
-    by_result (Err (faults.MacroArgs of at given)) w = absurd w.cause
-    by_result (Err (faults.MacroDepth of)) w = absurd w.cause
-    by_result (Err faults.MacroLong) w = absurd w.cause
-    by_result (Err (faults.Morphism kind)) w = absurd w.cause
-    by_result (Err (faults.LetterMissing letter)) w = absurd w.cause
-    by_result (Err (faults.CombineShape one two)) w = absurd w.cause
-    by_result (Err (faults.NotPlain of)) w = absurd w.cause
-    by_result (Err (faults.LangShape one two)) w = absurd w.cause
-    by_result (Err (faults.MixedChain byte)) w = absurd w.cause
-    by_result (Err (faults.NotLinear byte)) w = absurd w.cause
-    by_result (Err (faults.LoadDepth of)) w = absurd w.cause
-    by_result (Err (faults.Unknown of file)) w = absurd w.cause
-    by_result (Err (faults.File of file flaw)) w = absurd w.cause
-    by_result (Err (faults.Arity of tracks given)) w = absurd w.cause
-    by_result (Err (faults.Clash of one two)) w = absurd w.cause
-    by_result (Err (faults.Plain of)) w = absurd w.cause
+
+    -- or that failed
+    unstored_command : (fault : Fault) → WritesPlan {X = List ℕ} mid (plan.folder, plan.name) plan.made.stored.items (Err fault) new → Commands limit ledger old text shown (Err fault) [] new
+    unstored_command fault wrote = by_fault fault wrote
+      where
+        by_fault : (f : Fault) → WritesPlan {X = List ℕ} mid (plan.folder, plan.name) plan.made.stored.items (Err f) new → Commands limit ledger old text shown (Err f) [] new
+        by_fault (faults.Store folder at) w = record {
+          answer = Err (faults.Store folder at);
+          gives = (refl, refl);
+          known = by.known;
+          known_is = by.known_is;
+          answered = inr (success, answers, w.cause.0 ∙ is_of.folder_is, w.cause.1 ∙ is_of.name_is);
+          stored = record {
+            files = w.files ∙ read.files;
+            later = omega (arith, w.later, read.later);
+            cause = λ is. rises old.faults mid.faults new.faults read.later w.cause.2;
+            failed = w.cause.3 ∙ ap (λ (o : Option (Option Place)). option_map (λ _. Some (folder, at)) o) read.cause;
+          };
+        }
+        by_fault faults.Memory w = record {
+          answer = Err faults.Memory;
+          gives = (refl, refl);
+          known = by.known;
+          known_is = by.known_is;
+          answered = tt;
+          stored = record { files = w.files ∙ read.files; later = omega (arith, w.later, read.later); cause = λ is. cc; failed = w.cause ∙ read.cause };
+        }
+        by_fault faults.Command w = absurd w.cause
+        by_fault (faults.Syntax grammar at) w = absurd w.cause
+        by_fault (faults.Number grammar at) w = absurd w.cause
+        by_fault (faults.Depth grammar at) w = absurd w.cause
+        by_fault (faults.Long bytes) w = absurd w.cause
+        by_fault (faults.SystemUnknown of) w = absurd w.cause
+        by_fault (faults.NotAdmitted of law) w = absurd w.cause
+        by_fault (faults.Direction first other) w = absurd w.cause
+        by_fault (faults.Letters step) w = absurd w.cause
+        by_fault (faults.States step) w = absurd w.cause
+        by_fault faults.ScriptLimit w = absurd w.cause
+        by_fault (faults.MacroArgs of at given) w = absurd w.cause
+        by_fault (faults.MacroDepth of) w = absurd w.cause
+        by_fault faults.MacroLong w = absurd w.cause
+        by_fault (faults.Morphism kind) w = absurd w.cause
+        by_fault (faults.LetterMissing letter) w = absurd w.cause
+        by_fault (faults.CombineShape one two) w = absurd w.cause
+        by_fault (faults.NotPlain of) w = absurd w.cause
+        by_fault (faults.LangShape one two) w = absurd w.cause
+        by_fault faults.TestLong w = absurd w.cause
+        by_fault (faults.Place of) w = absurd w.cause
+        by_fault (faults.BaseNeeded of systems) w = absurd w.cause
+        by_fault (faults.NotRelated one two) w = absurd w.cause
+        by_fault (faults.MixedChain byte) w = absurd w.cause
+        by_fault (faults.NotLinear byte) w = absurd w.cause
+        by_fault (faults.LoadDepth of) w = absurd w.cause
+        by_fault (faults.Unknown of file) w = absurd w.cause
+        by_fault (faults.File of file flaw) w = absurd w.cause
+        by_fault (faults.Arity of tracks given) w = absurd w.cause
+        by_fault (faults.Clash of one two) w = absurd w.cause
+        by_fault (faults.Plain of) w = absurd w.cause
+
+  -- it says something
+  said_command : (printed : List ℕ) (said : Said) → (checks_of limit by.known text).answers (Ok (Saying said)) → printed ≡ said_text shown said → HasRead {X = Action} old (Ok (actions.Print printed)) mid → new ≡ mid → Commands limit ledger old text shown (Ok tt) printed new
+  said_command printed said answers is read same = subst (λ (store : StoreView). Commands limit ledger old text shown (Ok tt) printed store) (sym same) record {
+    answer = Ok (Saying said);
+    gives = is;
+    known = by.known;
+    known_is = by.known_is;
+    answered = answers;
+    stored = record { files = read.files; later = read.later; cause = λ is. cc; failed = read.cause };
+  }
+
+  done_print : (said printed : List ℕ) → IsAction (custom_of by.known) (checks_of limit by.known text) shown (actions.Print said) → HasRead {X = Action} old (Ok (actions.Print said)) mid → printed ≡ said → new ≡ mid → Commands limit ledger old text shown (Ok tt) printed new
+  done_print said printed a read is same = subst (λ (l : List ℕ). Commands limit ledger old text shown (Ok tt) l new) (sym is) (by_accepted a.accepted a.answers a.is_of)
+    where
+      by_accepted : (accepted : Accepted) → (checks_of limit by.known text).answers (Ok accepted) → IsActionOf (custom_of by.known) accepted shown (actions.Print said) → Commands limit ledger old text shown (Ok tt) said new
+      by_accepted (Storing success) answers is_of = absurd is_of
+      by_accepted (Saying tells) answers is_of = said_command said tells answers is_of read same
+
+  pub done_command : (action : Action) (printed : List ℕ) → IsAction (custom_of by.known) (checks_of limit by.known text) shown action → HasRead {X = Action} old (Ok action) mid → DoesAction mid action (Ok printed) new → Commands limit ledger old text shown (Ok tt) printed new
+  done_command (actions.Write plan) printed a read (wrote, is) = by_accepted a.accepted a.answers a.is_of
+    where
+      by_accepted : (accepted : Accepted) → (checks_of limit by.known text).answers (Ok accepted) → IsActionOf (custom_of by.known) accepted shown (actions.Write plan) → Commands limit ledger old text shown (Ok tt) printed new
+      by_accepted (Storing success) answers is_of = stored_command plan success answers is_of read printed wrote is
+      by_accepted (Saying said) answers is_of = absurd is_of
+  done_command (actions.Print said) printed a read (is, same) = done_print said printed a read (same_ok printed said is) same
+    where
+      same_ok : (x y : List ℕ) → (let r : Result (List ℕ) Fault = Ok x in r) ≡ Ok y → x ≡ y
+      same_ok x y e = cc
+
+  pub undone_command : (action : Action) (fault : Fault) → IsAction (custom_of by.known) (checks_of limit by.known text) shown action → HasRead {X = Action} old (Ok action) mid → DoesAction mid action (Err fault) new → Commands limit ledger old text shown (Err fault) [] new
+  undone_command (actions.Write plan) fault a read (wrote, is) = by_accepted a.accepted a.answers a.is_of
+    where
+      by_accepted : (accepted : Accepted) → (checks_of limit by.known text).answers (Ok accepted) → IsActionOf (custom_of by.known) accepted shown (actions.Write plan) → Commands limit ledger old text shown (Err fault) [] new
+      by_accepted (Storing success) answers is_of = unstored_command plan success answers is_of read fault wrote
+      by_accepted (Saying said) answers is_of = absurd is_of
+  undone_command (actions.Print said) fault a read (is, same) = absurd (no_fault said fault is)
+    where
+      no_fault : (x : List ℕ) (f : Fault) → (let r : Result (List ℕ) Fault = Err f in r) ≡ Ok x → ⊥
+      no_fault x f e = cc

@@ -86,6 +86,10 @@ module _ (files others : Files) (same : SameButMacros files others) where
   unloaded_alike named (faults.CombineShape one two) is = absurd is
   unloaded_alike named (faults.NotPlain of) is = absurd is
   unloaded_alike named (faults.LangShape one two) is = absurd is
+  unloaded_alike named faults.TestLong is = absurd is
+  unloaded_alike named (faults.Place of) is = absurd is
+  unloaded_alike named (faults.BaseNeeded of systems) is = absurd is
+  unloaded_alike named (faults.NotRelated one two) is = absurd is
   unloaded_alike named (faults.Store folder name) is = reads_alike named folder name is
   unloaded_alike named faults.Memory is = tt
   unloaded_alike named faults.ScriptLimit is = absurd is

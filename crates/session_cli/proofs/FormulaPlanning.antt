@@ -128,3 +128,7 @@ module _ (custom : Custom) (l : LibraryValue) (bindings : Bindings) (means : Mea
   text_refused place lines (faults.CombineShape one two) refused = absurd refused
   text_refused place lines (faults.NotPlain of) refused = absurd refused
   text_refused place lines (faults.LangShape one two) refused = absurd refused
+  text_refused place lines faults.TestLong refused = absurd refused
+  text_refused place lines (faults.Place of) refused = absurd refused
+  text_refused place lines (faults.BaseNeeded of systems) refused = absurd refused
+  text_refused place lines (faults.NotRelated one two) refused = absurd refused

@@ -1,5 +1,5 @@
 -- From what each part of the code makes of an image to what all checks of its command make.
-use Rattle.std.proofs.Common.{◌≡◌, ℕ, Bool, List, [], length, Result, Ok, Err, inl, inr, sym, ap, ◌∙◌}
+use Rattle.std.proofs.Common.{◌≡◌, ℕ, Bool, List, [], length, Result, Ok, Err, codes, inl, inr, sym, ap, ◌∙◌}
 use Rattle.wal_outside.specs.Files.{Files}
 use Rattle.wal_outside.specs.Places.{Place}
 use Rattle.wal_outside.specs.declared.folder.Folder.TheVariants.{Words}
@@ -44,9 +44,9 @@ use Rattle.session_cli.proofs.StoreReads.{IsOwn, own_made}
 use Rattle.session_cli.proofs.TextReads.{with_bases}
 
 -- where the head breaks the grammar
-pub image_broken : (limit : ℕ) (ledger : Ledger) (text : List ℕ) (fault : HeadFault) → HasHead {X = ImageParts} DerivesImage image_view text (Err fault) → Fails (image_checks limit ledger text) (fault_of_head fault)
-image_broken limit ledger text (head_faults.Syntax at) breaks = fails_first (Pure (HeadAnswers DerivesImage text)) (λ head. after_image_head limit ledger head) (faults.Syntax grammars.Command at) breaks
-image_broken limit ledger text (head_faults.Number at) breaks = fails_first (Pure (HeadAnswers DerivesImage text)) (λ head. after_image_head limit ledger head) (faults.Number grammars.Command at) breaks
+pub image_broken : (limit : ℕ) (ledger : Ledger) (text : List ℕ) (fault : HeadFault) → HasHead {X = ImageParts} (DerivesImage (codes "image")) image_view text (Err fault) → Fails (image_checks limit ledger text) (fault_of_head fault)
+image_broken limit ledger text (head_faults.Syntax at) breaks = fails_first (Pure (HeadAnswers (DerivesImage (codes "image")) text)) (λ head. after_image_head limit ledger head) (faults.Syntax grammars.Command at) breaks
+image_broken limit ledger text (head_faults.Number at) breaks = fails_first (Pure (HeadAnswers (DerivesImage (codes "image")) text)) (λ head. after_image_head limit ledger head) (faults.Number grammars.Command at) breaks
 image_broken limit ledger text head_faults.Memory breaks = tt
 
 -- what is accepted is among words, under the name of the head
@@ -59,31 +59,31 @@ image_at limit ledger head success (rules, read, (tables, files, (admitted, syst
     record { folder_is = sym (ap (λ (s : Success). s.folder) is); name_is = sym (ap (λ (s : Success). s.name) is) }
 
 -- a command whose head is this one
-pub image_planned : (limit : ℕ) (ledger : Ledger) (text : List ℕ) (shown : Bool) (head : ImageHead) (plan : Plan) → HeadAnswers DerivesImage text (Ok head) → plan.folder ≡ Words → plan.name ≡ head.word
+pub image_planned : (limit : ℕ) (ledger : Ledger) (text : List ℕ) (shown : Bool) (head : ImageHead) (plan : Plan) → HeadAnswers (DerivesImage (codes "image")) text (Ok head) → plan.folder ≡ Words → plan.name ≡ head.word
     → Makes (custom_of ledger) (after_image_head limit ledger head) shown (Ok plan.made) → Plans (custom_of ledger) (image_checks limit ledger text) shown (Ok plan)
 image_planned limit ledger text shown head plan spells folder_is name_is made =
     let at : IsImageAt head made.success = image_at limit ledger head made.success made.answers in
-    plans_after (custom_of ledger) (Pure (HeadAnswers DerivesImage text)) (λ h. after_image_head limit ledger h) head shown (Ok plan) spells (record { made = made; folder_is = folder_is ∙ at.folder_is; name_is = name_is ∙ at.name_is })
+    plans_after (custom_of ledger) (Pure (HeadAnswers (DerivesImage (codes "image")) text)) (λ h. after_image_head limit ledger h) head shown (Ok plan) spells (record { made = made; folder_is = folder_is ∙ at.folder_is; name_is = name_is ∙ at.name_is })
 
-pub image_failed : (limit : ℕ) (ledger : Ledger) (text : List ℕ) (shown : Bool) (head : ImageHead) (fault : Fault) → HeadAnswers DerivesImage text (Ok head) → Fails (after_image_head limit ledger head) fault → Plans (custom_of ledger) (image_checks limit ledger text) shown (Err fault)
-image_failed limit ledger text shown head fault spells refused = plans_after (custom_of ledger) (Pure (HeadAnswers DerivesImage text)) (λ h. after_image_head limit ledger h) head shown (Err fault) spells refused
+pub image_failed : (limit : ℕ) (ledger : Ledger) (text : List ℕ) (shown : Bool) (head : ImageHead) (fault : Fault) → HeadAnswers (DerivesImage (codes "image")) text (Ok head) → Fails (after_image_head limit ledger head) fault → Plans (custom_of ledger) (image_checks limit ledger text) shown (Err fault)
+image_failed limit ledger text shown head fault spells refused = plans_after (custom_of ledger) (Pure (HeadAnswers (DerivesImage (codes "image")) text)) (λ h. after_image_head limit ledger h) head shown (Err fault) spells refused
 
 module _ (limit : ℕ) (ledger : Ledger) (head : ImageHead) where
   -- its morphism is not loaded
-  pub morphism_unloaded : (fault : Fault) → Fails (morphism_loaded ledger head.morphism) fault → Fails (after_image_head limit ledger head) fault
-  morphism_unloaded fault refused = fails_first (morphism_loaded ledger head.morphism) (λ rules. after_image_morphism limit ledger head rules) fault refused
+  pub morphism_unloaded : (fault : Fault) → Fails (morphism_loaded ledger head.mapping) fault → Fails (after_image_head limit ledger head) fault
+  morphism_unloaded fault refused = fails_first (morphism_loaded ledger head.mapping) (λ rules. after_image_morphism limit ledger head rules) fault refused
 
   -- the table of the old word is not
-  pub old_unloaded : (rules : Rules) (fault : Fault) → MorphismAnswers ledger head.morphism (Ok rules) → Fails (files_loaded ledger (first_files (old_mentions head.old))) fault → Fails (after_image_head limit ledger head) fault
+  pub old_unloaded : (rules : Rules) (fault : Fault) → MorphismAnswers ledger head.mapping (Ok rules) → Fails (files_loaded ledger (first_files (old_mentions head.old))) fault → Fails (after_image_head limit ledger head) fault
   old_unloaded rules fault read refused =
-      fails_after (morphism_loaded ledger head.morphism) (λ rs. after_image_morphism limit ledger head rs) rules fault read
+      fails_after (morphism_loaded ledger head.mapping) (λ rs. after_image_morphism limit ledger head rs) rules fault read
       (fails_first (files_loaded ledger (first_files (old_mentions head.old))) (λ tables. after_old_table limit ledger head rules tables) fault refused)
 
   -- what is made where both are
-  pub image_loaded : (rules : Rules) (tables : List Loaded) (shown : Bool) (result : Result Made Fault) → MorphismAnswers ledger head.morphism (Ok rules) → FilesAnswers ledger (first_files (old_mentions head.old)) (Ok tables)
+  pub image_loaded : (rules : Rules) (tables : List Loaded) (shown : Bool) (result : Result Made Fault) → MorphismAnswers ledger head.mapping (Ok rules) → FilesAnswers ledger (first_files (old_mentions head.old)) (Ok tables)
       → Makes (custom_of ledger) (after_old_table limit ledger head rules tables) shown result → Makes (custom_of ledger) (after_image_head limit ledger head) shown result
   image_loaded rules tables shown result read there makes =
-      makes_after (custom_of ledger) (morphism_loaded ledger head.morphism) (λ rs. after_image_morphism limit ledger head rs) rules shown result read
+      makes_after (custom_of ledger) (morphism_loaded ledger head.mapping) (λ rs. after_image_morphism limit ledger head rs) rules shown result read
       (makes_after (custom_of ledger) (files_loaded ledger (first_files (old_mentions head.old))) (λ ts. after_old_table limit ledger head rules ts) tables shown result there makes)
 
   module _ (rules : Rules) (tables : List Loaded) where

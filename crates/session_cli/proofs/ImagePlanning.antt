@@ -43,8 +43,8 @@ use Rattle.session_cli.proofs.TableMeanings.{HasLettersAs}
 pub image_read_made : (options : StepOptions) (ledger : Ledger) (head : ImageHead) (read : ReadImage) (found : Files) (result : Result Made Fault) → Stores ledger found → IsReadBy head found read → MakesAfterOld options read (found Bases) result
     → Makes (custom_of ledger) (after_image_head options.limit ledger head) options.shown result
 image_read_made options ledger head read found result stores is makes =
-    let there = makes ledger found head.word head.morphism stores (stored_custom ledger found stores) is.listed in
-    let P : List ℕ → Type 0 = λ old. Makes (custom_of ledger) (after_old_table options.limit ledger (record { word = head.word; morphism = head.morphism; old = old }) read.morphism read.tables.items) options.shown result in
+    let there = makes ledger found head.word head.mapping stores (stored_custom ledger found stores) is.listed in
+    let P : List ℕ → Type 0 = λ old. Makes (custom_of ledger) (after_old_table options.limit ledger (record { word = head.word; mapping = head.mapping; old = old }) read.morphism read.tables.items) options.shown result in
     image_loaded options.limit ledger head read.morphism read.tables.items options.shown result (found, stores, is.rules)
     (found, stores, subst (λ (old : List ℕ). AreListedBy found (first_files (old_mentions old)) read.tables.items) is.old is.listed) (subst P is.old there)
 

@@ -1,4 +1,4 @@
--- A morphism and then tables, each read by files that are found: they are found together, since they are in other folders.
+-- A morphism or a transducer and then tables, each read by files that are found: they are found together, since they are in other folders.
 use Rattle.std.proofs.Common.{◌≡◌, ℕ, List, [], ◌∷◌, Option, None, Some, IfSome, Result, Ok, Err, inl, inr, sym, ◌∙◌, subst}
 use Rattle.std.specs.declared.alloc.Global.{Global}
 use Rattle.std.specs.declared.vec.Vec.{Vec}
@@ -15,6 +15,8 @@ use Rattle.formula_resolve.specs.declared.file.File.{File}
 use Rattle.formula_resolve.specs.declared.file.File.TheVariants.{Automaton, Word}
 use Rattle.morph_words.specs.Rules.{Rules}
 use Rattle.morphism_loading.specs.MorphismFiles.{IsLoadedMorphism, IsMorphismIn}
+use Rattle.transducer_loading.specs.TransducerFiles.{IsTransducerIn}
+use Rattle.transducer_reading.specs.Transducers.{Transducer}
 use Rattle.definitions.specs.Texts.{Stores}
 use Rattle.definitions.specs.Trees.{Ledger}
 use Rattle.session_cli.specs.declared.fault.Fault.{Fault}
@@ -23,39 +25,43 @@ use Rattle.session_cli.specs.Checks.{Fails}
 use Rattle.session_cli.specs.FormulaFaults.{fault_of_loading}
 use Rattle.session_cli.specs.FormulaPlans.{AreUnloaded, LoadsTables}
 use Rattle.session_cli.specs.MorphismChecks.{morphism_loaded}
-use Rattle.session_cli.specs.StoreReads.{HasRead, FromFiles}
+use Rattle.session_cli.specs.StoreReads.{FromFiles}
 use Rattle.session_cli.proofs.TextReads.{reads_both}
 use Rattle.session_cli.proofs.LoadedFiles.{caused_so}
-use Rattle.session_cli.proofs.LoadedMorphisms.{morphism_unloaded}
+use Rattle.session_cli.proofs.LoadedMorphisms.{GivesMorphism, morphism_there, morphism_unloaded}
 
--- the files with the morphisms of others
-abbrev pub with_morphisms : Files → Files → Files
-with_morphisms files others Automata = files Automata
-with_morphisms files others Words = files Words
-with_morphisms files others Bases = files Bases
-with_morphisms files others Macros = files Macros
-with_morphisms files others Morphisms = others Morphisms
-with_morphisms files others Transducers = files Transducers
-with_morphisms files others Results = files Results
-with_morphisms files others Commands = files Commands
+-- the files with the morphisms and the transducers of others
+abbrev pub with_maps : Files → Files → Files
+with_maps files others Automata = files Automata
+with_maps files others Words = files Words
+with_maps files others Bases = files Bases
+with_maps files others Macros = files Macros
+with_maps files others Morphisms = others Morphisms
+with_maps files others Transducers = others Transducers
+with_maps files others Results = files Results
+with_maps files others Commands = files Commands
 
 module _ (files others : Files) where
   -- the morphism is the same there
-  morphism_with : (name : List ℕ) (rules : Rules) → IsMorphismIn others name rules → IsMorphismIn (with_morphisms files others) name rules
+  morphism_with : (name : List ℕ) (rules : Rules) → IsMorphismIn others name rules → IsMorphismIn (with_maps files others) name rules
   morphism_with name rules is = record { text = is.text; there = is.there; short = is.short; derives = is.derives }
 
+  -- and so is a transducer
+  pub transducer_with : (name : List ℕ) (t : Transducer) → IsTransducerIn others name t → IsTransducerIn (with_maps files others) name t
+  transducer_with name t is = record { text = is.text; there = is.there; short = is.short; gives = is.gives }
+
   -- and so are tables
-  one_with : (file : File) (table : Loaded) → IsListedBy files file table → IsListedBy (with_morphisms files others) file table
+  one_with : (file : File) (table : Loaded) → IsListedBy files file table → IsListedBy (with_maps files others) file table
   one_with (Automaton name) table l = record { text = l.text; there = l.there; short = l.short; lists = l.lists }
   one_with (Word name) table l = record { text = l.text; there = l.there; short = l.short; lists = l.lists }
 
-  listed_with : (named : List File) (tables : List Loaded) → AreListedBy files named tables → AreListedBy (with_morphisms files others) named tables
+  pub listed_with : (named : List File) (tables : List Loaded) → AreListedBy files named tables → AreListedBy (with_maps files others) named tables
   listed_with [] [] all = tt
   listed_with [] (table ∷ tables) all = all
   listed_with (file ∷ named) [] all = all
   listed_with (file ∷ named) (table ∷ tables) all = (one_with file table all.0, listed_with named tables all.1)
 
-  refused_with : (file : File) (fault : LoadFault) → Refuses files file fault → Refuses (with_morphisms files others) file fault
+  refused_with : (file : File) (fault : LoadFault) → Refuses files file fault → Refuses (with_maps files others) file fault
   refused_with (Automaton name) (loads.Unknown folder at) is = is
   refused_with (Word name) (loads.Unknown folder at) is = is
   refused_with (Automaton name) (loads.File folder at flaw) is = is
@@ -63,17 +69,17 @@ module _ (files others : Files) where
   refused_with file (loads.Store folder at) is = absurd is
   refused_with file loads.Memory is = absurd is
 
-  first_with : (named : List File) (fault : LoadFault) → FirstRefuses files named fault → FirstRefuses (with_morphisms files others) named fault
+  first_with : (named : List File) (fault : LoadFault) → FirstRefuses files named fault → FirstRefuses (with_maps files others) named fault
   first_with [] fault first = first
   first_with (file ∷ named) fault (inl refused) = inl (refused_with file fault refused)
   first_with (file ∷ named) fault (inr (table, listed, rest)) = inr (table, one_with file table listed, first_with named fault rest)
 
-  reads_with : (named : List File) (folder : Folder) (name : List ℕ) → ReadsAt files named folder name → ReadsAt (with_morphisms files others) named folder name
+  reads_with : (named : List File) (folder : Folder) (name : List ℕ) → ReadsAt files named folder name → ReadsAt (with_maps files others) named folder name
   reads_with [] folder name at = at
   reads_with (file ∷ named) folder name (inl at) = inl at
   reads_with (file ∷ named) folder name (inr (table, listed, rest)) = inr (table, one_with file table listed, reads_with named folder name rest)
 
-  unloaded_with : (named : List File) (fault : Fault) → AreUnloaded files named fault → AreUnloaded (with_morphisms files others) named fault
+  pub unloaded_with : (named : List File) (fault : Fault) → AreUnloaded files named fault → AreUnloaded (with_maps files others) named fault
   unloaded_with named (faults.Unknown folder name) first = first_with named (loads.Unknown folder name) first
   unloaded_with named (faults.File folder name flaw) first = first_with named (loads.File folder name flaw) first
   unloaded_with named (faults.Store folder name) at = reads_with named folder name at
@@ -103,8 +109,12 @@ module _ (files others : Files) where
   unloaded_with named (faults.CombineShape one two) first = absurd first
   unloaded_with named (faults.NotPlain of) first = absurd first
   unloaded_with named (faults.LangShape one two) first = absurd first
+  unloaded_with named faults.TestLong first = absurd first
+  unloaded_with named (faults.Place of) first = absurd first
+  unloaded_with named (faults.BaseNeeded of systems) first = absurd first
+  unloaded_with named (faults.NotRelated one two) first = absurd first
 
-  loads_with : (named : List File) (r : Result (Vec Loaded Global) Fault) → LoadsTables named files r → LoadsTables named (with_morphisms files others) r
+  loads_with : (named : List File) (r : Result (Vec Loaded Global) Fault) → LoadsTables named files r → LoadsTables named (with_maps files others) r
   loads_with named (Ok tables) listed = listed_with named tables.items listed
   loads_with named (Err fault) refused = unloaded_with named fault refused
 
@@ -115,9 +125,18 @@ record AreBoth (P Q : Files → Type 0) (reported : Option Files) : Type 0 where
   first : P found
   second : Q found
 
-both : (P Q : Files → Type 0) (reported : Option Files) (a b : Files) → IfSome reported (λ (t : Files). a ≡ t) → IfSome reported (λ (t : Files). b ≡ t) → P a → Q b → P (with_morphisms b a) → Q (with_morphisms b a) → AreBoth P Q reported
-both P Q None a b here there p q pp qq = record { found = with_morphisms b a; reported_so = tt; first = pp; second = qq }
+both : (P Q : Files → Type 0) (reported : Option Files) (a b : Files) → IfSome reported (λ (t : Files). a ≡ t) → IfSome reported (λ (t : Files). b ≡ t) → P a → Q b → P (with_maps b a) → Q (with_maps b a) → AreBoth P Q reported
+both P Q None a b here there p q pp qq = record { found = with_maps b a; reported_so = tt; first = pp; second = qq }
 both P Q (Some t) a b here there p q pp qq = record { found = a; reported_so = here; first = p; second = subst Q (there ∙ sym here) q }
+
+-- what was read in other folders, and then what was read after it
+pub then_files : {X Y : Type 0} (First : Files → Result X Fault → Type 0) (Second : Files → Result Y Fault → Type 0) (old mid new : StoreView) (x : X) (r : Result Y Fault) → ((files others : Files) → First others (Ok x) → First (with_maps files others) (Ok x))
+    → ((files others : Files) → Second files r → Second (with_maps files others) r) → FromFiles First old (Ok x) mid → FromFiles Second mid r new → FromFiles (λ files s. First files (Ok x) × Second files s) old r new
+then_files First Second old mid new x r first_with second_with first second =
+    let there : IfSome old.files (λ (t : Files). second.found ≡ t) = subst (λ (o : Option Files). IfSome o (λ (t : Files). second.found ≡ t)) first.has_read.files second.reported in
+    let c = both (λ (files : Files). First files (Ok x)) (λ (files : Files). Second files r) old.files first.found second.found first.reported there first.gives second.gives
+    (first_with second.found first.found first.gives) (second_with second.found first.found second.gives) in
+    record { found = c.found; reported = c.reported_so; gives = (c.first, c.second); has_read = reads_both old mid new x r first.has_read second.has_read }
 
 -- what was read of a morphism and of tables after it
 abbrev pub LoadsBoth : List ℕ → Rules → List File → Files → Result (Vec Loaded Global) Fault → Type 0
@@ -125,11 +144,8 @@ LoadsBoth name rules named files r = IsMorphismIn files name rules × LoadsTable
 
 pub then_tables : (name : List ℕ) (rules : Rules) (named : List File) (old mid new : StoreView) (r : Result (Vec Loaded Global) Fault) → IsLoadedMorphism name old (Ok rules) mid → FromFiles (LoadsTables named) mid r new → FromFiles (LoadsBoth name rules named) old r new
 then_tables name rules named old mid new r first second =
-    let there : IfSome old.files (λ (t : Files). second.found ≡ t) = subst (λ (o : Option Files). IfSome o (λ (t : Files). second.found ≡ t)) first.has_read.files second.reported in
-    let c = both (λ (files : Files). IsMorphismIn files name rules) (λ (files : Files). LoadsTables named files r) old.files first.found second.found first.reported there first.gives second.gives
-    (morphism_with second.found first.found name rules first.gives) (loads_with second.found first.found named r second.gives) in
-    let read : HasRead {X = Rules} old (Ok rules) mid = record { files = first.has_read.files; later = first.has_read.later; cause = first.has_read.cause } in
-    record { found = c.found; reported = c.reported_so; gives = (c.first, c.second); has_read = reads_both old mid new rules r read second.has_read }
+    then_files (GivesMorphism name) (LoadsTables named) old mid new rules r (λ files others is. morphism_with files others name rules is) (λ files others loads. loads_with files others named r loads)
+    (morphism_there name old mid rules first) second
 
 pub from_no_morphism : {X : Type 0} (Gives : Files → Result X Fault → Type 0) (name : List ℕ) (old new : StoreView) (f : LoadFault) → IsLoadedMorphism name old (Err f) new
     → ((found : Files) → ((ledger : Ledger) → Stores ledger found → Fails (morphism_loaded ledger name) (fault_of_loading f)) → Gives found (Err (fault_of_loading f))) → FromFiles Gives old (Err (fault_of_loading f)) new

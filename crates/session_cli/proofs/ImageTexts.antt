@@ -157,3 +157,7 @@ module _ (ledger : Ledger) (head : ImageHead) (track : WordTrack) (rules : Rules
   image_unstored (faults.CombineShape one two) refused = absurd refused
   image_unstored (faults.NotPlain of) refused = absurd refused
   image_unstored (faults.LangShape one two) refused = absurd refused
+  image_unstored faults.TestLong refused = absurd refused
+  image_unstored (faults.Place of) refused = absurd refused
+  image_unstored (faults.BaseNeeded of systems) refused = absurd refused
+  image_unstored (faults.NotRelated one two) refused = absurd refused

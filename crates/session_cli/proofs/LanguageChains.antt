@@ -1,5 +1,5 @@
 -- From what each part of the code makes of the languages of a command to what all checks of the command make.
-use Rattle.std.proofs.Common.{◌≡◌, ◌≢◌, ℕ, ℤ, Bool, List, [], ◌∷◌, None, Some, Result, Ok, Err, inl, inr, refl, sym, ap, ◌∙◌, subst, append-nil}
+use Rattle.std.proofs.Common.{◌≡◌, ◌≢◌, ℕ, ℤ, Bool, List, [], ◌∷◌, None, Result, Ok, Err, inl, inr, refl, sym, ap, ◌∙◌, subst, append-nil}
 use Rattle.wal_outside.specs.Files.{Files}
 use Rattle.wal_outside.specs.Places.{Place}
 use Rattle.wal_outside.specs.declared.folder.Folder.TheVariants.{Automata}
@@ -19,7 +19,7 @@ use Rattle.dfa_loading.specs.declared.loaded.Loaded.{Loaded}
 use Rattle.dfa_text.specs.RelationText.{relation_text}
 use Rattle.language_steps.specs.LanguageSteps.{DoesLanguage}
 use Rattle.language_steps.specs.Operands.{HasCount, RunsOutOr}
-use Rattle.language_steps.specs.Tables.{AreOverSets, AreUnlike, first_not_plain}
+use Rattle.language_steps.specs.Tables.{AreOverSets, first_not_plain}
 use Rattle.system_admission.specs.SystemSteps.{no_steps}
 use Rattle.definitions.specs.Texts.{HasTreeText}
 use Rattle.language_steps.specs.declared.op.LanguageOp.{LanguageOp}
@@ -114,6 +114,10 @@ module _ (limit : ℕ) (ledger : Ledger) (op : LanguageOp) (head : LanguagesHead
       text_refused faults.ScriptLimit refused = absurd refused
       text_refused (faults.NotPlain of) refused = absurd refused
       text_refused (faults.LangShape one two) refused = absurd refused
+      text_refused faults.TestLong refused = absurd refused
+      text_refused (faults.Place of) refused = absurd refused
+      text_refused (faults.BaseNeeded of systems) refused = absurd refused
+      text_refused (faults.NotRelated one two) refused = absurd refused
 
       by_text : (shown : Bool) (result : Result Made Fault) → Prints (headers.Sets sets) made shown log.lines result → Makes (custom_of ledger) (stored (custom_of ledger) (language_success ledger op head sets log.lines)) shown result
       by_text shown (Ok stored_made) p =

@@ -53,3 +53,7 @@ unloaded ledger files named (faults.LetterMissing letter) stores first = absurd 
 unloaded ledger files named (faults.CombineShape one two) stores first = absurd first
 unloaded ledger files named (faults.NotPlain of) stores first = absurd first
 unloaded ledger files named (faults.LangShape one two) stores first = absurd first
+unloaded ledger files named faults.TestLong stores first = absurd first
+unloaded ledger files named (faults.Place of) stores first = absurd first
+unloaded ledger files named (faults.BaseNeeded of systems) stores first = absurd first
+unloaded ledger files named (faults.NotRelated one two) stores first = absurd first

@@ -125,6 +125,10 @@ text_unread ledger name files stores (faults.LoadDepth of) is = (files, stores, 
 text_unread ledger name files stores faults.ScriptLimit is = (files, stores, is)
 text_unread ledger name files stores (faults.NotPlain of) is = (files, stores, is)
 text_unread ledger name files stores (faults.LangShape one two) is = (files, stores, is)
+text_unread ledger name files stores faults.TestLong is = (files, stores, is)
+text_unread ledger name files stores (faults.Place of) is = (files, stores, is)
+text_unread ledger name files stores (faults.BaseNeeded of systems) is = (files, stores, is)
+text_unread ledger name files stores (faults.NotRelated one two) is = (files, stores, is)
 
 module _ (depth : ℕ) (text : List ℕ) where
   -- the checks behind the head

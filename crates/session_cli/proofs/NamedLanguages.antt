@@ -8,7 +8,6 @@ use Rattle.digit_tuple.specs.Deterministic as deterministic
 use Rattle.digit_tuple.specs.Sets.{IsAscending}
 use Rattle.digit_tuple.specs.Steps.{StepLog}
 use Rattle.automaton_steps.proofs.ThenAnswers.{equal_value, no_fault}
-use Rattle.dfa_reading.specs.Headers as file
 use Rattle.dfa_text.specs.Meaning.{FileAccepts}
 use Rattle.dfa_loading.specs.Loading.{AreListedBy}
 use Rattle.dfa_loading.specs.Places.{IsListedBy, place_of}

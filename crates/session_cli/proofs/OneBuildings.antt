@@ -79,6 +79,10 @@ built_is admitted custom tables formula (Err (faults.LetterMissing letter)) a = 
 built_is admitted custom tables formula (Err (faults.CombineShape one two)) a = absurd a
 built_is admitted custom tables formula (Err (faults.NotPlain of)) a = absurd a
 built_is admitted custom tables formula (Err (faults.LangShape one two)) a = absurd a
+built_is admitted custom tables formula (Err faults.TestLong) a = absurd a
+built_is admitted custom tables formula (Err (faults.Place of)) a = absurd a
+built_is admitted custom tables formula (Err (faults.BaseNeeded of systems)) a = absurd a
+built_is admitted custom tables formula (Err (faults.NotRelated one two)) a = absurd a
 
 module _ (admitted : StepLog) (custom : Custom) (tables : List Loaded) (formula : trees.Formula) (files : Files) (listed : AreListedBy files (first_files (mentions formula)) tables) where
   both_built : (r s : Result (List StepLine) Fault) → IsBuilding admitted custom tables formula r → IsBuilding admitted custom tables formula s → r ≡ s

@@ -85,6 +85,10 @@ plain_is h names (Err (faults.LetterMissing letter)) a = absurd a
 plain_is h names (Err (faults.CombineShape one two)) a = absurd a
 plain_is h names (Err (faults.NotPlain of)) a = absurd a
 plain_is h names (Err (faults.LangShape one two)) a = absurd a
+plain_is h names (Err faults.TestLong) a = absurd a
+plain_is h names (Err (faults.Place of)) a = absurd a
+plain_is h names (Err (faults.BaseNeeded of systems)) a = absurd a
+plain_is h names (Err (faults.NotRelated one two)) a = absurd a
 
 plain_single : (h : Headers) (names : List (List ℕ)) → IsSingle (Pure (PlainAnswers h names))
 plain_single h names r s a b = by (plain_is h names r a) (plain_is h names s b)
@@ -133,6 +137,10 @@ shape_is h names (Err (faults.Morphism kind)) a = absurd a
 shape_is h names (Err (faults.LetterMissing letter)) a = absurd a
 shape_is h names (Err (faults.NotPlain of)) a = absurd a
 shape_is h names (Err (faults.LangShape one two)) a = absurd a
+shape_is h names (Err faults.TestLong) a = absurd a
+shape_is h names (Err (faults.Place of)) a = absurd a
+shape_is h names (Err (faults.BaseNeeded of systems)) a = absurd a
+shape_is h names (Err (faults.NotRelated one two)) a = absurd a
 
 module _ (h : Headers) (systems : List (List ℕ)) where
   one_other : (names : List (List ℕ)) (other also : List ℕ) → IsFirstOver h systems names other → IsFirstOver h systems names also → other ≡ also
@@ -275,6 +283,10 @@ combined_is admitted custom tables automata (Err (faults.LetterMissing letter)) 
 combined_is admitted custom tables automata (Err (faults.CombineShape one two)) a = absurd a
 combined_is admitted custom tables automata (Err (faults.NotPlain of)) a = absurd a
 combined_is admitted custom tables automata (Err (faults.LangShape one two)) a = absurd a
+combined_is admitted custom tables automata (Err faults.TestLong) a = absurd a
+combined_is admitted custom tables automata (Err (faults.Place of)) a = absurd a
+combined_is admitted custom tables automata (Err (faults.BaseNeeded of systems)) a = absurd a
+combined_is admitted custom tables automata (Err (faults.NotRelated one two)) a = absurd a
 
 module _ (admitted : StepLog) (custom : Custom) (tables : List Loaded) (automata : List ValuedName) (files : Files) (named : List File) (listed : AreListedBy files named tables) (some : automata ≢ []) where
   -- the relations and what is before the last step are the same

@@ -96,6 +96,10 @@ resolved_is tables formula (Err (faults.LetterMissing letter)) a = absurd a
 resolved_is tables formula (Err (faults.CombineShape one two)) a = absurd a
 resolved_is tables formula (Err (faults.NotPlain of)) a = absurd a
 resolved_is tables formula (Err (faults.LangShape one two)) a = absurd a
+resolved_is tables formula (Err faults.TestLong) a = absurd a
+resolved_is tables formula (Err (faults.Place of)) a = absurd a
+resolved_is tables formula (Err (faults.BaseNeeded of systems)) a = absurd a
+resolved_is tables formula (Err (faults.NotRelated one two)) a = absurd a
 
 resolved_single : (tables : List Loaded) (formula : trees.Formula) → IsSingle (Pure (ResolvedAnswers tables formula))
 resolved_single tables formula r s a b = by_fault (resolved_is tables formula r a) (resolved_is tables formula s b)

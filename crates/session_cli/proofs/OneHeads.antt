@@ -62,6 +62,10 @@ head_is grammar text (Err (faults.LetterMissing letter)) a = absurd a
 head_is grammar text (Err (faults.CombineShape one two)) a = absurd a
 head_is grammar text (Err (faults.NotPlain of)) a = absurd a
 head_is grammar text (Err (faults.LangShape one two)) a = absurd a
+head_is grammar text (Err faults.TestLong) a = absurd a
+head_is grammar text (Err (faults.Place of)) a = absurd a
+head_is grammar text (Err (faults.BaseNeeded of systems)) a = absurd a
+head_is grammar text (Err (faults.NotRelated one two)) a = absurd a
 
 pub head_single : {H : Type 0} (grammar : List (List ℕ) → H → Type 0) → HasOneHead grammar → (text : List ℕ) → IsSingle (Pure (HeadAnswers grammar text))
 head_single {H} grammar one text r s a b =

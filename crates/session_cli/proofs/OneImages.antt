@@ -1,5 +1,5 @@
 -- An `image` has one outcome.
-use Rattle.std.proofs.Common.{◌≡◌, ◌≢◌, ◌⊎◌, ℕ, Bool, true, false, List, [], ◌∷◌, length, if◌then◌else◌, Some, Result, Ok, Err, bytes_eq, inl, inr, refl, sym, ap, ◌∙◌, subst}
+use Rattle.std.proofs.Common.{◌≡◌, ◌≢◌, ◌⊎◌, ℕ, Bool, true, false, List, [], ◌∷◌, length, if◌then◌else◌, Some, Result, Ok, Err, bytes_eq, codes, inl, inr, refl, sym, ap, ◌∙◌, subst}
 use Rattle.std.proofs.lemmas.Option.{none-some}
 use Rattle.wal_outside.specs.Files.{Files}
 use Rattle.wal_outside.specs.declared.folder.Folder.TheVariants.{Words}
@@ -91,6 +91,10 @@ track_is h old (Err (faults.LetterMissing letter)) a = absurd a
 track_is h old (Err (faults.CombineShape one two)) a = absurd a
 track_is h old (Err (faults.NotPlain of)) a = absurd a
 track_is h old (Err (faults.LangShape one two)) a = absurd a
+track_is h old (Err faults.TestLong) a = absurd a
+track_is h old (Err (faults.Place of)) a = absurd a
+track_is h old (Err (faults.BaseNeeded of systems)) a = absurd a
+track_is h old (Err (faults.NotRelated one two)) a = absurd a
 
 one_track_single : (h : Headers) (old : List ℕ) → IsSingle (Pure (OneTrackAnswers h old))
 one_track_single h old r s a b = by (track_is h old r a) (track_is h old s b)
@@ -136,6 +140,10 @@ length_is rules (Err (faults.LetterMissing letter)) a = absurd a
 length_is rules (Err (faults.CombineShape one two)) a = absurd a
 length_is rules (Err (faults.NotPlain of)) a = absurd a
 length_is rules (Err (faults.LangShape one two)) a = absurd a
+length_is rules (Err faults.TestLong) a = absurd a
+length_is rules (Err (faults.Place of)) a = absurd a
+length_is rules (Err (faults.BaseNeeded of systems)) a = absurd a
+length_is rules (Err (faults.NotRelated one two)) a = absurd a
 
 lengths_single : (rules : Rules) → IsMorphism rules → IsSingle (Pure (LengthsAnswers rules))
 lengths_single rules morphism r s a b = by (length_is rules r a) (length_is rules s b)
@@ -182,7 +190,7 @@ entry_is ledger old (Err fault) a = absurd a
 some_same : (a b : Entry) → Some a ≡ Some b → a ≡ b
 some_same a b same = cc
 
-old_single : (ledger : Ledger) (old : List ℕ) → IsSingle (Pure (OldAnswers ledger old))
+pub old_single : (ledger : Ledger) (old : List ℕ) → IsSingle (Pure (OldAnswers ledger old))
 old_single ledger old r s a b =
     let p : IsEntry ledger old r = entry_is ledger old r a in
     let q : IsEntry ledger old s = entry_is ledger old s b in
@@ -237,6 +245,10 @@ imaged_is admitted custom tables old name rules (Err (faults.Morphism kind)) a =
 imaged_is admitted custom tables old name rules (Err (faults.CombineShape one two)) a = absurd a
 imaged_is admitted custom tables old name rules (Err (faults.NotPlain of)) a = absurd a
 imaged_is admitted custom tables old name rules (Err (faults.LangShape one two)) a = absurd a
+imaged_is admitted custom tables old name rules (Err faults.TestLong) a = absurd a
+imaged_is admitted custom tables old name rules (Err (faults.Place of)) a = absurd a
+imaged_is admitted custom tables old name rules (Err (faults.BaseNeeded of systems)) a = absurd a
+imaged_is admitted custom tables old name rules (Err (faults.NotRelated one two)) a = absurd a
 
 -- a word under a name is one
 found_word : (words : List NamedWord) (name : List ℕ) (v : WordValue) → AreWords words → word_named words name ≡ Some v → IsWordValue v
@@ -310,8 +322,8 @@ module _ (law : ImagesHaveOneOutcome) (admitted : StepLog) (custom : Custom) (ta
 pub image_single : ImagesHaveOneOutcome → (limit : ℕ) (ledger : Ledger) (text : List ℕ) → IsSingle (image_checks limit ledger text)
 image_single law limit ledger text =
     let custom : Custom = custom_of ledger in
-    then_single (Pure (HeadAnswers DerivesImage text)) (λ head. after_image_head limit ledger head) (head_single DerivesImage (one_head DerivesImage one_image) text) (λ head spells.
-    then_single (morphism_loaded ledger head.morphism) (λ rules. after_image_morphism limit ledger head rules) (loading_single ledger head.morphism) (λ rules read.
+    then_single (Pure (HeadAnswers (DerivesImage (codes "image")) text)) (λ head. after_image_head limit ledger head) (head_single (DerivesImage (codes "image")) (one_head (DerivesImage (codes "image")) (one_image (codes "image"))) text) (λ head spells.
+    then_single (morphism_loaded ledger head.mapping) (λ rules. after_image_morphism limit ledger head rules) (loading_single ledger head.mapping) (λ rules read.
     then_single (files_loaded ledger (first_files (old_mentions head.old))) (λ ts. after_old_table limit ledger head rules ts) (files_single ledger (first_files (old_mentions head.old))) (λ ts there.
     then_single (systems_known limit custom (first_systems (headers_of ts) (old_mentions head.old))) (λ admitted. after_old_systems ledger head rules ts admitted) (systems_single limit custom (first_systems (headers_of ts) (old_mentions head.old))) (λ admitted known.
     then_single (Pure (OneTrackAnswers (headers_of ts) head.old)) (λ one. after_one_track ledger head rules ts admitted) (one_track_single (headers_of ts) head.old) (λ one has.

@@ -137,6 +137,10 @@ files_is ledger named (Err (faults.LetterMissing letter)) a = absurd a
 files_is ledger named (Err (faults.CombineShape one two)) a = absurd a
 files_is ledger named (Err (faults.NotPlain of)) a = absurd a
 files_is ledger named (Err (faults.LangShape one two)) a = absurd a
+files_is ledger named (Err faults.TestLong) a = absurd a
+files_is ledger named (Err (faults.Place of)) a = absurd a
+files_is ledger named (Err (faults.BaseNeeded of systems)) a = absurd a
+files_is ledger named (Err (faults.NotRelated one two)) a = absurd a
 
 pub files_single : (ledger : Ledger) (named : List File) → IsSingle (files_loaded ledger named)
 files_single ledger named r s a b = by_cases (files_is ledger named r a) (files_is ledger named s b)

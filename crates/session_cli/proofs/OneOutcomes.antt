@@ -40,7 +40,17 @@ use Rattle.session_cli.specs.TrackSteps.{DoesExpression}
 use Rattle.session_cli.specs.TrackSystems.{fault_of}
 use Rattle.session_cli.specs.Outcomes.{LengthAnswers, WordAnswers, word_text, checks_by, after_length, Outcome}
 use Rattle.session_cli.proofs.CheckNames.{regex_success, after_expression, after_admission}
+use Rattle.session_cli.specs.FormulaOutcomes.{formula_checks}
+use Rattle.session_cli.specs.TextOutcomes.{macro_checks, morphism_checks}
+use Rattle.session_cli.specs.PromoteOutcomes.{promote_checks}
+use Rattle.session_cli.specs.CombineOutcomes.{combine_checks}
+use Rattle.session_cli.specs.ImageOutcomes.{image_checks}
+use Rattle.session_cli.specs.LanguageOutcomes.{language_checks}
+use Rattle.session_cli.specs.ListingOutcomes.{inf_checks, test_checks}
+use Rattle.session_cli.specs.TransduceOutcomes.{transduce_checks}
+use Rattle.session_cli.specs.ConvertOutcomes.{convert_checks}
 use Rattle.session_cli.proofs.CheckSteps.{IsSingle, then_single}
+use Rattle.session_cli.proofs.ActionSteps.{saying_single, storing_single}
 use Rattle.session_cli.proofs.OneExpression.{expression_one}
 use Rattle.session_cli.proofs.NameLemmas.{one_list_of_systems, not_parted, same_part}
 use Rattle.session_cli.proofs.OneHeads.{head_single}
@@ -50,6 +60,9 @@ use Rattle.session_cli.proofs.OneCombines.{combine_single}
 use Rattle.session_cli.proofs.OneImages.{image_single}
 use Rattle.session_cli.proofs.ImageLaws.{one_image_outcome}
 use Rattle.session_cli.proofs.OneLanguages.{language_single}
+use Rattle.session_cli.proofs.OneTransduces.{transduce_single}
+use Rattle.session_cli.proofs.OneListings.{inf_single, test_single}
+use Rattle.session_cli.proofs.OneConverts.{convert_single}
 use Rattle.session_cli.proofs.OneSystems.{systems_single}
 use Rattle.session_cli.proofs.OneTextCommands.{macro_single, morphism_single, promote_single}
 
@@ -92,6 +105,10 @@ steps_is admitted tracks e (Err (faults.LetterMissing letter)) a = absurd a
 steps_is admitted tracks e (Err (faults.CombineShape one two)) a = absurd a
 steps_is admitted tracks e (Err (faults.NotPlain of)) a = absurd a
 steps_is admitted tracks e (Err (faults.LangShape one two)) a = absurd a
+steps_is admitted tracks e (Err faults.TestLong) a = absurd a
+steps_is admitted tracks e (Err (faults.Place of)) a = absurd a
+steps_is admitted tracks e (Err (faults.BaseNeeded of systems)) a = absurd a
+steps_is admitted tracks e (Err (faults.NotRelated one two)) a = absurd a
 steps_is admitted tracks e (Err (faults.MixedChain byte)) a = absurd a
 steps_is admitted tracks e (Err (faults.NotLinear byte)) a = absurd a
 steps_is admitted tracks e (Err (faults.LoadDepth of)) a = absurd a
@@ -158,6 +175,10 @@ parsed_is sets body (Err (faults.LetterMissing letter)) a = absurd a
 parsed_is sets body (Err (faults.CombineShape one two)) a = absurd a
 parsed_is sets body (Err (faults.NotPlain of)) a = absurd a
 parsed_is sets body (Err (faults.LangShape one two)) a = absurd a
+parsed_is sets body (Err faults.TestLong) a = absurd a
+parsed_is sets body (Err (faults.Place of)) a = absurd a
+parsed_is sets body (Err (faults.BaseNeeded of systems)) a = absurd a
+parsed_is sets body (Err (faults.NotRelated one two)) a = absurd a
 parsed_is sets body (Err (faults.MixedChain byte)) a = absurd a
 parsed_is sets body (Err (faults.NotLinear byte)) a = absurd a
 parsed_is sets body (Err (faults.LoadDepth of)) a = absurd a
@@ -202,6 +223,10 @@ names_is custom names (Err (faults.LetterMissing letter)) a = absurd a
 names_is custom names (Err (faults.CombineShape one two)) a = absurd a
 names_is custom names (Err (faults.NotPlain of)) a = absurd a
 names_is custom names (Err (faults.LangShape one two)) a = absurd a
+names_is custom names (Err faults.TestLong) a = absurd a
+names_is custom names (Err (faults.Place of)) a = absurd a
+names_is custom names (Err (faults.BaseNeeded of systems)) a = absurd a
+names_is custom names (Err (faults.NotRelated one two)) a = absurd a
 names_is custom names (Err (faults.MixedChain byte)) a = absurd a
 names_is custom names (Err (faults.NotLinear byte)) a = absurd a
 names_is custom names (Err (faults.LoadDepth of)) a = absurd a
@@ -249,6 +274,10 @@ tracks_single custom (heads.Sets sets) r s a b = single_by (Pure (TracksAnswers 
     is (Err (faults.CombineShape one two)) a = absurd a
     is (Err (faults.NotPlain of)) a = absurd a
     is (Err (faults.LangShape one two)) a = absurd a
+    is (Err faults.TestLong) a = absurd a
+    is (Err (faults.Place of)) a = absurd a
+    is (Err (faults.BaseNeeded of systems)) a = absurd a
+    is (Err (faults.NotRelated one two)) a = absurd a
     is (Err (faults.MixedChain byte)) a = absurd a
     is (Err (faults.NotLinear byte)) a = absurd a
     is (Err (faults.LoadDepth of)) a = absurd a
@@ -297,6 +326,10 @@ length_single text r s a b = by_length (length_is r a) (length_is s b)
     length_is (Err (faults.CombineShape one two)) a = absurd a
     length_is (Err (faults.NotPlain of)) a = absurd a
     length_is (Err (faults.LangShape one two)) a = absurd a
+    length_is (Err faults.TestLong) a = absurd a
+    length_is (Err (faults.Place of)) a = absurd a
+    length_is (Err (faults.BaseNeeded of systems)) a = absurd a
+    length_is (Err (faults.NotRelated one two)) a = absurd a
     length_is (Err (faults.MixedChain byte)) a = absurd a
     length_is (Err (faults.NotLinear byte)) a = absurd a
     length_is (Err (faults.LoadDepth of)) a = absurd a
@@ -312,12 +345,15 @@ length_single text r s a b = by_length (length_is r a) (length_is s b)
     by_length (inr (long, is)) (inl (short, is')) = absurd (omega arith)
     by_length (inr (long, is)) (inr (long', is')) = is ∙ sym is'
 
--- the words of commands differ in their first three letters
+-- the words of commands differ in their first three letters, but for `concat` and `convert`, which differ in the fourth
 abbrev letters_of_word : List ℕ → ℕ
 letters_of_word xs = 1000000 * get_or xs 0 0 + (1000 * get_or xs 1 0 + get_or xs 2 0)
 
-abbrev word_by_letters : ℕ → CommandWord
-word_by_letters n =
+abbrev fourth_letter : List ℕ → ℕ
+fourth_letter xs = get_or xs 3 0
+
+abbrev word_by_letters : ℕ → ℕ → CommandWord
+word_by_letters n fourth =
     if n == 114101103 then words.Reg
     else if n == 101118097 then words.Eval
     else if n == 100101102 then words.Def
@@ -327,12 +363,15 @@ word_by_letters n =
     else if n == 105109097 then words.Image
     else if n == 117110105 then words.Union
     else if n == 105110116 then words.Intersect
-    else if n == 99111110 then words.Concat
+    else if n == 99111110 then (if fourth == 118 then words.Convert else words.Concat)
     else if n == 115116097 then words.Star
     else if n == 114101118 then words.Reverse
+    else if n == 116114097 then words.Transduce
+    else if n == 116101115 then words.Test
+    else if n == 105110102 then words.Inf
     else words.Combine
 
-word_again : (word : CommandWord) → word_by_letters (letters_of_word (word_text word)) ≡ word
+word_again : (word : CommandWord) → word_by_letters (letters_of_word (word_text word)) (fourth_letter (word_text word)) ≡ word
 word_again words.Reg = refl
 word_again words.Eval = refl
 word_again words.Def = refl
@@ -346,9 +385,13 @@ word_again words.Intersect = refl
 word_again words.Concat = refl
 word_again words.Star = refl
 word_again words.Reverse = refl
+word_again words.Transduce = refl
+word_again words.Test = refl
+word_again words.Inf = refl
+word_again words.Convert = refl
 
-one_word : (text : List ℕ) (v w : CommandWord) → text ≡ word_text v → text ≡ word_text w → v ≡ w
-one_word text v w a b = sym (word_again v) ∙ (ap (λ (xs : List ℕ). word_by_letters (letters_of_word xs)) (sym a ∙ b) ∙ word_again w)
+pub one_word : (text : List ℕ) (v w : CommandWord) → text ≡ word_text v → text ≡ word_text w → v ≡ w
+one_word text v w a b = sym (word_again v) ∙ (ap (λ (xs : List ℕ). word_by_letters (letters_of_word xs) (fourth_letter xs)) (sym a ∙ b) ∙ word_again w)
 
 word_single : (text : List ℕ) → IsSingle (Pure (WordAnswers text))
 word_single text r s a b = by_word (word_is r a) (word_is s b)
@@ -376,6 +419,10 @@ word_single text r s a b = by_word (word_is r a) (word_is s b)
     word_is (Err (faults.CombineShape one two)) a = absurd a
     word_is (Err (faults.NotPlain of)) a = absurd a
     word_is (Err (faults.LangShape one two)) a = absurd a
+    word_is (Err faults.TestLong) a = absurd a
+    word_is (Err (faults.Place of)) a = absurd a
+    word_is (Err (faults.BaseNeeded of systems)) a = absurd a
+    word_is (Err (faults.NotRelated one two)) a = absurd a
     word_is (Err (faults.MixedChain byte)) a = absurd a
     word_is (Err (faults.NotLinear byte)) a = absurd a
     word_is (Err (faults.LoadDepth of)) a = absurd a
@@ -394,19 +441,23 @@ word_single text r s a b = by_word (word_is r a) (word_is s b)
 
 -- each command has one outcome
 single_by_word : PromotionsHaveOneOutcome → (word : CommandWord) (limit : ℕ) (ledger : Ledger) (text : List ℕ) → IsSingle (checks_by word limit ledger text)
-single_by_word promotions words.Reg limit ledger text = reg_single limit ledger text
-single_by_word promotions words.Eval limit ledger text = formula_single (word_text words.Eval) Results limit ledger text
-single_by_word promotions words.Def limit ledger text = formula_single (word_text words.Def) Automata limit ledger text
-single_by_word promotions words.Macro limit ledger text = macro_single ledger text
-single_by_word promotions words.Morphism limit ledger text = morphism_single ledger text
-single_by_word promotions words.Promote limit ledger text = promote_single promotions limit ledger text
-single_by_word promotions words.Combine limit ledger text = combine_single limit ledger text
-single_by_word promotions words.Image limit ledger text = image_single one_image_outcome limit ledger text
-single_by_word promotions words.Union limit ledger text = language_single (Pair Union) limit ledger text
-single_by_word promotions words.Intersect limit ledger text = language_single (Pair Intersection) limit ledger text
-single_by_word promotions words.Concat limit ledger text = language_single (Pair Concatenation) limit ledger text
-single_by_word promotions words.Star limit ledger text = language_single (One Star) limit ledger text
-single_by_word promotions words.Reverse limit ledger text = language_single (One Reversal) limit ledger text
+single_by_word promotions words.Reg limit ledger text = storing_single (reg_checks limit ledger text) (reg_single limit ledger text)
+single_by_word promotions words.Eval limit ledger text = storing_single (formula_checks (word_text words.Eval) Results limit ledger text) (formula_single (word_text words.Eval) Results limit ledger text)
+single_by_word promotions words.Def limit ledger text = storing_single (formula_checks (word_text words.Def) Automata limit ledger text) (formula_single (word_text words.Def) Automata limit ledger text)
+single_by_word promotions words.Macro limit ledger text = storing_single (macro_checks ledger text) (macro_single ledger text)
+single_by_word promotions words.Morphism limit ledger text = storing_single (morphism_checks ledger text) (morphism_single ledger text)
+single_by_word promotions words.Promote limit ledger text = storing_single (promote_checks limit ledger text) (promote_single promotions limit ledger text)
+single_by_word promotions words.Combine limit ledger text = storing_single (combine_checks limit ledger text) (combine_single limit ledger text)
+single_by_word promotions words.Image limit ledger text = storing_single (image_checks limit ledger text) (image_single one_image_outcome limit ledger text)
+single_by_word promotions words.Union limit ledger text = storing_single (language_checks (Pair Union) limit ledger text) (language_single (Pair Union) limit ledger text)
+single_by_word promotions words.Intersect limit ledger text = storing_single (language_checks (Pair Intersection) limit ledger text) (language_single (Pair Intersection) limit ledger text)
+single_by_word promotions words.Concat limit ledger text = storing_single (language_checks (Pair Concatenation) limit ledger text) (language_single (Pair Concatenation) limit ledger text)
+single_by_word promotions words.Star limit ledger text = storing_single (language_checks (One Star) limit ledger text) (language_single (One Star) limit ledger text)
+single_by_word promotions words.Reverse limit ledger text = storing_single (language_checks (One Reversal) limit ledger text) (language_single (One Reversal) limit ledger text)
+single_by_word promotions words.Test limit ledger text = saying_single (test_checks limit ledger text) (test_single limit ledger text)
+single_by_word promotions words.Inf limit ledger text = saying_single (inf_checks limit ledger text) (inf_single limit ledger text)
+single_by_word promotions words.Transduce limit ledger text = storing_single (transduce_checks limit ledger text) (transduce_single limit ledger text)
+single_by_word promotions words.Convert limit ledger text = storing_single (convert_checks limit ledger text) (convert_single limit ledger text)
 
 pub after_length_single : PromotionsHaveOneOutcome → (limit : ℕ) (ledger : Ledger) (text : List ℕ) → IsSingle (after_length limit ledger text)
 after_length_single promotions limit ledger text =

@@ -131,6 +131,10 @@ reading_is text (Err (faults.LetterMissing letter)) a = absurd a
 reading_is text (Err (faults.CombineShape one two)) a = absurd a
 reading_is text (Err (faults.NotPlain of)) a = absurd a
 reading_is text (Err (faults.LangShape one two)) a = absurd a
+reading_is text (Err faults.TestLong) a = absurd a
+reading_is text (Err (faults.Place of)) a = absurd a
+reading_is text (Err (faults.BaseNeeded of systems)) a = absurd a
+reading_is text (Err (faults.NotRelated one two)) a = absurd a
 
 pub reading_single : (text : List ℕ) → IsSingle (Pure (FormulaAnswers text))
 reading_single text r s a b =

@@ -5,7 +5,7 @@ use Rattle.command_head.specs.Parts.{first_word_of}
 use Rattle.command_head.specs.Grammar.{DerivesLoad, DerivesAlone}
 use Rattle.command_head.proofs.OneFault.{one_head}
 use Rattle.command_head.proofs.RunHeads.{one_load, one_alone}
-use Rattle.script_runs.specs.Languages.{Deed, Enters, Loads, Ends}
+use Rattle.script_runs.specs.Languages.{Enters, Loads, Ends}
 use Rattle.fixed_points.specs.Laws.{PromotionsHaveOneOutcome}
 use Rattle.session_cli.specs.declared.fault.Fault.{Fault}
 use Rattle.session_cli.specs.declared.fault.Fault.TheVariants as faults
@@ -14,19 +14,12 @@ use Rattle.session_cli.specs.declared.run_word.RunWord.TheVariants as words
 use Rattle.session_cli.specs.Checks.{Pure, Passing, Then}
 use Rattle.session_cli.specs.HeadAnswers.{HeadAnswers}
 use Rattle.session_cli.specs.Outcomes.{LengthAnswers, after_length}
-use Rattle.session_cli.specs.Accepting.{Success}
 use Rattle.session_cli.specs.RunOutcomes.{run_word_text, RunWordAnswers, DepthAnswers, TextIn, text_read, load_checks, checks_by_word, run_checks}
 use Rattle.definitions.specs.Trees.{Ledger}
-use Rattle.session_cli.proofs.CheckSteps.{IsSingle, then_single}
+use Rattle.session_cli.proofs.CheckSteps.{IsSingle, then_single, passing_single}
 use Rattle.session_cli.proofs.OneHeads.{head_single}
 use Rattle.session_cli.proofs.OneLoadings.{same_there}
 use Rattle.session_cli.proofs.OneOutcomes.{length_single, after_length_single}
-
--- what a check passes on is one
-passing_single : (made : Deed Success) → IsSingle (Passing (λ deed. deed ≡ made))
-passing_single made (Ok deed) (Ok other) a b = ap (λ (d : Deed Success). let r : Result (Deed Success) Fault = Ok d in r) (a ∙ sym b)
-passing_single made (Ok deed) (Err fault) a b = absurd b
-passing_single made (Err fault) other a b = absurd a
 
 -- one of two answers, of which each excludes the other
 one_of_two : {X : Type 0} (P Q : Type 0) (x y r s : X) → (P → Q → ⊥) → (P × (r ≡ x)) ⊎ (Q × (r ≡ y)) → (P × (s ≡ x)) ⊎ (Q × (s ≡ y)) → r ≡ s
@@ -72,7 +65,7 @@ word_single text r s (inr (none, at)) (inr (none', at')) = at ∙ sym at'
 
 single_by_word : PromotionsHaveOneOutcome → (word : Option RunWord) (limit depth : ℕ) (ledger : Ledger) (text : List ℕ) → IsSingle (checks_by_word word limit depth ledger text)
 single_by_word promotions None limit depth ledger text =
-    then_single (after_length limit ledger text) (λ success. Passing (λ deed. deed ≡ Enters success)) (after_length_single promotions limit ledger text) (λ success made. passing_single (Enters success))
+    then_single (after_length limit ledger text) (λ accepted. Passing (λ deed. deed ≡ Enters accepted)) (after_length_single promotions limit ledger text) (λ accepted made. passing_single (Enters accepted))
 single_by_word promotions (Some words.Load) limit depth ledger text =
     then_single (load_checks depth ledger text) (λ loaded. Passing (λ deed. deed ≡ Loads loaded)) (load_single depth ledger text) (λ loaded read. passing_single (Loads loaded))
 single_by_word promotions (Some words.Exit) limit depth ledger text =

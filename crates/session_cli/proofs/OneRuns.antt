@@ -22,9 +22,9 @@ use Rattle.system_files.specs.SystemFiles.{Custom}
 use Rattle.session_cli.specs.declared.fault.Fault.TheVariants as faults
 use Rattle.session_cli.specs.declared.fault.Fault.{Fault}
 use Rattle.session_cli.specs.Checks.{Check, Fails}
-use Rattle.session_cli.specs.Accepting.{Success}
+use Rattle.session_cli.specs.Accepting.{Success, Accepted, Storing, Saying}
 use Rattle.session_cli.specs.RunOutcomes.{run_checks}
-use Rattle.session_cli.specs.SessionLanguage.{IsReply, StoresEntry, failed_at, is_memory_fault, session_language}
+use Rattle.session_cli.specs.SessionLanguage.{IsReply, StoresEntry, ChangesFiles, failed_at, is_memory_fault, session_language}
 use Rattle.session_cli.specs.Made.{made_line, made_status, HasMade}
 use Rattle.session_cli.specs.Whole.{HasServed, HasCalled}
 use Rattle.session_cli.proofs.WholeSteps.{usage_or_memory}
@@ -32,7 +32,7 @@ use Rattle.command_line.proofs.OneOptions.{one_options}
 use Rattle.session_cli.proofs.OneReplies.{one_reply}
 
 -- a check that is not refused by the store or by memory is refused by its answer
-own_answer : (checks : Check (Deed Success)) (f : Fault) → Fails checks f → is_some (failed_at f) ≡ false → is_memory_fault f ≡ false → checks.answers (Err f)
+own_answer : (checks : Check (Deed Accepted)) (f : Fault) → Fails checks f → is_some (failed_at f) ≡ false → is_memory_fault f ≡ false → checks.answers (Err f)
 own_answer checks (faults.Store folder name) fails store memory = cc
 own_answer checks faults.Memory fails store memory = cc
 own_answer checks faults.ScriptLimit fails store memory = fails
@@ -44,6 +44,10 @@ own_answer checks (faults.LetterMissing letter) fails store memory = fails
 own_answer checks (faults.CombineShape one two) fails store memory = fails
 own_answer checks (faults.NotPlain of) fails store memory = fails
 own_answer checks (faults.LangShape one two) fails store memory = fails
+own_answer checks faults.TestLong fails store memory = fails
+own_answer checks (faults.Place of) fails store memory = fails
+own_answer checks (faults.BaseNeeded of systems) fails store memory = fails
+own_answer checks (faults.NotRelated one two) fails store memory = fails
 own_answer checks (faults.MixedChain byte) fails store memory = fails
 own_answer checks (faults.NotLinear byte) fails store memory = fails
 own_answer checks (faults.LoadDepth of) fails store memory = fails
@@ -64,7 +68,7 @@ own_answer checks (faults.Letters step) fails store memory = fails
 own_answer checks (faults.States step) fails store memory = fails
 
 -- a reply that is neither the store's nor memory's is what the checks answer
-proper : (limit : ℕ) (stop : Bool) (depth : ℕ) (ledger : Ledger) (text : List ℕ) (reply : Result (Deed Success) Fault) → IsReply (run_checks limit depth ledger text) reply → IsProper (session_language limit stop) reply → (run_checks limit depth ledger text).answers reply
+proper : (limit : ℕ) (stop : Bool) (depth : ℕ) (ledger : Ledger) (text : List ℕ) (reply : Result (Deed Accepted) Fault) → IsReply (run_checks limit depth ledger text) reply → IsProper (session_language limit stop) reply → (run_checks limit depth ledger text).answers reply
 proper limit stop depth ledger text (Ok deed) is own = is
 proper limit stop depth ledger text (Err fault) (inl fails) own = own_answer (run_checks limit depth ledger text) fault fails own.store own.memory
 proper limit stop depth ledger text (Err fault) (inr (success, made, is)) own = absurd (by_store (ap (λ (f : Fault). is_some (failed_at f)) (sym is) ∙ own.store))
@@ -72,23 +76,32 @@ proper limit stop depth ledger text (Err fault) (inr (success, made, is)) own = 
     by_store : true ≡ false → ⊥
     by_store is = cc
 
--- an accepted command changes the files in one way
-one_change : (custom : Custom) (success : Success) (old new new' : Option Files) → StoresEntry custom success old new → StoresEntry custom success old new' → new ≡ new'
-one_change custom success old new new' (stored, has, is) (stored', has', is') =
+-- a command that stores changes the files in one way
+one_entry : (custom : Custom) (success : Success) (old new new' : Option Files) → StoresEntry custom success old new → StoresEntry custom success old new' → new ≡ new'
+one_entry custom success old new new' (stored, has, is) (stored', has', is') =
     let texts : stored ≡ stored' = one_text_of custom success.entry stored stored' has has' in
     let middle : option_map (λ files. put files success.folder success.name stored) old ≡ option_map (λ files. put files success.folder success.name stored') old = λ i. option_map (λ files. put files success.folder success.name (texts i)) old in
     is ∙ (middle ∙ sym is')
 
+-- and so does each accepted command
+one_change : (custom : Custom) (accepted : Accepted) (old new new' : Option Files) → ChangesFiles custom accepted old new → ChangesFiles custom accepted old new' → new ≡ new'
+one_change custom (Storing success) old new new' a b = one_entry custom success old new new' a b
+one_change custom (Saying said) old new new' a b = a ∙ sym b
+
+stays : (custom : Custom) (accepted : Accepted) (files : Files) (new : Option Files) → ChangesFiles custom accepted (Some files) new → (later : Files) × (new ≡ Some later)
+stays custom (Storing success) files new (stored, has, is) = (put files success.folder success.name stored, is)
+stays custom (Saying said) files new is = (files, is)
+
 module _ (promotions : PromotionsHaveOneOutcome) where
-  session_is_determined : (limit : ℕ) (stop : Bool) → IsDetermined (session_language limit stop)
+  pub session_is_determined : (limit : ℕ) (stop : Bool) → IsDetermined (session_language limit stop)
   session_is_determined limit stop = record {
     one_reply = λ depth ledger text reply other a b own own'. one_reply promotions limit depth ledger text reply other (proper limit stop depth ledger text reply a own) (proper limit stop depth ledger text other b own');
-    one_change = λ ledger success old new new' a b. one_change (custom_of ledger) success old new new' a b;
-    stays_reported = λ ledger success files new (stored, has, is). (put files success.folder success.name stored, is);
+    one_change = λ ledger accepted old new new' a b. one_change (custom_of ledger) accepted old new new' a b;
+    stays_reported = λ ledger accepted files new changed. stays (custom_of ledger) accepted files new changed;
   }
 
   -- a clean call ran with the options that the words give
-  clean_run : (words : List (List ℕ)) (from to : SourceView) (old new : StoreView) (held now : SinkView) (state : Status) → HasCalled words from to old new held now state → IsClean state
+  pub clean_run : (words : List (List ℕ)) (from to : SourceView) (old new : StoreView) (held now : SinkView) (state : Status) → HasCalled words from to old new held now state → IsClean state
       → (options : Options) × GivesOptions words options × HasServed options.limit options.stop options.seed from to old new held now state
   clean_run words from to old new held now state (inl ran) clean = ran
   clean_run words from to old new held now state (inr (inl (none, usage))) clean = absurd (unclean (usage_or_memory usage.shown.0 state usage.shown.2))
@@ -110,7 +123,7 @@ module _ (promotions : PromotionsHaveOneOutcome) where
   clean_made l seed old new held now state (inr short) clean = absurd (not_memory state short.state_is clean)
 
   -- runs of one generated script, from the same files, that end clean end alike
-  made_alike : {F : Type 0} (l : CommandLanguage F) → IsDetermined l → (seed : ℕ) (files : Files) (old new old' new' : StoreView) (held now held' now' : SinkView) (state state' : Status)
+  pub made_alike : {F : Type 0} (l : CommandLanguage F) → IsDetermined l → (seed : ℕ) (files : Files) (old new old' new' : StoreView) (held now held' now' : SinkView) (state state' : Status)
       → HasMade l seed old new held now state → HasMade l seed old' new' held' now' state' → old.files ≡ Some files → old'.files ≡ Some files → IsClean state → IsClean state' → EndAlike new new' held now held' now' state state'
   made_alike l determined seed files old new old' new' held now held' now' state state' made made' reported reported' clean clean' =
       let a = clean_made l seed old new held now state made clean in

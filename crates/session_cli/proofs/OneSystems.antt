@@ -63,6 +63,10 @@ systems_is limit custom names (Err (faults.LetterMissing letter)) a = absurd a
 systems_is limit custom names (Err (faults.CombineShape one two)) a = absurd a
 systems_is limit custom names (Err (faults.NotPlain of)) a = absurd a
 systems_is limit custom names (Err (faults.LangShape one two)) a = absurd a
+systems_is limit custom names (Err faults.TestLong) a = absurd a
+systems_is limit custom names (Err (faults.Place of)) a = absurd a
+systems_is limit custom names (Err (faults.BaseNeeded of systems)) a = absurd a
+systems_is limit custom names (Err (faults.NotRelated one two)) a = absurd a
 
 pub systems_single : (limit : ℕ) (custom : Custom) (names : List (List ℕ)) → IsSingle (systems_known limit custom names)
 systems_single limit custom names r s a b = by (systems_is limit custom names r a) (systems_is limit custom names s b)

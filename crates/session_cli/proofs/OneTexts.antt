@@ -1,19 +1,20 @@
 -- An entry has one text, and so it is stored in one way.
-use Rattle.std.proofs.Common.{◌≡◌, ℕ, ◌<◌, ◌≤◌, ◌⊎◌, List, length, Ok, Err, sym, ap, ◌∙◌, inl, inr, arith}
+use Rattle.std.proofs.Common.{◌≡◌, ℕ, ◌<◌, ◌≤◌, ◌⊎◌, List, length, Result, Ok, Err, sym, ap, ◌∙◌, inl, inr, arith}
+use Rattle.session_cli.specs.declared.fault.Fault.{Fault}
 use Rattle.session_cli.specs.declared.fault.Fault.TheVariants as faults
 use Rattle.definitions.specs.Texts.{HasText}
 use Rattle.system_files.specs.SystemFiles.{Custom}
-use Rattle.session_cli.specs.Accepting.{Success, Answer, StoredAnswers, stored}
+use Rattle.session_cli.specs.Accepting.{Success, StoredAnswers, stored}
 use Rattle.session_cli.proofs.CheckSteps.{IsSingle}
 use Rattle.definitions.proofs.OneTexts.{one_text_of}
 
 -- what is stored
-abbrev IsStored : Success → List ℕ → Answer → Type 0
+abbrev IsStored : Success → List ℕ → Result Success Fault → Type 0
 IsStored made text r = ((length text ≤ 16777216) × (r ≡ Ok made)) ⊎ ((16777216 < length text) × (r ≡ Err (faults.Long 16777216)))
 
-stored_is : (custom : Custom) (made : Success) (text : List ℕ) → HasText custom made.entry text → (r : Answer) → StoredAnswers custom made r → IsStored made text r
-stored_is custom made text has (Ok success) (is, (other, has', fits)) = inl (rw (one_text_of custom made.entry text other has has') fits, ap (λ (s : Success). let a : Answer = Ok s in a) is)
-stored_is custom made text has (Err (faults.Long bytes)) (is, (other, has', long)) = inr (rw (one_text_of custom made.entry text other has has') long, ap (λ (n : ℕ). let a : Answer = Err (faults.Long n) in a) is)
+stored_is : (custom : Custom) (made : Success) (text : List ℕ) → HasText custom made.entry text → (r : Result Success Fault) → StoredAnswers custom made r → IsStored made text r
+stored_is custom made text has (Ok success) (is, (other, has', fits)) = inl (rw (one_text_of custom made.entry text other has has') fits, ap (λ (s : Success). let a : Result Success Fault = Ok s in a) is)
+stored_is custom made text has (Err (faults.Long bytes)) (is, (other, has', long)) = inr (rw (one_text_of custom made.entry text other has has') long, ap (λ (n : ℕ). let a : Result Success Fault = Err (faults.Long n) in a) is)
 stored_is custom made text has (Err faults.Command) a = absurd a
 stored_is custom made text has (Err (faults.Syntax grammar at)) a = absurd a
 stored_is custom made text has (Err (faults.MixedChain byte)) a = absurd a
@@ -42,8 +43,12 @@ stored_is custom made text has (Err (faults.LetterMissing letter)) a = absurd a
 stored_is custom made text has (Err (faults.CombineShape one two)) a = absurd a
 stored_is custom made text has (Err (faults.NotPlain of)) a = absurd a
 stored_is custom made text has (Err (faults.LangShape one two)) a = absurd a
+stored_is custom made text has (Err faults.TestLong) a = absurd a
+stored_is custom made text has (Err (faults.Place of)) a = absurd a
+stored_is custom made text has (Err (faults.BaseNeeded of systems)) a = absurd a
+stored_is custom made text has (Err (faults.NotRelated one two)) a = absurd a
 
-some_text : (custom : Custom) (made : Success) (r : Answer) → StoredAnswers custom made r → (text : List ℕ) × HasText custom made.entry text
+some_text : (custom : Custom) (made : Success) (r : Result Success Fault) → StoredAnswers custom made r → (text : List ℕ) × HasText custom made.entry text
 some_text custom made (Ok success) (is, (text, has, fits)) = (text, has)
 some_text custom made (Err (faults.Long bytes)) (is, (text, has, long)) = (text, has)
 some_text custom made (Err faults.Command) a = absurd a
@@ -74,6 +79,10 @@ some_text custom made (Err (faults.LetterMissing letter)) a = absurd a
 some_text custom made (Err (faults.CombineShape one two)) a = absurd a
 some_text custom made (Err (faults.NotPlain of)) a = absurd a
 some_text custom made (Err (faults.LangShape one two)) a = absurd a
+some_text custom made (Err faults.TestLong) a = absurd a
+some_text custom made (Err (faults.Place of)) a = absurd a
+some_text custom made (Err (faults.BaseNeeded of systems)) a = absurd a
+some_text custom made (Err (faults.NotRelated one two)) a = absurd a
 
 pub stored_single : (custom : Custom) (made : Success) → IsSingle (stored custom made)
 stored_single custom made r s a b =

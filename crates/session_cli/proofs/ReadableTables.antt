@@ -79,7 +79,7 @@ readable custom systems table are listed plain one has = by table.listed.header 
     by (Systems names) is directions under = let tracks = tracks_under systems names under in made (Systems names) tracks.0 is tracks.1 (under_shared_direction custom systems names tracks.0 are directions tracks.1)
     by (Sets sets) is directions under = absurd (plain sets is)
 
-all_readable : (custom : Custom) (systems : List NamedSystem) (tables : List Loaded) (h : Headers) → AreMeant custom systems → AllByRecursion IsListedTable tables
+pub all_readable : (custom : Custom) (systems : List NamedSystem) (tables : List Loaded) (h : Headers) → AreMeant custom systems → AllByRecursion IsListedTable tables
     → AllByRecursion (IsKeptIn h) tables → AllByRecursion IsNotOverSets tables → AllByRecursion IsOfOneDirection tables → AllByRecursion (λ (t : Loaded). AllByRecursion (HasSystemIn systems) (file_tracks h t.file)) tables → AreReadable systems tables
 all_readable custom systems [] h are listed own plain one has = tt
 all_readable custom systems (table ∷ tables) h are listed own plain one has =

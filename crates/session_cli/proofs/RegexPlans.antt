@@ -86,6 +86,10 @@ made_by_steps custom admitted name tracks body shown pattern lines printed_lines
     by_text (Err (faults.CombineShape one two)) refused = absurd refused
     by_text (Err (faults.NotPlain of)) refused = absurd refused
     by_text (Err (faults.LangShape one two)) refused = absurd refused
+    by_text (Err faults.TestLong) refused = absurd refused
+    by_text (Err (faults.Place of)) refused = absurd refused
+    by_text (Err (faults.BaseNeeded of systems)) refused = absurd refused
+    by_text (Err (faults.NotRelated one two)) refused = absurd refused
     by_text (Err (faults.MixedChain byte)) refused = absurd refused
     by_text (Err (faults.NotLinear byte)) refused = absurd refused
     by_text (Err (faults.LoadDepth of)) refused = absurd refused

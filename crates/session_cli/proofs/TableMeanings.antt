@@ -32,12 +32,12 @@ use Rattle.session_cli.proofs.TableRelations.{relation_holds}
 use Rattle.session_cli.proofs.TableWords.{word_letters}
 
 -- the text of an entry is that of its definition
-tree_text : (custom : Custom) (entry : Entry) (text : List ℕ) → HasText custom entry text → HasTreeText custom (tree_of entry) text
+pub tree_text : (custom : Custom) (entry : Entry) (text : List ℕ) → HasText custom entry text → HasTreeText custom (tree_of entry) text
 tree_text custom (Bytes bytes) text has = has
 tree_text custom (Defined tree) text has = has
 
 -- where there is a text there is an entry
-entry_there : (custom : Custom) (folder : Folder) (entry : Option Entry) (text : Option (List ℕ)) (bytes : List ℕ) → HasTextAt custom folder entry text → text ≡ Some bytes → (e : Entry) × (entry ≡ Some e) × HasTextIn custom folder e bytes
+pub entry_there : (custom : Custom) (folder : Folder) (entry : Option Entry) (text : Option (List ℕ)) (bytes : List ℕ) → HasTextAt custom folder entry text → text ≡ Some bytes → (e : Entry) × (entry ≡ Some e) × HasTextIn custom folder e bytes
 entry_there custom folder None None bytes has is = absurd (none-some bytes is)
 entry_there custom folder None (Some text) bytes has is = absurd has
 entry_there custom folder (Some e) None bytes has is = absurd has

@@ -55,7 +55,7 @@ one_below systems (Systems names) found others under also = one_under systems na
 one_below systems (Sets sets) found others under also = absurd under
 
 -- sealed systems are found sealed
-found_sealed : (systems : List NamedSystem) (name : List ℕ) (s : SystemValue) → AreSealed systems → system_named systems name ≡ Some s → IsSealed s
+pub found_sealed : (systems : List NamedSystem) (name : List ℕ) (s : SystemValue) → AreSealed systems → system_named systems name ≡ Some s → IsSealed s
 found_sealed [] name s sealed found = absurd (none-some s found)
 found_sealed (x ∷ systems) name s sealed found = by (bytes_eq x.name name) (λ (there : system_named systems name ≡ Some s). found_sealed systems name s sealed.1 there) found
   where
@@ -80,7 +80,7 @@ below_sealed systems (Truth value) found sealed under = subst (AllByRecursion Is
 below_sealed systems (Systems names) found sealed under = under_sealed systems names found sealed under
 below_sealed systems (Sets sets) found sealed under = absurd under
 
-below_tracks : (systems : List NamedSystem) (header : Header) (found : List SystemValue) → AreSystemsUnder systems header found → ShareDirection found → AreForTracks header found
+pub below_tracks : (systems : List NamedSystem) (header : Header) (found : List SystemValue) → AreSystemsUnder systems header found → ShareDirection found → AreForTracks header found
 below_tracks systems (Truth value) found under one = under
 below_tracks systems (Systems names) found under one = (as_many_under systems names found under, one)
 below_tracks systems (Sets sets) found under one = absurd under

@@ -4,22 +4,24 @@ use Rattle.wal_outside.specs.declared.folder.Folder.{Folder}
 use Rattle.command_head.specs.Parts.{first_word_of}
 use Rattle.session_cli.specs.declared.fault.Fault.{Fault}
 use Rattle.session_cli.specs.declared.fault.Fault.TheVariants as faults
+use Rattle.session_cli.specs.declared.plan.Action.{Action}
 use Rattle.session_cli.specs.declared.plan.Plan.{Plan}
 use Rattle.session_cli.specs.declared.command_word.CommandWord.{CommandWord}
 use Rattle.session_cli.specs.Checks.{Pure, Fails}
 use Rattle.definitions.specs.Trees.{Ledger, custom_of}
 use Rattle.session_cli.specs.Outcomes.{LengthAnswers, WordAnswers, word_text, checks_by, after_length, checks_of}
 use Rattle.session_cli.specs.FormulaOutcomes.{formula_checks}
-use Rattle.session_cli.specs.Plans.{Plans}
+use Rattle.session_cli.specs.Plans.{Plans, Acts}
 use Rattle.session_cli.specs.declared.step_options.StepOptions.{StepOptions}
-use Rattle.session_cli.proofs.CheckSteps.{fails_first, fails_after, plans_after}
+use Rattle.session_cli.proofs.CheckSteps.{fails_first, fails_after}
+use Rattle.session_cli.proofs.ActionSteps.{acts_after}
 
 -- what the checks of a short command of this word give, all its checks give
-pub planned_by_word : (word : CommandWord) (limit : ℕ) (ledger : Ledger) (text : List ℕ) (shown : Bool) (result : Result Plan Fault) → length text ≤ 65536 → first_word_of text ≡ word_text word
-    → Plans (custom_of ledger) (checks_by word limit ledger text) shown result → Plans (custom_of ledger) (checks_of limit ledger text) shown result
-planned_by_word word limit ledger text shown result short is plans =
-    plans_after (custom_of ledger) (Pure (LengthAnswers text)) (λ done. after_length limit ledger text) tt shown result short
-    (plans_after (custom_of ledger) (Pure (WordAnswers text)) (λ w. checks_by w limit ledger text) word shown result is plans)
+pub acted_by_word : (word : CommandWord) (limit : ℕ) (ledger : Ledger) (text : List ℕ) (shown : Bool) (result : Result Action Fault) → length text ≤ 65536 → first_word_of text ≡ word_text word
+    → Acts (custom_of ledger) (checks_by word limit ledger text) shown result → Acts (custom_of ledger) (checks_of limit ledger text) shown result
+acted_by_word word limit ledger text shown result short is acts =
+    acts_after (custom_of ledger) (Pure (LengthAnswers text)) (λ done. after_length limit ledger text) tt shown result short
+    (acts_after (custom_of ledger) (Pure (WordAnswers text)) (λ w. checks_by w limit ledger text) word shown result is acts)
 
 -- what a formula's command with these parts gives
 pub planned_formula : (word at : List ℕ) (folder to : Folder) (options these : StepOptions) (ledger : Ledger) (text : List ℕ) (result : Result Plan Fault) → word ≡ at → folder ≡ to → options ≡ these → Plans (custom_of ledger) (formula_checks word folder options.limit ledger text) options.shown result

@@ -4,12 +4,12 @@ use Rattle.digit_tuple.specs.declared.steps.StepLine.{StepLine}
 use Rattle.wal_outside.specs.declared.folder.Folder.{Folder}
 use Rattle.session_cli.specs.declared.fault.Fault.{Fault}
 use Rattle.session_cli.specs.declared.fault.Fault.TheVariants as faults
-use Rattle.session_cli.specs.Checks.{Check, Pure}
+use Rattle.session_cli.specs.Checks.{Check, Pure, Passing, Then}
 use Rattle.definitions.specs.Trees.{Entry, Ledger, entered}
 use Rattle.definitions.specs.Texts.{HasText}
 use Rattle.system_files.specs.SystemFiles.{Custom}
 
--- an accepted command: the entry that it makes, where; the lines of its steps; and the verdict, where it is about a sentence
+-- what a command stores: the entry that it makes, where; the lines of its steps; and the verdict, where it is about a sentence
 pub record Success : Type 0 where
   pub folder : Folder
   pub name : List ℕ
@@ -17,24 +17,42 @@ pub record Success : Type 0 where
   pub lines : List StepLine
   pub verdict : Option Bool
 
+-- what a command says that stores nothing: the lines of its steps, and the text after them
+pub record Said : Type 0 where
+  pub lines : List StepLine
+  pub text : List ℕ
+
+-- an accepted command stores what it makes, or says something and stores nothing
+pub data Accepted : Type 0 where
+  Storing : Success → Accepted
+  Saying : Said → Accepted
+
 -- a command is accepted, or refused by a fault
 abbrev pub Answer : Type 0
-Answer = Result Success Fault
+Answer = Result Accepted Fault
 
 -- the ledger after an accepted command
-abbrev pub after : Ledger → Success → Ledger
-after ledger success = entered ledger success.folder success.name success.entry
+abbrev pub after : Ledger → Accepted → Ledger
+after ledger (Storing success) = entered ledger success.folder success.name success.entry
+after ledger (Saying said) = ledger
 
 -- a stored text may have 16,777,216 bytes
 abbrev pub FitsFile : List ℕ → Type 0
 FitsFile text = length text ≤ 16777216
 
 -- whether the text that is to be stored fits
-abbrev pub StoredAnswers : Custom → Success → Answer → Type 0
+abbrev pub StoredAnswers : Custom → Success → Result Success Fault → Type 0
 StoredAnswers custom made (Ok success) = (success ≡ made) × ((text : List ℕ) × HasText custom made.entry text × FitsFile text)
 StoredAnswers custom made (Err (faults.Long bytes)) = (bytes ≡ 16777216) × ((text : List ℕ) × HasText custom made.entry text × (16777216 < length text))
 StoredAnswers custom made (Err fault) = ⊥
 
--- the last check of each command: what it makes is stored, unless its text is too long
+-- the last check of each command that stores: what it makes is stored, unless its text is too long
 abbrev pub stored : Custom → Success → Check Success
 stored custom made = Pure (StoredAnswers custom made)
+
+-- the checks of a command that stores what it makes, and of one that says something
+abbrev pub storing : Check Success → Check Accepted
+storing checks = Then checks (λ success. Passing (λ accepted. accepted ≡ Storing success))
+
+abbrev pub saying : Check Said → Check Accepted
+saying checks = Then checks (λ said. Passing (λ accepted. accepted ≡ Saying said))

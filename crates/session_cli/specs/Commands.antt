@@ -1,5 +1,5 @@
 -- One command, and the store before and after it.
-use Rattle.std.specs.Prelude.{◌≡◌, ℕ, ◌≤◌, Bool, false, List, [], Option, Some, IfSome, IsTrue, Result, Ok, Err}
+use Rattle.std.specs.Prelude.{◌≡◌, ℕ, ◌≤◌, Bool, false, List, [], Option, Some, IfOk, IfSome, IsTrue, Result, Ok, Err}
 use Rattle.std.specs.Option.{is_some, option_map}
 use Rattle.wal_outside.specs.Causes.{Rose}
 use Rattle.wal_outside.specs.Files.{Files, put}
@@ -8,30 +8,32 @@ use Rattle.wal_outside.specs.Views.{StoreView}
 use Rattle.script_runs.specs.Replies.{failed_by}
 use Rattle.session_cli.specs.declared.fault.Fault.{Fault}
 use Rattle.session_cli.specs.declared.fault.Fault.TheVariants as faults
+use Rattle.session_cli.specs.declared.plan.Action.{Action}
+use Rattle.session_cli.specs.declared.plan.Action.TheVariants as actions
 use Rattle.definitions.specs.Trees.{Ledger, custom_of}
 use Rattle.session_cli.specs.Accepting.{Answer}
-use Rattle.session_cli.specs.Lines.{success_text}
+use Rattle.session_cli.specs.Lines.{accepted_text}
 use Rattle.session_cli.specs.Outcomes.{checks_of}
-use Rattle.session_cli.specs.SessionLanguage.{IsAnswer, StoresEntry, failed_at}
+use Rattle.session_cli.specs.SessionLanguage.{IsAnswer, ChangesFiles, failed_at}
 
 -- A call's result and the text to print are the answer: accepted, with what it prints; or the same fault, and then the text is empty.
 abbrev pub Gives : Bool → Result (Unit {0}) Fault → List ℕ → Answer → Type 0
-Gives shown (Ok _) text (Ok success) = text ≡ success_text shown success
+Gives shown (Ok _) text (Ok accepted) = text ≡ accepted_text shown accepted
 Gives shown (Ok _) text (Err fault) = ⊥
-Gives shown (Err fault) text (Ok success) = ⊥
+Gives shown (Err fault) text (Ok accepted) = ⊥
 Gives shown (Err fault) text (Err refusal) = (fault ≡ refusal) × (text ≡ [])
 
 -- a refused command changes no file
 abbrev pub Changes : Ledger → Option Files → Answer → Option Files → Type 0
-Changes ledger old (Ok success) new = StoresEntry (custom_of ledger) success old new
+Changes ledger old (Ok accepted) new = ChangesFiles (custom_of ledger) accepted old new
 Changes ledger old (Err fault) new = new ≡ old
 
 abbrev pub is_refused_by_store : Answer → Bool
-is_refused_by_store (Ok success) = false
+is_refused_by_store (Ok accepted) = false
 is_refused_by_store (Err fault) = is_some (failed_at fault)
 
 abbrev pub failed_after : Option (Option Place) → Answer → Option (Option Place)
-failed_after old (Ok success) = old
+failed_after old (Ok accepted) = old
 failed_after old (Err fault) = failed_by (failed_at fault) old
 
 -- A store before and after a command. A store fault comes only where the store's count of faults rose.
@@ -52,7 +54,7 @@ pub record Commands (limit : ℕ) (ledger : Ledger) (old : StoreView) (text : Li
   pub stored : Leaves known old answer new
 
 -- files after a write, where they are reported
-abbrev pub WritesFile : Option Files → Place → List ℕ → Result (Unit {0}) Fault → Option Files → Type 0
+abbrev pub WritesFile : {X : Type 0} → Option Files → Place → List ℕ → Result X Fault → Option Files → Type 0
 WritesFile old place stored (Ok _) new = new ≡ option_map (λ files. put files place.0 place.1 stored) old
 WritesFile old place stored (Err fault) new = new ≡ old
 
@@ -62,12 +64,18 @@ IsWriteFault place old new (faults.Store folder name) = (folder ≡ place.0) × 
 IsWriteFault place old new faults.Memory = new.failed ≡ old.failed
 IsWriteFault place old new _ = ⊥
 
-abbrev pub WriteCause : Place → StoreView → StoreView → Result (Unit {0}) Fault → Type 0
+abbrev pub WriteCause : {X : Type 0} → Place → StoreView → StoreView → Result X Fault → Type 0
 WriteCause place old new (Ok _) = new.failed ≡ old.failed
 WriteCause place old new (Err fault) = IsWriteFault place old new fault
 
 -- what writing a text at a place does to the store
-pub record WritesPlan (old : StoreView) (place : Place) (stored : List ℕ) (result : Result (Unit {0}) Fault) (new : StoreView) : Type 0 where
+pub record WritesPlan {X : Type 0} (old : StoreView) (place : Place) (stored : List ℕ) (result : Result X Fault) (new : StoreView) : Type 0 where
   pub files : WritesFile old.files place stored result new.files
   pub later : old.faults ≤ new.faults
   pub cause : WriteCause place old new result
+
+-- An action was done, and this is to be printed: a plan's text is written, and then what the plan prints; or a text is printed, and nothing is
+-- written.
+abbrev pub DoesAction : StoreView → Action → Result (List ℕ) Fault → StoreView → Type 0
+DoesAction old (actions.Write plan) result new = WritesPlan old (plan.folder, plan.name) plan.made.stored.items result new × IfOk result (λ printed. printed ≡ plan.made.printed)
+DoesAction old (actions.Print printed) result new = (result ≡ Ok printed) × (new ≡ old)

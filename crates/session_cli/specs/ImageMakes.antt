@@ -31,7 +31,7 @@ use Rattle.session_cli.specs.Plans.{Makes}
 
 -- a head of these names, and the name of the old word
 abbrev pub head_of : List ℕ → List ℕ → ReadImage → ImageHead
-head_of word morphism read = record { word = word; morphism = morphism; old = read.old }
+head_of word morphism read = record { word = word; mapping = morphism; old = read.old }
 
 -- the files list the table of the old word
 abbrev pub AreTablesOf : ReadImage → Files → Type 0
@@ -40,7 +40,7 @@ AreTablesOf read files = AreListedBy files (first_files (old_mentions read.old))
 -- the rules and the table are those that the files have under the names of a head
 pub record IsReadBy (head : ImageHead) (files : Files) (read : ReadImage) : Type 0 where
   pub old : read.old ≡ head.old
-  pub rules : IsMorphismIn files head.morphism read.morphism
+  pub rules : IsMorphismIn files head.mapping read.morphism
   pub listed : AreTablesOf read files
 
 -- a command of this head is refused by the files

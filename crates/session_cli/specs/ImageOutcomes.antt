@@ -1,6 +1,6 @@
 -- What an `image` does, by its checks in their order: the shape of its head, the file of the morphism, that of the word, the word's systems, that
 -- it has one track, that all images have one length, its steps with the letters that have no rule, and the length of the text to store.
-use Rattle.std.specs.Prelude.{◌≡◌, ◌≢◌, ◌⊎◌, ℕ, List, [], ◌∷◌, length, None, Some, Result, Ok, Err}
+use Rattle.std.specs.Prelude.{◌≡◌, ◌≢◌, ◌⊎◌, ℕ, List, [], ◌∷◌, length, None, Some, Result, Ok, Err, codes}
 use Rattle.digit_tuple.specs.Steps.{StepLog}
 use Rattle.digit_tuple.specs.declared.direction.Direction.{Direction}
 use Rattle.digit_tuple.specs.declared.step_fault.StepFault.{StepFault}
@@ -117,9 +117,9 @@ after_old_table limit ledger head rules tables = Then (systems_known limit (cust
 
 abbrev pub after_image_head : ℕ → Ledger → ImageHead → Check Success
 after_image_head limit ledger head =
-    Then (morphism_loaded ledger head.morphism) (λ rules.
+    Then (morphism_loaded ledger head.mapping) (λ rules.
     Then (files_loaded ledger (first_files (old_mentions head.old))) (λ tables. after_old_table limit ledger head rules tables))
 
 -- all checks of an `image`
 abbrev pub image_checks : ℕ → Ledger → List ℕ → Check Success
-image_checks limit ledger text = Then (Pure (HeadAnswers DerivesImage text)) (λ head. after_image_head limit ledger head)
+image_checks limit ledger text = Then (Pure (HeadAnswers (DerivesImage (codes "image")) text)) (λ head. after_image_head limit ledger head)

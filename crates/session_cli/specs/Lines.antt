@@ -1,6 +1,7 @@
 -- The lines of steps, of verdicts and of refused commands.
 use Rattle.std.specs.Prelude.{ℕ, suc, ℤ, Bool, true, false, List, [], ◌∷◌, ◌++◌, Option, None, Some, codes, decimal}
 use Rattle.std.specs.Fmt.{signed_decimal}
+use Rattle.std.specs.List.{flat_map}
 use Rattle.digit_tuple.specs.Kinds.{kind_name}
 use Rattle.digit_tuple.specs.declared.steps.StepLine.{StepLine}
 use Rattle.wal_outside.specs.Folders.{folder_text}
@@ -14,7 +15,7 @@ use Rattle.session_cli.specs.declared.fault.Grammar.{Grammar}
 use Rattle.session_cli.specs.declared.fault.Grammar.TheVariants as grammars
 use Rattle.session_cli.specs.declared.fault.Fault.{Fault}
 use Rattle.session_cli.specs.declared.fault.Fault.TheVariants as faults
-use Rattle.session_cli.specs.Accepting.{Success}
+use Rattle.session_cli.specs.Accepting.{Success, Said, Accepted, Storing, Saying}
 
 -- the line of a step with its number: its kind, its width, and the number of states of its result
 abbrev pub step_line : ℕ → StepLine → List ℕ
@@ -36,9 +37,17 @@ verdict_line None = []
 verdict_line (Some true) = codes "TRUE\n"
 verdict_line (Some false) = codes "FALSE\n"
 
--- what is printed of an accepted command
+-- what is printed of a command that stores, and of one that says something
 abbrev pub success_text : Bool → Success → List ℕ
 success_text shown success = shown_steps shown success.lines ++ verdict_line success.verdict
+
+abbrev pub said_text : Bool → Said → List ℕ
+said_text shown said = shown_steps shown said.lines ++ said.text
+
+-- what is printed of an accepted command
+abbrev pub accepted_text : Bool → Accepted → List ℕ
+accepted_text shown (Storing success) = success_text shown success
+accepted_text shown (Saying said) = said_text shown said
 
 abbrev pub grammar_name : Grammar → List ℕ
 grammar_name grammars.Command = codes "command"
@@ -72,6 +81,10 @@ refusal_letter (kinds.Length letter) = letter
 refusal_letter (kinds.NotClosed letter) = letter
 refusal_letter (kinds.NotFixed letter) = letter
 
+-- names, a blank before each
+abbrev pub names_text : List (List ℕ) → List ℕ
+names_text names = flat_map (λ name. codes " " ++ name) names
+
 -- the number, name and kept values of a fault
 abbrev pub detail : Fault → List ℕ
 detail faults.Command = codes ": F01 Command"
@@ -103,6 +116,10 @@ detail faults.Memory = codes ": F27 Memory"
 detail faults.ScriptLimit = codes ": F28 ScriptLimit"
 detail (faults.NotPlain name) = codes ": F29 NotPlain " ++ name
 detail (faults.LangShape first other) = (codes ": F30 LangShape " ++ first) ++ (codes " " ++ other)
+detail faults.TestLong = codes ": F31 TestLong 16777216"
+detail (faults.Place name) = codes ": F32 Place " ++ name
+detail (faults.BaseNeeded name systems) = (codes ": F33 BaseNeeded " ++ name) ++ names_text systems
+detail (faults.NotRelated first other) = (codes ": F34 NotRelated " ++ first) ++ (codes " " ++ other)
 
 -- the line of a command that begins on a line and is refused by a fault
 abbrev pub fault_line : ℕ → Fault → List ℕ

@@ -1,4 +1,4 @@
--- What a command does: the entry that it makes, or the fault by which it is refused.
+-- What a command does: the entry that it makes or what it says, or the fault by which it is refused.
 use Rattle.std.specs.Prelude.{◌≡◌, ◌≢◌, ℕ, ◌<◌, ◌≤◌, List, length, Result, Ok, Err, codes}
 use Rattle.wal_outside.specs.declared.folder.Folder.TheVariants.{Automata, Results}
 use Rattle.command_head.specs.Parts.{first_word_of}
@@ -11,7 +11,7 @@ use Rattle.definitions.specs.Trees.{Ledger}
 use Rattle.language_steps.specs.declared.op.LanguageOp.TheVariants.{Pair, One}
 use Rattle.language_steps.specs.declared.op.OneOp.TheVariants.{Star, Reversal}
 use Rattle.language_steps.specs.declared.op.PairOp.TheVariants.{Union, Intersection, Concatenation}
-use Rattle.session_cli.specs.Accepting.{Success, Answer}
+use Rattle.session_cli.specs.Accepting.{Accepted, Answer, saying, storing}
 use Rattle.session_cli.specs.RegOutcomes.{reg_checks}
 use Rattle.session_cli.specs.FormulaOutcomes.{formula_checks}
 use Rattle.session_cli.specs.TextOutcomes.{macro_checks, morphism_checks}
@@ -19,6 +19,9 @@ use Rattle.session_cli.specs.PromoteOutcomes.{promote_checks}
 use Rattle.session_cli.specs.CombineOutcomes.{combine_checks}
 use Rattle.session_cli.specs.ImageOutcomes.{image_checks}
 use Rattle.session_cli.specs.LanguageOutcomes.{language_checks}
+use Rattle.session_cli.specs.TransduceOutcomes.{transduce_checks}
+use Rattle.session_cli.specs.ListingOutcomes.{inf_checks, test_checks}
+use Rattle.session_cli.specs.ConvertOutcomes.{convert_checks}
 
 -- a command may have 65,536 bytes
 abbrev pub IsShort : List ℕ → Type 0
@@ -44,6 +47,10 @@ word_text words.Intersect = codes "intersect"
 word_text words.Concat = codes "concat"
 word_text words.Star = codes "star"
 word_text words.Reverse = codes "reverse"
+word_text words.Transduce = codes "transduce"
+word_text words.Test = codes "test"
+word_text words.Inf = codes "inf"
+word_text words.Convert = codes "convert"
 
 -- the first word is that of this command, or none that a command has
 abbrev pub WordAnswers : List ℕ → Result CommandWord Fault → Type 0
@@ -52,28 +59,32 @@ WordAnswers text (Err faults.Command) = (word : CommandWord) → first_word_of t
 WordAnswers text (Err fault) = ⊥
 
 -- the checks of each command
-abbrev pub checks_by : CommandWord → ℕ → Ledger → List ℕ → Check Success
-checks_by words.Reg limit ledger text = reg_checks limit ledger text
-checks_by words.Eval limit ledger text = formula_checks (word_text words.Eval) Results limit ledger text
-checks_by words.Def limit ledger text = formula_checks (word_text words.Def) Automata limit ledger text
-checks_by words.Macro limit ledger text = macro_checks ledger text
-checks_by words.Morphism limit ledger text = morphism_checks ledger text
-checks_by words.Promote limit ledger text = promote_checks limit ledger text
-checks_by words.Combine limit ledger text = combine_checks limit ledger text
-checks_by words.Image limit ledger text = image_checks limit ledger text
-checks_by words.Union limit ledger text = language_checks (Pair Union) limit ledger text
-checks_by words.Intersect limit ledger text = language_checks (Pair Intersection) limit ledger text
-checks_by words.Concat limit ledger text = language_checks (Pair Concatenation) limit ledger text
-checks_by words.Star limit ledger text = language_checks (One Star) limit ledger text
-checks_by words.Reverse limit ledger text = language_checks (One Reversal) limit ledger text
+abbrev pub checks_by : CommandWord → ℕ → Ledger → List ℕ → Check Accepted
+checks_by words.Reg limit ledger text = storing (reg_checks limit ledger text)
+checks_by words.Eval limit ledger text = storing (formula_checks (word_text words.Eval) Results limit ledger text)
+checks_by words.Def limit ledger text = storing (formula_checks (word_text words.Def) Automata limit ledger text)
+checks_by words.Macro limit ledger text = storing (macro_checks ledger text)
+checks_by words.Morphism limit ledger text = storing (morphism_checks ledger text)
+checks_by words.Promote limit ledger text = storing (promote_checks limit ledger text)
+checks_by words.Combine limit ledger text = storing (combine_checks limit ledger text)
+checks_by words.Image limit ledger text = storing (image_checks limit ledger text)
+checks_by words.Union limit ledger text = storing (language_checks (Pair Union) limit ledger text)
+checks_by words.Intersect limit ledger text = storing (language_checks (Pair Intersection) limit ledger text)
+checks_by words.Concat limit ledger text = storing (language_checks (Pair Concatenation) limit ledger text)
+checks_by words.Star limit ledger text = storing (language_checks (One Star) limit ledger text)
+checks_by words.Reverse limit ledger text = storing (language_checks (One Reversal) limit ledger text)
+checks_by words.Test limit ledger text = saying (test_checks limit ledger text)
+checks_by words.Inf limit ledger text = saying (inf_checks limit ledger text)
+checks_by words.Transduce limit ledger text = storing (transduce_checks limit ledger text)
+checks_by words.Convert limit ledger text = storing (convert_checks limit ledger text)
 
 -- the checks behind that of the length: the first word, and those of the command of that word
-abbrev pub after_length : ℕ → Ledger → List ℕ → Check Success
+abbrev pub after_length : ℕ → Ledger → List ℕ → Check Accepted
 after_length limit ledger text = Then (Pure (WordAnswers text)) (λ word. checks_by word limit ledger text)
 
 -- all checks of a command that has its terminator: its length, its first word, and those of the command of that word. A step may have
 -- `limit` values.
-abbrev pub checks_of : ℕ → Ledger → List ℕ → Check Success
+abbrev pub checks_of : ℕ → Ledger → List ℕ → Check Accepted
 checks_of limit ledger text = Then (Pure (LengthAnswers text)) (λ short. after_length limit ledger text)
 
 -- the proper outcome of a command that has its terminator

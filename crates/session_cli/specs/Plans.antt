@@ -1,5 +1,5 @@
 -- What a command is to store and to print, from its checks.
-use Rattle.std.specs.Prelude.{◌≡◌, ℕ, ℤ, ◌<◌, Bool, List, length, Result, Ok, ⊤, MatchResult}
+use Rattle.std.specs.Prelude.{◌≡◌, ℕ, ℤ, ◌<◌, Bool, List, length, Result, Ok, Err, ⊤, MatchResult}
 use Rattle.command_head.specs.Heads as heads
 use Rattle.dfa_text.specs.Meaning.{AreTrackSets}
 use Rattle.dfa_text.specs.RelationText.{relation_text}
@@ -10,13 +10,15 @@ use Rattle.regex_build.specs.Patterns.{Pattern}
 use Rattle.regex_build.specs.Parsing.{Parses}
 use Rattle.session_cli.specs.declared.fault.Fault.{Fault}
 use Rattle.session_cli.specs.declared.fault.Fault.TheVariants as faults
+use Rattle.session_cli.specs.declared.plan.Action.{Action}
+use Rattle.session_cli.specs.declared.plan.Action.TheVariants as actions
 use Rattle.session_cli.specs.declared.plan.Made.{Made}
 use Rattle.session_cli.specs.declared.plan.Plan.{Plan}
 use Rattle.session_cli.specs.Checks.{Check, Pure, Fails}
-use Rattle.session_cli.specs.Lines.{shown_steps, success_text}
+use Rattle.session_cli.specs.Lines.{shown_steps, success_text, said_text}
 use Rattle.definitions.specs.Texts.{HasText}
 use Rattle.system_files.specs.SystemFiles.{Custom}
-use Rattle.session_cli.specs.Accepting.{Success, FitsFile}
+use Rattle.session_cli.specs.Accepting.{Success, Said, Accepted, Storing, Saying, FitsFile}
 use Rattle.session_cli.specs.RegOutcomes.{ParsedAnswers}
 
 -- the text to store and the one to print are those of an accepted command
@@ -38,6 +40,44 @@ pub record IsPlan (custom : Custom) (checks : Check Success) (shown : Bool) (pla
 
 abbrev pub Plans : Custom → Check Success → Bool → Result Plan Fault → Type 0
 Plans custom checks shown result = MatchResult result (IsPlan custom checks shown) (Fails checks)
+
+-- the plan is that of what a command stores
+pub record IsPlanOf (custom : Custom) (success : Success) (shown : Bool) (plan : Plan) : Type 0 where
+  pub has_text : HasText custom success.entry plan.made.stored.items
+  pub printed_is : plan.made.printed ≡ success_text shown success
+  pub folder_is : plan.folder ≡ success.folder
+  pub name_is : plan.name ≡ success.name
+
+-- the action is that of an accepted command: to write what it stores, or to print what it says
+abbrev pub IsActionOf : Custom → Accepted → Bool → Action → Type 0
+IsActionOf custom (Storing success) shown (actions.Write plan) = IsPlanOf custom success shown plan
+IsActionOf custom (Storing success) shown (actions.Print printed) = ⊥
+IsActionOf custom (Saying said) shown (actions.Write plan) = ⊥
+IsActionOf custom (Saying said) shown (actions.Print printed) = printed ≡ said_text shown said
+
+-- and the checks accept the command
+pub record IsAction (custom : Custom) (checks : Check Accepted) (shown : Bool) (action : Action) : Type 0 where
+  pub accepted : Accepted
+  pub answers : checks.answers (Ok accepted)
+  pub is_of : IsActionOf custom accepted shown action
+
+-- an action is what the checks accept, or the fault is one by which they refuse
+abbrev pub Acts : Custom → Check Accepted → Bool → Result Action Fault → Type 0
+Acts custom checks shown result = MatchResult result (IsAction custom checks shown) (Fails checks)
+
+-- what is printed is what a command says, or the fault is one by which its checks refuse
+abbrev pub Tells : Check Said → Bool → Result (List ℕ) Fault → Type 0
+Tells checks shown result = MatchResult result (λ printed. (said : Said) × checks.answers (Ok said) × (printed ≡ said_text shown said)) (Fails checks)
+
+-- the action of a command that stores
+abbrev pub writing : Result Plan Fault → Result Action Fault
+writing (Ok plan) = Ok (actions.Write plan)
+writing (Err fault) = Err fault
+
+-- and of one that says something
+abbrev pub printing : Result (List ℕ) Fault → Result Action Fault
+printing (Ok printed) = Ok (actions.Print printed)
+printing (Err fault) = Err fault
 
 -- the expression of a quoted text over sets, or why there is none
 abbrev pub ParsesTo : List (List ℤ) → List ℕ → Result Pattern Fault → Type 0

@@ -14,7 +14,7 @@ use Rattle.session_cli.specs.declared.run_word.RunWord.TheVariants as words
 use Rattle.session_cli.specs.Checks.{Check, Pure, Passing, Then, Fails}
 use Rattle.definitions.specs.Texts.{Stores}
 use Rattle.definitions.specs.Trees.{Ledger}
-use Rattle.session_cli.specs.Accepting.{Success}
+use Rattle.session_cli.specs.Accepting.{Accepted}
 use Rattle.session_cli.specs.HeadAnswers.{HeadAnswers}
 use Rattle.session_cli.specs.Outcomes.{LengthAnswers, after_length}
 
@@ -52,14 +52,14 @@ load_checks depth ledger text =
     Then (Pure (DepthAnswers depth name)) (λ few. text_read ledger name))
 
 -- the checks of a command by its first word; a step may have `limit` values
-abbrev pub checks_by_word : Option RunWord → ℕ → ℕ → Ledger → List ℕ → Check (Deed Success)
-checks_by_word None limit depth ledger text = Then (after_length limit ledger text) (λ success. Passing (λ deed. deed ≡ Enters success))
+abbrev pub checks_by_word : Option RunWord → ℕ → ℕ → Ledger → List ℕ → Check (Deed Accepted)
+checks_by_word None limit depth ledger text = Then (after_length limit ledger text) (λ accepted. Passing (λ deed. deed ≡ Enters accepted))
 checks_by_word (Some words.Load) limit depth ledger text = Then (load_checks depth ledger text) (λ loaded. Passing (λ deed. deed ≡ Loads loaded))
 checks_by_word (Some words.Exit) limit depth ledger text = Then (Pure (HeadAnswers (DerivesAlone (codes "exit")) text)) (λ done. Passing (λ deed. deed ≡ Ends))
 checks_by_word (Some words.Quit) limit depth ledger text = Then (Pure (HeadAnswers (DerivesAlone (codes "quit")) text)) (λ done. Passing (λ deed. deed ≡ Ends))
 
 -- all checks of a command of a script that has its terminator and stands in so many loads
-abbrev pub run_checks : ℕ → ℕ → Ledger → List ℕ → Check (Deed Success)
+abbrev pub run_checks : ℕ → ℕ → Ledger → List ℕ → Check (Deed Accepted)
 run_checks limit depth ledger text =
     Then (Pure (LengthAnswers text)) (λ short.
     Then (Pure (RunWordAnswers text)) (λ word. checks_by_word word limit depth ledger text))

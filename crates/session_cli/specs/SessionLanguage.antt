@@ -13,25 +13,30 @@ use Rattle.definitions.specs.Trees.{Ledger, ledger_of, custom_of}
 use Rattle.definitions.specs.Texts.{HasText, Stores}
 use Rattle.system_files.specs.SystemFiles.{Custom}
 use Rattle.session_cli.specs.Checks.{Check, Fails}
-use Rattle.session_cli.specs.Accepting.{Success, Answer, after}
+use Rattle.session_cli.specs.Accepting.{Success, Accepted, Storing, Saying, Answer, after}
 use Rattle.session_cli.specs.RunOutcomes.{run_checks}
-use Rattle.session_cli.specs.Lines.{success_text, fault_line}
+use Rattle.session_cli.specs.Lines.{accepted_text, fault_line}
 
--- A command's answer is what its checks answer. Or the store failed at a file that they read, or at the one of what the command makes; or
+-- A command's answer is what its checks answer. Or the store failed at a file that they read, or at the one of what the command stores; or
 -- memory ran out.
-abbrev pub IsAnswer : Check Success → Answer → Type 0
-IsAnswer checks (Ok success) = checks.answers (Ok success)
-IsAnswer checks (Err (faults.Store folder name)) = checks.reads (folder, name) ⊎ ((success : Success) × checks.answers (Ok success) × (folder ≡ success.folder) × (name ≡ success.name))
+abbrev pub IsAnswer : Check Accepted → Answer → Type 0
+IsAnswer checks (Ok accepted) = checks.answers (Ok accepted)
+IsAnswer checks (Err (faults.Store folder name)) = checks.reads (folder, name) ⊎ ((success : Success) × checks.answers (Ok (Storing success)) × (folder ≡ success.folder) × (name ≡ success.name))
 IsAnswer checks (Err fault) = Fails checks fault
 
 -- So is the reply to a command of a script, which may load a text or end the run.
-abbrev pub IsReply : Check (Deed Success) → Result (Deed Success) Fault → Type 0
+abbrev pub IsReply : Check (Deed Accepted) → Result (Deed Accepted) Fault → Type 0
 IsReply checks (Ok deed) = checks.answers (Ok deed)
-IsReply checks (Err fault) = Fails checks fault ⊎ ((success : Success) × checks.answers (Ok (Enters success)) × (fault ≡ faults.Store success.folder success.name))
+IsReply checks (Err fault) = Fails checks fault ⊎ ((success : Success) × checks.answers (Ok (Enters (Storing success))) × (fault ≡ faults.Store success.folder success.name))
 
--- an accepted command changes the file of its entry to that entry's text
+-- a command that stores changes the file of its entry to that entry's text
 abbrev pub StoresEntry : Custom → Success → Option Files → Option Files → Type 0
 StoresEntry custom success old new = (stored : List ℕ) × HasText custom success.entry stored × (new ≡ option_map (λ files. put files success.folder success.name stored) old)
+
+-- an accepted command changes that file, or none
+abbrev pub ChangesFiles : Custom → Accepted → Option Files → Option Files → Type 0
+ChangesFiles custom (Storing success) old new = StoresEntry custom success old new
+ChangesFiles custom (Saying said) old new = new ≡ old
 
 -- the file of a store fault
 abbrev pub failed_at : Fault → Option Place
@@ -62,16 +67,16 @@ first_ledger (Some files) = ledger_of files
 abbrev pub session_language : ℕ → Bool → CommandLanguage Fault
 session_language limit stop = record {
   Ledger = Ledger;
-  Success = Success;
+  Success = Accepted;
   first = first_ledger;
   stores = Stores;
   answers = λ depth ledger text reply. IsReply (run_checks limit depth ledger text) reply;
-  changes = λ ledger success old new. StoresEntry (custom_of ledger) success old new;
+  changes = λ ledger accepted old new. ChangesFiles (custom_of ledger) accepted old new;
   after = after;
   failed_at = failed_at;
   is_memory = is_memory_fault;
   of_script = script_refusal;
   ends_run = ends_run stop;
-  success_text = success_text;
+  success_text = accepted_text;
   fault_line = fault_line;
 }

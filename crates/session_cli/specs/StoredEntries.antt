@@ -1,31 +1,44 @@
--- What an accepted command makes may be in its folder, which is not that of users' systems: no expression, no formula and no language is among
+-- What a command stores may be in its folder, which is not that of users' systems: no expression, no formula and no language is among
 -- words, and what a word means is there.
 use Rattle.std.proofs.Common.{◌≡◌, ◌≢◌, ℕ, true, eqb, List, Ok, bytes_eq, refl, sym, subst}
+use Rattle.std.specs.Prelude.{⊤}
 use Rattle.std.proofs.lemmas.Bool.{and_parts}
 use Rattle.wal_outside.specs.Files.{same_file}
 use Rattle.wal_outside.specs.Folders.{folder_index}
 use Rattle.wal_outside.specs.declared.folder.Folder.{Folder}
 use Rattle.wal_outside.specs.declared.folder.Folder.TheVariants.{Automata, Words, Bases, Macros, Morphisms, Transducers, Results, Commands}
-use Rattle.definitions.specs.Trees.{Tree, File, Regex, Formula, Fixed, Image, Combine, Language, MayStandIn, Ledger, tree_of}
+use Rattle.definitions.specs.Trees.{Tree, File, Regex, Formula, Fixed, Image, Combine, Language, Transduced, Converted, MayStandIn, Ledger, tree_of}
 use Rattle.language_steps.specs.declared.op.LanguageOp.{LanguageOp}
 use Rattle.language_steps.specs.declared.op.LanguageOp.TheVariants.{Pair, One}
 use Rattle.language_steps.specs.declared.op.OneOp.TheVariants.{Star, Reversal}
 use Rattle.language_steps.specs.declared.op.PairOp.TheVariants.{Union, Intersection, Concatenation}
 use Rattle.session_cli.specs.declared.command_word.CommandWord.{CommandWord}
 use Rattle.session_cli.specs.declared.command_word.CommandWord.TheVariants as words
-use Rattle.session_cli.specs.Accepting.{Success}
+use Rattle.session_cli.specs.Accepting.{Success, Said, Accepted, Storing, Saying, saying, storing}
+use Rattle.session_cli.specs.Checks.{Check}
 use Rattle.session_cli.specs.CombineOutcomes.{combine_checks}
 use Rattle.session_cli.specs.FormulaOutcomes.{formula_checks}
 use Rattle.session_cli.specs.ImageOutcomes.{image_checks}
 use Rattle.session_cli.specs.LanguageOutcomes.{language_checks}
+use Rattle.session_cli.specs.TransduceOutcomes.{transduce_checks}
+use Rattle.session_cli.specs.ListingOutcomes.{inf_checks, test_checks}
+use Rattle.session_cli.specs.ConvertOutcomes.{convert_checks}
 use Rattle.session_cli.specs.Outcomes.{checks_of, checks_by, word_text}
 use Rattle.session_cli.specs.PromoteOutcomes.{promote_checks}
 use Rattle.session_cli.specs.RegOutcomes.{reg_checks}
 use Rattle.session_cli.specs.TextOutcomes.{macro_checks, morphism_checks}
 
--- the entry of an accepted command may be in its folder, and defines no system
+-- the entry that a command stores may be in its folder, and defines no system
 abbrev pub Stands : Success → Type 0
 Stands success = (success.folder ≢ Bases) × MayStandIn success.folder (tree_of success.entry)
+
+-- so it is with each accepted command that stores
+abbrev pub AcceptedStands : Accepted → Type 0
+AcceptedStands (Storing success) = Stands success
+AcceptedStands (Saying said) = ⊤
+
+storing_stands : (checks : Check Success) (accepted : Accepted) → ((success : Success) → checks.answers (Ok success) → Stands success) → (storing checks).answers (Ok accepted) → AcceptedStands accepted
+storing_stands checks accepted stands (success, made, is) = subst AcceptedStands (sym is) (stands success made)
 
 -- folders are apart, shown where nothing else is known
 words_no_base : Words ≢ Bases
@@ -73,23 +86,36 @@ combine_stands limit ledger text success (head, h, (tables, t, (admitted, a, (no
 language_stands : (op : LanguageOp) (limit : ℕ) (ledger : Ledger) (text : List ℕ) (success : Success) → (language_checks op limit ledger text).answers (Ok success) → Stands success
 language_stands op limit ledger text success (head, h, (tables, t, (plain, p, (sets, s, (lines, l, (is, fits)))))) = subst Stands (sym is) (automata_no_base, (automata_no_word, automata_no_base))
 
-by_word : (word : CommandWord) (limit : ℕ) (ledger : Ledger) (text : List ℕ) (success : Success) → (checks_by word limit ledger text).answers (Ok success) → Stands success
-by_word words.Reg limit ledger text success is = reg_stands limit ledger text success is
-by_word words.Eval limit ledger text success is = formula_stands (word_text words.Eval) Results limit ledger text success results_no_word results_no_base is
-by_word words.Image limit ledger text success is = image_stands limit ledger text success is
-by_word words.Def limit ledger text success is = formula_stands (word_text words.Def) Automata limit ledger text success automata_no_word automata_no_base is
-by_word words.Macro limit ledger text success is = macro_stands ledger text success is
-by_word words.Morphism limit ledger text success is = morphism_stands ledger text success is
-by_word words.Promote limit ledger text success is = promote_stands limit ledger text success is
-by_word words.Combine limit ledger text success is = combine_stands limit ledger text success is
-by_word words.Union limit ledger text success is = language_stands (Pair Union) limit ledger text success is
-by_word words.Intersect limit ledger text success is = language_stands (Pair Intersection) limit ledger text success is
-by_word words.Concat limit ledger text success is = language_stands (Pair Concatenation) limit ledger text success is
-by_word words.Star limit ledger text success is = language_stands (One Star) limit ledger text success is
-by_word words.Reverse limit ledger text success is = language_stands (One Reversal) limit ledger text success is
+convert_stands : (limit : ℕ) (ledger : Ledger) (text : List ℕ) (success : Success) → (convert_checks limit ledger text).answers (Ok success) → Stands success
+convert_stands limit ledger text success (head, h, (tables, f, (other, u, (admitted, a, (over, o, (change, c, (lines, l, (entry, e, (is, fits))))))))) = subst Stands (sym is) (words_no_base, refl)
 
-pub success_stands : (limit : ℕ) (ledger : Ledger) (text : List ℕ) (success : Success) → (checks_of limit ledger text).answers (Ok success) → Stands success
-success_stands limit ledger text success (short, s, (word, w, is)) = by_word word limit ledger text success is
+transduce_stands : (limit : ℕ) (ledger : Ledger) (text : List ℕ) (success : Success) → (transduce_checks limit ledger text).answers (Ok success) → Stands success
+transduce_stands limit ledger text success (head, h, (t, r, (tables, f, (admitted, a, (over, o, (lines, l, (entry, e, (is, fits)))))))) = subst Stands (sym is) (words_no_base, refl)
+
+saying_stands : (checks : Check Said) (accepted : Accepted) → (saying checks).answers (Ok accepted) → AcceptedStands accepted
+saying_stands checks accepted (said, made, is) = subst AcceptedStands (sym is) tt
+
+by_word : (word : CommandWord) (limit : ℕ) (ledger : Ledger) (text : List ℕ) (accepted : Accepted) → (checks_by word limit ledger text).answers (Ok accepted) → AcceptedStands accepted
+by_word words.Reg limit ledger text accepted is = storing_stands (reg_checks limit ledger text) accepted (λ success made. reg_stands limit ledger text success made) is
+by_word words.Eval limit ledger text accepted is = storing_stands (formula_checks (word_text words.Eval) Results limit ledger text) accepted (λ success made. formula_stands (word_text words.Eval) Results limit ledger text success results_no_word results_no_base made) is
+by_word words.Image limit ledger text accepted is = storing_stands (image_checks limit ledger text) accepted (λ success made. image_stands limit ledger text success made) is
+by_word words.Def limit ledger text accepted is = storing_stands (formula_checks (word_text words.Def) Automata limit ledger text) accepted (λ success made. formula_stands (word_text words.Def) Automata limit ledger text success automata_no_word automata_no_base made) is
+by_word words.Macro limit ledger text accepted is = storing_stands (macro_checks ledger text) accepted (λ success made. macro_stands ledger text success made) is
+by_word words.Morphism limit ledger text accepted is = storing_stands (morphism_checks ledger text) accepted (λ success made. morphism_stands ledger text success made) is
+by_word words.Promote limit ledger text accepted is = storing_stands (promote_checks limit ledger text) accepted (λ success made. promote_stands limit ledger text success made) is
+by_word words.Combine limit ledger text accepted is = storing_stands (combine_checks limit ledger text) accepted (λ success made. combine_stands limit ledger text success made) is
+by_word words.Union limit ledger text accepted is = storing_stands (language_checks (Pair Union) limit ledger text) accepted (λ success made. language_stands (Pair Union) limit ledger text success made) is
+by_word words.Intersect limit ledger text accepted is = storing_stands (language_checks (Pair Intersection) limit ledger text) accepted (λ success made. language_stands (Pair Intersection) limit ledger text success made) is
+by_word words.Concat limit ledger text accepted is = storing_stands (language_checks (Pair Concatenation) limit ledger text) accepted (λ success made. language_stands (Pair Concatenation) limit ledger text success made) is
+by_word words.Star limit ledger text accepted is = storing_stands (language_checks (One Star) limit ledger text) accepted (λ success made. language_stands (One Star) limit ledger text success made) is
+by_word words.Reverse limit ledger text accepted is = storing_stands (language_checks (One Reversal) limit ledger text) accepted (λ success made. language_stands (One Reversal) limit ledger text success made) is
+by_word words.Test limit ledger text accepted is = saying_stands (test_checks limit ledger text) accepted is
+by_word words.Inf limit ledger text accepted is = saying_stands (inf_checks limit ledger text) accepted is
+by_word words.Transduce limit ledger text accepted is = storing_stands (transduce_checks limit ledger text) accepted (λ success made. transduce_stands limit ledger text success made) is
+by_word words.Convert limit ledger text accepted is = storing_stands (convert_checks limit ledger text) accepted (λ success made. convert_stands limit ledger text success made) is
+
+pub accepted_stands : (limit : ℕ) (ledger : Ledger) (text : List ℕ) (accepted : Accepted) → (checks_of limit ledger text).answers (Ok accepted) → AcceptedStands accepted
+accepted_stands limit ledger text accepted (short, s, (word, w, is)) = by_word word limit ledger text accepted is
 
 words_there : (at : Folder) → eqb (folder_index at) (folder_index Words) ≡ true → at ≡ Words
 words_there Automata same = absurd (cc)
@@ -145,3 +171,5 @@ stands_there at folder under name tree same may = by tree may
     by (Image direction system rules image) stands = among stands
     by (Combine direction named parts) stands = among stands
     by (Language sets op trees) stands = apart stands
+    by (Transduced system transducer transduced) stands = among stands
+    by (Converted direction system converted) stands = among stands

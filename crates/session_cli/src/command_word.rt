@@ -34,6 +34,14 @@ pub(crate) enum CommandWord {
     Star,
     /// `reverse`: the reversed words of a language.
     Reverse,
+    /// `transduce`: the outputs of a transducer that runs over a word, kept as a word.
+    Transduce,
+    /// `test`: words that an automaton lists, printed.
+    Test,
+    /// `inf`: whether there are infinitely many.
+    Inf,
+    /// `convert`: a word over a base, kept as a word over another base.
+    Convert,
 }
 
 /// The command whose word comes first in a text. None where it is none that a command has.
@@ -54,6 +62,10 @@ pub(crate) fn command_word(text: &[u8]) -> Option<CommandWord>
         b"concat" => Some(CommandWord::Concat),
         b"star" => Some(CommandWord::Star),
         b"reverse" => Some(CommandWord::Reverse),
+        b"transduce" => Some(CommandWord::Transduce),
+        b"test" => Some(CommandWord::Test),
+        b"inf" => Some(CommandWord::Inf),
+        b"convert" => Some(CommandWord::Convert),
         _ => None,
     }
 }

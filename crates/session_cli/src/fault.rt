@@ -5,9 +5,12 @@ ghost use Rattle.session_cli.specs.FormulaFaults.{fault_of_loading, fault_of_res
 ghost use Rattle.session_cli.specs.HeadAnswers.{fault_of_head};
 ghost use Rattle.session_cli.specs.MorphismFaults.{fault_of_promotion, fault_of_rules};
 ghost use Rattle.session_cli.specs.ImageFaults.{fault_of_imaging};
+ghost use Rattle.session_cli.specs.ListingFaults.{fault_of_listing};
 ghost use Rattle.session_cli.specs.SystemFaults.{fault_of_system};
 
 use crate::image_fault::ImageFault;
+use crate::listing_fault::ListingFault;
+use crate::word_systems::WordSystems;
 use adder_check::admit_fault::Law;
 use command_head::HeadFault;
 use dfa_loading::{FileFlaw, LoadFault};
@@ -102,6 +105,14 @@ pub enum Fault {
     NotPlain(Name),
     /// F30: the first named automaton, and the first later one that is over other sets.
     LangShape(Name, Name),
+    /// F31: the lines of the words that a `test` lists have more than 16,777,216 bytes.
+    TestLong,
+    /// F32: the place that is given is no word over the tracks of the automaton of this name.
+    Place(Name),
+    /// F33: the word of this name has these systems of tracks, where it is to have one track, over a base.
+    BaseNeeded(Name, WordSystems),
+    /// F34: the word's system, and the one that is asked for: not both are bases that are powers of one integer.
+    NotRelated(Name, Name),
 }
 
 impl From<OutOfMemory> for Fault {
@@ -132,6 +143,18 @@ impl From<ImageFault> for Fault {
             ImageFault::Morphism(kind) => Fault::Morphism(kind),
             ImageFault::Missing(letter) => Fault::LetterMissing(letter),
             ImageFault::Step(fault) => Fault::from(fault),
+        }
+    }
+}
+
+impl From<ListingFault> for Fault {
+    ghost from_gives = { λ f e. e ≡ fault_of_listing f };
+
+    fn from(fault: ListingFault) -> Fault {
+        match fault {
+            ListingFault::Place(name) => Fault::Place(name),
+            ListingFault::Step(fault) => Fault::from(fault),
+            ListingFault::Long => Fault::TestLong,
         }
     }
 }

@@ -58,7 +58,7 @@ pub(crate) fn plan_image<T: Store>(
 ) -> Result<Plan, Fault>
     ensures { FromFiles (λ found plan. (ledger : Ledger) → Stores ledger found → Plans (custom_of ledger) (image_checks options.limit ledger text.now) options.shown plan) (T.view store.old) result (T.view store.new) }
 {
-    let head = image_parts(alloc, text)?;
+    let head = image_parts(alloc, b"image", text)?;
     match image_made(alloc, options, &head, systems, store) {
         Ok(made) => Ok(Plan {
             folder: Folder::Words,
@@ -100,7 +100,7 @@ fn read_image<T: Store>(alloc: Global, head: &ImageParts, store: &mut T) -> Resu
 {
     let old = head.old.copy(alloc)?;
     let mentioned = mentions_of(alloc, &old)?;
-    let morphism = load_morphism(alloc, &head.morphism, store)?;
+    let morphism = load_morphism(alloc, &head.mapping, store)?;
     let tables = load_mentioned(alloc, &mentioned, store)?;
     Ok(ReadImage {
         morphism,

@@ -1,5 +1,6 @@
 //! Laws of the definitions, each a call that does nothing.
 ghost use Rattle.session_cli.specs.Laws.{OneOutcome, OneRun, StoreFaultsCounted};
+ghost use Rattle.session_cli.specs.LongerScripts.{LongerCalls, SessionsBeginWithPrefixes};
 
 use fixed_points::laws::promotions_have_one_outcome;
 
@@ -22,3 +23,14 @@ pub fn one_run()
 pub fn store_faults_counted()
     ensures { StoreFaultsCounted }
 {}
+
+/// A run over a script that ends after a terminator is the beginning of the run over each longer script. Where the store reports its files and
+/// both runs end with `Done` or `Refused`, the second answers the commands of the script as the first, prints what the first printed and then
+/// the rest, and goes on from the files that the first left; after an `exit` there is no rest. However it ends, a run over the longer script is
+/// one over the script and then one over the rest.
+pub fn longer_runs()
+    ensures alike { LongerCalls }
+    ensures begin { SessionsBeginWithPrefixes }
+{
+    promotions_have_one_outcome();
+}

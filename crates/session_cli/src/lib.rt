@@ -1,6 +1,8 @@
 //! Sessions: the commands of a script are answered one after another as they come, and each accepted one stores its text.
 #![tactic(auto)]
 
+// the systems of a word, by name
+mod word_systems;
 // why a command is refused
 mod fault;
 // the lines of refused commands
@@ -31,6 +33,8 @@ mod formula;
 mod texts;
 // the text of a word that a command makes
 mod word_text;
+// words over one system that is a base
+mod base_system;
 // the command `promote`
 mod promote;
 // the command `combine`
@@ -47,6 +51,18 @@ mod imaging;
 mod image;
 // the commands that make languages of others
 mod language;
+// a word that a command names, of which it makes another word
+mod old_word;
+// words under transducers
+mod transducing;
+// the command `transduce`
+mod transduce;
+// why a question about listed words has no answer
+mod listing_fault;
+// the commands about the words that an automaton lists
+mod listing;
+// the command `convert`
+mod convert;
 // what a command stores and prints, from its text
 mod planning;
 // one command
@@ -72,3 +88,4 @@ pub use printed::Printed;
 pub use script_runs::Status;
 pub use session::Session;
 pub use whole::run;
+pub use word_systems::WordSystems;

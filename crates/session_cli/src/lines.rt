@@ -2,9 +2,10 @@ ghost use Rattle.std.specs.Prelude.{◌≡◌, ◌++◌, codes, decimal};
 ghost use Rattle.std.specs.Fmt.{signed_decimal};
 ghost use Rattle.wal_outside.specs.Folders.{folder_text};
 ghost use Rattle.wal_outside.specs.Sending.{Sends};
-ghost use Rattle.session_cli.specs.Lines.{grammar_name as grammar_text, flaw_text, refusal_name, refusal_letter, law_name as law_text, detail, fault_line};
+ghost use Rattle.session_cli.specs.Lines.{grammar_name as grammar_text, flaw_text, refusal_name, refusal_letter, law_name as law_text, names_text, detail, fault_line};
 
 use crate::fault::{Fault, Grammar};
+use crate::word_systems::WordSystems;
 use adder_check::admit_fault::Law;
 use dfa_loading::FileFlaw;
 use digit_tuple::name::Name;
@@ -100,6 +101,16 @@ fn send_detail<K: Sink>(out: &mut K, fault: &Fault) -> Result<(), WriteFault>
         Fault::LangShape(first, other) => send_four(
             out,
             b": F30 LangShape ",
+            first.as_bytes(),
+            b" ",
+            other.as_bytes(),
+        ),
+        Fault::TestLong => send(out, b": F31 TestLong 16777216"),
+        Fault::Place(name) => send_two(out, b": F32 Place ", name.as_bytes()),
+        Fault::BaseNeeded(name, systems) => send_base(out, name, systems),
+        Fault::NotRelated(first, other) => send_four(
+            out,
+            b": F34 NotRelated ",
             first.as_bytes(),
             b" ",
             other.as_bytes(),
@@ -283,4 +294,22 @@ fn send_clash<K: Sink>(
         first.as_bytes(),
     )?;
     send_two(out, b" ", other.as_bytes())
+}
+
+/// Hands over the fault of a word over systems that are no base.
+fn send_base<K: Sink>(out: &mut K, name: &Name, systems: &WordSystems) -> Result<(), WriteFault>
+    ensures { Sends (K.view out.old) ((codes ": F33 BaseNeeded " ++ name.now) ++ names_text systems.now) result (K.view out.new) }
+{
+    send_two(out, b": F33 BaseNeeded ", name.as_bytes())?;
+    send_names(out, systems.as_slice())
+}
+
+/// Hands over names, a blank before each.
+fn send_names<K: Sink>(out: &mut K, names: &[Name]) -> Result<(), WriteFault>
+    ensures { Sends (K.view out.old) (names_text names.now) result (K.view out.new) }
+{
+    for name in names {
+        send_two(out, b" ", name.as_bytes())?;
+    }
+    Ok(())
 }

@@ -1,9 +1,13 @@
 //! What an accepted command leaves.
+ghost use Rattle.std.specs.Prelude.{◌≡◌};
+ghost use Rattle.session_cli.specs.Plans.{printing as printing_of, writing as writing_of};
+
+use crate::fault::Fault;
 use crate::printed::Printed;
 use digit_tuple::name::Name;
 use wal_outside::Folder;
 
-/// What an accepted command stores, and what it prints.
+/// What a command stores, and what it prints.
 #[derive(Drop)]
 pub(crate) struct Made {
     /// The text to store.
@@ -12,7 +16,7 @@ pub(crate) struct Made {
     pub(crate) printed: Printed,
 }
 
-/// The file that an accepted command writes, and what it makes.
+/// The file that a command writes, and what it makes.
 #[derive(Drop)]
 pub(crate) struct Plan {
     /// The folder of the file.
@@ -21,4 +25,39 @@ pub(crate) struct Plan {
     pub(crate) name: Name,
     /// What it stores and prints.
     pub(crate) made: Made,
+}
+
+/// What is to be done for an accepted command.
+#[derive(Drop)]
+pub(crate) enum Action {
+    /// A file is written, and something is printed.
+    Write(Plan),
+    /// This is printed, and no file is changed.
+    Print(Printed),
+}
+
+/// A command that says something is to be printed.
+///
+/// # Errors
+/// Its fault.
+pub(crate) fn printing(said: Result<Printed, Fault>) -> Result<Action, Fault>
+    ensures { result ≡ printing_of said }
+{
+    match said {
+        Ok(printed) => Ok(Action::Print(printed)),
+        Err(fault) => Err(fault),
+    }
+}
+
+/// A command that stores is to be written.
+///
+/// # Errors
+/// Its fault.
+pub(crate) fn writing(plan: Result<Plan, Fault>) -> Result<Action, Fault>
+    ensures { result ≡ writing_of plan }
+{
+    match plan {
+        Ok(plan) => Ok(Action::Write(plan)),
+        Err(fault) => Err(fault),
+    }
 }

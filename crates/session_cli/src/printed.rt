@@ -83,6 +83,14 @@ impl Printed {
         }
     }
 
+    /// Adds lines.
+    pub(crate) fn push_lines(&mut self, lines: &[u8]) -> Result<(), OutOfMemory>
+        ensures { OnOk result (self.new ≡ self.old ++ lines.now) }
+    {
+        self.bytes.extend_from_slice(lines)?;
+        Ok(())
+    }
+
     /// Adds the line of a step.
     fn push_step(&mut self, number: u64, step: StepLine) -> Result<(), OutOfMemory>
         ensures { OnOk result (self.new ≡ self.old ++ step_line number step) }

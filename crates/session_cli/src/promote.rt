@@ -1,28 +1,27 @@
 //! The command `promote`: the fixed point of a morphism, kept as a word.
 
-ghost use Rattle.std.specs.Prelude.{◌≡◌, ◌<◌, ℕ, List, [], ◌∷◌, length, map, IfOk};
+ghost use Rattle.std.specs.Prelude.{◌≡◌, ◌<◌, ℕ, List, [], ◌∷◌, length, map};
 ghost use Rattle.std.specs.Rc.{rc_value};
 ghost use Rattle.base_k.specs.Positional.{base};
 ghost use Rattle.num_system.specs.Tracks.{systems_of};
 ghost use Rattle.definitions.specs.Texts.{Stores};
 ghost use Rattle.definitions.specs.Trees.{Ledger, custom_of};
 ghost use Rattle.system_files.specs.SystemFiles.{Custom};
-ghost use Rattle.session_cli.specs.BaseWords.{IsOverBase, PrintsOverBase, base_name};
+ghost use Rattle.session_cli.specs.BaseWords.{IsOverBase, PrintsOverBase};
 ghost use Rattle.session_cli.specs.Plans.{Makes, Plans};
 ghost use Rattle.session_cli.specs.PromoteOutcomes.{after_morphism, promote_checks};
 ghost use Rattle.session_cli.specs.StoreReads.{FromFiles};
 
+use crate::base_system::BaseSystem;
 use crate::fault::Fault;
 use crate::plan::{Made, Plan};
 use crate::printed::Printed;
 use crate::step_options::StepOptions;
 use crate::word_text::{letters_fit, word_text};
 use command_head::promote_parts;
-use digit_tuple::faults::OutOfMemory;
-use digit_tuple::name::Name;
+use digit_tuple::direction::Direction;
 use digit_tuple::steps::Steps;
 use fixed_points::promotion::promote;
-use itoa::Buffer;
 use morph_words::Morphism;
 use morphism_loading::load_morphism;
 use num_system::system::System;
@@ -71,7 +70,11 @@ fn base_text(alloc: Global, word: &Word) -> Result<Vec<u8>, Fault>
     requires { (k : ℕ) × IsOverBase word.now k }
     ensures { (k : ℕ) → IsOverBase word.now k → PrintsOverBase word.now k result }
 {
-    let name = name_of_base(alloc, first_digits(word.systems()))?;
+    let system = BaseSystem {
+        direction: Direction::Msd,
+        base: first_digits(word.systems()),
+    };
+    let name = system.name(alloc)?;
     let names = [name];
     word_text(alloc, &names, word)
 }
@@ -82,13 +85,4 @@ fn first_digits(systems: &[Rc<System>]) -> u32
     ensures { (k : ℕ) → systems_of (map rc_value systems.now) ≡ base k ∷ [] → result ≡ k }
 {
     systems[0].digits()
-}
-
-/// The name of a base, the most significant digit first.
-fn name_of_base(alloc: Global, base: u32) -> Result<Name, OutOfMemory>
-    ensures { IfOk result (λ name. name ≡ base_name base) }
-{
-    let mut text = String::from_str(alloc, "msd_")?;
-    text.push_str(Buffer::new().format(base))?;
-    Name::new(alloc, text.as_str())
 }

@@ -3,11 +3,12 @@ ghost use Rattle.std.specs.Prelude.{◌≡◌, IfSome};
 ghost use Rattle.definitions.specs.Texts.{Stores};
 ghost use Rattle.definitions.specs.Trees.{Ledger};
 ghost use Rattle.session_cli.specs.Views.{SessionView};
-ghost use Rattle.session_cli.specs.Commands.{Commands, WritesPlan};
+ghost use Rattle.session_cli.specs.declared.plan.Action.TheVariants.{Write};
+ghost use Rattle.session_cli.specs.Commands.{Commands, DoesAction, WritesPlan};
 
 use crate::fault::Fault;
-use crate::plan::Plan;
-use crate::planning::plan_of;
+use crate::plan::{Action, Plan};
+use crate::planning::action_of;
 use crate::printed::Printed;
 use crate::step_options::StepOptions;
 use digit_tuple::name::Name;
@@ -41,8 +42,9 @@ impl Session {
         }
     }
 
-    /// Answers one command. Where it is accepted, its text was stored, and `printed` has what it prints: a line for each step
-    /// where these are `shown`, and the verdict, where it is about a sentence. What `printed` held before is let go.
+    /// Answers one command. Where it is accepted, the text that it makes was stored, if it makes one, and `printed` has what it
+    /// prints: a line for each step where these are `shown`, and the verdict, where it is about a sentence, or what it says.
+    /// What `printed` held before is let go.
     ///
     /// # Errors
     /// The first fault that refuses it, or `Memory`; the store's texts are as before, and `printed` is empty.
@@ -62,12 +64,36 @@ impl Session {
             limit: self.limit,
             shown,
         };
-        let plan = plan_of(alloc, options, text, &mut self.systems, store)?;
-        let Plan { folder, name, made } = plan;
-        write_text(folder, name, &made.stored, store)?;
-        *printed = made.printed;
+        let action = action_of(alloc, options, text, &mut self.systems, store)?;
+        let said = done(action, store)?;
+        *printed = said;
         Ok(())
     }
+}
+
+/// Does what is to be done for a command, and gives what is printed.
+///
+/// # Errors
+/// As `write_text`, where something is stored.
+fn done<T: Store>(action: Action, store: &mut T) -> Result<Printed, Fault>
+    ensures { DoesAction (T.view store.old) action result (T.view store.new) }
+{
+    match action {
+        Action::Write(plan) => written(plan, store),
+        Action::Print(printed) => Ok(printed),
+    }
+}
+
+/// Stores the text of a plan, and gives what is printed.
+///
+/// # Errors
+/// As `write_text`.
+fn written<T: Store>(plan: Plan, store: &mut T) -> Result<Printed, Fault>
+    ensures { DoesAction (T.view store.old) (Write plan) result (T.view store.new) }
+{
+    let Plan { folder, name, made } = plan;
+    write_text(folder, name, &made.stored, store)?;
+    Ok(made.printed)
 }
 
 /// Stores a text under a name in a folder.

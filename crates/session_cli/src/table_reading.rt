@@ -102,7 +102,7 @@ fn read_word(
 }
 
 /// The systems that are under the names of a header, none below `true` and `false`.
-fn tracks_under(
+pub(crate) fn tracks_under(
     alloc: Global,
     header: &FileHeader,
     systems: &NamedSystems,

@@ -124,7 +124,7 @@ static READ: [ScriptRow; 19] = [
 ];
 
 /// Two automata, their word, and a formula with it.
-const FOUR: &str = "def p \"x<3\"; def q \"x<5\"; combine C p=7 q=9; eval t \"C[4]=@9\";";
+pub const FOUR: &str = "def p \"x<3\"; def q \"x<5\"; combine C p=7 q=9; eval t \"C[4]=@9\";";
 
 /// Which call of the store fails, what is printed of these, the status, and how many texts the store has then.
 static FAILING: [FailingRow; 8] = [

@@ -1,5 +1,6 @@
 //! Scripts in pieces, and calls of the outside that fail.
 
+use crate::combine_rows::FOUR;
 use crate::command_rows::COMMANDS;
 use crate::rows::{Row, expect_row};
 use crate::set_rows::SETS;
@@ -157,4 +158,35 @@ fn a_sink_that_takes_a_byte_at_a_time_gets_all(rt: HostRuntime) {
     expect_printed(&rt, "a byte", &ran, PRINTED);
     expect(&rt, "a byte", &code_of(&ran), &1);
     expect(&rt, "a byte", &are_stored(&ran), &[true, false, false]);
+}
+
+/// Runs two automata, their word and a formula with it over such objects.
+fn run_four(alloc: Global, outside: &Outside) -> Ran {
+    run_line(alloc, "walnut", FOUR.as_bytes(), outside)
+}
+
+/// How bytes come and go, what is printed, the status, and how many texts are stored.
+fn comings() -> [(Outside, &'static str, (u8, usize)); 6] {
+    let in_bytes = Outside {
+        reads: &ONES,
+        ..SURE
+    };
+    [
+        (in_bytes, "TRUE\n", (0, 4)),
+        (over_sink(&ONES, &[]), "TRUE\n", (0, 4)),
+        (over_sink(&[0], &[]), "", (3, 4)),
+        (over_sink(&[2], &[2]), "TR", (3, 4)),
+        (over_sink(&[4, 0], &[]), "TRUE", (3, 4)),
+        (over_sink(&[], &[1]), "", (3, 4)),
+    ]
+}
+
+#[test]
+fn an_answer_goes_in_pieces_or_ends_the_run(rt: HostRuntime) {
+    for (outside, printed, end) in &comings() {
+        let ran = run_four(rt.alloc(), outside);
+        expect_printed(&rt, printed, &ran, printed);
+        expect(&rt, printed, &ended(&ran), end);
+        expect(&rt, printed, &is_stored(&ran, Folder::Results, "t"), &true);
+    }
 }

@@ -142,6 +142,62 @@ mod language_twins;
 #[cfg(test)]
 mod language_limits;
 
+// words that are listed
+#[cfg(test)]
+mod listing_files;
+
+// which words, and whether they have an end
+#[cfg(test)]
+mod test_rows;
+
+// the lines of the steps before them
+#[cfg(test)]
+mod listing_lines;
+
+// the first faults of listings
+#[cfg(test)]
+mod listing_refusals;
+
+// tuples of relations, limits, and stores that fail
+#[cfg(test)]
+mod listing_rows;
+
+// words and transducers
+#[cfg(test)]
+mod transduce_files;
+
+// the words that transducers make
+#[cfg(test)]
+mod transduce_rows;
+
+// the lines of their steps, and their limits
+#[cfg(test)]
+mod transduce_lines;
+
+// their first faults
+#[cfg(test)]
+mod transduce_faults;
+
+// words over bases
+#[cfg(test)]
+mod convert_files;
+
+// words over other bases
+#[cfg(test)]
+mod convert_rows;
+
+// one word over all powers of a base
+#[cfg(test)]
+mod convert_forms;
+
+// the lines of the steps of changes of base, and their limits
+#[cfg(test)]
+mod convert_lines;
+
+// their first faults
+#[cfg(test)]
+mod convert_faults;
+
 // theorems on words that commands make
 #[cfg(test)]
 mod word_command_theorems;
@@ -173,6 +229,10 @@ mod words;
 // scripts in pieces, and calls of the outside that fail
 #[cfg(test)]
 mod failures;
+
+// hostile files, formulas and numbers of tracks
+#[cfg(test)]
+mod hostile_rows;
 
 // the limits, at their number and one more
 #[cfg(test)]

@@ -1,8 +1,9 @@
 //! The limits, at their number and one more.
 
 use crate::no_answer::NoAnswer;
-use crate::whole::{Ran, count_in, ended, expect, expect_printed, run_script};
+use crate::whole::{Ran, count_in, ended, expect, expect_printed, run_script, stored_in};
 use std::alloc::Global;
+use wal_outside::Folder;
 
 const COMMAND_LIMIT: usize = 65_536;
 
@@ -70,10 +71,44 @@ fn run_long_text(alloc: Global) -> Ran {
 }
 
 #[test]
-fn a_stored_text_has_at_most_16777216_bytes(rt: HostRuntime) {
+fn a_text_that_is_far_too_long_is_not_stored(rt: HostRuntime) {
     let ran = run_long_text(rt.alloc());
     expect_printed(&rt, "a long text", &ran, "error 1: F07 Long 16777216\n");
     expect(&rt, "a long text", &ended(&ran), &(1, 0));
+}
+
+/// Adds so many members of a set, the first one and those after it.
+fn push_members(alloc: Global, set: &mut String, first: i32, count: i32) -> Result<(), NoAnswer> {
+    for number in 0..count {
+        let member = format!(in alloc; "{},", first.saturating_add(number))?;
+        set.push_str(&member)?;
+    }
+    Ok(())
+}
+
+/// The words of 300 letters over a set with so many members of nine digits, and so many of ten.
+fn command_of_dots(alloc: Global, nine: i32, ten: i32) -> Result<String, NoAnswer> {
+    let mut set = String::new(alloc);
+    push_members(alloc, &mut set, 100_000_000, nine)?;
+    push_members(alloc, &mut set, 1_000_000_000, ten.saturating_sub(1))?;
+    let dots = ".".repeat(alloc, 300)?;
+    Ok(format!(in alloc; "reg p {{{set}2147483647}} \"{dots}\";")?)
+}
+
+/// Runs such a command.
+fn run_dots(alloc: Global, nine: i32, ten: i32) -> Ran {
+    run_script(alloc, command_of_dots(alloc, nine, ten)?.as_bytes())
+}
+
+#[test]
+fn a_stored_text_has_at_most_16777216_bytes(rt: HostRuntime) {
+    let most = run_dots(rt.alloc(), 2_619, 693);
+    expect(&rt, "16,777,216 bytes", &ended(&most), &(0, 1));
+    let length = stored_in(&most, Folder::Automata, "p").len();
+    expect(&rt, "16,777,216 bytes", &length, &16_777_216);
+    let more = run_dots(rt.alloc(), 1_051, 2_172);
+    expect_printed(&rt, "one byte more", &more, "error 1: F07 Long 16777216\n");
+    expect(&rt, "one byte more", &ended(&more), &(1, 0));
 }
 
 /// Runs a `reg` of a digit within so many parentheses.

@@ -7,3 +7,4 @@ pub mod DraftLemmas
 pub mod PlacedLemmas
 pub mod LastLemmas
 pub mod ReadLemmas
+pub mod RunLemmas

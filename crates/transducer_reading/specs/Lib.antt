@@ -5,3 +5,4 @@ pub mod Reading
 pub mod Conflicts
 pub mod LastResults
 pub mod Drafts
+pub mod LetterRuns

@@ -1,6 +1,6 @@
-//! Tests of what changes automatic words: files of transducers with their states or the line of their first fault, and the
-//! transducers of a store; words read from their other end; the letters of words over bases that are powers of one integer, and
-//! words over another base.
+//! Tests of what changes automatic words: files of transducers with their states or the line of their first fault, the
+//! transducers of a store, and the words that they make; words read from their other end; the letters of words over bases
+//! that are powers of one integer, and words over another base.
 #![tactic(auto)]
 
 // rows without an answer
@@ -18,6 +18,10 @@ mod transducer_files;
 // transducers in stores
 #[cfg(test)]
 mod stored_transducers;
+
+// words that transducers make
+#[cfg(test)]
+mod transductions;
 
 // fixed points that are changed
 #[cfg(test)]

@@ -1,15 +1,14 @@
 -- Words are alike to the step if and only if they have the same maps.
-use Rattle.std.proofs.Common.{◌≡◌, ℕ, ℤ, zero, suc, ◌+◌, ◌*◌, ◌/◌, ◌%◌, ◌^◌, ◌<◌, ◌≤◌, List, [], ◌++◌, length, take, drop, map, get_or, Option, None, Some, refl, sym, ap, ◌∙◌, subst, arith}
-use Rattle.std.specs.Option.{IfSome, option_and_then, option_map}
+use Rattle.std.proofs.Common.{◌≡◌, ℕ, ◌+◌, ◌*◌, ◌/◌, ◌%◌, ◌^◌, ◌<◌, List, [], ◌++◌, length, take, drop, map, get_or, Option, None, Some, refl, sym, ap, ◌∙◌, subst, arith}
+use Rattle.std.specs.Option.{option_and_then}
 use Rattle.std.proofs.lemmas.List.{get_or_append_left}
-use Rattle.std.proofs.lemmas.Nat.{div-mul-add, mod-mul-add, mod_below, mul-add-lt}
+use Rattle.std.proofs.lemmas.Nat.{div-mul-add, mod-mul-add, mod_below}
 use Rattle.std.proofs.lemmas.Option.{same_Some}
 use Rattle.digit_tuple.specs.Deterministic.{Automaton, letters_of, run_of, states_of}
 use Rattle.digit_tuple.specs.Explored.{IsExplored}
-use Rattle.digit_tuple.specs.Keys.{LeadAlike, key_run}
+use Rattle.digit_tuple.specs.Keys.{LeadAlike}
 use Rattle.digit_tuple.specs.Letters.{IsWord}
 use Rattle.digit_tuple.specs.Width.{IsEquivalence}
-use Rattle.minimise.specs.Classes.{class_of}
 use Rattle.minimise.proofs.RunLemmas.{run_within}
 use Rattle.transducer_reading.specs.Transducers.{IsTransducer, Transducer}
 use Rattle.word_output.specs.LetterFunctions.{IsLetterFunction, LetterFunctionValue}
@@ -140,7 +139,7 @@ module _ (t : Transducer) (f : LetterFunctionValue) (transducer : IsTransducer t
   pub lead_from_alike : (w v : List ℕ) → IsWord (base_of f) w → IsWord (base_of f) v → TransduceAlike t f w v → LeadAlike (maps_after t f) (first_maps t f) w v
   lead_from_alike w v over there alike = key_run-word t f transducer is w over ∙ ap Some (maps_from_alike w v alike) ∙ sym (key_run-word t f transducer is v there)
 
-  -- the letter of a word's key is the output at the place that it tells
+  -- the letter of a word's key is the output at the place that it represents
   letter_of_maps : (w : List ℕ) → key_letter t (maps_of t f transducer is w) ≡ output_at t (block f (length w) []) (place_of (base_of f) w)
   letter_of_maps w =
       let least : 0 * t.states + 0 < pairs_of t f = pair_within t f 0 0 is.canonical.table.initial transducer.some in

@@ -1,5 +1,5 @@
 -- Words of digits over one base, the most significant digit first, and the places that they represent.
-use Rattle.std.proofs.Common.{◌≡◌, ℕ, ◌+◌, ◌*◌, ◌^◌, ◌<◌, ◌≤◌, zero, suc, List, [], ◌∷◌, refl, sym, ap, ◌∙◌, subst, arith}
+use Rattle.std.proofs.Common.{◌≡◌, ℕ, ◌*◌, ◌^◌, ◌<◌, ◌≤◌, zero, suc, List, [], ◌∷◌, refl, sym, ap, ◌∙◌, subst, arith}
 use Rattle.std.proofs.Math.Nat.{div-one, pow-zero, pow-suc}
 use Rattle.std.proofs.lemmas.Nat.{mul-le}
 use Rattle.digit_tuple.specs.Letters.{IsWord, product}

@@ -1,5 +1,5 @@
 -- The maps of the blocks of so many digits as words have.
-use Rattle.std.proofs.Common.{◌≡◌, ℕ, ℤ, zero, suc, ◌+◌, ◌*◌, ◌/◌, ◌%◌, ◌^◌, ◌<◌, ◌≤◌, List, [], ◌∷◌, ◌++◌, length, reverse, take, drop, Option, None, Some, ◌⊎◌, inl, inr, refl, sym, ap, ◌∙◌, subst, append_assoc, append-nil, arith}
+use Rattle.std.proofs.Common.{◌≡◌, ℕ, zero, suc, ◌+◌, ◌*◌, ◌/◌, ◌%◌, ◌^◌, ◌<◌, ◌≤◌, List, [], ◌∷◌, ◌++◌, length, drop, Option, None, Some, ◌⊎◌, inl, inr, sym, ap, ◌∙◌, append_assoc, append-nil, arith}
 use Rattle.std.specs.Option.{IfSome, option_and_then}
 use Rattle.std.proofs.Math.Nat.{pow-zero, pow-suc}
 use Rattle.std.proofs.lemmas.Bool.{cases_lt}
@@ -7,14 +7,14 @@ use Rattle.std.proofs.lemmas.Nat.{div-mul-add, mod-mul-add, mod_below}
 use Rattle.digit_tuple.specs.Deterministic.{letters_of, states_of}
 use Rattle.digit_tuple.specs.Keys.{key_run}
 use Rattle.digit_tuple.specs.Letters.{IsWord}
-use Rattle.minimise.specs.Classes.{class_of, next_of}
+use Rattle.minimise.specs.Classes.{next_of}
 use Rattle.transducer_reading.specs.Transducers.{IsTransducer, Transducer}
 use Rattle.word_output.specs.LetterFunctions.{IsLetterFunction, LetterFunctionValue}
 use Rattle.word_transduce.specs.Blocks.{base_of, place_of}
 use Rattle.word_transduce.specs.BlockMaps.{at_pairs, first_maps, first_output, first_end, map_at, maps_after, maps_by, output_in, output_number, pairs_of, state_before, state_number}
 use Rattle.word_transduce.specs.Runs.{made, run}
 use Rattle.word_transduce.proofs.BlockLemmas.{block_from, block_from-sink, block_from-split, length_next, place_below, place_push}
-use Rattle.word_transduce.proofs.PairLemmas.{first_of_two, map_at-pair, map_at-sink, pair_state, pair_within, same_pairs, second_of_two}
+use Rattle.word_transduce.proofs.PairLemmas.{first_of_two, map_at-pair, map_at-sink, same_pairs, second_of_two}
 use Rattle.word_transduce.proofs.RunLemmas.{made-same, made-silent, made-stopped, made-sum, run-same, run-silent, run-stopped, run-sum, run-within}
 
 pub pow_positive : (k j : ℕ) → 0 < k → 0 < k ^ j

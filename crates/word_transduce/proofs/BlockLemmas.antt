@@ -1,18 +1,18 @@
 -- Blocks of letters, as blocks of one digit less one after another.
-use Rattle.std.proofs.Common.{◌≡◌, ℕ, ℤ, zero, suc, ◌+◌, ◌*◌, ◌/◌, ◌%◌, ◌^◌, ◌<◌, ◌≤◌, List, [], ◌∷◌, ◌++◌, length, reverse, Option, None, Some, refl, sym, ap, ◌∙◌, subst, arith}
-use Rattle.std.specs.Option.{IfSome, option_and_then, option_map_or}
+use Rattle.std.proofs.Common.{◌≡◌, ℕ, ℤ, suc, ◌+◌, ◌*◌, ◌%◌, ◌^◌, ◌<◌, ◌≤◌, List, [], ◌∷◌, ◌++◌, length, reverse, Option, None, Some, ap, ◌∙◌, subst, arith}
+use Rattle.std.specs.Option.{option_map_or}
 use Rattle.std.proofs.Math.Nat.{pow-zero, pow-suc}
 use Rattle.std.proofs.lemmas.List.{length_push, length-reverse, reverse-append}
 use Rattle.std.proofs.lemmas.Nat.{div-mul-add, mod-mul-add}
 use Rattle.digit_tuple.specs.Deterministic.{run_of, states_of}
 use Rattle.digit_tuple.specs.Letters.{IsWord}
 use Rattle.digit_tuple.proofs.PaddingLemmas.{IsWord-reverse}
-use Rattle.minimise.specs.Classes.{class_of, next_of}
+use Rattle.minimise.specs.Classes.{next_of}
 use Rattle.minimise.specs.ClassFunctions.{class_from}
 use Rattle.minimise.proofs.ClassFromLemmas.{class_from-append, class_from-next}
 use Rattle.class_reversal.proofs.StateClasses.{class_from-past}
 use Rattle.base_k.specs.Positional.{value}
-use Rattle.word_output.specs.LetterFunctions.{IsLetterFunction, LetterFunctionValue, letter_after, letter_in}
+use Rattle.word_output.specs.LetterFunctions.{IsLetterFunction, LetterFunctionValue, letter_in}
 use Rattle.word_transduce.specs.Blocks.{base_of, block, numeral, place_of}
 
 -- the number of a digit and of those after it
@@ -23,7 +23,7 @@ numeral-split k j d x small =
 scaled : (a b p : ℕ) → a ≤ b → a * p ≤ b * p
 scaled a b p le = grind arith
 
--- the number that a word tells is below the number of words of its length
+-- the number that a word represents is below the number of words of its length
 pub value_below : (k : ℕ) (w : List ℕ) → IsWord k w → value k w < k ^ length w
 value_below k [] over = omega (arith, pow-zero k)
 value_below k (a ∷ w) over =

@@ -1,7 +1,7 @@
 -- Lines of transducers that are found, and the numbers of outputs.
-use Rattle.std.proofs.Common.{◌≡◌, ◌==◌, ◌&&◌, ℕ, ℤ, zero, suc, ◌+◌, ◌<◌, Bool, true, false, List, [], ◌∷◌, length, Option, None, Some, ◌⊎◌, inl, inr, cond, eq-eqb, refl, sym, ap, ◌∙◌, subst, true≢false, arith}
-use Rattle.std.specs.List.{All, Contains, find, position_or_len, slice_get}
-use Rattle.std.specs.Option.{IfSome, option_and_then, option_map}
+use Rattle.std.proofs.Common.{◌≡◌, ◌==◌, ◌&&◌, ℕ, ℤ, suc, ◌+◌, ◌<◌, Bool, true, false, List, [], ◌∷◌, Option, None, Some, ◌⊎◌, inl, inr, cond, eq-eqb, refl, sym, ap, ◌∙◌, subst, true≢false, arith}
+use Rattle.std.specs.List.{Contains, find, position_or_len, slice_get}
+use Rattle.std.specs.Option.{IfSome, option_map}
 use Rattle.std.specs.Ordering.{int_eq}
 use Rattle.std.proofs.lemmas.Bool.{and_parts, eqb-true}
 use Rattle.std.proofs.lemmas.Bool.Decides.{Decides-int_eq}
@@ -10,7 +10,7 @@ use Rattle.std.proofs.lemmas.List.Folds.{find_at}
 use Rattle.std.proofs.lemmas.Option.{none-some, same_Some}
 use Rattle.digit_tuple.proofs.MemberLemmas.{Contains-cases, Contains-head, Contains-none, Contains-tail}
 use Rattle.transducer_reading.specs.declared.transducer.TransducerLine.{TransducerLine}
-use Rattle.transducer_reading.specs.Transducers.{IsTransducer, IsTransducerLine, Transducer, is_line_from, line_from, output_of, takes_letter, target_of}
+use Rattle.transducer_reading.specs.Transducers.{IsTransducer, IsTransducerLine, Transducer, is_line_from, line_from, takes_letter, target_of}
 use Rattle.word_transduce.specs.BlockMaps.{is_output, numbered_output, output_number}
 use Rattle.word_transduce.specs.Runs.{made_of}
 

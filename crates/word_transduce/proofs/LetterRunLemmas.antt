@@ -1,5 +1,5 @@
 -- Transductions are runs over the letters that places have.
-use Rattle.std.proofs.Common.{◌≡◌, ◌↔◌, ℕ, ℤ, zero, suc, ◌+◌, ◌-◌, ◌*◌, ◌/◌, ◌%◌, ◌^◌, ◌<◌, ◌≤◌, List, [], ◌∷◌, ◌++◌, length, Option, None, Some, ◌⊎◌, inl, inr, refl, sym, ap, ◌∙◌, subst, length-append, arith}
+use Rattle.std.proofs.Common.{◌≡◌, ◌↔◌, ℕ, ℤ, zero, suc, ◌+◌, ◌*◌, ◌/◌, ◌%◌, ◌^◌, ◌<◌, ◌≤◌, List, [], ◌∷◌, ◌++◌, length, Option, None, Some, refl, sym, ap, ◌∙◌, subst, length-append, arith}
 use Rattle.std.specs.Option.{option_and_then, option_map}
 use Rattle.std.proofs.Math.Nat.{pow-zero, pow-suc}
 use Rattle.std.proofs.lemmas.Nat.{div-add-mod', div_below, mod_below, same_from_place}
@@ -9,12 +9,12 @@ use Rattle.digit_tuple.specs.Paddings.{zeros}
 use Rattle.digit_tuple.proofs.PaddingLemmas.{IsWord-zeros}
 use Rattle.digit_tuple.proofs.WordLemmas.{IsWord-append}
 use Rattle.base_k.specs.Positional.{value}
+use Rattle.transducer_reading.specs.LetterRuns.{Makes, RunsTo}
 use Rattle.transducer_reading.specs.Transducers.{Transducer, target_of, output_of}
 use Rattle.word_output.specs.LetterFunctions.{LetterFunctionValue, letter_after}
 use Rattle.word_transduce.specs.Blocks.{base_of, block, numeral, place_of}
-use Rattle.word_transduce.specs.LetterRuns.{HasLetterAt, IgnoresZeros, Makes, RunsTo, TransductionsAreRuns}
+use Rattle.word_transduce.specs.LetterRuns.{HasLetterAt, IgnoresZeros, TransductionsAreRuns}
 use Rattle.word_transduce.specs.Runs.{made, made_of, output_at, run}
-use Rattle.word_transduce.specs.Transductions.{IsTransduction}
 use Rattle.word_transduce.proofs.BlockLemmas.{place_below, value_below}
 use Rattle.word_transduce.proofs.RunLemmas.{make, next_state}
 
@@ -127,7 +127,7 @@ module _ (f : LetterFunctionValue) (ignores : IgnoresZeros f) where
             ∙ ap (λ l. option_map (λ (x : ℕ × ℤ). x.1) (made_of t p l)) letter
             ∙ output p (output_of t p a) ∙ is
 
--- a word tells a place of the first block of as many digits
+-- a word represents a place of the first block of as many digits
 pub transductions_are_runs : TransductionsAreRuns
 transductions_are_runs t f transduced is ignores w b over =
     let made = makes f ignores t (length w) (place_of (base_of f) w) b (place_below (base_of f) w over) in

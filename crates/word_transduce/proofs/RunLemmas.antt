@@ -1,5 +1,5 @@
 -- Runs over letters, part by part.
-use Rattle.std.proofs.Common.{◌≡◌, ℕ, ℤ, zero, suc, ◌+◌, ◌<◌, ◌≤◌, Option, None, Some, refl, sym, ap, ◌∙◌, arith}
+use Rattle.std.proofs.Common.{◌≡◌, ℕ, ℤ, zero, suc, ◌+◌, ◌<◌, ◌≤◌, Option, None, Some, refl, ap, ◌∙◌, arith}
 use Rattle.std.specs.Option.{IfSome, option_and_then}
 use Rattle.transducer_reading.specs.Transducers.{IsTransducer, Transducer, target_of}
 use Rattle.word_transduce.specs.Runs.{made, made_of, run}

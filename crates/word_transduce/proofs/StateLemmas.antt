@@ -1,15 +1,14 @@
 -- Where runs are before blocks, and the places of lines.
-use Rattle.std.proofs.Common.{◌≡◌, ℕ, ◌+◌, ◌*◌, ◌-◌, ◌/◌, ◌<◌, ◌≤◌, Bool, true, false, List, length, map, take, drop, get_or, slice_index, cond, not, nat_lt, suc, Option, None, Some, refl, sym, ap, ◌∙◌, subst, get_or-drop, get_or-take, ltb-false, arith}
-use Rattle.std.specs.List.{position_or_len, range_with_len}
+use Rattle.std.proofs.Common.{◌≡◌, ℕ, ◌+◌, ◌*◌, ◌-◌, ◌/◌, ◌<◌, ◌≤◌, Bool, true, false, List, length, drop, get_or, slice_index, not, suc, Option, None, Some, sym, ap, ◌∙◌, get_or-drop, get_or-take, arith}
+use Rattle.std.specs.List.{position_or_len}
 use Rattle.std.specs.Option.{IfSome}
 use Rattle.std.proofs.lemmas.List.FromFn.{get_or-map-range_with_len}
 use Rattle.std.proofs.lemmas.List.Sums.{prefix_len_is}
 use Rattle.std.proofs.lemmas.Option.{none-some, same_Some}
 use Rattle.digit_tuple.specs.Deterministic.{Automaton, letters_of, states_of}
-use Rattle.digit_tuple.specs.Keys.{part_of}
 use Rattle.minimise.specs.Classes.{next_of}
-use Rattle.class_reversal.specs.BackwardClasses.{AreTargets, targets_by}
-use Rattle.transducer_reading.specs.Transducers.{Transducer, target_of}
+use Rattle.class_reversal.specs.BackwardClasses.{AreTargets}
+use Rattle.transducer_reading.specs.Transducers.{Transducer}
 use Rattle.word_output.specs.LetterFunctions.{LetterFunctionValue}
 use Rattle.word_transduce.specs.BlockMaps.{at_pairs, map_at, output_in, pairs_of, state_before}
 use Rattle.word_transduce.proofs.PairLemmas.{at_pairs-at, same_pairs}

@@ -1,5 +1,5 @@
 -- The words that transductions make.
-use Rattle.std.proofs.Common.{◌≡◌, ◌↔◌, ℕ, ℤ, ◌+◌, ◌^◌, ◌<◌, ◌≤◌, zero, suc, List, [], ◌∷◌, reverse, Option, Some, refl, sym, ap, ◌∙◌, subst, arith}
+use Rattle.std.proofs.Common.{◌≡◌, ◌↔◌, ℕ, ℤ, ◌≤◌, List, [], ◌∷◌, reverse, Some, refl, sym, ap, ◌∙◌, subst, arith}
 use Rattle.std.proofs.lemmas.List.{reverse-reverse}
 use Rattle.digit_tuple.specs.Letters.{IsWord}
 use Rattle.digit_tuple.specs.declared.direction.Direction.TheVariants.{Msd}
@@ -7,25 +7,18 @@ use Rattle.digit_tuple.proofs.PaddingLemmas.{IsWord-reverse}
 use Rattle.base_k.specs.Positional.{RankIsPositional, base, value}
 use Rattle.numeration.specs.Representation.{letters_in}
 use Rattle.num_system.specs.Tracks.{direction_of, systems_of}
+use Rattle.transducer_reading.specs.LetterRuns.{Makes}
+use Rattle.transducer_reading.proofs.RunLemmas.{Makes-weaker}
 use Rattle.transducer_reading.specs.Transducers.{Transducer}
 use Rattle.word_output.specs.LetterFunctions.{IsLetterFunction, LetterFunctionValue, letter_after}
 use Rattle.word_output.specs.Words.{HasLetter, IsWordValue, RepresentsPlace, WordValue}
 use Rattle.word_output.proofs.OptionLemmas.{same_option}
 use Rattle.word_transduce.specs.Blocks.{base_of, numeral, place_of}
-use Rattle.word_transduce.specs.LetterRuns.{HasLetterAt, IgnoresZeros, Makes, RunsTo}
+use Rattle.word_transduce.specs.LetterRuns.{HasLetterAt, IgnoresZeros}
 use Rattle.word_transduce.specs.TransducedWords.{IsTransduced, TransductionsMakeWords}
 use Rattle.word_transduce.specs.Transductions.{IsTransduction}
 use Rattle.word_transduce.proofs.BaseWords.{below_power, first_same, letters_are, over_digits, represented_value, value_represented}
 use Rattle.word_transduce.proofs.LetterRunLemmas.{numeral_over, numeral_value, transductions_are_runs}
-
--- runs over letters that other places have too
-module _ (t : Transducer) (P Q : ℕ → ℤ → Type 0) (holds : (i : ℕ) (a : ℤ) → P i a → Q i a) where
-  RunsTo-weaker : (n q : ℕ) → RunsTo t P n q → RunsTo t Q n q
-  RunsTo-weaker zero q is = is
-  RunsTo-weaker (suc n) q (p, a, to, has, is) = (p, a, RunsTo-weaker n p to, holds n a has, is)
-
-  pub Makes-weaker : (n : ℕ) (b : ℤ) → Makes t P n b → Makes t Q n b
-  Makes-weaker n b (p, a, to, has, is) = (p, a, RunsTo-weaker n p to, holds n a has, is)
 
 module _ (positional : RankIsPositional) (t : Transducer) (k : ℕ) (word : WordValue) (transduced reversed : LetterFunctionValue) (some : 2 ≤ k) (is : IsWordValue word) (are : systems_of word.systems ≡ base k ∷ []) (direction : direction_of word.systems ≡ Msd)
     (made : IsTransduction t word.function transduced) (letters : (w : List ℕ) → IsWord k w → letter_after reversed w ≡ letter_after transduced (reverse w)) where
@@ -54,11 +47,11 @@ module _ (positional : RankIsPositional) (t : Transducer) (k : ℕ) (word : Word
       (w, subst (λ n. RepresentsPlace word.systems (n ∷ []) w) (ap (λ n. value n w) (sym digits_are) ∙ there) (represented w here), has)
 
   place_at : (i : ℕ) (a : ℤ) → HasLetter word (i ∷ []) a → HasLetterAt word.function i a
-  place_at i a (w, stands, has) =
-      let at : i ≡ value k w = first_same i (value k w) (represented_value positional word.systems k some are direction (i ∷ []) w stands) in
-      (w, in_base w (over_digits positional word.systems k some are direction w stands.over), ap (λ n. value n w) digits_are ∙ sym at, has)
+  place_at i a (w, place_is, has) =
+      let at : i ≡ value k w = first_same i (value k w) (represented_value positional word.systems k some are direction (i ∷ []) w place_is) in
+      (w, in_base w (over_digits positional word.systems k some are direction w place_is.over), ap (λ n. value n w) digits_are ∙ sym at, has)
 
-  -- a word has the letter that the run makes at the place that it tells
+  -- a word has the letter that the run makes at the place that it represents
   letter_made : (w : List ℕ) (b : ℤ) → IsWord k w → (letter_after reversed w ≡ Some b) ↔ Makes t (λ i a. HasLetter word (i ∷ []) a) (value k w) b
   letter_made w b over = (
     (λ has. Makes-weaker t (HasLetterAt word.function) (λ i a. HasLetter word (i ∷ []) a) at_place (value k w) b (subst (λ n. Makes t (HasLetterAt word.function) n b) place (both.0 (sym (letters w over) ∙ has)))),
@@ -83,7 +76,7 @@ module _ (positional : RankIsPositional) (t : Transducer) (k : ℕ) (word : Word
     new = record { systems = word.systems; function = reversed }
 
     value_of : (ns w : List ℕ) → RepresentsPlace word.systems ns w → ns ≡ value k w ∷ []
-    value_of ns w stands = represented_value positional word.systems k some are direction ns w stands
+    value_of ns w place_is = represented_value positional word.systems k some are direction ns w place_is
 
     digits : (w : List ℕ) → IsWord (letters_in (systems_of word.systems)) w → IsWord k w
     digits w over = over_digits positional word.systems k some are direction w over
@@ -104,17 +97,17 @@ module _ (positional : RankIsPositional) (t : Transducer) (k : ℕ) (word : Word
     }
       where
         forth : (place : ℕ) (b : ℤ) → HasLetter new (place ∷ []) b → Makes t (λ i a. HasLetter word (i ∷ []) a) place b
-        forth place b (w, stands, has) =
-            let at : place ≡ value k w = first_same place (value k w) (value_of (place ∷ []) w stands) in
-            subst (λ n. Makes t (λ i a. HasLetter word (i ∷ []) a) n b) (sym at) ((letter_made w b (digits w stands.over)).0 has)
+        forth place b (w, place_is, has) =
+            let at : place ≡ value k w = first_same place (value k w) (value_of (place ∷ []) w place_is) in
+            subst (λ n. Makes t (λ i a. HasLetter word (i ∷ []) a) n b) (sym at) ((letter_made w b (digits w place_is.over)).0 has)
 
         back : (place : ℕ) (b : ℤ) → Makes t (λ i a. HasLetter word (i ∷ []) a) place b → HasLetter new (place ∷ []) b
         back place b makes =
             let low = below_power k place some in
             let w : List ℕ = numeral k place place in
             let over : IsWord k w = numeral_over k place place low in
-            let tells : value k w ≡ place = numeral_value k place place low in
-            (w, subst (λ n. RepresentsPlace word.systems (n ∷ []) w) tells (represented w over), (letter_made w b over).1 (subst (λ n. Makes t (λ i a. HasLetter word (i ∷ []) a) n b) (sym tells) makes))
+            let value_is : value k w ≡ place = numeral_value k place place low in
+            (w, subst (λ n. RepresentsPlace word.systems (n ∷ []) w) value_is (represented w over), (letter_made w b over).1 (subst (λ n. Makes t (λ i a. HasLetter word (i ∷ []) a) n b) (sym value_is) makes))
 
 pub transductions_make_words : RankIsPositional → TransductionsMakeWords
 transductions_make_words positional t k word transduced reversed some is are direction made function sizes letters = is_transduced positional t k word transduced reversed some is are direction made letters function sizes

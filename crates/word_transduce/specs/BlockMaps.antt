@@ -4,7 +4,7 @@ use Rattle.std.specs.Prelude.{◌≡◌, ◌==◌, ◌&&◌, ℕ, zero, suc, ◌
 use Rattle.std.specs.List.{position_or_len, range_with_len}
 use Rattle.std.specs.Option.{option_and_then}
 use Rattle.std.specs.Ordering.{int_eq}
-use Rattle.digit_tuple.specs.Deterministic.{Automaton, letters_of, states_of}
+use Rattle.digit_tuple.specs.Deterministic.{letters_of, states_of}
 use Rattle.minimise.specs.Classes.{class_of, next_of}
 use Rattle.class_reversal.specs.BackwardClasses.{AreTargets}
 use Rattle.transducer_reading.specs.declared.transducer.TransducerLine.{TransducerLine}

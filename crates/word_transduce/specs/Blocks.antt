@@ -1,4 +1,4 @@
--- Blocks of letters: the letters after a word, in the order of the places that digits after it tell.
+-- Blocks of letters: the letters after a word, in the order of the places that the digits after it represent.
 use Rattle.std.specs.Prelude.{ℕ, zero, suc, ◌/◌, ◌%◌, ◌^◌, ℤ, List, [], ◌∷◌, ◌++◌, reverse, Option}
 use Rattle.digit_tuple.specs.Deterministic.{letters_of}
 use Rattle.base_k.specs.Positional.{value}
@@ -17,6 +17,6 @@ base_of f = letters_of f.automaton
 abbrev pub block : LetterFunctionValue → ℕ → List ℕ → ℕ → Option ℤ
 block f digits u place = letter_after f (u ++ numeral (base_of f) digits place)
 
--- the number that a word tells whose least significant digit comes first
+-- the number that a word represents whose least significant digit comes first
 abbrev pub place_of : ℕ → List ℕ → ℕ
 place_of k w = value k (reverse w)

@@ -4,10 +4,10 @@ use Rattle.digit_tuple.specs.Letters.{IsWord}
 use Rattle.digit_tuple.specs.declared.direction.Direction.TheVariants.{Msd}
 use Rattle.base_k.specs.Positional.{base}
 use Rattle.num_system.specs.Tracks.{direction_of, systems_of}
+use Rattle.transducer_reading.specs.LetterRuns.{Makes}
 use Rattle.transducer_reading.specs.Transducers.{Transducer}
 use Rattle.word_output.specs.LetterFunctions.{IsLetterFunction, LetterFunctionValue, letter_after}
 use Rattle.word_output.specs.Words.{HasLetter, IsWordValue, WordValue}
-use Rattle.word_transduce.specs.LetterRuns.{Makes}
 use Rattle.word_transduce.specs.Transductions.{IsTransduction}
 
 -- at each place the word has the output of the run over the other word's letters, and none where the run does not come or stops

@@ -9,7 +9,7 @@ use Rattle.word_output.specs.LetterFunctions.{LetterFunctionValue, IsLetterFunct
 use Rattle.word_transduce.specs.Runs.{run, made, output_at}
 use Rattle.word_transduce.specs.Blocks.{base_of, block, place_of}
 
--- from each state, and over the block of letters after each word, the two words tell places with one output, made in one state; and the
+-- from each state, and over the block of letters after each word, the two words represent places with one output, made in one state; and the
 -- runs end in one state, or both stop, over blocks as long as there are words as long as theirs
 pub record TransduceAlike (t : Transducer) (f : LetterFunctionValue) (w v : List ℕ) : Type 0 where
   pub outputs : (u : List ℕ) (s : ℕ) → IsWord (base_of f) u → s < t.states

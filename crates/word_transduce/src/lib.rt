@@ -1,8 +1,8 @@
 //! Automatic words under transducers: the word of the outputs that a transducer makes when it runs over a word's letters.
 //!
-//! The step `transduce` reads digits from the least significant one, so that the residuals of the old word stand for blocks of
+//! The step `transduce` reads digits from the least significant one, so that the residuals of the old word are those of blocks of
 //! letters: after j digits a residual is that of a block of k^j letters, in base k. Of each block it keeps, from each state of
-//! the transducer, what is made at the place that the digits tell, and where the run ends (`specs/Transductions.antt`). A block
+//! the transducer, what is made at the place that the digits represent, and where the run ends (`specs/Transductions.antt`). A block
 //! of one digit more is k blocks one after another. No run over a list of letters is made.
 #![tactic(auto)]
 

@@ -22,16 +22,16 @@ use std::alloc::Global;
 use transducer_reading::Transducer;
 use word_output::letter_function::LetterFunction;
 
-/// The function that gives to a word, the least significant digit first, the output at the place that it tells, of the run of a
+/// The function that gives to a word, the least significant digit first, the output at the place that it represents, of the run of a
 /// transducer over the letters of another function, which reads the most significant digit first; by the step `transduce` as
 /// the next one. A run stops for good where there is no letter, or no line for it, and gives none from there on. The letters
 /// of the alphabet are the digits. The width is that of the pairs of two maps of the letters after each residual, by so many
-/// digits as a word has: from each state of the transducer, what is made at the place that the word tells, with the state in
+/// digits as a word has: from each state of the transducer, what is made at the place that the word represents, with the state in
 /// which it is made, and where the run ends. Time and memory are those of two numbers for each state of the function and each
 /// of the transducer, for each digit and each state of the result.
 ///
 /// # Errors
-/// `States` if and only if the width passes the limit. The steps are as before then, also where memory is wanting. `Memory` comes
+/// `States` if and only if the width passes the limit. The steps are as before then, also if memory runs out. `Memory` comes
 /// too where the transducer has 2^32 - 1 states or lines.
 pub fn transduce(
     alloc: Global,
@@ -52,7 +52,7 @@ pub fn transduce(
     }
 }
 
-// The outputs at the places that words tell.
+// The outputs at the places that words represent.
 fn transduced(
     alloc: Global,
     transducer: &Transducer,

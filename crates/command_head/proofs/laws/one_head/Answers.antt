@@ -1,9 +1,11 @@
-use Rattle.command_head.specs.Grammar.{DerivesReg, DerivesNamed, DerivesPromote, DerivesImage, DerivesCombine, DerivesLanguages, DerivesLanguage, DerivesLoad, DerivesAlone}
+use Rattle.command_head.specs.Grammar.{DerivesReg, DerivesNamed, DerivesPromote, DerivesImage, DerivesConvert, DerivesCombine, DerivesLanguages, DerivesLanguage, DerivesName, DerivesLoad, DerivesAlone}
 use Rattle.command_head.proofs.OneFault.{one_head, one_reg}
 use Rattle.command_head.proofs.NamedHeads.{one_named}
-use Rattle.command_head.proofs.WordHeads.{one_promote, one_image}
+use Rattle.command_head.proofs.WordHeads.{one_promote, one_image, one_convert}
 use Rattle.command_head.proofs.CombineHeads.{one_combine}
 use Rattle.command_head.proofs.LanguageHeads.{one_languages, one_language}
+use Rattle.command_head.proofs.ListingHeads.{one_name}
+use Rattle.command_head.proofs.TestHeads.{one_test}
 use Rattle.command_head.proofs.RunHeads.{one_load, one_alone}
 use Rattle.command_head.proofs.laws.one_head.Goals as goal
 
@@ -17,7 +19,10 @@ pub returns-clause-promote : goal.returns-clause-promote
 returns-clause-promote c = one_head DerivesPromote one_promote
 
 pub returns-clause-image : goal.returns-clause-image
-returns-clause-image c = one_head DerivesImage one_image
+returns-clause-image c word = one_head (DerivesImage word) (one_image word)
+
+pub returns-clause-convert : goal.returns-clause-convert
+returns-clause-convert c = one_head DerivesConvert one_convert
 
 pub returns-clause-combine : goal.returns-clause-combine
 returns-clause-combine c = one_head DerivesCombine one_combine
@@ -27,6 +32,12 @@ returns-clause-languages c word = one_head (DerivesLanguages word) (one_language
 
 pub returns-clause-language : goal.returns-clause-language
 returns-clause-language c word = one_head (DerivesLanguage word) (one_language word)
+
+pub returns-clause-name : goal.returns-clause-name
+returns-clause-name c word = one_head (DerivesName word) (one_name word)
+
+pub returns-clause-test : goal.returns-clause-test
+returns-clause-test c = one_test
 
 pub returns-clause-load : goal.returns-clause-load
 returns-clause-load c = one_head DerivesLoad one_load

@@ -1,5 +1,5 @@
 -- The lines of each next word, until there are enough, or too many bytes.
-use Rattle.std.proofs.Common.{◌≡◌, ◌∙◌, ◌++◌, ◌≤◌, ◌<◌, List, ℕ, ap, refl, sym, subst, length, drop, length-append, length-drop, arith, rules}
+use Rattle.std.proofs.Common.{◌∙◌, ◌++◌, ◌≤◌, ◌<◌, List, ℕ, ap, refl, sym, subst, length, drop, length-append, length-drop, arith, rules}
 use Rattle.std.proofs.lemmas.List.{length-take}
 use Rattle.digit_tuple.specs.Letters.{product, IsWord}
 use Rattle.digit_tuple.specs.Deterministic.{accepts_of}

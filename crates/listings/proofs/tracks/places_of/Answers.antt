@@ -1,6 +1,6 @@
 -- Each digit has a place in its set.
 use Rattle.std.specs.Prelude.{ℤ, pos, Contains}
-use Rattle.std.proofs.Common.{◌≡◌, false, true, List, get_or, sym, subst, ◌∙◌, rules}
+use Rattle.std.proofs.Common.{◌≡◌, false, true, get_or, sym, subst, ◌∙◌, rules}
 use Rattle.std.proofs.lemmas.Int.{to_z-of_z}
 use mir.Val.{to_z, of_z}
 use mir.Syntax.{w32}

@@ -28,7 +28,7 @@ returns-in_err-morphism g c =
     let p = err_from_is_err_and c.from_residual-in_err-morphism.result c.from_residual-in_err-morphism.ensures.1 in
     let fault = c.in_err-morphism.field-0.0 in
     let head = image_view c.args.head.now in
-    rw (p.1, p.2) (from_no_morphism _ head.morphism _ _ fault c.in_err-morphism.ensures (λ found refused limit ledger stores. morphism_unloaded limit ledger head (fault_of_loading fault) (refused ledger stores)))
+    rw (p.1, p.2) (from_no_morphism _ head.mapping _ _ fault c.in_err-morphism.ensures (λ found refused limit ledger stores. morphism_unloaded limit ledger head (fault_of_loading fault) (refused ledger stores)))
 
 pub returns-in_err-tables : goal.returns-in_err-tables
 returns-in_err-tables g c =
@@ -37,7 +37,7 @@ returns-in_err-tables g c =
     let head = image_view c.args.head.now in
     let rules = c.in_ok-morphism.morphism in
     let names : first_files c.deref.result.now ≡ first_files (old_mentions head.old) = ap first_files (c.deref.ensures.value ∙ (c.in_ok-mentioned.ensures ∙ ap old_mentions c.in_ok-old.ensures)) in
-    rw (p.1, p.2) (from_refused _ _ _ _ fault (then_tables head.morphism rules (first_files c.deref.result.now) _ _ _ (Err fault) c.in_ok-morphism.ensures c.in_err-tables.ensures)
+    rw (p.1, p.2) (from_refused _ _ _ _ fault (then_tables head.mapping rules (first_files c.deref.result.now) _ _ _ (Err fault) c.in_ok-morphism.ensures c.in_err-tables.ensures)
     (λ found refused limit ledger stores. old_unloaded limit ledger head rules fault (found, stores, refused.0)
     (unloaded ledger found (first_files (old_mentions head.old)) fault stores (subst (λ (fs : List File). AreUnloaded found fs fault) names refused.1))))
 
@@ -46,5 +46,5 @@ returns g c =
     let head = image_view c.args.head.now in
     let tables = c.in_ok-tables.tables in
     let names : first_files c.deref.result.now ≡ first_files (old_mentions c.in_ok-old.old) = ap first_files (c.deref.ensures.value ∙ c.in_ok-mentioned.ensures) in
-    from_read _ _ _ _ tables _ tt (then_tables head.morphism c.in_ok-morphism.morphism (first_files c.deref.result.now) _ _ _ (Ok tables) c.in_ok-morphism.ensures c.in_ok-tables.ensures)
+    from_read _ _ _ _ tables _ tt (then_tables head.mapping c.in_ok-morphism.morphism (first_files c.deref.result.now) _ _ _ (Ok tables) c.in_ok-morphism.ensures c.in_ok-tables.ensures)
     (λ found both. record { old = c.in_ok-old.ensures; rules = both.0; listed = subst (λ (fs : List File). AreListedBy found fs tables.items) names both.1 })

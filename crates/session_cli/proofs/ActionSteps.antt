@@ -1,0 +1,54 @@
+-- What is to be done for a command, from its checks.
+use Rattle.std.proofs.Common.{◌≡◌, ℕ, Bool, List, Result, Ok, Err, refl}
+use Rattle.wal_outside.specs.Files.{Files}
+use Rattle.wal_outside.specs.Views.{StoreView}
+use Rattle.session_cli.specs.declared.fault.Fault.{Fault}
+use Rattle.session_cli.specs.declared.plan.Action.{Action}
+use Rattle.session_cli.specs.declared.plan.Plan.{Plan}
+use Rattle.session_cli.specs.Checks.{Check, Passing, Then}
+use Rattle.system_files.specs.SystemFiles.{Custom}
+use Rattle.session_cli.specs.Accepting.{Success, Said, Accepted, Storing, Saying, storing, saying}
+use Rattle.session_cli.specs.Plans.{Plans, Tells, Acts, writing, printing}
+use Rattle.session_cli.specs.StoreReads.{HasRead, FromFiles}
+use Rattle.session_cli.proofs.CheckSteps.{IsSingle, then_single, passing_single, fails_first, fails_after}
+
+-- what the checks after the first lead to
+pub acts_after : {Y : Type 0} (custom : Custom) (first : Check Y) (rest : Y → Check Accepted) (y : Y) (shown : Bool) (r : Result Action Fault) → first.answers (Ok y) → Acts custom (rest y) shown r → Acts custom (Then first rest) shown r
+acts_after custom first rest y shown (Ok action) passed a = record { accepted = a.accepted; answers = (y, passed, a.answers); is_of = a.is_of }
+acts_after custom first rest y shown (Err f) passed refused = fails_after first rest y f passed refused
+
+-- a command that stores
+pub stores_plan : (custom : Custom) (checks : Check Success) (shown : Bool) (r : Result Plan Fault) → Plans custom checks shown r → Acts custom (storing checks) shown (writing r)
+stores_plan custom checks shown (Ok plan) p = record {
+  accepted = Storing p.made.success;
+  answers = (p.made.success, p.made.answers, refl);
+  is_of = record { has_text = p.made.has_text; printed_is = p.made.printed_is; folder_is = p.folder_is; name_is = p.name_is };
+}
+stores_plan custom checks shown (Err f) refused = fails_first checks (λ success. Passing (λ accepted. accepted ≡ Storing success)) f refused
+
+-- what a command reads that stores
+written_read : (old new : StoreView) (r : Result Plan Fault) → HasRead old r new → HasRead old (writing r) new
+written_read old new (Ok plan) read = record { files = read.files; later = read.later; cause = read.cause }
+written_read old new (Err f) read = record { files = read.files; later = read.later; cause = read.cause }
+
+pub from_plan : (First : Files → Result Plan Fault → Type 0) (Gives : Files → Result Action Fault → Type 0) (old new : StoreView) (r : Result Plan Fault) → FromFiles First old r new → ((found : Files) → First found r → Gives found (writing r)) → FromFiles Gives old (writing r) new
+from_plan First Gives old new r first so = record { found = first.found; reported = first.reported; gives = so first.found first.gives; has_read = written_read old new r first.has_read }
+
+-- a command that says something
+pub tells_action : (custom : Custom) (checks : Check Said) (shown : Bool) (r : Result (List ℕ) Fault) → Tells checks shown r → Acts custom (saying checks) shown (printing r)
+tells_action custom checks shown (Ok printed) (said, answers, is) = record { accepted = Saying said; answers = (said, answers, refl); is_of = is }
+tells_action custom checks shown (Err f) refused = fails_first checks (λ said. Passing (λ accepted. accepted ≡ Saying said)) f refused
+
+said_read : (old new : StoreView) (r : Result (List ℕ) Fault) → HasRead old r new → HasRead old (printing r) new
+said_read old new (Ok printed) read = record { files = read.files; later = read.later; cause = read.cause }
+said_read old new (Err f) read = record { files = read.files; later = read.later; cause = read.cause }
+
+pub from_said : (First : Files → Result (List ℕ) Fault → Type 0) (Gives : Files → Result Action Fault → Type 0) (old new : StoreView) (r : Result (List ℕ) Fault) → FromFiles First old r new → ((found : Files) → First found r → Gives found (printing r)) → FromFiles Gives old (printing r) new
+from_said First Gives old new r first so = record { found = first.found; reported = first.reported; gives = so first.found first.gives; has_read = said_read old new r first.has_read }
+
+pub saying_single : (checks : Check Said) → IsSingle checks → IsSingle (saying checks)
+saying_single checks one = then_single checks (λ said. Passing (λ accepted. accepted ≡ Saying said)) one (λ said made. passing_single (Saying said))
+
+-- a command that stores has one outcome, where what it stores is one
+pub storing_single : (checks : Check Success) → IsSingle checks → IsSingle (storing checks)
+storing_single checks one = then_single checks (λ success. Passing (λ accepted. accepted ≡ Storing success)) one (λ success made. passing_single (Storing success))

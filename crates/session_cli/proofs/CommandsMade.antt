@@ -1,0 +1,44 @@
+-- What the checks of a command made, by its first word.
+use Rattle.std.proofs.Common.{◌≡◌, ℕ, ◌≤◌, List, length, None, Some, Ok, codes, subst}
+use Rattle.wal_outside.specs.declared.folder.Folder.TheVariants.{Automata, Results}
+use Rattle.command_head.specs.Parts.{first_word_of}
+use Rattle.definitions.specs.Trees.{Ledger}
+use Rattle.script_runs.specs.Languages.{Enters}
+use Rattle.session_cli.specs.declared.command_word.CommandWord.{CommandWord}
+use Rattle.session_cli.specs.declared.command_word.CommandWord.TheVariants as words
+use Rattle.session_cli.specs.declared.run_word.RunWord.TheVariants as others
+use Rattle.session_cli.specs.Accepting.{Accepted, storing}
+use Rattle.session_cli.specs.CombineOutcomes.{combine_checks}
+use Rattle.session_cli.specs.FormulaOutcomes.{formula_checks}
+use Rattle.session_cli.specs.ImageOutcomes.{image_checks}
+use Rattle.session_cli.specs.Outcomes.{word_text, checks_by, after_length}
+use Rattle.session_cli.specs.PromoteOutcomes.{promote_checks}
+use Rattle.session_cli.specs.RunOutcomes.{run_checks}
+use Rattle.session_cli.proofs.OneOutcomes.{one_word}
+
+module _ (limit : ℕ) (known : Ledger) (command : List ℕ) (accepted : Accepted) where
+  -- the checks are those of the command whose word comes first
+  made_by : (word : CommandWord) → first_word_of command ≡ word_text word → (after_length limit known command).answers (Ok accepted) → (checks_by word limit known command).answers (Ok accepted)
+  made_by word is (own, own_is, made) = subst (λ (w : CommandWord). (checks_by w limit known command).answers (Ok accepted)) (one_word (first_word_of command) own word own_is is) made
+
+  pub eval_made : first_word_of command ≡ codes "eval" → (after_length limit known command).answers (Ok accepted) → (storing (formula_checks (codes "eval") Results limit known command)).answers (Ok accepted)
+  eval_made is answered = made_by words.Eval is answered
+
+  pub def_made : first_word_of command ≡ codes "def" → (after_length limit known command).answers (Ok accepted) → (storing (formula_checks (codes "def") Automata limit known command)).answers (Ok accepted)
+  def_made is answered = made_by words.Def is answered
+
+  pub promote_made : first_word_of command ≡ codes "promote" → (after_length limit known command).answers (Ok accepted) → (storing (promote_checks limit known command)).answers (Ok accepted)
+  promote_made is answered = made_by words.Promote is answered
+
+  pub image_made : first_word_of command ≡ codes "image" → (after_length limit known command).answers (Ok accepted) → (storing (image_checks limit known command)).answers (Ok accepted)
+  image_made is answered = made_by words.Image is answered
+
+  pub combine_made : first_word_of command ≡ codes "combine" → (after_length limit known command).answers (Ok accepted) → (storing (combine_checks limit known command)).answers (Ok accepted)
+  combine_made is answered = made_by words.Combine is answered
+
+-- a command of a script that is neither a load nor an end is one of a session
+pub session_command : (limit depth : ℕ) (known : Ledger) (text : List ℕ) (accepted : Accepted) → (run_checks limit depth known text).answers (Ok (Enters accepted)) → (length text ≤ 65536) × (after_length limit known text).answers (Ok accepted)
+session_command limit depth known text accepted (done, short, (None, is_word, (made, is_made, is))) = let same : made ≡ accepted = cc in (short, subst (λ (a : Accepted). (after_length limit known text).answers (Ok a)) same is_made)
+session_command limit depth known text accepted (done, short, (Some others.Load, is_word, (loaded, read, is))) = absurd cc
+session_command limit depth known text accepted (done, short, (Some others.Exit, is_word, (ended, head, is))) = absurd cc
+session_command limit depth known text accepted (done, short, (Some others.Quit, is_word, (ended, head, is))) = absurd cc

@@ -1,0 +1,68 @@
+-- From the steps that make a word of an old one, and the text of what they make, to what the checks of a command make of it.
+use Rattle.std.proofs.Common.{◌≡◌, ℕ, Bool, List, Some, Result, Ok, Err, inl, inr, refl, sym, ◌∙◌, subst, append-nil}
+use Rattle.wal_outside.specs.Places.{Place}
+use Rattle.wal_outside.specs.declared.folder.Folder.TheVariants.{Words}
+use Rattle.digit_tuple.specs.Steps.{StepLog}
+use Rattle.digit_tuple.specs.declared.step_fault.StepFault.{StepFault}
+use Rattle.digit_tuple.specs.declared.step_fault.StepFault.TheVariants as step_faults
+use Rattle.digit_tuple.specs.declared.steps.StepLine.{StepLine}
+use Rattle.dfa_loading.specs.declared.loaded.Loaded.{Loaded}
+use Rattle.word_output.specs.Words.{WordValue}
+use Rattle.definitions.specs.Texts.{HasTreeText}
+use Rattle.definitions.specs.Trees.{Entry, Ledger, Tree, custom_of, tree_of}
+use Rattle.system_files.specs.SystemFiles.{Custom}
+use Rattle.session_cli.specs.declared.fault.Fault.{Fault}
+use Rattle.session_cli.specs.declared.plan.Made.{Made}
+use Rattle.session_cli.specs.Accepting.{stored}
+use Rattle.session_cli.specs.Checks.{Fails, Passing}
+use Rattle.session_cli.specs.Lines.{shown_steps}
+use Rattle.session_cli.specs.OldWordMakes.{Keeps}
+use Rattle.session_cli.specs.OldWordSteps.{AreOldWordSteps, AreOldWordStepsRefused, after_old_steps, made_of_old, old_word_done, old_word_success}
+use Rattle.session_cli.specs.Plans.{Makes}
+use Rattle.session_cli.specs.TrackSystems.{fault_of}
+use Rattle.session_cli.specs.WordPrinting.{named_text}
+use Rattle.session_cli.proofs.CheckSteps.{fails_first, makes_after}
+use Rattle.session_cli.proofs.FormulaReady.{IsUnread}
+use Rattle.session_cli.proofs.StoringTexts.{unstored, word_refused}
+
+module _ (admitted : StepLog) (custom : Custom) (tables : List Loaded) (old : List ℕ) (does : WordValue → StepLog → Result WordValue StepFault → StepLog → Type 0) where
+  -- a step passes a limit
+  pub unmade : (fault : StepFault) → AreOldWordStepsRefused admitted custom tables old does fault → Fails (old_word_done admitted custom tables old does) (fault_of fault)
+  unmade (step_faults.Letters step) refused = (step_faults.Letters step, refl, refused)
+  unmade (step_faults.States step) refused = (step_faults.States step, refl, refused)
+  unmade step_faults.Memory refused = tt
+
+  -- one that reads the table does, or memory runs out there
+  pub unread : (fault : StepFault) → IsUnread admitted custom tables fault → Fails (old_word_done admitted custom tables old does) (fault_of fault)
+  unread fault (inl memory) = subst (λ (f : StepFault). Fails (old_word_done admitted custom tables old does) (fault_of f)) (sym memory) tt
+  unread fault (inr stopped) = unmade fault (inl stopped)
+
+module _ (ledger : Ledger) (name old : List ℕ) (does : WordValue → StepLog → Result WordValue StepFault → StepLog → Type 0) (made_of : Tree → Tree) (tables : List Loaded) (admitted : StepLog) where
+  -- the steps are refused
+  pub old_stopped : (fault : Fault) → Fails (old_word_done admitted (custom_of ledger) tables old does) fault → Fails (made_of_old ledger name old does made_of tables admitted) fault
+  old_stopped fault refused = fails_first (old_word_done admitted (custom_of ledger) tables old does) (λ lines. after_old_steps ledger name old made_of lines) fault refused
+
+  -- they are done, and the text is stored, or it is too long
+  module _ (word : WordValue) (lines : List StepLine) (done : AreOldWordSteps admitted (custom_of ledger) tables old does (Ok word) lines) (entry : Entry) (there : ledger Words old ≡ Some entry)
+      (names : List (List ℕ)) (has : HasTreeText (custom_of ledger) (made_of (tree_of entry)) (named_text names word)) where
+    by_text : (shown : Bool) (result : Result Made Fault) → Keeps names word shown lines result → Makes (custom_of ledger) (stored (custom_of ledger) (old_word_success name made_of entry lines)) shown result
+    by_text shown (Ok made) k =
+        let own : HasTreeText (custom_of ledger) (made_of (tree_of entry)) made.stored.items = subst (HasTreeText (custom_of ledger) (made_of (tree_of entry))) (sym k.text.0) has in
+        record {
+          success = old_word_success name made_of entry lines;
+          answers = (refl, (made.stored.items, own, k.text.1));
+          has_text = own;
+          printed_is = k.printed ∙ sym (append-nil (shown_steps shown lines));
+        }
+    by_text shown (Err fault) refused = unstored (custom_of ledger) (old_word_success name made_of entry lines) (named_text names word) fault has (word_refused names word fault refused)
+
+    pub old_stored : (shown : Bool) (result : Result Made Fault) → Keeps names word shown lines result → Makes (custom_of ledger) (made_of_old ledger name old does made_of tables admitted) shown result
+    old_stored shown result keeps =
+        makes_after (custom_of ledger) (old_word_done admitted (custom_of ledger) tables old does) (λ ls. after_old_steps ledger name old made_of ls) lines shown result (word, done)
+        (makes_after (custom_of ledger) (Passing (λ e. ledger Words old ≡ Some e)) (λ e. stored (custom_of ledger) (old_word_success name made_of e lines)) entry shown result there (by_text shown result keeps))
+
+  -- no file is read
+  pub no_old_read : (place : Place) → (made_of_old ledger name old does made_of tables admitted).reads place → ⊥
+  no_old_read place (inl read) = read
+  no_old_read place (inr (lines, made, inl read)) = read
+  no_old_read place (inr (lines, made, inr (entry, there, read))) = read

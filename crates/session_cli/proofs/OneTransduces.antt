@@ -1,0 +1,69 @@
+-- A `transduce` has one outcome.
+use Rattle.std.proofs.Common.{◌≡◌, ℕ, List, Some, Result, Ok, Err, codes, refl, sym, ap, ◌∙◌, subst}
+use Rattle.wal_outside.specs.Files.{Files}
+use Rattle.digit_tuple.specs.declared.direction.Direction.TheVariants.{Msd}
+use Rattle.command_head.specs.Grammar.{DerivesImage}
+use Rattle.command_head.proofs.OneFault.{one_head}
+use Rattle.command_head.proofs.WordHeads.{one_image}
+use Rattle.dfa_loading.specs.Headers.{headers_of}
+use Rattle.dfa_loading.specs.declared.fault.LoadFault.{LoadFault}
+use Rattle.formula_resolve.specs.FirstMentions.{first_files, first_systems}
+use Rattle.transducer_loading.specs.TransducerFiles.{AnswersTransducer}
+use Rattle.transducer_loading.proofs.OneAnswer.{files_have_one_answer}
+use Rattle.transducer_reading.specs.Transducers.{Transducer}
+use Rattle.definitions.specs.Texts.{Stores}
+use Rattle.definitions.specs.Trees.{Ledger, Transduced, custom_of}
+use Rattle.session_cli.specs.declared.fault.Fault.{Fault}
+use Rattle.session_cli.specs.BaseWords.{BaseAnswers, fault_of_base, named_base, over_base}
+use Rattle.session_cli.specs.Checks.{Pure}
+use Rattle.session_cli.specs.FileChecks.{files_loaded}
+use Rattle.session_cli.specs.FormulaFaults.{fault_of_loading}
+use Rattle.session_cli.specs.HeadAnswers.{HeadAnswers}
+use Rattle.session_cli.specs.ImageOutcomes.{old_mentions}
+use Rattle.session_cli.specs.SystemChecks.{systems_known}
+use Rattle.session_cli.specs.TransduceOutcomes.{after_transduce_head, after_transduced_base, after_transduced_systems, after_transduced_table, after_transducer, transduce_checks}
+use Rattle.session_cli.specs.TransduceSteps.{DoesTransduce}
+use Rattle.session_cli.specs.TransducerChecks.{TransducerAnswers, transducer_loaded}
+use Rattle.session_cli.proofs.BaseNames.{base_one}
+use Rattle.session_cli.proofs.CheckSteps.{IsSingle, then_single}
+use Rattle.session_cli.proofs.OneHeads.{head_single}
+use Rattle.session_cli.proofs.OneLanguages.{refusing_single}
+use Rattle.session_cli.proofs.OneLoadings.{files_single, same_there}
+use Rattle.session_cli.proofs.OneOldWords.{made_single}
+use Rattle.session_cli.proofs.OneSystems.{systems_single}
+use Rattle.session_cli.proofs.TransduceSteps.{transductions_one}
+
+-- what the file of a transducer gives
+abbrev of_loading : Result Transducer LoadFault → Result Transducer Fault
+of_loading (Ok t) = Ok t
+of_loading (Err fault) = Err (fault_of_loading fault)
+
+record IsLoading (ledger : Ledger) (name : List ℕ) (r : Result Transducer Fault) : Type 0 where
+  files : Files
+  stores : Stores ledger files
+  loaded : Result Transducer LoadFault
+  answers : AnswersTransducer files name loaded
+  is : r ≡ of_loading loaded
+
+loading_is : (ledger : Ledger) (name : List ℕ) (r : Result Transducer Fault) → TransducerAnswers ledger name r → IsLoading ledger name r
+loading_is ledger name (Ok t) (files, stores, there) = record { files = files; stores = stores; loaded = Ok t; answers = there; is = refl }
+loading_is ledger name (Err fault) (load, is, (files, stores, refuses)) = record { files = files; stores = stores; loaded = Err load; answers = refuses; is = ap (λ (f : Fault). let r : Result Transducer Fault = Err f in r) (sym is) }
+
+transducer_single : (ledger : Ledger) (name : List ℕ) → IsSingle (transducer_loaded ledger name)
+transducer_single ledger name r s a b =
+    let p : IsLoading ledger name r = loading_is ledger name r a in
+    let q : IsLoading ledger name s = loading_is ledger name s b in
+    let same : q.files ≡ p.files = λ i folder under. same_there ledger q.files p.files q.stores p.stores folder under i in
+    let also : AnswersTransducer p.files name q.loaded = subst (λ (files : Files). AnswersTransducer files name q.loaded) same q.answers in
+    p.is ∙ (ap of_loading (files_have_one_answer p.files name p.loaded q.loaded p.answers also) ∙ sym q.is)
+
+pub transduce_single : (limit : ℕ) (ledger : Ledger) (text : List ℕ) → IsSingle (transduce_checks limit ledger text)
+transduce_single limit ledger text =
+    let custom = custom_of ledger in
+    then_single (Pure (HeadAnswers (DerivesImage (codes "transduce")) text)) (λ head. after_transduce_head limit ledger head) (head_single (DerivesImage (codes "transduce")) (one_head (DerivesImage (codes "transduce")) (one_image (codes "transduce"))) text) (λ head spells.
+    then_single (transducer_loaded ledger head.mapping) (λ t. after_transducer limit ledger head t) (transducer_single ledger head.mapping) (λ t read.
+    then_single (files_loaded ledger (first_files (old_mentions head.old))) (λ ts. after_transduced_table limit ledger head t ts) (files_single ledger (first_files (old_mentions head.old))) (λ ts there.
+    then_single (systems_known limit custom (first_systems (headers_of ts) (old_mentions head.old))) (λ admitted. after_transduced_systems ledger head t ts admitted) (systems_single limit custom (first_systems (headers_of ts) (old_mentions head.old))) (λ admitted known.
+    then_single (over_base (Some Msd) (headers_of ts) head.old) (λ over. after_transduced_base ledger head t ts admitted over)
+    (refusing_single fault_of_base (BaseAnswers (Some Msd) (headers_of ts) head.old) (base_one (Some Msd) (headers_of ts) head.old)) (λ over is.
+    made_single ledger head.word head.old (DoesTransduce t) (λ tree. Transduced (named_base over) t tree) ts admitted (transductions_one t) there.0 (first_files (old_mentions head.old)) there.2)))))

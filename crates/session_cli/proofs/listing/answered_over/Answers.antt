@@ -1,0 +1,87 @@
+use Rattle.std.proofs.Common.{◌≡◌, ℤ, List, map, Some, refl, sym, ap, ◌∙◌, subst}
+use Rattle.std.specs.Rc.{rc_value}
+use Rattle.std.specs.Prelude.{Result}
+use Rattle.std.proofs.lemmas.Result.{err_from_is_err_and}
+use Rattle.digit_tuple.specs.Deterministic.{Automaton}
+use Rattle.digit_tuple.specs.Sets.{sizes_of}
+use Rattle.digit_tuple.specs.declared.direction.Direction.{Direction}
+use Rattle.digit_tuple.specs.declared.step_fault.StepFault.{StepFault}
+use Rattle.dfa_reading.specs.Headers.{Header}
+use Rattle.num_system.specs.Sealed.{SystemValue}
+use Rattle.num_system.specs.Tracks as tracks
+use Rattle.word_walk.specs.Listed.{is_listed}
+use Rattle.table_listings.specs.Questions.{Answers, IsAskedOn, IsUnanswered}
+use Rattle.session_cli.specs.ListingMakes.{DoesRelation, HaveHeader, IsPlaceFault, sets_below}
+use Rattle.session_cli.proofs.ListingReady.{relation_sizes}
+use Rattle.session_cli.proofs.ListingSteps.{lines_refused, place_refused, step_refused}
+use Rattle.session_cli.proofs.listing.answered_over.Goals as goal
+
+pub track_sets-requires : goal.track_sets-requires
+track_sets-requires c = subst (λ (h : Header). HaveHeader h (map rc_value c.args.tracks.now)) (sym c.header.ensures) c.requires.named
+
+pub returns-in_err-sets : goal.returns-in_err-sets
+returns-in_err-sets c =
+    let p = err_from_is_err_and c.from_residual.result c.from_residual.ensures.1 in
+    rw (p.1, p.2) tt
+
+pub returns-in_err-refuse_place : goal.returns-in_err-refuse_place
+returns-in_err-refuse_place c =
+    let p = err_from_is_err_and c.from_residual-in_err-refuse_place.result c.from_residual-in_err-refuse_place.ensures.1 in
+    let table = c.args.table.now in
+    let asked = c.args.asked.now in
+    let found : List SystemValue = map rc_value c.args.tracks.now in
+    let own : c.in_ok-sets.sets ≡ sets_below table.listed.header found = c.in_ok-sets.ensures ∙ ap (λ (h : Header). sets_below h found) c.header.ensures in
+    let fault = c.in_err-refuse_place.field-0.0 in
+    rw (p.1, p.2)
+    (place_refused (λ (r : Result Automaton StepFault). DoesRelation found table.listed c.args.steps.now r c.args.steps.now) (Some (tracks.direction_of found)) (sets_below table.listed.header found) asked fault
+    (subst (λ (sets : List (List ℤ)). IsPlaceFault sets asked fault) own c.in_err-refuse_place.ensures))
+
+pub returns-in_err-relation : goal.returns-in_err-relation
+returns-in_err-relation c =
+    let p = err_from_is_err_and c.from_residual-in_err-relation.result c.from_residual-in_err-relation.ensures.1 in
+    let table = c.args.table.now in
+    let asked = c.args.asked.now in
+    let found : List SystemValue = map rc_value c.args.tracks.now in
+    let own : c.in_ok-sets.sets ≡ sets_below table.listed.header found = c.in_ok-sets.ensures ∙ ap (λ (h : Header). sets_below h found) c.header.ensures in
+    let on = subst (λ (sets : List (List ℤ)). IsAskedOn sets asked.question) own c.in_ok-refuse_place.ensures in
+    let fault = c.in_err-relation.field-0.0 in
+    rw (p.1, p.2)
+    (step_refused (λ (r : Result Automaton StepFault). DoesRelation found table.listed c.args.steps.now r c.table_relation.new.steps) (Some (tracks.direction_of found)) (sets_below table.listed.header found) asked.name asked.question on fault c.in_err-relation.ensures)
+
+pub answer-requires-clause-sizes : goal.answer-requires-clause-sizes
+answer-requires-clause-sizes c =
+    let table = c.args.table.now in
+    let found : List SystemValue = map rc_value c.args.tracks.now in
+    let own : c.in_ok-sets.sets ≡ sets_below table.listed.header found = c.in_ok-sets.ensures ∙ ap (λ (h : Header). sets_below h found) c.header.ensures in
+    ap (λ (d : Automaton). d.sizes) c.dfa.ensures.value ∙ (relation_sizes table found c.in_ok-relation.relation c.args.steps.now c.table_relation.new.steps c.requires c.in_ok-relation.ensures ∙ sym (ap sizes_of own))
+
+pub returns-in_err-reply : goal.returns-in_err-reply
+returns-in_err-reply c =
+    let p = err_from_is_err_and c.from_residual-in_err-reply.result c.from_residual-in_err-reply.ensures.1 in
+    let table = c.args.table.now in
+    let asked = c.args.asked.now in
+    let found : List SystemValue = map rc_value c.args.tracks.now in
+    let own : c.in_ok-sets.sets ≡ sets_below table.listed.header found = c.in_ok-sets.ensures ∙ ap (λ (h : Header). sets_below h found) c.header.ensures in
+    let on = subst (λ (sets : List (List ℤ)). IsAskedOn sets asked.question) own c.in_ok-refuse_place.ensures in
+    let relation = c.in_ok-relation.relation in
+    let fault = c.in_err-reply.field-0.0 in
+    let direction : c.direction_of.result ≡ tracks.direction_of found = c.direction_of.ensures in
+    let moved = subst (λ (sets : List (List ℤ)). IsUnanswered (is_listed c.dfa.result.now (Some c.direction_of.result)) sets asked.question fault) own c.in_err-reply.ensures in
+    let turned = subst (λ (w : Direction). IsUnanswered (is_listed c.dfa.result.now (Some w)) (sets_below table.listed.header found) asked.question fault) direction moved in
+    let long = subst (λ (d : Automaton). IsUnanswered (is_listed d (Some (tracks.direction_of found))) (sets_below table.listed.header found) asked.question fault) c.dfa.ensures.value turned in
+    rw (p.1, p.2)
+    (lines_refused (λ (r : Result Automaton StepFault). DoesRelation found table.listed c.args.steps.now r c.table_relation.new.steps) (Some (tracks.direction_of found)) (sets_below table.listed.header found) asked.name asked.question on relation.automaton (relation, refl, c.in_ok-relation.ensures) fault long)
+
+pub returns : goal.returns
+returns c =
+    let table = c.args.table.now in
+    let asked = c.args.asked.now in
+    let found : List SystemValue = map rc_value c.args.tracks.now in
+    let own : c.in_ok-sets.sets ≡ sets_below table.listed.header found = c.in_ok-sets.ensures ∙ ap (λ (h : Header). sets_below h found) c.header.ensures in
+    let on = subst (λ (sets : List (List ℤ)). IsAskedOn sets asked.question) own c.in_ok-refuse_place.ensures in
+    let relation = c.in_ok-relation.relation in
+    let direction : c.direction_of.result ≡ tracks.direction_of found = c.direction_of.ensures in
+    let moved = subst (λ (sets : List (List ℤ)). Answers (is_listed c.dfa.result.now (Some c.direction_of.result)) sets asked.question c.in_ok-reply.reply) own c.in_ok-reply.ensures in
+    let turned = subst (λ (w : Direction). Answers (is_listed c.dfa.result.now (Some w)) (sets_below table.listed.header found) asked.question c.in_ok-reply.reply) direction moved in
+    let answers = subst (λ (d : Automaton). Answers (is_listed d (Some (tracks.direction_of found))) (sets_below table.listed.header found) asked.question c.in_ok-reply.reply) c.dfa.ensures.value turned in
+    record { on = on; read = relation.automaton; does = (relation, refl, c.in_ok-relation.ensures); answers = answers }

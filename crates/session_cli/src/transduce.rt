@@ -1,0 +1,144 @@
+//! The command `transduce`: the outputs of a transducer that runs over a word, kept as a word.
+
+ghost use Rattle.command_head.specs.HeadViews.{image_view};
+ghost use Rattle.definitions.specs.Texts.{Stores};
+ghost use Rattle.definitions.specs.Trees.{Ledger, custom_of};
+ghost use Rattle.system_files.specs.SystemFiles.{Custom};
+ghost use Rattle.session_cli.specs.OldWordMakes.{AreOldNames, IsLoadedOld};
+ghost use Rattle.session_cli.specs.Plans.{Makes, Plans};
+ghost use Rattle.session_cli.specs.StoreReads.{FromFiles, FromTexts};
+ghost use Rattle.session_cli.specs.TransduceMakes.{HasMsdBase, MakesAfterSystems, MakesAfterTable, MakesTransduced, ReadsTransducer};
+ghost use Rattle.session_cli.specs.TransduceOutcomes.{after_transduce_head, transduce_checks};
+
+use crate::base_system::base_of;
+use crate::fault::Fault;
+use crate::old_word::{OldNames, OldWord, kept, load_old, names_of, word_in};
+use crate::plan::{Made, Plan};
+use crate::step_options::StepOptions;
+use crate::table_reading::read_tables;
+use crate::transducing::transduced;
+use crate::word_text::letters_fit;
+use command_head::{ImageParts, image_parts};
+use digit_tuple::direction::Direction;
+use digit_tuple::steps::Steps;
+use formula_build::Names;
+use named_systems::SealedSystems;
+use std::alloc::Global;
+use transducer_loading::load_transducer;
+use transducer_reading::Transducer;
+use wal_outside::{Folder, Store};
+use word_output::word::Word;
+
+/// What a `transduce` stores and prints, or the first of its checks that refuses it: the shape of its head, the file of the
+/// transducer, that of the old word, the word's systems, that it has one track, over a base whose most significant digit comes
+/// first, its steps, and the length of the text to store. Each file is read once, and no text is changed. Built-in systems that
+/// it names first are sealed and kept.
+pub(crate) fn plan_transduce<T: Store>(
+    alloc: Global,
+    options: StepOptions,
+    text: &[u8],
+    systems: &mut SealedSystems,
+    store: &mut T,
+) -> Result<Plan, Fault>
+    ensures { FromFiles (λ found plan. (ledger : Ledger) → Stores ledger found → Plans (custom_of ledger) (transduce_checks options.limit ledger text.now) options.shown plan) (T.view store.old) result (T.view store.new) }
+{
+    let head = image_parts(alloc, b"transduce", text)?;
+    match transduce_made(alloc, options, &head, systems, store) {
+        Ok(made) => Ok(Plan {
+            folder: Folder::Words,
+            name: head.word,
+            made,
+        }),
+        Err(fault) => Err(fault),
+    }
+}
+
+/// What is made by a head.
+fn transduce_made<T: Store>(
+    alloc: Global,
+    options: StepOptions,
+    head: &ImageParts,
+    systems: &mut SealedSystems,
+    store: &mut T,
+) -> Result<Made, Fault>
+    ensures { FromFiles (λ found made. (ledger : Ledger) → Stores ledger found → Makes (custom_of ledger) (after_transduce_head options.limit ledger (image_view head.now)) options.shown made) (T.view store.old) result (T.view store.new) }
+{
+    let read = read_transducer(alloc, head, store)?;
+    made_of(alloc, options, &read, systems, store)
+}
+
+/// A transducer, and the word over which it runs.
+#[derive(Drop)]
+struct ReadTransducer {
+    /// The transducer.
+    transducer: Transducer,
+    /// The word.
+    old: OldWord,
+}
+
+/// The transducer and the word that a head names, read from the store in this order.
+fn read_transducer<T: Store>(
+    alloc: Global,
+    head: &ImageParts,
+    store: &mut T,
+) -> Result<ReadTransducer, Fault>
+    ensures { FromFiles (ReadsTransducer (image_view head.now)) (T.view store.old) result (T.view store.new) }
+{
+    let transducer = load_transducer(alloc, &head.mapping, store)?;
+    let old = load_old(alloc, &head.old, store)?;
+    Ok(ReadTransducer { transducer, old })
+}
+
+/// What is made of a word whose table is loaded. Users' systems of its tracks are read and admitted first.
+fn made_of<T: Store>(
+    alloc: Global,
+    options: StepOptions,
+    read: &ReadTransducer,
+    systems: &mut SealedSystems,
+    store: &mut T,
+) -> Result<Made, Fault>
+    requires { IsLoadedOld read.now.old }
+    ensures { FromTexts (MakesAfterTable options read.now) (T.view store.old) result (T.view store.new) }
+{
+    let named = names_of(alloc, options.limit, &read.old, systems, store)?;
+    made_over(alloc, options.shown, read, named)
+}
+
+/// What is made of a word whose systems are sealed, each under its name, by the next steps.
+fn made_over(
+    alloc: Global,
+    shown: bool,
+    read: &ReadTransducer,
+    named: OldNames,
+) -> Result<Made, Fault>
+    requires old { IsLoadedOld read.now.old }
+    requires named { (custom : Custom) × AreOldNames read.now.old custom named.names }
+    ensures { (custom : Custom) → AreOldNames read.now.old custom named.names → MakesAfterSystems named.steps shown read.now custom result }
+{
+    let OldNames { names, mut steps } = named;
+    let over = base_of(alloc, &names.headers, &read.old.name, Some(Direction::Msd))?;
+    let word = transduced_word(alloc, read, &names, &mut steps)?;
+    letters_fit(&word);
+    let name = over.name(alloc)?;
+    let tracks = [name];
+    kept(alloc, &tracks, &word, &steps, shown)
+}
+
+/// The word of the outputs of the transducer that runs over the old word. The word's table is read first.
+fn transduced_word(
+    alloc: Global,
+    read: &ReadTransducer,
+    names: &Names,
+    steps: &mut Steps,
+) -> Result<Word, Fault>
+    requires old { IsLoadedOld read.now.old }
+    requires named { (custom : Custom) × AreOldNames read.now.old custom names.now }
+    requires over { HasMsdBase read.now }
+    ensures { (custom : Custom) → AreOldNames read.now.old custom names.now → MakesTransduced steps.old custom read.now result steps.new }
+{
+    names.systems.are_sealed();
+    let library = read_tables(alloc, &read.old.tables, &names.systems, steps)?;
+    let word = word_in(&library, &read.old.name);
+    let made = transduced(alloc, &read.transducer, word, steps)?;
+    Ok(made)
+}

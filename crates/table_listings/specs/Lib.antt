@@ -1,0 +1,4 @@
+-- Definitions that the contracts cite, in reading order.
+pub mod ListedLines
+pub mod Questions
+pub mod Laws
