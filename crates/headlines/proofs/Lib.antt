@@ -1,0 +1,16 @@
+pub mod QuotedTexts
+pub mod ClosedFormulas
+pub mod PlainTokens
+pub mod PlainTrees
+pub mod PlainTruth
+pub mod VerdictLines
+pub mod VerdictSteps
+pub mod StepTexts
+pub mod RunAnswers
+pub mod RunVerdictSteps
+pub mod AcceptedCommands
+pub mod SolutionSteps
+pub mod WordSteps
+pub mod NameSteps
+pub mod SystemSteps
+pub mod RefusalSteps

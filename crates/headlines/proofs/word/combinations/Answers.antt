@@ -1,0 +1,5 @@
+use Rattle.headlines.proofs.WordSteps as steps
+use Rattle.headlines.proofs.word.combinations.Goals as goal
+
+pub returns : goal.returns
+returns c = steps.combinations

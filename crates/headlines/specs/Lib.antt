@@ -1,0 +1,10 @@
+pub mod Sentences
+pub mod Verdicts
+pub mod PlainVerdicts
+pub mod Runs
+pub mod RunVerdicts
+pub mod Solutions
+pub mod Words
+pub mod Names
+pub mod OwnSystems
+pub mod Refusals

@@ -1,0 +1,18 @@
+//! What the file of a word says that a command makes.
+
+ghost use Rattle.headlines.specs.Words.{Promotions, Images, Combinations};
+
+/// A `promote` that is accepted stores a file that has at each place the letter of the morphism's fixed point.
+pub fn promotions()
+    ensures { Promotions }
+{}
+
+/// An `image` that is accepted stores a file that has at each place the letter of the images of the old word's letters, one after another.
+pub fn images()
+    ensures { Images }
+{}
+
+/// A `combine` that is accepted stores a file that has at each place the letter of the first listed automaton that holds of it, or 0.
+pub fn combinations()
+    ensures { Combinations }
+{}
