@@ -117,3 +117,26 @@ def random_expression(rng, letters, depth=2):
 
 def words_up_to(letters, length):
     return itertools.chain.from_iterable(itertools.product(letters, repeat=it) for it in range(length + 1))
+
+
+def joins(word, parts):
+    """Whether a word is joined of one word of each part, in order."""
+    if not parts:
+        return not word
+    return any(parts[0](word[:at]) and joins(word[at:], parts[1:]) for at in range(len(word) + 1))
+
+
+def repeats(word, part):
+    """Whether a word is joined of words of the part, none of which is empty."""
+    return not word or any(part(word[:at]) and repeats(word[at:], part) for at in range(1, len(word) + 1))
+
+
+def made_of(kind, parts):
+    """Whether a word is in what a language command makes of languages."""
+    return {
+        "union": lambda word: any(part(word) for part in parts),
+        "intersect": lambda word: all(part(word) for part in parts),
+        "concat": lambda word: joins(word, parts),
+        "star": lambda word: repeats(word, parts[0]),
+        "reverse": lambda word: parts[0](word[::-1]),
+    }[kind]

@@ -82,7 +82,7 @@ class Product(NamedTuple):
 
     def text(self, to):
         inner = self.term.text(to)
-        inner = f"({inner})" if isinstance(self.term, (Sum, Product)) else inner
+        inner = f"({inner})" if isinstance(self.term, (Sum, Product, Quotient)) else inner
         return f"{inner}*{self.count}" if to.toss() else f"{self.count}*{inner}"
 
     def code(self):
@@ -96,6 +96,30 @@ class Product(NamedTuple):
 
     def reach(self, name):
         return f"{self.count}*({self.term.reach(name)})"
+
+
+class Quotient(NamedTuple):
+    """The greatest number whose product with the divisor is at most the term."""
+
+    term: tuple
+    divisor: int
+
+    def text(self, to):
+        inner = self.term.text(to)
+        stands = not isinstance(self.term, (Sum, Product, Quotient)) or not isinstance(self.term, Sum) and to.toss()
+        return f"{inner if stands else f'({inner})'}/{self.divisor}"
+
+    def code(self):
+        return f"({self.term.code()}//{self.divisor})"
+
+    def parts(self):
+        return (self.term,)
+
+    def needs(self):
+        return self.term.needs()
+
+    def reach(self, name):
+        return self.term.reach(name)
 
 
 def defined(terms, code):
@@ -124,6 +148,7 @@ class Read(NamedTuple):
 
     word: object
     indices: tuple
+    is_partial: bool = False
 
     def text(self, to):
         if not self.indices:
@@ -147,10 +172,14 @@ class Letters(NamedTuple):
         return f"{self.left.text(to)}{self.sign}{self.right.text(to)}"
 
     def code(self):
-        return defined(self.parts(), f"{self.left.code()} {IN_PYTHON.get(self.sign, self.sign)} {self.right.code()}")
+        has = "".join(f"{it.code()} is not None and " for it in (self.left, self.right) if it.is_partial)
+        return defined(self.parts(), f"{has}{self.left.code()} {IN_PYTHON.get(self.sign, self.sign)} {self.right.code()}")
 
     def parts(self):
         return (*self.left.indices, *self.right.indices)
+
+    def is_partial(self):
+        return self.left.is_partial or self.right.is_partial
 
 
 class Call(NamedTuple):
@@ -204,7 +233,7 @@ class Join(NamedTuple):
 
 
 class Quantified(NamedTuple):
-    """A quantifier over a variable, below a bound or below none."""
+    """A quantifier over a variable: below a bound, below none, or for infinitely many numbers, which have no bound."""
 
     sign: str
     variable: Var
@@ -224,6 +253,8 @@ class Quantified(NamedTuple):
         if self.bound is None:
             reaches = [f"{it.left.reach(name)}+{it.right.reach(name)}" for it in atoms(self.body)]
             bound = f"2+max({','.join(reaches)},0)"
+            if self.sign == "I":
+                return f"any({self.body.code()} for {name} in [{bound}])"
         else:
             bound = self.bound.code()
         return f"{'any' if self.sign == 'E' else 'all'}({self.body.code()} for {name} in range({bound}))"
@@ -274,8 +305,12 @@ def quantifiers(formula):
 def is_plain(formula):
     """Whether the truth is found by trying: below bounds, or where comparisons alone decide."""
     if isinstance(formula, Quantified) and formula.bound is None:
-        return quantifiers(formula.body) == 0 and all(isinstance(it, Compare) for it in atoms(formula.body))
+        return quantifiers(formula.body) == 0 and all(isinstance(it, Compare) and not has_quotient(it) for it in atoms(formula.body))
     return all(is_plain(it) for it in formula.parts() if hasattr(it, "level"))
+
+
+def has_quotient(tree):
+    return isinstance(tree, Quotient) or any(has_quotient(it) for it in tree.parts())
 
 
 def has_difference(tree):

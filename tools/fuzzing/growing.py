@@ -1,5 +1,5 @@
 """Random terms and formulas."""
-from formulas import Call, Compare, In, Join, Letters, Not, Num, Product, Quantified, Read, Sum, Var, atoms, quantifiers
+from formulas import Call, Compare, In, Join, Letters, Not, Num, Product, Quantified, Quotient, Read, Sum, Var, atoms, has_quotient, quantifiers
 from laws import NAMES
 
 SIGNS = ["=", "!=", "<", ">", "<=", ">="]
@@ -7,7 +7,7 @@ CONNECTIVES = ["&", "&", "|", "|", "^", "=>", "<=>"]
 
 
 class Grower:
-    """Makes formulas over some definitions and words, each with a name and the tracks of its terms; a word also has its letters."""
+    """Makes formulas over definitions and words, each with a name and the tracks of its terms; a word also has its letters, and whether it lacks some."""
 
     def __init__(self, rng, tracks):
         self.rng, self.tracks = rng, tracks
@@ -23,6 +23,8 @@ class Grower:
             return Num(rng.choice([0, 1, 1, 2, 3, 5, 8, rng.randint(0, 40)]))
         if draw < 0.7:
             return Product(rng.choice([0, 1, 2, 2, 3, 3, 4, 5]), self.term(scope, track, depth - 1))
+        if draw < 0.78:
+            return Quotient(self.term(scope, track, depth - 1), rng.choice([1, 2, 2, 3, 4, 5, 6]))
         return Sum(self.term(scope, track, depth - 1), rng.choice("++-"), self.term(scope, track, depth - 1))
 
     def compare(self, scope, here):
@@ -31,7 +33,7 @@ class Grower:
         return made if track == here else In(track, made)
 
     def read(self, scope, word):
-        return Read(word[0], tuple(self.term(scope, track, 1) for track in word[1]))
+        return Read(word[0], tuple(self.term(scope, track, 1) for track in word[1]), word[3])
 
     def letters(self, scope):
         word = self.rng.choice(self.words)
@@ -61,9 +63,9 @@ class Grower:
             others = [it for it in scope if it.track == track]
             bound = rng.choice([Num(rng.randint(0, 8)), *(Sum(it, "+", Num(rng.randint(0, 3))) for it in others), *others])
         body = self.formula([*scope, named], track, depth - 1, free_of_bounds)
-        if not free_of_bounds and quantifiers(body) == 0 and all(isinstance(it, Compare) for it in atoms(body)) and rng.random() < 0.6:
-            bound = None
-        made = Quantified(rng.choice("EA"), named, bound, body)
+        if not free_of_bounds and quantifiers(body) == 0 and rng.random() < 0.6:
+            bound = None if all(isinstance(it, Compare) and not has_quotient(it) for it in atoms(body)) else bound
+        made = Quantified(rng.choice("EA" if bound else "EEAAI"), named, bound, body)
         return made if track == here else In(track, made)
 
     def formula(self, scope, here, depth, free_of_bounds=False):

@@ -1,5 +1,5 @@
 """Formulas rewritten by laws of logic and of arithmetic, which keep their free variables."""
-from formulas import Call, Compare, In, Join, Letters, Not, Num, Product, Quantified, Sum, Var, has_difference, variables
+from formulas import Call, Compare, In, Join, Letters, Not, Num, Product, Quantified, Quotient, Sum, Var, has_difference, variables
 
 TURNED = {"=": "=", "!=": "!=", "<": ">", ">": "<", "<=": ">=", ">=": "<="}
 OPPOSITE = {"=": "!=", "!=": "=", "<": ">=", ">": "<=", "<=": ">", ">=": "<"}
@@ -37,10 +37,16 @@ def of_term(rng, term):
         if term.count == 2:
             return Sum(term.term, "+", term.term)
         return Sum(term.term, "+", Product(term.count - 1, term.term)) if term.count > 2 else term
+    if isinstance(term, Quotient):
+        inner, divisors = of_term(rng, term.term), [it for it in range(2, term.divisor) if term.divisor % it == 0]
+        if not divisors or rng.random() < 0.4:
+            return Quotient(inner, term.divisor)
+        first = rng.choice(divisors)
+        return Quotient(Quotient(inner, first), term.divisor // first)
     if isinstance(term, Sum):
         left, right = of_term(rng, term.left), of_term(rng, term.right)
         return Sum(right, "+", left) if term.sign == "+" and rng.random() < 0.5 else Sum(left, term.sign, right)
-    return rng.choice([term, Sum(term, "+", Num(0)), Product(1, term)])
+    return rng.choice([term, Sum(term, "+", Num(0)), Product(1, term), Quotient(term, 1), Quotient(Product(3, term), 3)])
 
 
 def of_compare(rng, it):
@@ -64,7 +70,7 @@ def of_compare(rng, it):
 
 def of_letters(rng, it):
     forms = [Letters(it.right, TURNED[it.sign], it.left)]
-    if not has_difference(it):
+    if not has_difference(it) and not it.is_partial():
         forms.append(Not(Letters(it.left, OPPOSITE[it.sign], it.right)))
     return rng.choice(forms)
 
@@ -98,6 +104,10 @@ def of_quantified(rng, it):
     body = rewritten(rng, it.body)
     named = fresh(rng, it.variable.track, it, body)
     renamed = replaced(body, it.variable, named)
+    if it.sign == "I":
+        least = fresh(rng, it.variable.track, named, renamed)
+        beyond = Quantified("E", named, None, Join(Compare(named, rng.choice([">", ">="]), least), "&", renamed))
+        return rng.choice([Quantified("I", named, None, renamed), Quantified("A", least, None, beyond)])
     other = "A" if it.sign == "E" else "E"
     forms = [Quantified(it.sign, named, it.bound, renamed), Not(Quantified(other, it.variable, it.bound, Not(body)))]
     if it.bound is not None:

@@ -12,7 +12,8 @@ import sessions
 SECONDS = 60
 WIDTH = 1000
 ENDLESS = f"no end within {SECONDS} seconds"
-FORM = re.compile(rb"TRUE|FALSE|step \d+ [a-z]+ \d+ \d+|error \d+: F\d\d [A-Z][A-Za-z]+( [^\n]*)?")
+FORM = re.compile(rb"TRUE|FALSE|step \d+ [a-z]+ \d+ \d+|error \d+: F\d\d [A-Z][A-Za-z]+( [^\n]*)?|\[\]|(\[-?\d+(,-?\d+)*\])+")
+LISTED = re.compile(r"\[.*\]")
 FAULT = re.compile(r"error (\d+): (F\d\d.*)")
 STEP = re.compile(r"step (\d+) \w+ (\d+) (\d+)")
 # The faults that a session of valid commands may have: limits.
@@ -20,12 +21,13 @@ LIMITS = ("F18", "F19")
 
 
 class Outcome(NamedTuple):
-    """What a command gave: its fault, its verdict, the widths of its steps, and the text that it stored."""
+    """What a command gave: its fault, its verdict, the widths of its steps, the text that it stored, and the words that it listed."""
 
     fault: str
     verdict: object
     widths: list
     text: str
+    lines: list
 
 
 class Room:
@@ -57,8 +59,8 @@ class Room:
         return ran.returncode, ran.stdout
 
     def text_of(self, file):
-        path = self.folder / file
-        return path.read_text() if path.is_file() else None
+        path = self.folder / file if file else None
+        return path.read_text() if path and path.is_file() else None
 
 
 def script_of(commands, rng, shows_all):
@@ -83,7 +85,11 @@ def outcomes_of(commands, at, output, room):
         fault = FAULT.fullmatch(left[-1]) if left else None
         is_refused = bool(fault) and int(fault[1]) == line
         verdict = left.pop() if left and (is_refused or it.is_sentence) else ""
-        found[it.name] = Outcome(fault[2] if is_refused else "", {"TRUE": True, "FALSE": False}.get(verdict), widths, room.text_of(it.file))
+        lines = []
+        while it.is_list and left and LISTED.fullmatch(left[-1]):
+            lines.append(left.pop())
+        verdict = {"TRUE": True, "FALSE": False}.get(verdict)
+        found[it.name] = Outcome(fault[2] if is_refused else "", verdict, widths, room.text_of(it.file), lines)
         if shows and left and left.pop() != "TRUE":
             left.append(f"no end of {it.name}")
     return found, left[::-1]
@@ -114,10 +120,10 @@ def faults_of(session, found):
         elif outcome.fault:
             said.append(f"refused: {outcome.fault} of {it.text}")
             lost.add(it.name)
-        elif outcome.text is None:
+        elif outcome.text is None and it.file:
             said.append(f"stored nothing: {it.text}")
             lost.add(it.name)
-        elif it.is_sentence and outcome.text != f"{str(outcome.verdict).lower()}\n":
+        elif it.is_sentence and it.file and outcome.text != f"{str(outcome.verdict).lower()}\n":
             said.append(f"prints {outcome.verdict} and stores {outcome.text!r}: {it.text}")
     for check in session.checks:
         if not lost & set(check.names):

@@ -6,15 +6,19 @@ from pathlib import Path
 from typing import NamedTuple
 
 import expressions
+import lists
 import systems
 import tables
-from formulas import In, Not, Num, Quantified, Var, is_plain, quantifiers, variables
+import transducers
+from formulas import Call, In, Join, Not, Num, Quantified, Var, is_plain, quantifiers, variables
 from growing import Grower
 from laws import rewritten
 
 LIBRARY = Path(__file__).resolve().parent.parent.parent / "library"
-FOLDERS = {"def": "Automata Library", "reg": "Automata Library", "eval": "Result", "promote": "Word Automata Library",
-           "image": "Word Automata Library", "combine": "Word Automata Library", "morphism": "Morphism Library", "macro": "Macro Library"}
+LANGUAGE_COMMANDS = ["union", "intersect", "concat", "star", "reverse"]
+WORD_COMMANDS = ["promote", "image", "combine", "transduce", "convert"]
+FOLDERS = {"eval": "Result", "morphism": "Morphism Library", "macro": "Macro Library",
+           **dict.fromkeys(["def", "reg", *LANGUAGE_COMMANDS], "Automata Library"), **dict.fromkeys(WORD_COMMANDS, "Word Automata Library")}
 LIBRARY_WORDS = {"2": ["T", "VTM", "RS", "P", "PD", "BS"], "3": ["T3", "MW", "SC", "CA"], "13": ["L"], "fib": ["F", "FTM"],
                  "trib": ["TR"], "pell": ["PELL"], "nara": ["NA"]}
 # A definition is compared with the tool below a bound, by the number of its variables and the depth of its quantifiers.
@@ -22,6 +26,8 @@ BOUNDS = [(1, 1, 1, 1), (60, 60, 60, 40), (60, 30, 14, 10), (12, 8, 6, 5)]
 
 
 class Command(NamedTuple):
+    """A command that stores a file, or, as `test` and `inf`, none: then its name is one of the tool's."""
+
     kind: str
     name: str
     text: str
@@ -29,7 +35,11 @@ class Command(NamedTuple):
 
     @property
     def file(self):
-        return f"{FOLDERS[self.kind]}/{self.name}.txt"
+        return f"{FOLDERS[self.kind]}/{self.name}.txt" if self.kind in FOLDERS else None
+
+    @property
+    def is_list(self):
+        return self.kind == "test"
 
 
 class Check(NamedTuple):
@@ -85,7 +95,7 @@ class Session:
     def __init__(self, seed):
         self.rng = random.Random(seed)
         self.commands, self.checks, self.files = [], [], {}
-        self.fixed, self.space, self.count = set(), {}, 0
+        self.fixed, self.space, self.count, self.languages = set(), {}, 0, []
         self.worlds = self.some_worlds()
         self.is_native = len(self.worlds) == 1
         self.printers = [Printer(self.rng, world, f"_{at}" if len(self.worlds) > 1 else "", self) for at, world in enumerate(self.worlds)]
@@ -115,7 +125,9 @@ class Session:
             return [self.add_definition] * 5 + [self.add_sentence] * 4 + [self.add_combined_word]
         formulas = [self.add_definition] * 5 + [self.add_sentence] * 3 + [self.add_combined_word]
         words = [self.add_given_word, self.add_promoted_word, self.add_promoted_word, self.add_image, self.add_image]
-        return formulas + words + [self.add_given_automaton, self.add_given_automaton, self.add_reg, self.add_sets]
+        words += [self.add_transduced, self.add_converted]
+        languages = [self.add_sets, self.add_language, self.add_language]
+        return formulas + words + languages + [self.add_given_automaton, self.add_given_automaton, self.add_reg, self.add_list, self.add_list]
 
     # Commands and checks
 
@@ -221,7 +233,7 @@ class Session:
         self.check("letters", [name], test)
 
     def has_word(self, name, tracks, letters):
-        self.grower.words.append((name, list(tracks), sorted(letters)))
+        self.grower.words.append((name, list(tracks), sorted(letters - {None}), None in letters))
 
     def take_library_words(self):
         for track in sorted(set(self.grower.tracks)):
@@ -233,7 +245,8 @@ class Session:
         rows, over = tables.rows_of(table), table.tracks
         self.space[name] = lru_cache(maxsize=None)(lambda at: tables.output_of(table, systems.word_of(over, [at]), rows))
         self.fixed.add(name)
-        self.has_word(name, [track], set(table.outputs.values()))
+        lacks_some = len(table.targets) < len(table.states) * systems.digits_of(over[0]) and systems.kind_of(over[0]).isdigit()
+        self.has_word(name, [track], set(table.outputs.values()) | ({None} if lacks_some else set()))
 
     def add_combined_word(self):
         rng = self.rng
@@ -280,7 +293,10 @@ class Session:
     def add_given_word(self):
         rng, system = self.rng, self.worlds[0][0]
         states, digits = rng.randint(1, 4), range(systems.digits_of(system))
-        rows = [f"{at} {rng.randint(-2, 3)}\n" + "".join(f"{it} -> {rng.randrange(states)}\n" for it in digits) for at in range(states)]
+        lacking = rng.choice([0, 0, 0.2])
+        output = lambda: "-" if rng.random() < lacking else rng.randint(-2, 3)
+        row = lambda: "".join(f"{it} -> {rng.randrange(states)}\n" for it in digits if rng.random() >= lacking)
+        rows = [f"{at} {output()}\n{row()}" for at in range(states)]
         name, text = self.fresh("v"), "\n".join([system + "\n", *rows])
         self.files[f"Word Automata Library/{name}.txt"] = text
         self.takes_word(name, 0, tables.parse(text))
@@ -304,18 +320,49 @@ class Session:
         words = [it for it in self.grower.words if it[1] == [0]]
         if not words:
             return
-        old, _, letters = rng.choice(words)
+        old, _, letters, lacks_some = rng.choice(words)
+        if not letters:
+            return
         width = rng.choice([1, 1, 2, 3])
         images = {it: [rng.randint(-1, 3) for _ in range(width)] for it in letters}
         morphism = self.command("morphism", "p", f'"{rules_text(rng, images)}"')
         name, read = self.fresh("w"), self.space[old]
         self.command("image", "", f"{morphism} {old}", "", False, name)
-        self.has_made(name, lru_cache(maxsize=None)(lambda at: images[read(at // width)][at % width]), images)
+        images[None] = [None] * width
+        self.has_made(name, lru_cache(maxsize=None)(lambda at: images[read(at // width)][at % width]), images if lacks_some else only_letters(images))
 
     def has_made(self, name, letter, images):
         self.space[name] = letter
         self.letters_as_in_tool(name, [0], self.worlds[0], letter)
         self.has_word(name, [0], {it for image in images.values() for it in image})
+
+    def add_transduced(self):
+        rng, system = self.rng, self.worlds[0][0]
+        words = [it for it in self.grower.words if it[1] == [0] and it[2]]
+        if not words or not systems.is_msd(system) or not systems.kind_of(system).isdigit():
+            return
+        old, _, letters, _ = rng.choice(words)
+        made = transducers.random_transducer(rng, letters)
+        transducer, name = self.fresh("t"), self.fresh("w")
+        self.files[f"Transducer Library/{transducer}.txt"] = made.text(rng)
+        self.command("transduce", "", f"{transducer} {old}", "", False, name)
+        run = transducers.Run(made, self.space[old])
+        self.space[name] = run.output_at
+        self.letters_as_in_tool(name, [0], self.worlds[0], run.output_at)
+        self.has_word(name, [0], {output for _, output in made.lines.values()} | {None})
+
+    def add_converted(self):
+        """A word over a related base, and the same word in its own system again."""
+        rng, system = self.rng, self.worlds[0][0]
+        words = [it[0] for it in self.grower.words if it[1] == [0]]
+        powers = {"2": [2, 4, 8, 16], "4": [2, 4, 8], "3": [3, 9], "5": [5, 25]}.get(systems.kind_of(system))
+        if not words or not powers:
+            return
+        old, other = rng.choice(words), f"{rng.choice(['msd', 'lsd'])}_{rng.choice(powers)}"
+        name, back = self.fresh("w"), self.fresh("w")
+        for new, over, of in ((name, other, old), (back, system, name)):
+            self.command("convert", "", f"{over} {of}", "", False, new)
+            self.letters_as_in_tool(new, [0], [over], self.space[old])
 
     def add_reg(self):
         rng = self.rng
@@ -333,19 +380,69 @@ class Session:
     def add_sets(self):
         rng = self.rng
         sets = [sorted(rng.sample([-1, 0, 1, 2, 7, 10], rng.randint(1, 3))) for _ in range(rng.choice([1, 1, 2]))]
-        letters = list(itertools.product(*sets))
-        text, made = expressions.random_expression(rng, letters)
+        if self.languages and rng.random() < 0.6:
+            sets = rng.choice(self.languages)[1]
+        text, made = expressions.random_expression(rng, list(itertools.product(*sets)))
         heads = " ".join("{" + ",".join(map(str, it)) + "}" for it in sets)
-        name = self.command("reg", "l", f'{heads} "{text}"')
+        self.has_language(self.command("reg", "l", f'{heads} "{text}"'), sets, made.matches)
+
+    def has_language(self, name, sets, matches):
+        """The stored language has the words that the tool finds."""
+        letters = list(itertools.product(*sets))
         words = list(expressions.words_up_to(letters, 6 if len(letters) < 4 else 3))
+        matches = lru_cache(maxsize=None)(matches)
 
         def test(it):
             table = tables.parse(it.text)
             rows = tables.rows_of(table)
-            wrong = next((word for word in words if bool(tables.output_of(table, word, rows)) != made.matches(word)), None)
+            wrong = next((word for word in words if bool(tables.output_of(table, word, rows)) != matches(word)), None)
             return "" if wrong is None else f"the word {wrong}"
-        self.check("expression", [name], test)
+        self.check("language", [name], test)
         self.is_canonical(name)
+        self.languages.append((name, sets, matches))
+
+    def add_language(self):
+        rng = self.rng
+        if not self.languages:
+            self.add_sets()
+        kind, sets = rng.choice(LANGUAGE_COMMANDS), rng.choice(self.languages)[1]
+        alike = [it for it in self.languages if it[1] == sets]
+        chosen = [rng.choice(alike) for _ in range(1 if kind in ("star", "reverse") else rng.choice([1, 2, 2, 3]))]
+        name = self.command(kind, "l", " ".join(it[0] for it in chosen))
+        self.has_language(name, sets, expressions.made_of(kind, [it[2] for it in chosen]))
+
+    def add_list(self):
+        """The first words of a language, or of a relation, as `test` and `inf` have them."""
+        rng, count = self.rng, self.rng.choice([0, 1, 3, 10, 30])
+        choices = [(it, None) for it in self.languages] + [(it, it[1]) for it in self.grower.definitions]
+        if not choices:
+            return
+        chosen, tracks = rng.choice(choices)
+        listed = listed_words(chosen, self.space, tracks and self.systems_of(tracks, self.worlds[0]))
+        at = rng.randrange(-1, min(len(listed), 20))
+        place = f' "{lists.text_of(listed[at])}"' if at >= 0 else ""
+        wanted = [lists.text_of(word) for word in listed[at + 1:]]
+        name = self.fresh("q")
+        self.commands.append(Command("test", name, f"test {chosen[0]} {count}{place}"))
+        self.check("list", [name], lambda it: lists.differs(it.lines, wanted, count))
+        if tracks:
+            self.add_infinity(chosen[0], tracks)
+
+    def add_infinity(self, name, tracks):
+        """Whether infinitely many tuples satisfy a definition, by `inf` and by a sentence."""
+        used = [Var(it, track) for it, track in zip("xyz", tracks)]
+        parts = []
+        for it in used:
+            body = Call(name, tuple(used))
+            for other in used:
+                body = body if other == it else In(other.track, Quantified("E", other, None, body))
+            parts.append(In(it.track, Quantified("I", it, None, body)))
+        formula = parts[0]
+        for part in parts[1:]:
+            formula = Join(formula, "|", part)
+        asked, told = self.fresh("q"), self.command("eval", "e", f'"{self.printers[0].whole(formula)}"', "", True)
+        self.commands.append(Command("inf", asked, f"inf {name}", True))
+        self.check("infinity", [asked, told], lambda a, b: "" if a.verdict == b.verdict else f"`inf` says {a.verdict}")
 
 
 def held_in_python(formula, used, bound, space):
@@ -361,6 +458,18 @@ def first_of(stored, tools):
         return "another header"
     differ = sorted(stored ^ tools)
     return f"at {differ[0]} the tool says {differ[0] in tools}" if differ else ""
+
+
+def only_letters(images):
+    return {letter: image for letter, image in images.items() if letter is not None}
+
+
+def listed_words(chosen, space, over):
+    """Words of a language, or shortest representations of a relation's tuples, up to a length, in the order of a list."""
+    if over is None:
+        letters = list(itertools.product(*chosen[1]))
+        return [word for word in expressions.words_up_to(letters, 6 if len(letters) < 4 else 3) if chosen[2](word)]
+    return lists.representations(over, space[chosen[0]])
 
 
 def rules_text(rng, images):

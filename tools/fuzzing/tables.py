@@ -6,7 +6,7 @@ import systems
 
 
 class Table(NamedTuple):
-    """A table: what its header says, its states in order, their outputs, and the targets by state and letter."""
+    """A table: what its header says, its states in order, their outputs, or none, and the targets by state and letter."""
 
     tracks: list
     states: list
@@ -27,9 +27,9 @@ def parse(text):
     for line in lines[1:]:
         left, arrow, right = line.partition("->")
         if not arrow:
-            state, output = map(int, left.split())
-            table.states.append(state)
-            table.outputs[state] = output
+            state, output = left.split()
+            table.states.append(int(state))
+            table.outputs[int(state)] = None if output == "-" else int(output)
             continue
         choices = [digits_of_track(track) if it == "*" else [int(it)] for it, track in zip(left.split(), tracks)]
         for letter in itertools.product(*choices):
