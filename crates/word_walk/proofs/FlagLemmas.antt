@@ -1,24 +1,16 @@
 -- What flags of states say of transitions.
-use Rattle.std.proofs.Common.{◌≡◌, ◌⊎◌, inl, inr, ℕ, suc, ◌<◌, ◌&&◌, Bool, true, false, cond, nat_le, ◌||◌, List, [], ◌∷◌, length, get_or, Some, refl, sym, ap, ◌∙◌, arith}
+use Rattle.std.proofs.Common.{◌≡◌, ◌⊎◌, inl, inr, ℕ, suc, ◌<◌, Bool, true, false, ◌||◌, List, [], ◌∷◌, length, get_or, refl, sym, ap, ◌∙◌, arith}
 use Rattle.std.proofs.lemmas.Bool.{cases_Bool, true≢false}
 use Rattle.std.proofs.lemmas.List.Folds.{list_any_at}
-use Rattle.std.specs.List.{All, find, list_any}
+use Rattle.std.specs.List.{All, list_any}
 use Rattle.digit_tuple.specs.Deterministic.{Automaton, IsTable, letters_of, states_of, transitions_of}
 use Rattle.digit_tuple.proofs.DfaLemmas.{row_at}
 use Rattle.digit_tuple.specs.declared.transitions.Transition.{Transition}
-use Rattle.word_walk.specs.Levels.{IsLevel, first_live, lives}
-
-find_same : (p r : Transition → Bool) (es : List Transition) → All (λ e. p e ≡ r e) es → find p es ≡ find r es
-find_same p r [] same = refl
-find_same p r (e ∷ es) same = ap (λ b. cond b (Some e) (find p es)) (same 0 e (omega arith)) ∙ ap (cond (r e) (Some e)) (find_same p r es (λ k z within. same (suc k) z (omega (arith, within))))
+use Rattle.word_walk.specs.Levels.{IsLevel, lives}
 
 pub list_any_same : (p r : Transition → Bool) (es : List Transition) → All (λ e. p e ≡ r e) es → list_any p es ≡ list_any r es
 list_any_same p r [] same = refl
 list_any_same p r (e ∷ es) same = ap (λ b. b || list_any p es) (same 0 e (omega arith)) ∙ ap (λ b. r e || b) (list_any_same p r es (λ k z within. same (suc k) z (omega (arith, within))))
-
-pub first_live-level : (d : Automaton) (m from : ℕ) (flags : List Bool) (es : List Transition) → IsLevel d m flags → All (λ e. e.target < states_of d) es
-    → find (λ e. nat_le from e.letter && get_or flags e.target false) es ≡ first_live d m from es
-first_live-level d m from flags es level targets = find_same _ _ es (λ k z within. ap (λ b. nat_le from (get_or es k z).letter && b) (level.tells (get_or es k z).target (targets k z within)))
 
 -- the level of one letter more
 pub IsLevel-next : (d : Automaton) (m : ℕ) (flags next : List Bool) → IsTable (letters_of d) d.states → IsLevel d m flags → length next ≡ states_of d

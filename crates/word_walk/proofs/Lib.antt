@@ -11,5 +11,6 @@ pub mod NearLemmas
 pub mod PathLemmas
 pub mod FlagLemmas
 pub mod LeastLemmas
+pub mod DistanceLemmas
 pub mod CodeLemmas
 pub mod ValueLemmas

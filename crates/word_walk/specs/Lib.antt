@@ -5,6 +5,7 @@ pub mod Walks
 pub mod ListedKeys
 pub mod ListedKeyLaws
 pub mod Levels
+pub mod Distances
 pub mod Lengths
 pub mod Raising
 pub mod Infinity

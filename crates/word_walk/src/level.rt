@@ -1,7 +1,7 @@
 //! The states from which a word of one length is accepted.
 
-ghost use Rattle.std.specs.Prelude.{◌≡◌, ℕ, suc, ◌<◌, ◌&&◌, false, nat_le, length, slice_index_or, IfOk};
-ghost use Rattle.std.specs.List.{All, find, list_any};
+ghost use Rattle.std.specs.Prelude.{◌≡◌, ℕ, suc, ◌<◌, false, length, slice_index_or, IfOk};
+ghost use Rattle.std.specs.List.{All, list_any};
 ghost use Rattle.digit_tuple.specs.Deterministic.{states_of};
 ghost use Rattle.word_walk.specs.Levels.{IsLevel};
 
@@ -77,18 +77,5 @@ impl Level {
         ensures { result ≡ list_any (λ live. live) self.now }
     {
         self.flags.iter().any(|live| *live)
-    }
-
-    /// The first transition by a letter from a number on that leads to a state from which one is accepted.
-    pub(crate) fn first_live(&self, from: u64, row: &[Transition]) -> Option<Transition>
-        requires { All (λ transition. transition.target < length self.now) row.now }
-        ensures { result ≡ find (λ transition. nat_le from transition.letter && slice_index_or self.now transition.target false) row.now }
-    {
-        for transition in row {
-            if from <= u64::from(transition.letter) && self.lives(transition.target) {
-                return Some(*transition);
-            }
-        }
-        None
     }
 }

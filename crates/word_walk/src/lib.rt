@@ -1,11 +1,18 @@
 //! The words that an automaton accepts, one after another in shortlex order: shorter words first, and words of one length
 //! letter by letter.
 //!
-//! A walk keeps a level for each length up to the longest that it looked at: the states from which a word of this length is
-//! accepted. The first one takes the automaton that is minimal for the listed words. After that a word takes time in
-//! proportion to its length and to the transitions of the states that it leads through, and a new level the time of one look
-//! at each transition. Memory goes with the number of states times the length of the longest word, and not with the number
-//! of words. Not proved: the costs.
+//! A walk keeps how far each state is from acceptance, which one search backwards finds when the walk is made: 4 bytes for
+//! each state. Of a word that is no longer than the shortest one from a state that tells all, so a walk through words of
+//! the least length needs no more. Where a longer word is looked at, it keeps a level for each length up to that of the
+//! longest: the states from which a word of this length is accepted, a byte for each state. A level takes one look at
+//! each transition.
+//!
+//! To make a walk takes the time that it takes to minimise the automaton, and to search it. Then a word takes time in
+//! proportion to its length and to the transitions of the states that it leads through, and the levels that it is the
+//! first one to need. Memory goes with the number of states while words have the least length; for longer ones with
+//! the number of states times the length of the longest, and never with the number of words. Not proved: the costs, and
+//! that the search finds the distances: they are compared with the transitions, and where they did not fit, levels would
+//! do for them.
 #![tactic(auto)]
 
 /// Laws of the definitions.
@@ -17,7 +24,10 @@ mod listed_words;
 /// The states from which a word of one length is accepted.
 mod level;
 
-/// An automaton with its levels.
+/// How many letters a shortest accepted word has, from each state.
+mod distances;
+
+/// An automaton with its distances and levels.
 mod listing;
 
 /// Walks through words.

@@ -1,39 +1,79 @@
-//! An automaton with its levels.
+//! An automaton with its distances and levels.
 
-ghost use Rattle.std.specs.Prelude.{◌≡◌, ℕ, suc, ◌<◌, ◌≤◌, ◌^◌, ◌++◌, Bool, true, false, List, Some, length, IfOk, IfSome, OnOk, MatchOption};
+ghost use Rattle.std.specs.Prelude.{◌≡◌, ℕ, suc, ◌<◌, ◌≤◌, ◌^◌, ◌++◌, Bool, true, false, List, Some, length, IfOk, OnOk, MatchOption};
+ghost use Rattle.std.specs.List.{All};
 ghost use Rattle.std.specs.Option.{option_map};
 ghost use Rattle.digit_tuple.specs.Deterministic.{IsTable, letters_of, states_of};
+ghost use Rattle.word_walk.specs.Distances.{AreDistances};
 ghost use Rattle.word_walk.specs.Lengths.{HasNoLength, IsFirstLength, IsFirstLonger};
-ghost use Rattle.word_walk.specs.Levels.{AreLevels, IsLevel, least_word};
+ghost use Rattle.word_walk.specs.Levels.{AreLevels, IsLevel, first_live, least_word, lives};
 ghost use Rattle.word_walk.specs.Raising.{path_of, raised, word_by};
 
+use crate::distances::Distances;
 use crate::level::Level;
 use digit_tuple::dfa::Dfa;
 use digit_tuple::faults::OutOfMemory;
 use digit_tuple::transitions::Transition;
 use std::alloc::Global;
 
-/// An automaton, and the levels of the lengths so far.
+/// An automaton, the distances of its states, and the levels of the lengths so far. Levels are made where a distance
+/// doesn't tell: of words that are longer than the shortest one from a state.
 #[derive(Drop)]
 pub(crate) struct Listing {
     alloc: Global,
     pub(crate) dfa: Dfa,
+    distances: Distances,
     levels: Vec<Level>,
     ghost is_table: { IsTable (letters_of dfa) dfa.states },
+    ghost are_distances: { AreDistances dfa distances },
     ghost are_levels: { AreLevels dfa levels.items },
 }
 
 impl Listing {
-    /// The automaton, without levels.
-    pub(crate) fn new(alloc: Global, dfa: Dfa) -> Self
+    /// The automaton with its distances, without levels.
+    pub(crate) fn new(alloc: Global, dfa: Dfa) -> Result<Self, OutOfMemory>
         requires { IsTable (letters_of dfa) dfa.states }
-        ensures { result.dfa ≡ dfa }
+        ensures { IfOk result (λ listing. listing.dfa ≡ dfa) }
     {
-        Listing {
+        let distances = Distances::new(alloc, &dfa)?;
+        Ok(Listing {
             alloc,
             dfa,
+            distances,
             levels: Vec::new(alloc),
+        })
+    }
+
+    // Whether a word of a length is accepted from the state.
+    fn lives(&mut self, size: usize, state: u32) -> Result<bool, OutOfMemory>
+        requires { state < states_of self.old.dfa }
+        ensures same { self.new.dfa ≡ self.old.dfa }
+        ensures lives { IfOk result (λ is. is ≡ lives self.old.dfa size state) }
+    {
+        if let Some(is) = self.distances.tells(size, state) {
+            return Ok(is);
         }
+        self.grow(size)?;
+        Ok(self.levels[size].lives(state))
+    }
+
+    // The first transition by a letter from a number on after which a word of a length is accepted.
+    fn first_live(
+        &mut self,
+        size: usize,
+        from: u64,
+        row: &[Transition],
+    ) -> Result<Option<Transition>, OutOfMemory>
+        requires { All (λ transition. transition.target < states_of self.old.dfa) row.now }
+        ensures same { self.new.dfa ≡ self.old.dfa }
+        ensures first { IfOk result (λ found. found ≡ first_live self.old.dfa size from row.now) }
+    {
+        for transition in row {
+            if from <= u64::from(transition.letter) && self.lives(size, transition.target)? {
+                return Ok(Some(*transition));
+            }
+        }
+        Ok(None)
     }
 
     // Makes the levels up to a length.
@@ -63,14 +103,13 @@ impl Listing {
         ensures same { self.new.dfa ≡ self.old.dfa }
         ensures raised { IfOk result (λ found. option_map (λ v. v.items) found ≡ raised self.old.dfa 0 word.now) }
     {
-        self.grow(word.len())?;
         let path = self.path(word)?;
         let mut row = Vec::new(self.alloc);
         for at in (0..path.len()).rev() {
             let rest = word.len() - 1 - at;
             self.dfa.transitions_into(path[at], &mut row)?;
             let greater = u64::from(word[at]) + 1;
-            if let Some(transition) = self.levels[rest].first_live(greater, &row) {
+            if let Some(transition) = self.first_live(rest, greater, &row)? {
                 return Ok(Some(self.word_after(&word[..at], transition, rest)?));
             }
         }
@@ -95,14 +134,14 @@ impl Listing {
 
     // The prefix, the transition's letter, and the first accepted word of a length.
     fn word_after(
-        &self,
+        &mut self,
         prefix: &[u32],
         transition: Transition,
         size: usize,
     ) -> Result<Vec<u32>, OutOfMemory>
-        requires target { transition.target < states_of self.now.dfa }
-        requires levels { size ≤ length self.now.levels.items }
-        ensures { IfOk result (λ word. word.items ≡ prefix.now ++ word_by self.now.dfa size transition) }
+        requires { transition.target < states_of self.old.dfa }
+        ensures same { self.new.dfa ≡ self.old.dfa }
+        ensures word { IfOk result (λ word. word.items ≡ prefix.now ++ word_by self.old.dfa size transition) }
     {
         let mut word = Vec::from_slice(self.alloc, prefix)?;
         word.push(transition.letter)?;
@@ -111,16 +150,21 @@ impl Listing {
     }
 
     // Adds the first word of a length that is accepted from the state.
-    fn push_least(&self, state: u32, size: usize, word: &mut Vec<u32>) -> Result<(), OutOfMemory>
-        requires state { state < states_of self.now.dfa }
-        requires levels { size ≤ length self.now.levels.items }
-        ensures { OnOk result (word.new.items ≡ word.old.items ++ least_word self.now.dfa size state) }
+    fn push_least(
+        &mut self,
+        state: u32,
+        size: usize,
+        word: &mut Vec<u32>,
+    ) -> Result<(), OutOfMemory>
+        requires { state < states_of self.old.dfa }
+        ensures same { self.new.dfa ≡ self.old.dfa }
+        ensures word { OnOk result (word.new.items ≡ word.old.items ++ least_word self.old.dfa size state) }
     {
         let mut row = Vec::new(self.alloc);
         let mut from = state;
         for rest in (0..size).rev() {
             self.dfa.transitions_into(from, &mut row)?;
-            match self.levels[rest].first_live(0, &row) {
+            match self.first_live(rest, 0, &row)? {
                 Some(transition) => {
                     word.push(transition.letter)?;
                     from = transition.target;
@@ -148,23 +192,31 @@ impl Listing {
     }
 
     // The least length from one on of which a word is accepted, if there is one: it is less than that and the number of
-    // states. It makes the levels up to the length.
+    // states.
     fn next_length(&mut self, least: usize) -> Result<Option<usize>, OutOfMemory>
         requires { least < 2 ^ 63 }
         ensures same { self.new.dfa ≡ self.old.dfa }
         ensures size { IfOk result (λ found. MatchOption found (HasNoLength self.old.dfa least) (IsFirstLength self.old.dfa least)) }
-        ensures levels { IfOk result (λ found. IfSome found (λ m. m < length self.new.levels.items)) }
     {
         for more in 0..self.dfa.states() as usize {
             let size = least + more;
-            self.grow(size)?;
-            if self.levels[size].lives(0) {
+            if self.lives(size, 0)? {
                 return Ok(Some(size));
             }
-            if !self.levels[size].has_any() {
+            if self.is_empty(size) {
                 return Ok(None);
             }
         }
         Ok(None)
+    }
+
+    // Whether a level says that no word of the length is accepted from any state.
+    fn is_empty(&self, size: usize) -> bool
+        ensures { result ≡ true → (q : ℕ) → q < states_of self.now.dfa → lives self.now.dfa size q ≡ false }
+    {
+        if size < self.levels.len() {
+            return !self.levels[size].has_any();
+        }
+        false
     }
 }

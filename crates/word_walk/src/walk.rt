@@ -40,7 +40,7 @@ impl Walk {
         ensures { IfOk result (IsWalk d.now skip None) }
     {
         let listed = listed_words(alloc, d, skip)?;
-        let listing = Listing::new(alloc, listed);
+        let listing = Listing::new(alloc, listed)?;
         Ok(Walk {
             alloc,
             listing,

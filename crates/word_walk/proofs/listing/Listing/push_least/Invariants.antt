@@ -5,6 +5,7 @@ use Rattle.word_walk.proofs.listing.Listing.push_least.Given as goal
 
 abbrev pub invariant-loop-rest : goal.invariant-loop-rest
 invariant-loop-rest l = record {
-  within : l.from < states_of l.self.dfa;
-  word : l.word.items ++ least_word l.self.dfa l.rest l.from ≡ l.fn.word.items ++ least_word l.self.dfa l.size l.state;
+  same : l.self.dfa ≡ l.fn.self.dfa;
+  within : l.from < states_of l.fn.self.dfa;
+  word : l.word.items ++ least_word l.fn.self.dfa l.rest l.from ≡ l.fn.word.items ++ least_word l.fn.self.dfa l.size l.state;
 }

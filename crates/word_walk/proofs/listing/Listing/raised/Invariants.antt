@@ -3,4 +3,7 @@ use Rattle.word_walk.proofs.PathLemmas.{raised_behind}
 use Rattle.word_walk.proofs.listing.Listing.raised.Given as goal
 
 abbrev pub invariant-loop-at : goal.invariant-loop-at
-invariant-loop-at l = raised_behind l.self.dfa 0 l.at l.word ≡ None
+invariant-loop-at l = record {
+  same : l.self.dfa ≡ l.fn.self.dfa;
+  none : raised_behind l.fn.self.dfa 0 l.at l.word ≡ None;
+}
