@@ -29,9 +29,10 @@ abbrev pub lists_of : File → List ℕ → Result Listed ℕ
 lists_of (Automaton name) text = relation_of text
 lists_of (Word name) text = word_of text
 
--- the text, as that of the file, lists this
+-- the text, as that of the file, lists this, and is beside it
 pub record ListsAs (file : File) (text : List ℕ) (loaded : Loaded) : Type 0 where
   pub file_is : loaded.file ≡ file
+  pub text_is : loaded.text ≡ text
   pub lists : lists_of file text ≡ Ok loaded.listed
 
 -- the text, as that of the file, has this flaw: it is too long to be read, or breaks the format first at this line

@@ -12,7 +12,10 @@ mod fault;
 /// Where files are.
 mod place;
 
-/// What a file lists, beside the file.
+/// The text of a file.
+mod file_text;
+
+/// What a file lists, beside the file and its text.
 mod loaded;
 
 /// One file, read.
@@ -25,6 +28,7 @@ mod loading;
 mod headers;
 
 pub use fault::{FileFlaw, LoadFault};
+pub use file_text::FileText;
 pub use headers::headers_of;
 pub use loaded::Loaded;
 pub use loading::load;

@@ -1,8 +1,9 @@
-//! What a file lists, beside the file.
+//! What a file lists, beside the file and its text.
 
 ghost use Rattle.std.specs.Prelude.{◌≡◌};
 ghost use Rattle.dfa_loading.specs.Places.{place_of};
 
+use crate::file_text::FileText;
 use crate::place::name_of;
 use dfa_reading::Listed;
 use digit_tuple::name::Name;
@@ -13,7 +14,9 @@ use formula_resolve::File;
 pub struct Loaded {
     /// The file.
     pub file: File,
-    /// What it lists.
+    /// Its text.
+    pub text: FileText,
+    /// What the text lists.
     pub listed: Listed,
 }
 

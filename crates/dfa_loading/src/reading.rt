@@ -6,6 +6,7 @@ ghost use Rattle.dfa_reading.specs.DraftViews.{Gives};
 ghost use Rattle.dfa_loading.specs.Places.{IsLoadedFile, ListsAs, IsNotListed, lists_of};
 
 use crate::fault::{FileFlaw, LoadFault};
+use crate::file_text::FileText;
 use crate::loaded::Loaded;
 use crate::place::{folder_of, into_name, name_of};
 use dfa_reading::{FileFault, Listed, read_relation, read_word};
@@ -13,7 +14,7 @@ use formula_resolve::File;
 use std::alloc::Global;
 use wal_outside::{Found, Store};
 
-/// What the text of a file lists. The time is that of reading the bytes: for an automaton in proportion to them.
+/// What the text of a file lists, beside the text. The time is that of reading the bytes: for an automaton in proportion to them.
 ///
 /// # Errors
 /// `Unknown`, `File` or `Store` with the file's place, or `Memory`. No text is changed.
@@ -27,7 +28,7 @@ pub(crate) fn read_file<T: Store>(
     let folder = folder_of(&file);
     let mut text = Vec::new(alloc);
     match store.read(folder, name_of(&file).as_str(), &mut text) {
-        Found::Found => listed_in(alloc, file, &text),
+        Found::Found => listed_in(alloc, file, text),
         Found::Absent => Err(LoadFault::Unknown(folder, into_name(file))),
         Found::TooLong => {
             let name = into_name(file);
@@ -39,12 +40,15 @@ pub(crate) fn read_file<T: Store>(
 }
 
 /// What a text lists, beside its file.
-fn listed_in(alloc: Global, file: File, text: &[u8]) -> Result<Loaded, LoadFault>
-    requires { length text.now ≤ TEXT_LIMIT }
-    ensures { MatchResult result (ListsAs file text.now) (IsNotListed file text.now) }
+fn listed_in(alloc: Global, file: File, text: Vec<u8>) -> Result<Loaded, LoadFault>
+    requires { length text.items ≤ TEXT_LIMIT }
+    ensures { MatchResult result (ListsAs file text.items) (IsNotListed file text.items) }
 {
-    match lists(alloc, &file, text) {
-        Ok(listed) => Ok(Loaded { file, listed }),
+    match lists(alloc, &file, &text) {
+        Ok(listed) => {
+            let text = FileText::new(text);
+            Ok(Loaded { file, text, listed })
+        }
         Err(FileFault::File(line)) => {
             let folder = folder_of(&file);
             let name = into_name(file);

@@ -1,4 +1,4 @@
--- A command that is accepted: what its checks made, and which file it stored.
+-- A command that is accepted: what its checks made, and which file it stored, or what it said.
 use Rattle.std.proofs.Common.{◌≡◌, ℕ, Bool, List, Option, None, Some, IfSome, Ok, Err, codes, inl, inr, ap, ◌∙◌, subst}
 use Rattle.std.specs.Option.{option_map}
 use Rattle.wal_outside.specs.Files.{Files, put}
@@ -7,11 +7,12 @@ use Rattle.wal_outside.specs.declared.folder.Folder.{Folder}
 use Rattle.wal_outside.specs.declared.folder.Folder.TheVariants.{Automata, Results}
 use Rattle.definitions.specs.Texts.{HasText}
 use Rattle.definitions.specs.Trees.{Ledger, custom_of}
-use Rattle.session_cli.specs.Accepting.{Success, Accepted, Storing, Answer, storing}
+use Rattle.session_cli.specs.Accepting.{Success, Said, Accepted, Storing, Saying, Answer, saying, storing}
 use Rattle.session_cli.specs.Checks.{Check}
 use Rattle.session_cli.specs.Commands.{Commands, Gives, Changes}
 use Rattle.session_cli.specs.Outcomes.{after_length, checks_of}
 use Rattle.session_cli.specs.FormulaOutcomes.{formula_checks}
+use Rattle.session_cli.specs.Lines.{accepted_text, said_text}
 use Rattle.session_cli.specs.SessionLanguage.{IsAnswer, ChangesFiles, StoresEntry}
 use Rattle.session_cli.proofs.CommandsMade.{eval_made, def_made}
 use Rattle.headlines.specs.Sentences.{IsFormulaCommand}
@@ -37,7 +38,7 @@ pub record IsMade (checks : Check Success) (ledger : Ledger) (files : Files) (ne
   pub stored : new.files ≡ Some (put files success.folder success.name bytes)
 
 -- the ledger is the one that is reported
-reported_ledger : (reported : Option Files) (files : Files) (known ledger : Ledger) → reported ≡ Some files → IfSome reported (λ (files : Files). known ≡ ledger) → known ≡ ledger
+pub reported_ledger : (reported : Option Files) (files : Files) (known ledger : Ledger) → reported ≡ Some files → IfSome reported (λ (files : Files). known ≡ ledger) → known ≡ ledger
 reported_ledger None files known ledger is same = absurd cc
 reported_ledger (Some others) files known ledger is same = same
 
@@ -61,4 +62,26 @@ is_made limit command checks stores ledger files old new shown printed reported 
           text = entry.1;
           stored = entry.2 ∙ ap (option_map (λ (files : Files). put files m.0.folder m.0.name entry.0)) reported;
         }
+    by (Err fault) gives answered changes = absurd gives
+
+-- what was said by some checks that store nothing, and what was printed of it
+pub record IsSaid (checks : Check Said) (files : Files) (shown : Bool) (printed : List ℕ) (new : StoreView) : Type 0 where
+  pub said : Said
+  pub made : checks.answers (Ok said)
+  pub printed_is : printed ≡ said_text shown said
+  pub kept : new.files ≡ Some files
+
+-- a command whose checks are these, which say something
+pub is_said : (limit : ℕ) (command : List ℕ) (checks : Ledger → Check Said) → ((known : Ledger) (accepted : Accepted) → (after_length limit known command).answers (Ok accepted) → (saying (checks known)).answers (Ok accepted))
+    → (ledger : Ledger) (files : Files) (old new : StoreView) (shown : Bool) (printed : List ℕ) → old.files ≡ Some files → Commands limit ledger old command shown (Ok tt) printed new → IsSaid (checks ledger) files shown printed new
+is_said limit command checks says ledger files old new shown printed reported c =
+    subst (λ (known : Ledger). IsSaid (checks known) files shown printed new) (reported_ledger old.files files c.known ledger reported c.known_is) (by c.answer c.gives c.answered c.stored.files)
+  where
+    kept_by : (said : Said) (accepted : Accepted) → accepted ≡ Saying said → ChangesFiles (custom_of c.known) accepted old.files new.files → new.files ≡ old.files
+    kept_by said accepted same changes = subst (λ (a : Accepted). ChangesFiles (custom_of c.known) a old.files new.files) same changes
+
+    by : (answer : Answer) → Gives shown (Ok tt) printed answer → IsAnswer (checks_of limit c.known command) answer → Changes c.known old.files answer new.files → IsSaid (checks c.known) files shown printed new
+    by (Ok accepted) gives (done, short, answered) changes =
+        let m = says c.known accepted answered in
+        record { said = m.0; made = m.1; printed_is = gives ∙ ap (accepted_text shown) m.2; kept = kept_by m.0 accepted m.2 changes ∙ reported }
     by (Err fault) gives answered changes = absurd gives

@@ -11,6 +11,10 @@ pub mod RunVerdictSteps
 pub mod AcceptedCommands
 pub mod SolutionSteps
 pub mod WordSteps
+pub mod LanguageFiles
+pub mod ListingSteps
 pub mod NameSteps
 pub mod SystemSteps
+pub mod BrokenSystems
+pub mod RunFileSteps
 pub mod RefusalSteps

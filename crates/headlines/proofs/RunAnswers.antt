@@ -60,15 +60,15 @@ module _ {F : Type 0} (l : CommandLanguage F) where
     placed depth mid later.room (answers_of behind) (are_in behind depth (place_with depth mid later.room) last later new run),
   )
 
-  -- What holds of each reply, by what is known of the store, holds of each answer.
-  module _ (Known : StoreView → Type 0) (P : l.Ledger → Answer → l.Ledger → Type 0)
+  -- What holds of each reply, by what is seen of the ledger and the store and what is known of the store, holds of each answer.
+  module _ {L : Type 0} (seen : l.Ledger → StoreView → L) (Known : StoreView → Type 0) (P : L → Answer → L → Type 0)
       (keeps : (depth : ℕ) (old : State l) (first : Answered l) (store : StoreView) → Replies l depth old first store → Known old.store → Known store)
-      (says : (depth : ℕ) (old : State l) (first : Answered l) (store : StoreView) → Replies l depth old first store → Known old.store → P old.ledger (answer_of first) (ledger_after l old.ledger first.reply)) where
+      (says : (depth : ℕ) (old : State l) (first : Answered l) (store : StoreView) → Replies l depth old first store → Known old.store → P (seen old.ledger old.store) (answer_of first) (seen (ledger_after l old.ledger first.reply) store)) where
     abbrev Says : Turns l → State l → State l → Type 0
-    Says turns old new = EachBy P old.ledger (answers_of turns) new.ledger × Known new.store
+    Says turns old new = EachBy P (seen old.ledger old.store) (answers_of turns) (seen new.ledger new.store) × Known new.store
 
-    nothing_said : (old new : State l) → new ≡ old → Known old.store → EachBy P old.ledger none new.ledger × Known new.store
-    nothing_said old new is known = (ap (λ (s : State l). s.ledger) is, subst (λ (s : State l). Known s.store) (sym is) known)
+    nothing_said : (old new : State l) → new ≡ old → Known old.store → EachBy P (seen old.ledger old.store) none (seen new.ledger new.store) × Known new.store
+    nothing_said old new is known = (ap (λ (s : State l). seen s.ledger s.store) is, subst (λ (s : State l). Known s.store) (sym is) known)
 
     inside_says : (inside : Turns l) (depth : ℕ) (here later : State l) → ((place last : Rest) (old new : State l) → Run l (suc depth) place old inside last new → Known old.store → Says inside old new) → (reply : Reply l)
         → by_load l reply (λ loaded. (end : Rest) × Run l (suc depth) (start loaded) here inside end later × (is_cut_off l inside ≡ false → IsAtEnd end)) ((inside ≡ no_more) × (later ≡ here))
@@ -86,7 +86,7 @@ module _ {F : Type 0} (l : CommandLanguage F) where
         let after : State l = state_after l here first.reply store in
         let there : Says inside after later = inside_says inside depth after later (each_says inside (suc depth)) first.reply loaded (keeps depth here first store replies known) in
         let rest : Says behind later new = each_says behind depth (place_with depth mid later.room) last later new run there.1 in
-        ((after.ledger, later.ledger, says depth here first store replies known, there.0, rest.0), rest.1)
+        ((seen after.ledger after.store, seen later.ledger later.store, says depth here first store replies known, there.0, rest.0), rest.1)
 
   -- what a sink holds of the lines
   whole : (held now : Option (List ℕ)) (text : List ℕ) → Grows held now text (Ok tt) → (before : List ℕ) → held ≡ Some before → now ≡ Some (before ++ text)
@@ -135,18 +135,16 @@ module _ {F : Type 0} (l : CommandLanguage F) where
       }
 
   -- a run as answers
-  pub record IsAnswered (script : List ℕ) (old : StoreView) (held now : SinkView) : Type 0 where
+  pub record IsAnswered (script : List ℕ) (old new : StoreView) (held now : SinkView) : Type 0 where
     pub turns : Turns l
-    pub new : StoreView
     pub last : Rest
     pub has_turns : HasTurns l script old turns last new
     pub cut : AreIn (start script) (answers_of turns)
     pub printed : ArePrinted (answers_of turns) held now
 
-  answered_by : (script : List ℕ) (old new : StoreView) (held now : SinkView) (turns : Turns l) (last : Rest) → HasTurns l script old turns last new → ArePrinted (answers_of turns) held now → IsAnswered script old held now
+  answered_by : (script : List ℕ) (old new : StoreView) (held now : SinkView) (turns : Turns l) (last : Rest) → HasTurns l script old turns last new → ArePrinted (answers_of turns) held now → IsAnswered script old new held now
   answered_by script old new held now turns last has printed = record {
     turns = turns;
-    new = new;
     last = last;
     has_turns = has;
     cut = are_in turns 0 (start script) last (first_state l old) (record { ledger = has.ledger; store = new; room = has.room }) has.run;
@@ -158,13 +156,13 @@ module _ {F : Type 0} (l : CommandLanguage F) where
   given (Some xs) None gave more script taken reported is = absurd taken
   given (Some xs) (Some ys) gave more script taken reported is = let same : xs ≡ script = cc in ap (λ (zs : List ℕ). gave ++ zs) reported ∙ sym taken ∙ same
 
-  pub run_answers : (from to : SourceView) (old new : StoreView) (held now : SinkView) (state : Status) (script : List ℕ) → HasRun l from to old new held now state → from.left ≡ Some script → IsAnswered script old held now
+  pub run_answers : (from to : SourceView) (old new : StoreView) (held now : SinkView) (state : Status) (script : List ℕ) → HasRun l from to old new held now state → from.left ≡ Some script → IsAnswered script old new held now
   run_answers from to old new held now state script (gave, more, has_given, inl through) is =
-      subst (λ (text : List ℕ). IsAnswered text old held now) (given from.left to.left gave more script has_given.taken has_given.reported is)
+      subst (λ (text : List ℕ). IsAnswered text old new held now) (given from.left to.left gave more script has_given.taken has_given.reported is)
       (answered_by (gave ++ more) old new held now through.turns through.last through.has_turns (all_printed through.turns held now through.sent))
   run_answers from to old new held now state script (gave, more, has_given, inr (inl stop)) is =
-      subst (λ (text : List ℕ). IsAnswered text old held now) (given from.left to.left gave more script has_given.taken has_given.reported is)
+      subst (λ (text : List ℕ). IsAnswered text old new held now) (given from.left to.left gave more script has_given.taken has_given.reported is)
       (answered_by (gave ++ more) old new held now stop.turns stop.last stop.has_turns (part_printed stop.turns held now stop.fault stop.part))
   run_answers from to old new held now state script (gave, more, has_given, inr (inr fault)) is =
-      subst (λ (text : List ℕ). IsAnswered text old held now) (given from.left to.left gave more script has_given.taken has_given.reported is)
+      subst (λ (text : List ℕ). IsAnswered text old new held now) (given from.left to.left gave more script has_given.taken has_given.reported is)
       (answered_by (gave ++ more) old new held now fault.turns fault.last fault.has_turns (all_printed fault.turns held now fault.sent))

@@ -1,22 +1,21 @@
 -- The verdicts of a run say truth.
-use Rattle.std.proofs.Common.{◌≡◌, ℕ, ◌≤◌, Bool, List, [], ◌++◌, length, Option, None, Some, IfSome, Result, Ok, Err, codes, decimal, ◌⊎◌, inl, inr, refl, sym, ap, ◌∙◌, subst}
+use Rattle.std.proofs.Common.{◌≡◌, ℕ, ◌≤◌, Bool, List, [], length, Option, None, Some, Result, Ok, Err, ◌⊎◌, inl, inr, refl, sym, ap, ◌∙◌, subst}
 use Rattle.std.specs.Prelude.{⊤}
 use Rattle.std.specs.Option.{option_map}
-use Rattle.std.proofs.lemmas.List.{append_assoc}
 use Rattle.std.proofs.lemmas.Option.{none-some}
 use Rattle.wal_outside.specs.Files.{Files, put}
 use Rattle.wal_outside.specs.Views.{SourceView, SinkView, StoreView}
 use Rattle.script_cut.specs.Cuts.{Item, Ended, Terminated, Unterminated, PastLimit, start}
-use Rattle.script_runs.specs.Languages.{Deed, Enters, Loads, Ends, Reply}
+use Rattle.script_runs.specs.Languages.{Deed, Enters, Loads, Ends}
 use Rattle.script_runs.specs.Replies.{IsReplyOf, Changes, State, Answered, Replies, ledger_after}
 use Rattle.script_runs.specs.Printed.{is_shown}
 use Rattle.script_runs.specs.Runs.{first_state}
 use Rattle.script_runs.specs.Ends.{HasRun}
 use Rattle.script_runs.specs.declared.status.Status.{Status}
-use Rattle.definitions.specs.Trees.{Ledger, ledger_of, custom_of}
+use Rattle.definitions.specs.Trees.{Ledger}
 use Rattle.session_cli.specs.declared.fault.Fault.{Fault}
 use Rattle.session_cli.specs.Accepting.{Accepted, Storing, Saying}
-use Rattle.session_cli.specs.Lines.{accepted_text, detail, fault_line}
+use Rattle.session_cli.specs.Lines.{accepted_text, fault_line}
 use Rattle.session_cli.proofs.CommandsMade.{session_command}
 use Rattle.session_cli.specs.RunOutcomes.{run_checks}
 use Rattle.session_cli.specs.SessionLanguage.{first_ledger, session_language}
@@ -24,9 +23,9 @@ use Rattle.headlines.specs.Verdicts.{SaysTruth}
 use Rattle.headlines.specs.PlainVerdicts.{SaysPlainTruth}
 use Rattle.headlines.specs.Runs.{Answer, EachBy}
 use Rattle.headlines.specs.RunVerdicts.{IsAccepted, IsRefused, Says, IsNext, IsTrueBy, AnswersPlainly, AnswersTruly}
-use Rattle.headlines.proofs.AcceptedCommands.{IsFormulaMade, formula_made}
+use Rattle.headlines.proofs.AcceptedCommands.{IsFormulaMade, formula_made, reported_ledger}
 use Rattle.headlines.proofs.RunAnswers.{each_from, answer_of, answers_of, each_says, IsAnswered, run_answers}
-use Rattle.headlines.proofs.StepTexts.{accepted_line}
+use Rattle.headlines.proofs.StepTexts.{accepted_line, refused_line}
 use Rattle.headlines.proofs.VerdictSteps.{formula_says, plain_says}
 
 -- what an accepted or refused command of a text says, where names mean what this ledger has of them; and how long the text of a verdict is
@@ -38,7 +37,7 @@ silent : (known : Ledger) (item : Item) → IsSaid known (record { item = item; 
 silent known item = λ is_word. inr (None, record { steps = []; single = tt; line_is = refl }, λ truth is. absurd (none-some truth is))
 
 refused : (known : Ledger) (item : Item) (fault : Fault) → IsSaid known (record { item = item; line = fault_line item.line fault })
-refused known item fault = λ is_word. inl (decimal item.line ++ (detail fault ++ codes "\n"), append_assoc (codes "error ") (decimal item.line) (detail fault ++ codes "\n"))
+refused known item fault = λ is_word. inl (refused_line item.line fault)
 
 -- what is said of a text with this in place of that
 says_as : (Means Others : List ℕ → Bool → Type 0) → ((text : List ℕ) (truth : Bool) → Means text truth → Others text truth) → (a : Answer) → Says Means a → Says Others a
@@ -90,10 +89,10 @@ module _ (limit : ℕ) (stop : Bool) where
 
   pub plain_runs : (from to : SourceView) (old new : StoreView) (held now : SinkView) (state : Status) (script : List ℕ) → HasRun (session_language limit stop) from to old new held now state → from.left ≡ Some script → AnswersPlainly script held now
   plain_runs from to old new held now state script run is =
-      let r : IsAnswered (session_language limit stop) script old held now = run_answers (session_language limit stop) from to old new held now state script run is in
+      let r : IsAnswered (session_language limit stop) script old new held now = run_answers (session_language limit stop) from to old new held now state script run is in
       let first : State (session_language limit stop) = first_state (session_language limit stop) old in
-      let end : State (session_language limit stop) = record { ledger = r.has_turns.ledger; store = r.new; room = r.has_turns.room } in
-      let each = each_says (session_language limit stop) (λ store. ⊤) (λ before a next. Says SaysPlainTruth a) (λ depth old first store replies known. tt) plainly r.turns 0 (start script) r.last first end r.has_turns.run tt in
+      let end : State (session_language limit stop) = record { ledger = r.has_turns.ledger; store = new; room = r.has_turns.room } in
+      let each = each_says (session_language limit stop) (λ ledger store. ledger) (λ store. ⊤) (λ (before : Ledger) a (next : Ledger). Says SaysPlainTruth a) (λ depth old first store replies known. tt) plainly r.turns 0 (start script) r.last first end r.has_turns.run tt in
       record {
         answers = answers_of (session_language limit stop) r.turns;
         cut = r.cut;
@@ -102,7 +101,7 @@ module _ (limit : ℕ) (stop : Bool) where
       }
 
   -- where the store reports its files
-  abbrev Reports : StoreView → Type 0
+  abbrev pub Reports : StoreView → Type 0
   Reports store = (files : Files) × (store.files ≡ Some files)
 
   files_kept : (known : Ledger) (old new : Option Files) (reply : Replied) → Changes (session_language limit stop) known old reply new → (files : Files) × (old ≡ Some files) → (files : Files) × (new ≡ Some files)
@@ -112,14 +111,10 @@ module _ (limit : ℕ) (stop : Bool) where
   files_kept known old new (Ok Ends) is (files, reported) = (files, is ∙ reported)
   files_kept known old new (Err fault) is (files, reported) = (files, is ∙ reported)
 
-  reports_kept : (depth : ℕ) (old : State (session_language limit stop)) (first : Answered (session_language limit stop)) (store : StoreView) → Replies (session_language limit stop) depth old first store → Reports old.store → Reports store
+  pub reports_kept : (depth : ℕ) (old : State (session_language limit stop)) (first : Answered (session_language limit stop)) (store : StoreView) → Replies (session_language limit stop) depth old first store → Reports old.store → Reports store
   reports_kept depth old first store replies reports = files_kept replies.known old.store.files store.files first.reply replies.stored.files reports
 
-  own_ledger : (reported : Option Files) (known ledger : Ledger) → (files : Files) × (reported ≡ Some files) → IfSome reported (λ (files : Files). known ≡ ledger) → known ≡ ledger
-  own_ledger None known ledger (files, is) same = absurd cc
-  own_ledger (Some files) known ledger reports same = same
-
-  changed : (ledger : Ledger) (reply : Replied) → IsNext ledger (ledger_after (session_language limit stop) ledger reply)
+  pub changed : (ledger : Ledger) (reply : Replied) → IsNext ledger (ledger_after (session_language limit stop) ledger reply)
   changed ledger (Ok (Enters (Saying said))) = inl refl
   changed ledger (Ok (Enters (Storing success))) = inr (success.folder, success.name, success.entry, refl)
   changed ledger (Ok (Loads loaded)) = inl refl
@@ -129,7 +124,7 @@ module _ (limit : ℕ) (stop : Bool) where
   truly : (depth : ℕ) (old : State (session_language limit stop)) (first : Answered (session_language limit stop)) (store : StoreView) → Replies (session_language limit stop) depth old first store → Reports old.store
       → IsTrueBy old.ledger (answer_of (session_language limit stop) first) (ledger_after (session_language limit stop) old.ledger first.reply)
   truly depth old first store replies reports =
-      let same : replies.known ≡ old.ledger = own_ledger old.store.files replies.known old.ledger reports replies.known_is in
+      let same : replies.known ≡ old.ledger = reported_ledger old.store.files reports.0 replies.known old.ledger reports.1 replies.known_is in
       record {
         changed = changed old.ledger first.reply;
         says = says_as (λ text truth. SaysTruth replies.known text truth × (length text ≤ 65536)) (SaysTruth old.ledger) (λ text truth is. subst (λ (known : Ledger). SaysTruth known text truth) same is.0) (answer_of (session_language limit stop) first) (by_reply depth old first store replies);
@@ -137,10 +132,10 @@ module _ (limit : ℕ) (stop : Bool) where
 
   pub runs : (from to : SourceView) (old new : StoreView) (held now : SinkView) (state : Status) (script : List ℕ) (files : Files) → HasRun (session_language limit stop) from to old new held now state → from.left ≡ Some script → old.files ≡ Some files → AnswersTruly script files held now
   runs from to old new held now state script files run is reported =
-      let r : IsAnswered (session_language limit stop) script old held now = run_answers (session_language limit stop) from to old new held now state script run is in
+      let r : IsAnswered (session_language limit stop) script old new held now = run_answers (session_language limit stop) from to old new held now state script run is in
       let first : State (session_language limit stop) = first_state (session_language limit stop) old in
-      let end : State (session_language limit stop) = record { ledger = r.has_turns.ledger; store = r.new; room = r.has_turns.room } in
-      let each = each_says (session_language limit stop) Reports IsTrueBy reports_kept truly r.turns 0 (start script) r.last first end r.has_turns.run (files, reported) in
+      let end : State (session_language limit stop) = record { ledger = r.has_turns.ledger; store = new; room = r.has_turns.room } in
+      let each = each_says (session_language limit stop) (λ ledger store. ledger) Reports IsTrueBy reports_kept truly r.turns 0 (start script) r.last first end r.has_turns.run (files, reported) in
       record {
         answers = answers_of (session_language limit stop) r.turns;
         cut = r.cut;

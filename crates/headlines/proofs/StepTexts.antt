@@ -1,4 +1,4 @@
--- What is printed of an accepted command: the lines of its steps, each one line, and its verdict.
+-- What is printed of an accepted command, the lines of its steps, each one line, and its verdict or text; and of a refused one.
 use Rattle.std.proofs.Common.{◌≡◌, ◌≢◌, ℕ, zero, suc, ◌+◌, ◌<◌, ◌/◌, ◌%◌, ◌==◌, Bool, true, false, not, ◌&&◌, cond, List, [], ◌∷◌, ◌++◌, Option, None, Some, codes, decimal, refl, sym, ap, ◌∙◌, arith}
 use Rattle.std.specs.List.{AllByRecursion, flat_map, list_all}
 use Rattle.std.specs.Fmt.{digit_glyph, digits_onto, digits}
@@ -9,10 +9,12 @@ use Rattle.digit_tuple.specs.declared.kind.Kind.{Kind}
 use Rattle.digit_tuple.specs.declared.kind.Kind.TheVariants as kinds
 use Rattle.digit_tuple.specs.declared.steps.StepLine.{StepLine}
 use Rattle.command_head.proofs.PartShape.{all-append}
-use Rattle.session_cli.specs.Accepting.{Success}
-use Rattle.session_cli.specs.Lines.{step_line, step_lines, shown_steps, verdict_line, success_text}
+use Rattle.session_cli.specs.declared.fault.Fault.{Fault}
+use Rattle.session_cli.specs.Accepting.{Success, Said}
+use Rattle.session_cli.specs.Lines.{step_line, step_lines, shown_steps, verdict_line, success_text, said_text, detail, fault_line}
 use Rattle.headlines.specs.Sentences.{HasNo}
-use Rattle.headlines.specs.RunVerdicts.{step_text, verdict_text, IsAccepted}
+use Rattle.headlines.specs.RunVerdicts.{step_text, verdict_text, IsAccepted, IsRefused}
+use Rattle.headlines.specs.Listings.{IsPrinted}
 
 -- no line feed is in a text of which each byte was looked at
 looked_first : (b : ℕ) (rest : Bool) (more : Type 0) (t : Bool) → (b == 10) ≡ t → (rest ≡ true → more) → (not t && rest) ≡ true → (b ≢ 10) × more
@@ -105,3 +107,10 @@ verdict_is (Some false) = refl
 pub accepted_line : (shown : Bool) (success : Success) → IsAccepted (success_text shown success) success.verdict
 accepted_line true success = record { steps = bodies_of 1 success.lines; single = bodies_single 1 success.lines; line_is = λ i. lines_are 1 success.lines i ++ verdict_is success.verdict i }
 accepted_line false success = record { steps = []; single = tt; line_is = verdict_is success.verdict }
+
+pub said_line : (shown : Bool) (said : Said) → IsPrinted shown (said_text shown said) said.text
+said_line true said = record { steps = bodies_of 1 said.lines; single = bodies_single 1 said.lines; hidden = λ is. absurd (false≢true (sym is)); printed_is = λ i. lines_are 1 said.lines i ++ said.text }
+said_line false said = record { steps = []; single = tt; hidden = λ is. refl; printed_is = refl }
+
+pub refused_line : (line : ℕ) (fault : Fault) → IsRefused (fault_line line fault)
+refused_line line fault = (decimal line ++ (detail fault ++ codes "\n"), append_assoc (codes "error ") (decimal line) (detail fault ++ codes "\n"))

@@ -5,6 +5,10 @@ pub mod Runs
 pub mod RunVerdicts
 pub mod Solutions
 pub mod Words
+pub mod Languages
+pub mod Listings
 pub mod Names
 pub mod OwnSystems
+pub mod RefusedSystems
+pub mod RunFiles
 pub mod Refusals

@@ -3,15 +3,21 @@ use Rattle.std.specs.Prelude.{◌≡◌, ◌↔◌, ℕ, ℤ, Bool, List, [], �
 use Rattle.wal_outside.specs.Files.{Files, put}
 use Rattle.wal_outside.specs.Views.{StoreView}
 use Rattle.wal_outside.specs.declared.folder.Folder.TheVariants.{Words}
-use Rattle.command_head.specs.Grammar.{DerivesPromote, DerivesImage, DerivesCombine}
-use Rattle.command_head.specs.Heads.{PromoteHead, ImageHead, CombineHead}
+use Rattle.command_head.specs.Grammar.{DerivesPromote, DerivesImage, DerivesCombine, DerivesConvert}
+use Rattle.command_head.specs.Heads.{PromoteHead, ImageHead, CombineHead, ConvertHead}
 use Rattle.command_head.specs.Parts.{first_word_of, parts_of, texts_of}
 use Rattle.dfa_loading.specs.Headers.{headers_of}
 use Rattle.dfa_loading.specs.declared.loaded.Loaded.{Loaded}
+use Rattle.dfa_reading.specs.Headers.{Systems}
+use Rattle.dfa_reading.specs.Listed.{Listed}
+use Rattle.dfa_reading.specs.WordFiles.{word_of}
 use Rattle.morph_words.specs.FixedPoint.{IsLetterAt}
 use Rattle.morph_words.specs.ImageLetters.{IsImageLetter}
 use Rattle.morph_words.specs.Rules.{Rules}
 use Rattle.morphism_loading.specs.MorphismFiles.{IsMorphismIn}
+use Rattle.transducer_loading.specs.TransducerFiles.{IsTransducerIn}
+use Rattle.transducer_reading.specs.LetterRuns.{Makes}
+use Rattle.transducer_reading.specs.Transducers.{Transducer}
 use Rattle.definitions.specs.Texts.{Stores}
 use Rattle.definitions.specs.TreeMeanings.{AtNumber, tree_letter, first_letter}
 use Rattle.definitions.specs.Trees.{Entry, Ledger, custom_of, tree_of}
@@ -51,6 +57,33 @@ pub record IsImaged (ledger : Ledger) (files : Files) (command : List ℕ) (new 
   pub there : ledger Words head.old ≡ Some old
   pub word : IsStoredWord (custom_of ledger) files head.word (λ place letter. AtNumber (λ n. IsImageLetter rules (λ m of_word. tree_letter (custom_of ledger) (tree_of old) (m ∷ []) of_word) n letter) place) new
 
+-- the transducer that is under the name
+pub record IsTransducerOf (ledger : Ledger) (name : List ℕ) (t : Transducer) : Type 0 where
+  pub files : Files
+  pub stored : Stores ledger files
+  pub read : IsTransducerIn files name t
+
+-- of a `transduce` the outputs of the transducer, as it runs over the letters of the old word
+pub record IsTransduced (ledger : Ledger) (files : Files) (command : List ℕ) (new : StoreView) : Type 0 where
+  pub head : ImageHead
+  pub derived : DerivesImage (codes "transduce") (texts_of (parts_of command)) head
+  pub transducer : Transducer
+  pub is_transducer : IsTransducerOf ledger head.mapping transducer
+  pub old : Entry
+  pub there : ledger Words head.old ≡ Some old
+  pub word : IsStoredWord (custom_of ledger) files head.word (λ place letter. AtNumber (λ n. Makes transducer (λ m of_word. tree_letter (custom_of ledger) (tree_of old) (m ∷ []) of_word) n letter) place) new
+
+-- Of a `convert` the letters of the old word, each at its place. The file is over the system that the command names.
+pub record IsConverted (ledger : Ledger) (files : Files) (command : List ℕ) (new : StoreView) : Type 0 where
+  pub head : ConvertHead
+  pub derived : DerivesConvert (texts_of (parts_of command)) head
+  pub old : Entry
+  pub there : ledger Words head.old ≡ Some old
+  pub word : IsStoredWord (custom_of ledger) files head.word (λ place letter. AtNumber (λ n. tree_letter (custom_of ledger) (tree_of old) (n ∷ []) letter) place) new
+  pub listed : Listed
+  pub read : word_of word.bytes ≡ Ok listed
+  pub over : listed.header ≡ Systems (head.system ∷ [])
+
 -- Of a `combine` the letter of the first listed automaton that holds of the place, and 0 where none does. A place is a number for each system of
 -- the automata.
 pub record IsCombined (ledger : Ledger) (files : Files) (command : List ℕ) (new : StoreView) : Type 0 where
@@ -75,3 +108,9 @@ Images = Stored (codes "image") IsImaged
 
 abbrev pub Combinations : Type 0
 Combinations = Stored (codes "combine") IsCombined
+
+abbrev pub Transductions : Type 0
+Transductions = Stored (codes "transduce") IsTransduced
+
+abbrev pub Conversions : Type 0
+Conversions = Stored (codes "convert") IsConverted

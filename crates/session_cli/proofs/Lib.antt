@@ -122,3 +122,4 @@ pub mod ListingReading
 pub mod OneListings
 pub mod LongerScripts
 pub mod CommandsMade
+pub mod LawRefusals

@@ -15,6 +15,7 @@ use Rattle.dfa_loading.specs.declared.loaded.Loaded.{Loaded}
 use Rattle.dfa_reading.specs.Branching.{AreGiven, sizes_in}
 use Rattle.dfa_reading.specs.Headers.{Header, Truth, Systems, Sets, has_states}
 use Rattle.dfa_reading.specs.Listed.{Listed}
+use Rattle.dfa_reading.specs.Reading.{relation_of}
 use Rattle.formula_resolve.proofs.FirstLemmas.{first_once}
 use Rattle.named_systems.specs.NamedSystems.{NamedSystem, AreSealed, HasSystemIn}
 use Rattle.num_system.specs.Sealed.{SystemValue, system_of}
@@ -48,6 +49,7 @@ not_sets table other sets is = let no : true ≡ false = sym (ap is_over_sets is
 -- a table that is loaded can be read
 pub can_be_listed : (files : Files) (name : List ℕ) (table : Loaded) (systems : List NamedSystem) → AreListedBy files (listing_files name) (table ∷ []) → AreSealed systems → HasSystems (listing_systems (table ∷ []) name) systems → (custom : Custom) × AreMeant custom systems → CanBeListed systems table
 can_be_listed files name table systems listed sealed has meant = record {
+  lists = ap relation_of listed.0.lists.text_is ∙ listed.0.lists.lists;
   is_table = file_is_table listed.0.text table.listed listed.0.lists.lists;
   sealed = sealed;
   readable = λ other. (all_readable meant.0 systems (table ∷ []) (headers_of (table ∷ [])) meant.1 (tables_listed file_is_table files (listing_files name) (table ∷ []) listed)
@@ -71,6 +73,7 @@ have_header custom systems (Sets sets) found meant under = absurd under
 -- those under the names of its header are its tracks
 pub has_tracks : (systems : List NamedSystem) (table : Loaded) (found : List SystemValue) → CanBeListed systems table → IsReadable systems table → AreSystemsUnder systems table.listed.header found → HasTracks table found
 has_tracks systems table found can readable under = record {
+  lists = can.lists;
   is_table = can.is_table;
   sealed = below_sealed systems table.listed.header found can.sealed under;
   tracks_are = below_tracks systems table.listed.header found under (read_shared_direction systems table found readable under);

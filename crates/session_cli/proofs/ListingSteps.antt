@@ -1,5 +1,5 @@
 -- Why a question about listed words has no answer, from the fault of each part.
-use Rattle.std.proofs.Common.{ℕ, ℤ, List, Result, Ok, Err}
+use Rattle.std.proofs.Common.{◌≡◌, ◌⊎◌, ℕ, ℤ, List, Result, Ok, Err, inl, inr, sym, subst}
 use Rattle.std.specs.Prelude.{Option}
 use Rattle.digit_tuple.specs.Deterministic.{Automaton}
 use Rattle.digit_tuple.specs.declared.direction.Direction.{Direction}
@@ -31,6 +31,11 @@ module _ (Does : Result Automaton StepFault → Type 0) (skip : Option Direction
     step_refused (steps.Letters step) does = (on, does)
     step_refused (steps.States step) does = (on, does)
     step_refused steps.Memory does = tt
+
+    -- a step, or memory ran out
+    pub step_not_made : (fault : StepFault) → (fault ≡ steps.Memory) ⊎ Does (Err fault) → IsNotAnswered Does skip sets name question (own.Step fault)
+    step_not_made fault (inl memory) = subst (λ (f : StepFault). IsNotAnswered Does skip sets name question (own.Step f)) (sym memory) tt
+    step_not_made fault (inr does) = step_refused fault does
 
     -- the lines
     pub lines_refused : (read : Automaton) → Does (Ok read) → (fault : LineFault) → IsUnanswered (is_listed read skip) sets question fault → IsNotAnswered Does skip sets name question (of_lines fault)

@@ -43,7 +43,8 @@ module _ (ledger : Ledger) (files others : Files) (stores : Stores ledger files)
       let read : Ok t.listed ≡ Ok u.listed = sym a.lists.lists ∙ (ap (lists_of file) texts ∙ b.lists.lists) in
       let listed : t.listed ≡ u.listed = cc in
       let same : t.file ≡ u.file = a.lists.file_is ∙ sym b.lists.file_is in
-      λ i. record { file = same i; listed = listed i }
+      let bytes : t.text ≡ u.text = a.lists.text_is ∙ (texts ∙ sym b.lists.text_is) in
+      λ i. record { file = same i; text = bytes i; listed = listed i }
 
   one_flaw : (file : File) (text : List ℕ) (flaw other : FileFlaw) → HasFlaw file text flaw → HasFlaw file text other → flaw ≡ other
   one_flaw file text (Line at) (Line by) a b = let e : Err at ≡ Err by = sym a.1 ∙ b.1 in ap Line cc

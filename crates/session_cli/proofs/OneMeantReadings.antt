@@ -54,7 +54,7 @@ read_readable systems old new (table ∷ tables) [] are directions made = absurd
 read_readable systems old new (table ∷ tables) (r ∷ reads) are directions (mid, first, rest) = (one r first, read_readable systems mid new tables reads are.1 directions.1 rest)
   where
     over : (tracks : List SystemValue) → AreSystemsUnder systems table.listed.header tracks → IsReadable systems table
-    over tracks under = record { is_table = are.0.is_table; is_word = are.0.is_word; tracks = tracks; over = under; shared_direction = directions.0 tracks under }
+    over tracks under = record { lists = are.0.lists; is_table = are.0.is_table; is_word = are.0.is_word; tracks = tracks; over = under; shared_direction = directions.0 tracks under }
 
     one : (r : TableRead) → IsTableRead systems old table r mid → IsReadable systems table
     one (ARelation x) read = over read.tracks read.over

@@ -67,6 +67,7 @@ readable custom systems table are listed plain one has = by table.listed.header 
   where
     made : (header : Header) (tracks : List SystemValue) → table.listed.header ≡ header → AreSystemsUnder systems header tracks → ShareDirection tracks → IsReadable systems table
     made header tracks is over shared_direction = record {
+      lists = listed.lists;
       is_table = listed.is_table;
       is_word = listed.is_word;
       tracks = tracks;

@@ -1,5 +1,5 @@
 -- The files of loaded tables are those that were named, each once; and what such files list.
-use Rattle.std.proofs.Common.{◌≡◌, ◌≢◌, ℕ, suc, ◌<◌, Bool, true, false, ◌||◌, List, [], ◌∷◌, length, take, get_or, Ok, refl, sym, ◌∙◌, subst, arith}
+use Rattle.std.proofs.Common.{◌≡◌, ◌≢◌, ℕ, suc, ◌<◌, Bool, true, false, ◌||◌, List, [], ◌∷◌, length, take, get_or, Ok, refl, sym, ap, ◌∙◌, subst, arith}
 use Rattle.std.specs.List.{AllByRecursion}
 use Rattle.std.proofs.lemmas.Slice.Eq.{bytes_eq-Decides}
 use Rattle.wal_outside.specs.Files.{Files}
@@ -10,7 +10,7 @@ use Rattle.dfa_reading.specs.Listed.{Listed}
 use Rattle.dfa_reading.specs.WordFiles.{IsWordListed}
 use Rattle.dfa_reading.proofs.ReadWords.{word_files_list_words}
 use Rattle.dfa_loading.specs.Loading.{AreListedBy}
-use Rattle.dfa_loading.specs.Places.{lists_of}
+use Rattle.dfa_loading.specs.Places.{ListsAs, lists_of}
 use Rattle.dfa_loading.specs.declared.loaded.Loaded.{Loaded}
 use Rattle.definitions.proofs.FileTables.{word_has_states}
 use Rattle.definitions.specs.TableLaws.{FilesAreTables}
@@ -74,8 +74,9 @@ files_apart files (file ∷ named) (table ∷ tables) once are =
     let own : HasNo file tables = other_files files file named tables are.1 (once_other file named once) in
     (subst (λ (f : File). HasNo f tables) (sym are.0.lists.file_is) own, files_apart files named tables (once_rest file named once) are.1)
 
--- a table that a file lists; a word's file lists a word
+-- a table that the text of a file lists; a word's file lists a word
 pub record IsListedTable (table : Loaded) : Type 0 where
+  pub lists : lists_of table.file table.text ≡ Ok table.listed
   pub is_table : IsTable table.listed
   pub is_word : (name : List ℕ) → table.file ≡ Word name → IsWordListed table.listed
 
@@ -84,10 +85,11 @@ file_table : FilesAreTables → (file : File) (text : List ℕ) (listed : Listed
 file_table law (Automaton name) text listed lists = law text listed lists
 file_table law (Word name) text listed lists = word_has_states text listed lists
 
-listed_table : (law : FilesAreTables) (file : File) (text : List ℕ) (table : Loaded) → table.file ≡ file → lists_of file text ≡ Ok table.listed → IsListedTable table
-listed_table law file text table file_is lists = record {
-  is_table = file_table law file text table.listed lists;
-  is_word = λ name is. word_files_list_words text table.listed (subst (λ (f : File). lists_of f text ≡ Ok table.listed) (sym file_is ∙ is) lists);
+listed_table : (law : FilesAreTables) (file : File) (text : List ℕ) (table : Loaded) → ListsAs file text table → IsListedTable table
+listed_table law file text table is = record {
+  lists = ap (λ (f : File). lists_of f table.text) is.file_is ∙ (ap (lists_of file) is.text_is ∙ is.lists);
+  is_table = file_table law file text table.listed is.lists;
+  is_word = λ name word. word_files_list_words text table.listed (subst (λ (f : File). lists_of f text ≡ Ok table.listed) (sym is.file_is ∙ word) is.lists);
 }
 
 pub tables_listed : (law : FilesAreTables) (files : Files) (named : List File) (tables : List Loaded) → AreListedBy files named tables → AllByRecursion IsListedTable tables
@@ -95,4 +97,4 @@ tables_listed law files [] [] are = tt
 tables_listed law files [] (table ∷ tables) are = absurd are
 tables_listed law files (file ∷ named) [] are = absurd are
 tables_listed law files (file ∷ named) (table ∷ tables) are =
-    (listed_table law file are.0.text table are.0.lists.file_is are.0.lists.lists, tables_listed law files named tables are.1)
+    (listed_table law file are.0.text table are.0.lists, tables_listed law files named tables are.1)

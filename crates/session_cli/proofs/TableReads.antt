@@ -1,6 +1,7 @@
 -- Tables read one after another: the systems under their headers, what those before it make and one more, and the refusal of one.
 use Rattle.std.proofs.Common.{◌≡◌, ℕ, zero, suc, ◌+◌, ◌<◌, List, [], ◌∷◌, ◌++◌, length, take, map, get_or, Option, None, Some, Result, Ok, Err, Vec, Global, inl, inr, refl, sym, ap, ◌∙◌, subst, arith}
 use Rattle.std.specs.List.{AllZip}
+use Rattle.std.specs.Prelude.{IfOk, IfErr}
 use Rattle.std.specs.Result.{IsErrAnd}
 use Rattle.std.proofs.lemmas.List.{take_more, map-append, length-map}
 use Rattle.std.proofs.lemmas.Option.{none-some}
@@ -11,7 +12,7 @@ use Rattle.dfa_reading.specs.Listed.{Listed}
 use Rattle.dfa_reading.specs.Systems.{digit_limit}
 use Rattle.dfa_reading.specs.WordFiles.{IsWordListed}
 use Rattle.formula_resolve.specs.declared.file.File.{File}
-use Rattle.formula_resolve.specs.declared.file.File.TheVariants.{Word}
+use Rattle.formula_resolve.specs.declared.file.File.TheVariants.{Automaton, Word}
 use Rattle.dfa_loading.specs.declared.loaded.Loaded.{Loaded}
 use Rattle.formula_build.specs.Libraries.{NamedRelation, NamedWord, ReadValue, with_relation, with_word}
 use Rattle.named_systems.specs.NamedSystems.{NamedSystem, system_named}
@@ -20,9 +21,10 @@ use Rattle.num_system.specs.Tracks.{ShareDirection}
 use Rattle.number_relations.specs.Relations.{RelationValue}
 use Rattle.word_output.specs.WordReadings.{DoesWord}
 use Rattle.word_output.specs.Words.{WordValue}
-use Rattle.definitions.specs.TableSteps.{AreForTracks}
+use Rattle.definitions.specs.TableSteps.{AreForTracks, DoesTable}
+use Rattle.kept_tables.specs.KeptTables.{IsNotMade}
 use Rattle.session_cli.specs.TableReads.{TableRead, ARelation, AWord, relations_in, words_in, read_of, AreSystemsUnder, IsRelationRead, IsWordRead, IsTableRead, PassesFile, IsTableRefused, AreTablesRead, IsReadingRefused}
-use Rattle.session_cli.specs.TableReading.{IsReadable, IsTableFault, IsReadingFault, ReadsTables, ReadsWord, with_read}
+use Rattle.session_cli.specs.TableReading.{IsReadable, IsReadRelation, IsReadWord, IsTableFault, IsReadingFault, ReadsTables, with_read}
 
 -- the system is under the name
 abbrev pub StandsUnder : List NamedSystem → List ℕ → SystemValue → Type 0
@@ -173,12 +175,28 @@ reading_stops systems old mid new tables i table before fault (Ok read) within i
 reading_stops systems old mid new tables i table before fault (Err e) within is prefix stops same =
     subst (IsReadingFault systems old tables) (sym same) (reading_fault systems old mid tables i table before fault within is prefix stops)
 
--- a word's table is read as the steps of its word answer
-pub word_answered : (systems : List NamedSystem) (old new : StepLog) (table : Loaded) (name : List ℕ) (tracks : List SystemValue) (result : Result WordValue StepFault) → table.file ≡ Word name → AreSystemsUnder systems table.listed.header tracks
-    → DoesWord tracks table.listed old result new → ReadsWord systems old table result new
-word_answered systems old new table name tracks (Ok w) file_is under done = λ other is. record { file_is = is; tracks = tracks; over = under; done = done }
-word_answered systems old new table name tracks (Err fault) file_is under refused =
-    inr (record { tracks = tracks; over = under; passes = subst (λ (file : File). PassesFile file old tracks table.listed fault) (sym file_is) (new, refused) })
+-- a table is read as its steps answer
+module _ (systems : List NamedSystem) (old new : StepLog) (table : Loaded) (tracks : List SystemValue) (under : AreSystemsUnder systems table.listed.header tracks) where
+  pub relation_read : {X : Type 0} (value : X → RelationValue) (result : Result X StepFault) → IfOk result (λ x. DoesTable tracks table.listed old (Ok (value x)) new) → IfOk result (λ x. IsReadRelation systems old table (value x) new)
+  relation_read value (Ok x) done = λ name is. record { file_is = is; tracks = tracks; over = under; done = done }
+  relation_read value (Err fault) done = tt
+
+  pub word_read : {X : Type 0} (value : X → WordValue) (result : Result X StepFault) → IfOk result (λ x. DoesWord tracks table.listed old (Ok (value x)) new) → IfOk result (λ x. IsReadWord systems old table (value x) new)
+  word_read value (Ok x) done = λ name is. record { file_is = is; tracks = tracks; over = under; done = done }
+  word_read value (Err fault) done = tt
+
+  refused_as : (file : File) (fault : StepFault) → table.file ≡ file → PassesFile file old tracks table.listed fault → IsTableFault systems old table fault
+  refused_as file fault is passes = inr (record { tracks = tracks; over = under; passes = subst (λ (f : File). PassesFile f old tracks table.listed fault) (sym is) passes })
+
+  pub relation_stopped : {X : Type 0} (name : List ℕ) (result : Result X StepFault) → table.file ≡ Automaton name → IfErr result (λ fault. IsNotMade (DoesTable tracks table.listed) old fault new) → IfErr result (IsTableFault systems old table)
+  relation_stopped name (Ok x) is stops = tt
+  relation_stopped name (Err fault) is (inl memory) = inl memory
+  relation_stopped name (Err fault) is (inr refused) = refused_as (Automaton name) fault is (new, refused)
+
+  pub word_stopped : {X : Type 0} (name : List ℕ) (result : Result X StepFault) → table.file ≡ Word name → IfErr result (λ fault. IsNotMade (DoesWord tracks table.listed) old fault new) → IfErr result (IsTableFault systems old table)
+  word_stopped name (Ok x) is stops = tt
+  word_stopped name (Err fault) is (inl memory) = inl memory
+  word_stopped name (Err fault) is (inr refused) = refused_as (Word name) fault is (new, refused)
 
 -- what reading a word asks for of a table and its systems
 pub record MayReadWord (listed : Listed) (tracks : List SystemValue) : Type 0 where
@@ -199,18 +217,10 @@ may_read_word systems table name tracks file_is readable under =
     }
 
 -- one table is added
-pub relation_added : (systems : List NamedSystem) (old new : StepLog) (table : Loaded) (name : List ℕ) (r shared : RelationValue) (before after : ReadValue) → IsRelationRead systems old table (record { name = name; relation = r }) new → shared ≡ r
-    → after ≡ record { relations = with_relation before.relations name shared; words = before.words } → (q : TableRead) × IsTableRead systems old table q new × (after ≡ with_read before q)
-relation_added systems old new table name r shared before after read same is = (
-  ARelation (record { name = name; relation = r }),
-  read,
-  is ∙ (λ i. record { relations = with_relation before.relations name (same i); words = before.words }),
-)
+pub relation_added : (systems : List NamedSystem) (old new : StepLog) (table : Loaded) (name : List ℕ) (r : RelationValue) (before after : ReadValue) → IsRelationRead systems old table (record { name = name; relation = r }) new
+    → after ≡ record { relations = with_relation before.relations name r; words = before.words } → (q : TableRead) × IsTableRead systems old table q new × (after ≡ with_read before q)
+relation_added systems old new table name r before after read is = (ARelation (record { name = name; relation = r }), read, is)
 
-pub word_added : (systems : List NamedSystem) (old new : StepLog) (table : Loaded) (name : List ℕ) (w shared : WordValue) (before after : ReadValue) → IsWordRead systems old table (record { name = name; word = w }) new → shared ≡ w
-    → after ≡ record { relations = before.relations; words = with_word before.words name shared } → (q : TableRead) × IsTableRead systems old table q new × (after ≡ with_read before q)
-word_added systems old new table name w shared before after read same is = (
-  AWord (record { name = name; word = w }),
-  read,
-  is ∙ (λ i. record { relations = before.relations; words = with_word before.words name (same i) }),
-)
+pub word_added : (systems : List NamedSystem) (old new : StepLog) (table : Loaded) (name : List ℕ) (w : WordValue) (before after : ReadValue) → IsWordRead systems old table (record { name = name; word = w }) new
+    → after ≡ record { relations = before.relations; words = with_word before.words name w } → (q : TableRead) × IsTableRead systems old table q new × (after ≡ with_read before q)
+word_added systems old new table name w before after read is = (AWord (record { name = name; word = w }), read, is)

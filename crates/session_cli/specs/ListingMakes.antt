@@ -13,6 +13,7 @@ use Rattle.dfa_loading.specs.Loading.{AreListedBy}
 use Rattle.dfa_loading.specs.declared.loaded.Loaded.{Loaded}
 use Rattle.dfa_reading.specs.Headers.{Header, Truth, Systems, Sets}
 use Rattle.dfa_reading.specs.Listed.{Listed}
+use Rattle.dfa_reading.specs.Reading.{relation_of}
 use Rattle.named_systems.specs.NamedSystems.{NamedSystem, AreSealed}
 use Rattle.num_system.specs.Sealed.{SystemValue, IsSealed}
 use Rattle.num_system.specs.Tracks.{direction_of}
@@ -109,8 +110,9 @@ HaveHeader (Truth value) tracks = tracks ≡ []
 HaveHeader (Systems names) tracks = HaveNames names tracks
 HaveHeader (Sets sets) tracks = ⊥
 
--- these are sealed systems of the table's header, in one direction
+-- these are sealed systems of the table's header, in one direction, and the table is what its text lists
 pub record HasTracks (table : Loaded) (tracks : List SystemValue) : Type 0 where
+  pub lists : relation_of table.text ≡ Ok table.listed
   pub is_table : IsTable table.listed
   pub sealed : AllByRecursion IsSealed tracks
   pub tracks_are : AreForTracks table.listed.header tracks
@@ -118,6 +120,7 @@ pub record HasTracks (table : Loaded) (tracks : List SystemValue) : Type 0 where
 
 -- a table that is not over sets has sealed systems under the names of its header
 pub record CanBeListed (systems : List NamedSystem) (table : Loaded) : Type 0 where
+  pub lists : relation_of table.text ≡ Ok table.listed
   pub is_table : IsTable table.listed
   pub sealed : AreSealed systems
   pub readable : is_over_sets table.listed.header ≡ false → IsReadable systems table

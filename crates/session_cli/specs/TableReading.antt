@@ -1,9 +1,10 @@
 -- What loaded tables make, read into the library of a formula.
-use Rattle.std.specs.Prelude.{◌≡◌, ◌⊎◌, ℕ, List, Result, MatchResult}
+use Rattle.std.specs.Prelude.{◌≡◌, ◌⊎◌, ℕ, List, Result, Ok, MatchResult}
 use Rattle.std.specs.List.{AllByRecursion}
 use Rattle.digit_tuple.specs.Steps.{StepLog}
 use Rattle.digit_tuple.specs.declared.step_fault.StepFault.{StepFault}
 use Rattle.digit_tuple.specs.declared.step_fault.StepFault.TheVariants as faults
+use Rattle.dfa_loading.specs.Places.{lists_of}
 use Rattle.dfa_loading.specs.declared.loaded.Loaded.{Loaded}
 use Rattle.dfa_reading.specs.WordFiles.{IsWordListed}
 use Rattle.formula_resolve.specs.declared.file.File.TheVariants.{Automaton, Word}
@@ -16,8 +17,9 @@ use Rattle.word_output.specs.Words.{WordValue}
 use Rattle.definitions.specs.TableSteps.{IsTable}
 use Rattle.session_cli.specs.TableReads.{TableRead, ARelation, AWord, read_of, AreSystemsUnder, IsRelationRead, IsWordRead, IsTableRead, IsTableRefused, AreTablesRead, IsReadingRefused}
 
--- a table over systems, each of which is under its name, in one direction; a word's lists a word
+-- a table over systems, each of which is under its name, in one direction, which is what its text lists; a word's lists a word
 pub record IsReadable (systems : List NamedSystem) (table : Loaded) : Type 0 where
+  pub lists : lists_of table.file table.text ≡ Ok table.listed
   pub is_table : IsTable table.listed
   pub is_word : (name : List ℕ) → table.file ≡ Word name → IsWordListed table.listed
   pub tracks : List SystemValue
@@ -31,15 +33,13 @@ AreReadable systems tables = AllByRecursion (IsReadable systems) tables
 abbrev pub IsTableFault : List NamedSystem → StepLog → Loaded → StepFault → Type 0
 IsTableFault systems old table fault = (fault ≡ faults.Memory) ⊎ IsTableRefused systems old table fault
 
--- the relation of an automaton's table is made by its steps, or not
-abbrev pub ReadsRelation : List NamedSystem → StepLog → Loaded → Result RelationValue StepFault → StepLog → Type 0
-ReadsRelation systems old table result new =
-    MatchResult result (λ r. (name : List ℕ) → table.file ≡ Automaton name → IsRelationRead systems old table (record { name = name; relation = r }) new) (IsTableFault systems old table)
+-- the steps of an automaton's table make the relation that its name means
+abbrev pub IsReadRelation : List NamedSystem → StepLog → Loaded → RelationValue → StepLog → Type 0
+IsReadRelation systems old table r new = (name : List ℕ) → table.file ≡ Automaton name → IsRelationRead systems old table (record { name = name; relation = r }) new
 
--- the word of a word's table
-abbrev pub ReadsWord : List NamedSystem → StepLog → Loaded → Result WordValue StepFault → StepLog → Type 0
-ReadsWord systems old table result new =
-    MatchResult result (λ w. (name : List ℕ) → table.file ≡ Word name → IsWordRead systems old table (record { name = name; word = w }) new) (IsTableFault systems old table)
+-- those of a word's table make the word
+abbrev pub IsReadWord : List NamedSystem → StepLog → Loaded → WordValue → StepLog → Type 0
+IsReadWord systems old table w new = (name : List ℕ) → table.file ≡ Word name → IsWordRead systems old table (record { name = name; word = w }) new
 
 -- with one more after the others
 abbrev pub with_read : ReadValue → TableRead → ReadValue

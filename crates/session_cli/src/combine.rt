@@ -21,6 +21,7 @@ ghost use Rattle.session_cli.specs.Plans.{Makes, Plans};
 ghost use Rattle.session_cli.specs.StoreReads.{FromFiles, FromTexts};
 
 use crate::fault::Fault;
+use crate::kept::Kept;
 use crate::plan::{Made, Plan};
 use crate::printed::Printed;
 use crate::step_options::StepOptions;
@@ -39,7 +40,7 @@ use digit_tuple::step_fault::StepFault;
 use digit_tuple::steps::Steps;
 use formula_build::{Library, Names};
 use formula_resolve::{Headers, Mention, first_systems};
-use named_systems::SealedSystems;
+use kept_tables::KeptTables;
 use std::alloc::Global;
 use system_admission::UserSystems;
 use wal_outside::{Folder, Store};
@@ -53,7 +54,7 @@ pub(crate) fn plan_combine<T: Store>(
     alloc: Global,
     options: StepOptions,
     text: &[u8],
-    systems: &mut SealedSystems,
+    kept: &mut Kept,
     store: &mut T,
 ) -> Result<Plan, Fault>
     requires { length text.now ≤ 65536 }
@@ -61,7 +62,7 @@ pub(crate) fn plan_combine<T: Store>(
 {
     let head = combine_parts(alloc, text)?;
     let CombineParts { word, automata } = head;
-    match combine_made(alloc, options, automata, systems, store) {
+    match combine_made(alloc, options, automata, kept, store) {
         Ok(made) => Ok(Plan {
             folder: Folder::Words,
             name: word,
@@ -76,7 +77,7 @@ fn combine_made<T: Store>(
     alloc: Global,
     options: StepOptions,
     automata: Vec<ValuedName>,
-    systems: &mut SealedSystems,
+    kept: &mut Kept,
     store: &mut T,
 ) -> Result<Made, Fault>
     requires some { automata.items ≢ [] }
@@ -89,7 +90,7 @@ fn combine_made<T: Store>(
         alloc,
         options,
         &ListedAutomata { automata, tables },
-        systems,
+        kept,
         store,
     )
 }
@@ -119,7 +120,7 @@ fn made_of<T: Store>(
     alloc: Global,
     options: StepOptions,
     read: &ListedAutomata,
-    systems: &mut SealedSystems,
+    kept: &mut Kept,
     store: &mut T,
 ) -> Result<Made, Fault>
     requires { IsReadList read.now }
@@ -128,18 +129,18 @@ fn made_of<T: Store>(
     let headers = headers_of(alloc, &read.tables)?;
     let mentions = mentions_of(alloc, &read.automata)?;
     let mentioned = first_systems(alloc, &mentions, &headers)?;
-    let users = admitted(alloc, options.limit, &mentioned, store)?;
+    let users = admitted(alloc, options.limit, &mentioned, kept, store)?;
     let UserSystems {
         mut named,
         steps,
         ..
     } = users;
-    systems.add_all(alloc, &mentioned, &mut named)?;
+    kept.built_in.add_all(alloc, &mentioned, &mut named)?;
     let names = Names {
         headers,
         systems: named,
     };
-    combined(alloc, options.shown, read, &names, steps)
+    combined(alloc, options.shown, read, &names, &mut kept.tables, steps)
 }
 
 /// What is made of automata whose systems are sealed, each under its name, by the next steps.
@@ -148,6 +149,7 @@ fn combined(
     shown: bool,
     read: &ListedAutomata,
     names: &Names,
+    kept: &mut KeptTables,
     steps: Steps,
 ) -> Result<Made, Fault>
     requires read { IsReadList read.now }
@@ -159,7 +161,7 @@ fn combined(
     let mut steps = steps;
     none_plain(alloc, &names.headers, &read.automata)?;
     have_one_shape(alloc, &names.headers, &read.automata)?;
-    let word = combined_word(alloc, read, names, &mut steps)?;
+    let word = combined_word(alloc, read, names, kept, &mut steps)?;
     letters_fit(&word);
     let tracks = first_tracks(&names.headers, &read.automata);
     let stored = word_text(alloc, tracks, &word)?;
@@ -250,13 +252,14 @@ fn combined_word(
     alloc: Global,
     read: &ListedAutomata,
     names: &Names,
+    kept: &mut KeptTables,
     steps: &mut Steps,
 ) -> Result<Word, Fault>
     requires { IsPossible read.now names.now }
     ensures { (custom : Custom) → AreMeant custom names.now.systems → MakesWord steps.old custom names.now.systems read.now result steps.new }
 {
     names.systems.are_sealed();
-    let library = read_tables(alloc, &read.tables, &names.systems, steps)?;
+    let library = read_tables(alloc, &read.tables, &names.systems, kept, steps)?;
     let parts = parts_of(alloc, &library, &read.automata)?;
     let word = word_of(alloc, &parts, steps)?;
     Ok(word)

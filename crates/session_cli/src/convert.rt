@@ -23,7 +23,8 @@ ghost use Rattle.session_cli.specs.StoreReads.{FromFiles, FromTexts};
 
 use crate::base_system::{BaseSystem, base_named, base_of};
 use crate::fault::Fault;
-use crate::old_word::{OldNames, OldWord, kept, load_old, names_of, word_in};
+use crate::kept::Kept;
+use crate::old_word::{OldNames, OldWord, load_old, names_of, word_in, word_made};
 use crate::plan::{Made, Plan};
 use crate::step_options::StepOptions;
 use crate::table_reading::read_tables;
@@ -37,7 +38,8 @@ use digit_tuple::name::Name;
 use digit_tuple::step_fault::StepFault;
 use digit_tuple::steps::Steps;
 use formula_build::Names;
-use named_systems::{NamedSystems, SealedSystems};
+use kept_tables::KeptTables;
+use named_systems::NamedSystems;
 use num_system::system::System;
 use std::alloc::Global;
 use std::rc::Rc;
@@ -54,13 +56,13 @@ pub(crate) fn plan_convert<T: Store>(
     alloc: Global,
     options: StepOptions,
     text: &[u8],
-    systems: &mut SealedSystems,
+    kept: &mut Kept,
     store: &mut T,
 ) -> Result<Plan, Fault>
     ensures { FromFiles (λ found plan. (ledger : Ledger) → Stores ledger found → Plans (custom_of ledger) (convert_checks options.limit ledger text.now) options.shown plan) (T.view store.old) result (T.view store.new) }
 {
     let head = convert_parts(alloc, text)?;
-    match convert_made(alloc, options, &head, systems, store) {
+    match convert_made(alloc, options, &head, kept, store) {
         Ok(made) => Ok(Plan {
             folder: Folder::Words,
             name: head.word,
@@ -75,14 +77,14 @@ fn convert_made<T: Store>(
     alloc: Global,
     options: StepOptions,
     head: &ConvertParts,
-    systems: &mut SealedSystems,
+    kept: &mut Kept,
     store: &mut T,
 ) -> Result<Made, Fault>
     ensures { FromFiles (λ found made. (ledger : Ledger) → Stores ledger found → Makes (custom_of ledger) (after_convert_head options.limit ledger (convert_view head.now)) options.shown made) (T.view store.old) result (T.view store.new) }
 {
     let system = head.system.copy(alloc)?;
     let old = load_old(alloc, &head.old, store)?;
-    made_of(alloc, options, &ReadConvert { system, old }, systems, store)
+    made_of(alloc, options, &ReadConvert { system, old }, kept, store)
 }
 
 /// A word, and the system over which it is wanted.
@@ -99,15 +101,15 @@ fn made_of<T: Store>(
     alloc: Global,
     options: StepOptions,
     read: &ReadConvert,
-    systems: &mut SealedSystems,
+    kept: &mut Kept,
     store: &mut T,
 ) -> Result<Made, Fault>
     requires { IsLoadedOld read.now.old }
     ensures { FromTexts (MakesAfterConvertTable options read.now) (T.view store.old) result (T.view store.new) }
 {
     is_no_unknown_base(alloc, &read.system)?;
-    let named = names_of(alloc, options.limit, &read.old, systems, store)?;
-    made_over(alloc, options.shown, read, named, systems)
+    let named = names_of(alloc, options.limit, &read.old, kept, store)?;
+    made_over(alloc, options.shown, read, named, kept)
 }
 
 /// Refuses a name that is like that of a base where there is no such base.
@@ -136,7 +138,7 @@ fn made_over(
     shown: bool,
     read: &ReadConvert,
     named: OldNames,
-    systems: &mut SealedSystems,
+    kept: &mut Kept,
 ) -> Result<Made, Fault>
     requires old { IsLoadedOld read.now.old }
     requires other { UnknownBaseAnswers read.now.system (Ok tt) }
@@ -146,15 +148,16 @@ fn made_over(
     let OldNames { names, mut steps } = named;
     let over = base_of(alloc, &names.headers, &read.old.name, None)?;
     let change = change_of(alloc, over, &read.system)?;
-    let system = sealed_base(alloc, &read.system, systems)?;
+    let system = sealed_base(alloc, &read.system, kept)?;
     let target = Target {
         system,
         common: change.common,
     };
-    let word = converted_word(alloc, &read.old, &names, &target, &mut steps)?;
+    let tables = &mut kept.tables;
+    let word = converted_word(alloc, &read.old, &names, &target, tables, &mut steps)?;
     letters_fit(&word);
     let tracks = [read.system.copy(alloc)?];
-    kept(alloc, &tracks, &word, &steps, shown)
+    word_made(alloc, &tracks, &word, &steps, shown)
 }
 
 /// A base to which a word is changed, and the least root of both bases.
@@ -202,17 +205,13 @@ struct Target {
 }
 
 /// The base of this name, sealed at its first use and kept.
-fn sealed_base(
-    alloc: Global,
-    name: &Name,
-    systems: &mut SealedSystems,
-) -> Result<Rc<System>, OutOfMemory>
+fn sealed_base(alloc: Global, name: &Name, kept: &mut Kept) -> Result<Rc<System>, OutOfMemory>
     requires { (s : BaseSystem) × IsNameOfBase s name.now }
     ensures { (s : BaseSystem) → IsNameOfBase s name.now → IfOk result (λ system. IsSealedBase s (rc_value system)) }
 {
     let names = [name.copy(alloc)?];
     let mut named = NamedSystems::new(alloc);
-    systems.add_all(alloc, &names, &mut named)?;
+    kept.built_in.add_all(alloc, &names, &mut named)?;
     match named.get(name) {
         Some(system) => Ok(system.clone()?),
         None => unreachable!(),
@@ -225,6 +224,7 @@ fn converted_word(
     old: &OldWord,
     names: &Names,
     target: &Target,
+    kept: &mut KeptTables,
     steps: &mut Steps,
 ) -> Result<Word, StepFault>
     requires old { IsLoadedOld old.now }
@@ -233,7 +233,7 @@ fn converted_word(
     ensures { (custom : Custom) (change : Change) → AreOldNames old.now custom names.now → IsConvertible old.now change target.now → MakesConverted steps.old custom old.now change result steps.new }
 {
     names.systems.are_sealed();
-    let library = read_tables(alloc, &old.tables, &names.systems, steps)?;
+    let library = read_tables(alloc, &old.tables, &names.systems, kept, steps)?;
     let word = word_in(&library, &old.name);
     word_over(alloc, word, target, steps)
 }

@@ -20,6 +20,7 @@ ghost use Rattle.session_cli.specs.StoreReads.{FromFiles, FromTexts};
 
 use crate::fault::{Fault, Grammar};
 use crate::formula_text::formula_text;
+use crate::kept::Kept;
 use crate::plan::{Made, Plan};
 use crate::printed::Printed;
 use crate::step_options::StepOptions;
@@ -33,8 +34,8 @@ use formula_build::{Names, build, resolve};
 use formula_parse::parse;
 use formula_parse::tree::Formula;
 use formula_resolve::{first_systems, mentions};
+use kept_tables::KeptTables;
 use macro_loading::expanded;
-use named_systems::SealedSystems;
 use std::alloc::Global;
 use system_admission::UserSystems;
 use wal_outside::{Folder, Store};
@@ -57,7 +58,7 @@ pub(crate) fn plan_formula<T: Store>(
     alloc: Global,
     command: FormulaCommand<'_>,
     text: &[u8],
-    systems: &mut SealedSystems,
+    kept: &mut Kept,
     store: &mut T,
 ) -> Result<Plan, Fault>
     requires { is_name command.word.now ≡ true }
@@ -65,7 +66,7 @@ pub(crate) fn plan_formula<T: Store>(
 {
     match named_parts(alloc, command.word, text) {
         Ok(NamedParts { name, body }) => {
-            match formula_made(alloc, command.options, body, systems, store) {
+            match formula_made(alloc, command.options, body, kept, store) {
                 Ok(made) => Ok(Plan {
                     folder: command.folder,
                     name,
@@ -85,13 +86,13 @@ fn formula_made<T: Store>(
     alloc: Global,
     options: StepOptions,
     body: &[u8],
-    systems: &mut SealedSystems,
+    kept: &mut Kept,
     store: &mut T,
 ) -> Result<Made, Fault>
     ensures { FromFiles (λ found made. (ledger : Ledger) (folder : FolderOf) (name : List ℕ) → Stores ledger found → Makes (custom_of ledger) (after_named_head options.limit ledger folder (record { name = name; body = body.now })) options.shown made) (T.view store.old) result (T.view store.new) }
 {
     let text = expand_macros(alloc, body, store)?;
-    text_made(alloc, options, &text, systems, store)
+    text_made(alloc, options, &text, kept, store)
 }
 
 /// The text with its calls of macros expanded: all calls of a macro by one text, which is read where the first is met.
@@ -106,7 +107,7 @@ fn text_made<T: Store>(
     alloc: Global,
     options: StepOptions,
     text: &[u8],
-    systems: &mut SealedSystems,
+    kept: &mut Kept,
     store: &mut T,
 ) -> Result<Made, Fault>
     ensures { FromFiles (MakesOfText options text.now) (T.view store.old) result (T.view store.new) }
@@ -117,7 +118,7 @@ fn text_made<T: Store>(
         alloc,
         options,
         &ReadFormula { formula, tables },
-        systems,
+        kept,
         store,
     )
 }
@@ -148,7 +149,7 @@ fn made_of<T: Store>(
     alloc: Global,
     options: StepOptions,
     read: &ReadFormula,
-    systems: &mut SealedSystems,
+    kept: &mut Kept,
     store: &mut T,
 ) -> Result<Made, Fault>
     requires { IsReadFormula read.now }
@@ -156,18 +157,18 @@ fn made_of<T: Store>(
 {
     let headers = headers_of(alloc, &read.tables)?;
     let mentioned = first_systems(alloc, &mentions(alloc, &read.formula)?, &headers)?;
-    let users = admitted(alloc, options.limit, &mentioned, store)?;
+    let users = admitted(alloc, options.limit, &mentioned, kept, store)?;
     let UserSystems {
         mut named,
         steps,
         ..
     } = users;
-    systems.add_all(alloc, &mentioned, &mut named)?;
+    kept.built_in.add_all(alloc, &mentioned, &mut named)?;
     let names = Names {
         headers,
         systems: named,
     };
-    built(alloc, options.shown, read, &names, steps)
+    built(alloc, options.shown, read, &names, &mut kept.tables, steps)
 }
 
 /// What is made of a formula whose systems are sealed, each under its name, by the next steps.
@@ -176,6 +177,7 @@ fn built(
     shown: bool,
     read: &ReadFormula,
     names: &Names,
+    kept: &mut KeptTables,
     steps: Steps,
 ) -> Result<Made, Fault>
     requires read { IsReadFormula read.now }
@@ -187,7 +189,7 @@ fn built(
     let mut steps = steps;
     names.systems.are_sealed();
     let resolved = resolve(alloc, &read.formula, names)?;
-    let library = read_tables(alloc, &read.tables, &names.systems, &mut steps)?;
+    let library = read_tables(alloc, &read.tables, &names.systems, kept, &mut steps)?;
     let relation = build(alloc, &resolved, &library, &mut steps)?;
     let stored = formula_text(alloc, &resolved.variables, &relation)?;
     let mut printed = Printed::of_steps(alloc, &steps, shown)?;

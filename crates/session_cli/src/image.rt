@@ -23,6 +23,7 @@ ghost use Rattle.session_cli.specs.StoreReads.{FromFiles, FromTexts};
 use crate::fault::Fault;
 use crate::image_fault::ImageFault;
 use crate::imaging::image;
+use crate::kept::Kept;
 use crate::plan::{Made, Plan};
 use crate::printed::Printed;
 use crate::step_options::StepOptions;
@@ -37,9 +38,9 @@ use digit_tuple::name::Name;
 use digit_tuple::steps::Steps;
 use formula_build::{Library, Names};
 use formula_resolve::{Headers, Mention, first_systems};
+use kept_tables::KeptTables;
 use morph_words::{Morphism, image_kind};
 use morphism_loading::load_morphism;
-use named_systems::SealedSystems;
 use std::alloc::Global;
 use system_admission::UserSystems;
 use wal_outside::{Folder, Store};
@@ -53,13 +54,13 @@ pub(crate) fn plan_image<T: Store>(
     alloc: Global,
     options: StepOptions,
     text: &[u8],
-    systems: &mut SealedSystems,
+    kept: &mut Kept,
     store: &mut T,
 ) -> Result<Plan, Fault>
     ensures { FromFiles (λ found plan. (ledger : Ledger) → Stores ledger found → Plans (custom_of ledger) (image_checks options.limit ledger text.now) options.shown plan) (T.view store.old) result (T.view store.new) }
 {
     let head = image_parts(alloc, b"image", text)?;
-    match image_made(alloc, options, &head, systems, store) {
+    match image_made(alloc, options, &head, kept, store) {
         Ok(made) => Ok(Plan {
             folder: Folder::Words,
             name: head.word,
@@ -74,13 +75,13 @@ fn image_made<T: Store>(
     alloc: Global,
     options: StepOptions,
     head: &ImageParts,
-    systems: &mut SealedSystems,
+    kept: &mut Kept,
     store: &mut T,
 ) -> Result<Made, Fault>
     ensures { FromFiles (λ found made. (ledger : Ledger) → Stores ledger found → Makes (custom_of ledger) (after_image_head options.limit ledger (image_view head.now)) options.shown made) (T.view store.old) result (T.view store.new) }
 {
     let read = read_image(alloc, head, store)?;
-    made_of(alloc, options, &read, systems, store)
+    made_of(alloc, options, &read, kept, store)
 }
 
 /// A morphism, a word that it maps, and the word's table.
@@ -123,7 +124,7 @@ fn made_of<T: Store>(
     alloc: Global,
     options: StepOptions,
     read: &ReadImage,
-    systems: &mut SealedSystems,
+    kept: &mut Kept,
     store: &mut T,
 ) -> Result<Made, Fault>
     requires { IsReadImage read.now }
@@ -131,18 +132,18 @@ fn made_of<T: Store>(
 {
     let headers = headers_of(alloc, &read.tables)?;
     let mentioned = first_systems(alloc, &mentions_of(alloc, &read.old)?, &headers)?;
-    let users = admitted(alloc, options.limit, &mentioned, store)?;
+    let users = admitted(alloc, options.limit, &mentioned, kept, store)?;
     let UserSystems {
         mut named,
         steps,
         ..
     } = users;
-    systems.add_all(alloc, &mentioned, &mut named)?;
+    kept.built_in.add_all(alloc, &mentioned, &mut named)?;
     let names = Names {
         headers,
         systems: named,
     };
-    mapped(alloc, options.shown, read, &names, steps)
+    mapped(alloc, options.shown, read, &names, &mut kept.tables, steps)
 }
 
 /// What is made of a word whose systems are sealed, each under its name, by the next steps.
@@ -151,6 +152,7 @@ fn mapped(
     shown: bool,
     read: &ReadImage,
     names: &Names,
+    kept: &mut KeptTables,
     steps: Steps,
 ) -> Result<Made, Fault>
     requires read { IsReadImage read.now }
@@ -162,7 +164,7 @@ fn mapped(
     let mut steps = steps;
     has_one_track(alloc, &names.headers, &read.old)?;
     has_one_length(&read.morphism)?;
-    let word = mapped_word(alloc, read, names, &mut steps)?;
+    let word = mapped_word(alloc, read, names, kept, &mut steps)?;
     letters_fit(&word);
     let tracks = names.headers.word_tracks(&read.old);
     let stored = word_text(alloc, tracks, &word)?;
@@ -197,13 +199,14 @@ fn mapped_word(
     alloc: Global,
     read: &ReadImage,
     names: &Names,
+    kept: &mut KeptTables,
     steps: &mut Steps,
 ) -> Result<Word, Fault>
     requires { IsMappable read.now names.now }
     ensures { (custom : Custom) → AreMeant custom names.now.systems → MakesImage steps.old custom read.now result steps.new }
 {
     names.systems.are_sealed();
-    let library = read_tables(alloc, &read.tables, &names.systems, steps)?;
+    let library = read_tables(alloc, &read.tables, &names.systems, kept, steps)?;
     let system = old_system(&names.headers, &read.old);
     let word = image_in(alloc, read, &library, system, steps)?;
     Ok(word)

@@ -11,6 +11,8 @@ mod lines;
 mod printed;
 // what an accepted command leaves
 mod plan;
+// what a session keeps from one command to the next
+mod kept;
 // the systems of users that a command names
 mod user_systems;
 // the tracks and the languages of the systems that a command names

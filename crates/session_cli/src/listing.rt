@@ -20,6 +20,7 @@ ghost use Rattle.session_cli.specs.TableReading.{IsReadable};
 ghost use Rattle.session_cli.specs.WordPrinting.{HaveNames, tracks_named};
 
 use crate::fault::Fault;
+use crate::kept::Kept;
 use crate::listing_fault::ListingFault;
 use crate::printed::Printed;
 use crate::step_options::StepOptions;
@@ -27,7 +28,6 @@ use crate::table_loading::load_mentioned;
 use crate::table_reading::tracks_under;
 use crate::user_systems::admitted;
 use command_head::{TestParts, name_after, test_parts};
-use definitions::table_relation;
 use dfa_loading::{Loaded, headers_of};
 use dfa_reading::{FileHeader, SystemName};
 use digit_tuple::faults::OutOfMemory;
@@ -36,8 +36,9 @@ use digit_tuple::sets::Sets;
 use digit_tuple::steps::Steps;
 use digit_tuple::systems::Systems;
 use formula_resolve::{Mention, first_systems};
+use kept_tables::KeptTables;
 use language_steps::read_language;
-use named_systems::{NamedSystems, SealedSystems};
+use named_systems::NamedSystems;
 use num_system::system::System;
 use num_system::tracks::direction_of;
 use std::alloc::Global;
@@ -70,7 +71,7 @@ pub(crate) fn say_test<T: Store>(
     alloc: Global,
     options: StepOptions,
     text: &[u8],
-    systems: &mut SealedSystems,
+    kept: &mut Kept,
     store: &mut T,
 ) -> Result<Printed, Fault>
     ensures { FromFiles (λ found printed. (ledger : Ledger) → Stores ledger found → Tells (test_checks options.limit ledger text.now) options.shown printed) (T.view store.old) result (T.view store.new) }
@@ -78,7 +79,7 @@ pub(crate) fn say_test<T: Store>(
     let head = test_parts(alloc, text)?;
     let TestParts { name, count, place } = head;
     let question = Question::Words(WordsAfter { place, count });
-    said(alloc, options, Asked { name, question }, systems, store)
+    said(alloc, options, Asked { name, question }, kept, store)
 }
 
 /// What an `inf` prints, or the first of its checks that refuses it. Nothing is stored, and no text is changed.
@@ -86,14 +87,14 @@ pub(crate) fn say_inf<T: Store>(
     alloc: Global,
     options: StepOptions,
     text: &[u8],
-    systems: &mut SealedSystems,
+    kept: &mut Kept,
     store: &mut T,
 ) -> Result<Printed, Fault>
     ensures { FromFiles (λ found printed. (ledger : Ledger) → Stores ledger found → Tells (inf_checks options.limit ledger text.now) options.shown printed) (T.view store.old) result (T.view store.new) }
 {
     let name = name_after(alloc, b"inf", text)?;
     let question = Question::Infinity;
-    said(alloc, options, Asked { name, question }, systems, store)
+    said(alloc, options, Asked { name, question }, kept, store)
 }
 
 /// What is printed of the answer to a question, or the first check that refuses the command: the file of the automaton, its systems, that
@@ -103,20 +104,14 @@ fn said<T: Store>(
     alloc: Global,
     options: StepOptions,
     asked: Asked,
-    systems: &mut SealedSystems,
+    kept: &mut Kept,
     store: &mut T,
 ) -> Result<Printed, Fault>
     ensures { FromFiles (λ found printed. (ledger : Ledger) → Stores ledger found → Tells (after_listing_head options.limit ledger asked.name asked.question) options.shown printed) (T.view store.old) result (T.view store.new) }
 {
     let mentioned = mentions_of(alloc, &asked.name)?;
     let tables = load_mentioned(alloc, &mentioned, store)?;
-    said_of_tables(
-        alloc,
-        options,
-        &ReadListing { asked, tables },
-        systems,
-        store,
-    )
+    said_of_tables(alloc, options, &ReadListing { asked, tables }, kept, store)
 }
 
 /// The automaton is mentioned as one that is called.
@@ -133,7 +128,7 @@ fn said_of_tables<T: Store>(
     alloc: Global,
     options: StepOptions,
     read: &ReadListing,
-    systems: &mut SealedSystems,
+    kept: &mut Kept,
     store: &mut T,
 ) -> Result<Printed, Fault>
     requires { IsReadListing read.now }
@@ -142,14 +137,14 @@ fn said_of_tables<T: Store>(
     let headers = headers_of(alloc, &read.tables)?;
     let mentions = mentions_of(alloc, &read.asked.name)?;
     let mentioned = first_systems(alloc, &mentions, &headers)?;
-    let users = admitted(alloc, options.limit, &mentioned, store)?;
+    let users = admitted(alloc, options.limit, &mentioned, kept, store)?;
     let UserSystems {
         mut named,
         steps,
         ..
     } = users;
-    systems.add_all(alloc, &mentioned, &mut named)?;
-    said_over(alloc, options.shown, read, &named, steps)
+    kept.built_in.add_all(alloc, &mentioned, &mut named)?;
+    said_over(alloc, options.shown, read, &named, &mut kept.tables, steps)
 }
 
 /// What is printed where the systems are sealed, each under its name.
@@ -158,6 +153,7 @@ fn said_over(
     shown: bool,
     read: &ReadListing,
     systems: &NamedSystems,
+    kept: &mut KeptTables,
     steps: Steps,
 ) -> Result<Printed, Fault>
     requires read { IsReadListing read.now }
@@ -167,7 +163,14 @@ fn said_over(
 {
     let mut steps = steps;
     systems.are_sealed();
-    let answer = answered(alloc, &read.asked, &read.tables[0], systems, &mut steps)?;
+    let answer = answered(
+        alloc,
+        &read.asked,
+        &read.tables[0],
+        systems,
+        kept,
+        &mut steps,
+    )?;
     Ok(printed_answer(alloc, &steps, shown, &answer)?)
 }
 
@@ -201,6 +204,7 @@ fn answered(
     asked: &Asked,
     table: &Loaded,
     systems: &NamedSystems,
+    kept: &mut KeptTables,
     steps: &mut Steps,
 ) -> Result<Answer, ListingFault>
     requires { CanBeListed systems.now table.now }
@@ -208,8 +212,8 @@ fn answered(
 {
     match table.listed.header() {
         FileHeader::Sets(sets) => answered_over_sets(alloc, asked, table, sets, steps),
-        FileHeader::Systems(_) => answered_under(alloc, asked, table, systems, steps),
-        FileHeader::Truth(_) => answered_under(alloc, asked, table, systems, steps),
+        FileHeader::Systems(_) => answered_under(alloc, asked, table, systems, kept, steps),
+        FileHeader::Truth(_) => answered_under(alloc, asked, table, systems, kept, steps),
     }
 }
 
@@ -219,6 +223,7 @@ fn answered_under(
     asked: &Asked,
     table: &Loaded,
     systems: &NamedSystems,
+    kept: &mut KeptTables,
     steps: &mut Steps,
 ) -> Result<Answer, ListingFault>
     requires table { CanBeListed systems.now table.now }
@@ -226,7 +231,7 @@ fn answered_under(
     ensures { AnswersUnder systems.now steps.old table.now asked.now.name asked.now.question result steps.new }
 {
     let tracks = tracks_under(alloc, table.listed.header(), systems)?;
-    answered_over(alloc, asked, table, &tracks, steps)
+    answered_over(alloc, asked, table, &tracks, kept, steps)
 }
 
 /// The answer about the words of a table over sets.
@@ -252,6 +257,7 @@ fn answered_over(
     asked: &Asked,
     table: &Loaded,
     tracks: &[Rc<System>],
+    kept: &mut KeptTables,
     steps: &mut Steps,
 ) -> Result<Answer, ListingFault>
     requires { HasTracks table.now (map rc_value tracks.now) }
@@ -259,10 +265,10 @@ fn answered_over(
 {
     let sets = track_sets(alloc, table.listed.header(), tracks)?;
     refuse_place(alloc, asked, &sets)?;
-    let relation = table_relation(alloc, &table.listed, tracks, steps)?;
+    let relation = kept.relation(alloc, table, tracks, steps)?;
     let reply = answer(
         alloc,
-        relation.dfa(),
+        relation.as_ref().dfa(),
         &sets,
         Some(direction_of(tracks)),
         &asked.question,

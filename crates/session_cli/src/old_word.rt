@@ -8,6 +8,7 @@ ghost use Rattle.session_cli.specs.StoreReads.{FromFiles, FromTexts};
 ghost use Rattle.session_cli.specs.WordPrinting.{HaveNames};
 
 use crate::fault::Fault;
+use crate::kept::Kept;
 use crate::plan::Made;
 use crate::printed::Printed;
 use crate::table_loading::load_mentioned;
@@ -19,7 +20,6 @@ use digit_tuple::name::Name;
 use digit_tuple::steps::Steps;
 use formula_build::{Library, Names};
 use formula_resolve::{Mention, first_systems};
-use named_systems::SealedSystems;
 use std::alloc::Global;
 use system_admission::UserSystems;
 use wal_outside::Store;
@@ -78,20 +78,20 @@ pub(crate) fn names_of<T: Store>(
     alloc: Global,
     limit: u32,
     old: &OldWord,
-    systems: &mut SealedSystems,
+    kept: &mut Kept,
     store: &mut T,
 ) -> Result<OldNames, Fault>
     ensures { FromTexts (GivesNames limit old.now) (T.view store.old) result (T.view store.new) }
 {
     let headers = headers_of(alloc, &old.tables)?;
     let mentioned = first_systems(alloc, &mentions_of(alloc, &old.name)?, &headers)?;
-    let users = admitted(alloc, limit, &mentioned, store)?;
+    let users = admitted(alloc, limit, &mentioned, kept, store)?;
     let UserSystems {
         mut named,
         steps,
         ..
     } = users;
-    systems.add_all(alloc, &mentioned, &mut named)?;
+    kept.built_in.add_all(alloc, &mentioned, &mut named)?;
     let names = Names {
         headers,
         systems: named,
@@ -114,7 +114,7 @@ pub(crate) fn word_in<'a>(library: &'a Library, name: &Name) -> &'a Word
 ///
 /// # Errors
 /// `Long` if and only if the text has more bytes than a text may have, or `Memory`.
-pub(crate) fn kept(
+pub(crate) fn word_made(
     alloc: Global,
     names: &[Name],
     word: &Word,

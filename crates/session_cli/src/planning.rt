@@ -13,6 +13,7 @@ use crate::convert::plan_convert;
 use crate::fault::Fault;
 use crate::formula::{FormulaCommand, plan_formula};
 use crate::image::plan_image;
+use crate::kept::Kept;
 use crate::language::plan_language;
 use crate::listing::{say_inf, say_test};
 use crate::plan::{Action, printing, writing};
@@ -22,7 +23,6 @@ use crate::step_options::StepOptions;
 use crate::texts::{plan_macro, plan_morphism};
 use crate::transduce::plan_transduce;
 use language_steps::{LanguageOp, OneOp, PairOp};
-use named_systems::SealedSystems;
 use std::alloc::Global;
 use wal_outside::{Folder, Store};
 
@@ -61,7 +61,7 @@ pub(crate) fn action_of<T: Store>(
     alloc: Global,
     options: StepOptions,
     text: &[u8],
-    systems: &mut SealedSystems,
+    kept: &mut Kept,
     store: &mut T,
 ) -> Result<Action, Fault>
     ensures { FromFiles (λ found action. (ledger : Ledger) → Stores ledger found → Acts (custom_of ledger) (checks_of options.limit ledger text.now) options.shown action) (T.view store.old) result (T.view store.new) }
@@ -70,18 +70,16 @@ pub(crate) fn action_of<T: Store>(
         return Err(Fault::Long(COMMAND_LIMIT));
     }
     match command_word(text) {
-        Some(CommandWord::Reg) => writing(plan_reg(alloc, options, text, store)),
+        Some(CommandWord::Reg) => writing(plan_reg(alloc, options, text, kept, store)),
         Some(CommandWord::Eval) => {
-            writing(plan_formula(alloc, eval(options), text, systems, store))
+            writing(plan_formula(alloc, eval(options), text, kept, store))
         }
-        Some(CommandWord::Def) => writing(plan_formula(alloc, def(options), text, systems, store)),
+        Some(CommandWord::Def) => writing(plan_formula(alloc, def(options), text, kept, store)),
         Some(CommandWord::Macro) => writing(plan_macro(alloc, text)),
         Some(CommandWord::Morphism) => writing(plan_morphism(alloc, text)),
         Some(CommandWord::Promote) => writing(plan_promote(alloc, options, text, store)),
-        Some(CommandWord::Combine) => {
-            writing(plan_combine(alloc, options, text, systems, store))
-        }
-        Some(CommandWord::Image) => writing(plan_image(alloc, options, text, systems, store)),
+        Some(CommandWord::Combine) => { writing(plan_combine(alloc, options, text, kept, store)) }
+        Some(CommandWord::Image) => writing(plan_image(alloc, options, text, kept, store)),
         Some(CommandWord::Union) => {
             let op = LanguageOp::Pair(PairOp::Union);
             writing(plan_language(alloc, options, op, text, store))
@@ -103,13 +101,11 @@ pub(crate) fn action_of<T: Store>(
             writing(plan_language(alloc, options, op, text, store))
         }
         Some(CommandWord::Transduce) => {
-            writing(plan_transduce(alloc, options, text, systems, store))
+            writing(plan_transduce(alloc, options, text, kept, store))
         }
-        Some(CommandWord::Test) => printing(say_test(alloc, options, text, systems, store)),
-        Some(CommandWord::Inf) => printing(say_inf(alloc, options, text, systems, store)),
-        Some(CommandWord::Convert) => {
-            writing(plan_convert(alloc, options, text, systems, store))
-        }
+        Some(CommandWord::Test) => printing(say_test(alloc, options, text, kept, store)),
+        Some(CommandWord::Inf) => printing(say_inf(alloc, options, text, kept, store)),
+        Some(CommandWord::Convert) => { writing(plan_convert(alloc, options, text, kept, store)) }
         None => Err(Fault::Command),
     }
 }

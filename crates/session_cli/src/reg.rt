@@ -18,6 +18,7 @@ ghost use Rattle.named_systems.specs.TrackSystems.{IsIn};
 ghost use Rattle.session_cli.specs.Plans.{AreFormedAlphabets, Makes, ParsesTo, Plans, Prints};
 
 use crate::fault::{Fault, Grammar};
+use crate::kept::Kept;
 use crate::plan::{Made, Plan};
 use crate::printed::Printed;
 use crate::step_options::StepOptions;
@@ -40,12 +41,22 @@ use std::alloc::Global;
 use system_admission::names_once;
 use wal_outside::{Folder, Store, TEXT_LIMIT};
 
+/// The text of an expression in its quotes, and how the steps over it are made.
+#[derive(Clone, Copy)]
+struct Quoted<'a> {
+    /// The text.
+    body: &'a [u8],
+    /// How the steps are made and shown.
+    options: StepOptions,
+}
+
 /// What a `reg` stores and prints, or the first of its checks that refuses it: the shape of its head, its systems, their
 /// direction, its expression, its steps, and the length of the text to store. Files of users' systems are read from the store.
 pub(crate) fn plan_reg<T: Store>(
     alloc: Global,
     options: StepOptions,
     text: &[u8],
+    kept: &mut Kept,
     store: &mut T,
 ) -> Result<Plan, Fault>
     requires { length text.now ≤ 65536 }
@@ -58,7 +69,7 @@ pub(crate) fn plan_reg<T: Store>(
                 alphabets,
                 body,
             },
-        ) => match made_over(alloc, options, alphabets, body, store) {
+        ) => match made_over(alloc, Quoted { body, options }, alphabets, kept, store) {
             Ok(made) => Ok(Plan {
                 folder: Folder::Automata,
                 name,
@@ -75,17 +86,17 @@ pub(crate) fn plan_reg<T: Store>(
 /// What is made of the expression in a quoted text over sets, or over systems, whatever the command's name.
 fn made_over<T: Store>(
     alloc: Global,
-    options: StepOptions,
+    quoted: Quoted<'_>,
     alphabets: Alphabets,
-    body: &[u8],
+    kept: &mut Kept,
     store: &mut T,
 ) -> Result<Made, Fault>
     requires { AreFormedAlphabets (alphabets_of alphabets) }
-    ensures { FromTexts (λ custom made. (name : List ℕ) → Makes custom (after_head options.limit custom (record { name = name; alphabets = alphabets_of alphabets; body = body.now })) options.shown made) (T.view store.old) result (T.view store.new) }
+    ensures { FromTexts (λ custom made. (name : List ℕ) → Makes custom (after_head quoted.entry.options.limit custom (record { name = name; alphabets = alphabets_of alphabets; body = quoted.entry.body.now })) quoted.entry.options.shown made) (T.view store.old) result (T.view store.new) }
 {
     match alphabets {
-        Alphabets::Sets(sets) => regex_over(alloc, options, sets, body),
-        Alphabets::Systems(names) => regex_over_names(alloc, options, &names, body, store),
+        Alphabets::Sets(sets) => regex_over(alloc, quoted.options, sets, quoted.body),
+        Alphabets::Systems(names) => regex_over_names(alloc, quoted, &names, kept, store),
     }
 }
 
@@ -105,18 +116,24 @@ fn regex_over(alloc: Global, options: StepOptions, sets: Sets, body: &[u8]) -> R
 /// users are admitted first.
 fn regex_over_names<T: Store>(
     alloc: Global,
-    options: StepOptions,
+    quoted: Quoted<'_>,
     names: &[Name],
-    body: &[u8],
+    kept: &mut Kept,
     store: &mut T,
 ) -> Result<Made, Fault>
     requires { 0 < length names.now }
-    ensures { FromTexts (λ custom made. (name : List ℕ) → Makes custom (after_head options.limit custom (record { name = name; alphabets = Systems names.now; body = body.now })) options.shown made) (T.view store.old) result (T.view store.new) }
+    ensures { FromTexts (λ custom made. (name : List ℕ) → Makes custom (after_head quoted.entry.options.limit custom (record { name = name; alphabets = Systems names.now; body = quoted.entry.body.now })) quoted.entry.options.shown made) (T.view store.old) result (T.view store.new) }
 {
     let once = names_once(alloc, names)?;
-    let mut users = admitted(alloc, options.limit, &once, store)?;
+    let mut users = admitted(alloc, quoted.options.limit, &once, kept, store)?;
     let systems = TrackSystems::of_names(alloc, names, &users.named)?;
-    regex_over_systems(alloc, &systems, body, options.shown, &mut users.steps)
+    regex_over_systems(
+        alloc,
+        &systems,
+        quoted.body,
+        quoted.options.shown,
+        &mut users.steps,
+    )
 }
 
 /// What is made of the expression in a quoted text over systems, by the steps `regex`, `pad` and `valid` as the next ones.

@@ -7,12 +7,12 @@ ghost use Rattle.session_cli.specs.declared.plan.Action.TheVariants.{Write};
 ghost use Rattle.session_cli.specs.Commands.{Commands, DoesAction, WritesPlan};
 
 use crate::fault::Fault;
+use crate::kept::Kept;
 use crate::plan::{Action, Plan};
 use crate::planning::action_of;
 use crate::printed::Printed;
 use crate::step_options::StepOptions;
 use digit_tuple::name::Name;
-use named_systems::SealedSystems;
 use std::alloc::Global;
 use std::marker::Model;
 use wal_outside::{Folder, Store, WriteFault};
@@ -21,8 +21,7 @@ use wal_outside::{Folder, Store, WriteFault};
 #[derive(Drop)]
 pub struct Session {
     limit: u32,
-    // The built-in systems that formulas named so far. They change no answer.
-    systems: SealedSystems,
+    kept: Kept,
 }
 
 impl Model for Session {
@@ -38,8 +37,14 @@ impl Session {
     {
         Session {
             limit,
-            systems: SealedSystems::new(alloc),
+            kept: Kept::new(alloc),
         }
+    }
+
+    /// How many kept results were used so far: systems of users that were admitted once, where a later command reads the same files. The
+    /// count stays at its type's greatest value. It takes no memory.
+    pub fn reused(&self) -> u64 {
+        self.kept.reused()
     }
 
     /// Answers one command. Where it is accepted, the text that it makes was stored, if it makes one, and `printed` has what it
@@ -64,7 +69,7 @@ impl Session {
             limit: self.limit,
             shown,
         };
-        let action = action_of(alloc, options, text, &mut self.systems, store)?;
+        let action = action_of(alloc, options, text, &mut self.kept, store)?;
         let said = done(action, store)?;
         *printed = said;
         Ok(())

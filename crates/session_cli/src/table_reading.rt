@@ -1,14 +1,13 @@
 //! The relations and the words of loaded tables.
 
-ghost use Rattle.std.specs.Prelude.{◌≡◌, ℕ, List, map, IfOk};
+ghost use Rattle.std.specs.Prelude.{◌≡◌, ℕ, List, map, IfOk, IfErr};
 ghost use Rattle.std.specs.Rc.{rc_value};
 ghost use Rattle.dfa_reading.specs.HeaderViews.{header_view};
 ghost use Rattle.formula_resolve.specs.declared.file.File.TheVariants as files;
 ghost use Rattle.num_system.specs.Sealed.{SystemValue};
 ghost use Rattle.session_cli.specs.TableReads.{AreSystemsUnder};
-ghost use Rattle.session_cli.specs.TableReading.{IsReadable, AreReadable, AddsTable, ReadsRelation, ReadsWord, ReadsTables};
+ghost use Rattle.session_cli.specs.TableReading.{IsReadable, AreReadable, AddsTable, IsReadRelation, IsReadWord, IsTableFault, ReadsTables};
 
-use definitions::table_relation;
 use dfa_loading::Loaded;
 use dfa_reading::FileHeader;
 use digit_tuple::faults::OutOfMemory;
@@ -16,16 +15,17 @@ use digit_tuple::step_fault::StepFault;
 use digit_tuple::steps::Steps;
 use formula_build::Library;
 use formula_resolve::File;
+use kept_tables::KeptTables;
 use named_systems::NamedSystems;
 use num_system::system::System;
 use number_relations::relation::Relation;
 use std::alloc::Global;
 use std::rc::Rc;
 use word_output::word::Word;
-use word_output::word_reading::read_word_steps;
 
 /// What the table of each file makes, under the name of the file: an automaton's a relation, and a word's a word. It is made by
-/// the table's steps, one table after another. No table is over sets, and the systems of each are under their names.
+/// the table's steps, one table after another, or was made so before and kept. No table is over sets, and the systems of each are
+/// under their names.
 ///
 /// # Errors
 /// `Letters` and `States` exactly at the first step that passes a limit, with its number.
@@ -33,6 +33,7 @@ pub(crate) fn read_tables(
     alloc: Global,
     tables: &[Loaded],
     systems: &NamedSystems,
+    kept: &mut KeptTables,
     steps: &mut Steps,
 ) -> Result<Library, StepFault>
     requires { AreReadable systems.now tables.now }
@@ -40,7 +41,7 @@ pub(crate) fn read_tables(
 {
     let mut library = Library::new(alloc);
     for table in tables {
-        add_table(alloc, table, systems, steps, &mut library)?;
+        add_table(alloc, table, systems, kept, steps, &mut library)?;
     }
     Ok(library)
 }
@@ -50,6 +51,7 @@ fn add_table(
     alloc: Global,
     table: &Loaded,
     systems: &NamedSystems,
+    kept: &mut KeptTables,
     steps: &mut Steps,
     library: &mut Library,
 ) -> Result<(), StepFault>
@@ -58,14 +60,12 @@ fn add_table(
 {
     match &table.file {
         File::Automaton(name) => {
-            let relation = read_relation(alloc, table, systems, steps)?;
-            let shared = Rc::new(alloc, relation)?;
-            library.add_relation(alloc, name, shared)?;
+            let relation = read_relation(alloc, table, systems, kept, steps)?;
+            library.add_relation(alloc, name, relation)?;
         }
         File::Word(name) => {
-            let word = read_word(alloc, table, systems, steps)?;
-            let shared = Rc::new(alloc, word)?;
-            library.add_word(alloc, name, shared)?;
+            let word = read_word(alloc, table, systems, kept, steps)?;
+            library.add_word(alloc, name, word)?;
         }
     }
     Ok(())
@@ -76,14 +76,16 @@ fn read_relation(
     alloc: Global,
     table: &Loaded,
     systems: &NamedSystems,
+    kept: &mut KeptTables,
     steps: &mut Steps,
-) -> Result<Relation, StepFault>
+) -> Result<Rc<Relation>, StepFault>
     requires table { IsReadable systems.now table.now }
     requires automaton { (name : List ℕ) × (table.now.file ≡ files.Automaton name) }
-    ensures { ReadsRelation systems.now steps.old table.now result steps.new }
+    ensures made { IfOk result (λ r. IsReadRelation systems.now steps.old table.now r.value steps.new) }
+    ensures refused { IfErr result (IsTableFault systems.now steps.old table.now) }
 {
     let tracks = tracks_under(alloc, table.listed.header(), systems)?;
-    Ok(table_relation(alloc, &table.listed, &tracks, steps)?)
+    kept.relation(alloc, table, &tracks, steps)
 }
 
 /// The word of a word's table.
@@ -91,14 +93,16 @@ fn read_word(
     alloc: Global,
     table: &Loaded,
     systems: &NamedSystems,
+    kept: &mut KeptTables,
     steps: &mut Steps,
-) -> Result<Word, StepFault>
+) -> Result<Rc<Word>, StepFault>
     requires table { IsReadable systems.now table.now }
     requires word { (name : List ℕ) × (table.now.file ≡ files.Word name) }
-    ensures { ReadsWord systems.now steps.old table.now result steps.new }
+    ensures made { IfOk result (λ w. IsReadWord systems.now steps.old table.now w.value steps.new) }
+    ensures refused { IfErr result (IsTableFault systems.now steps.old table.now) }
 {
     let tracks = tracks_under(alloc, table.listed.header(), systems)?;
-    read_word_steps(alloc, &table.listed, &tracks, steps)
+    kept.word(alloc, table, &tracks, steps)
 }
 
 /// The systems that are under the names of a header, none below `true` and `false`.

@@ -12,7 +12,8 @@ ghost use Rattle.session_cli.specs.TransduceOutcomes.{after_transduce_head, tran
 
 use crate::base_system::base_of;
 use crate::fault::Fault;
-use crate::old_word::{OldNames, OldWord, kept, load_old, names_of, word_in};
+use crate::kept::Kept;
+use crate::old_word::{OldNames, OldWord, load_old, names_of, word_in, word_made};
 use crate::plan::{Made, Plan};
 use crate::step_options::StepOptions;
 use crate::table_reading::read_tables;
@@ -22,7 +23,7 @@ use command_head::{ImageParts, image_parts};
 use digit_tuple::direction::Direction;
 use digit_tuple::steps::Steps;
 use formula_build::Names;
-use named_systems::SealedSystems;
+use kept_tables::KeptTables;
 use std::alloc::Global;
 use transducer_loading::load_transducer;
 use transducer_reading::Transducer;
@@ -37,13 +38,13 @@ pub(crate) fn plan_transduce<T: Store>(
     alloc: Global,
     options: StepOptions,
     text: &[u8],
-    systems: &mut SealedSystems,
+    kept: &mut Kept,
     store: &mut T,
 ) -> Result<Plan, Fault>
     ensures { FromFiles (λ found plan. (ledger : Ledger) → Stores ledger found → Plans (custom_of ledger) (transduce_checks options.limit ledger text.now) options.shown plan) (T.view store.old) result (T.view store.new) }
 {
     let head = image_parts(alloc, b"transduce", text)?;
-    match transduce_made(alloc, options, &head, systems, store) {
+    match transduce_made(alloc, options, &head, kept, store) {
         Ok(made) => Ok(Plan {
             folder: Folder::Words,
             name: head.word,
@@ -58,13 +59,13 @@ fn transduce_made<T: Store>(
     alloc: Global,
     options: StepOptions,
     head: &ImageParts,
-    systems: &mut SealedSystems,
+    kept: &mut Kept,
     store: &mut T,
 ) -> Result<Made, Fault>
     ensures { FromFiles (λ found made. (ledger : Ledger) → Stores ledger found → Makes (custom_of ledger) (after_transduce_head options.limit ledger (image_view head.now)) options.shown made) (T.view store.old) result (T.view store.new) }
 {
     let read = read_transducer(alloc, head, store)?;
-    made_of(alloc, options, &read, systems, store)
+    made_of(alloc, options, &read, kept, store)
 }
 
 /// A transducer, and the word over which it runs.
@@ -94,14 +95,14 @@ fn made_of<T: Store>(
     alloc: Global,
     options: StepOptions,
     read: &ReadTransducer,
-    systems: &mut SealedSystems,
+    kept: &mut Kept,
     store: &mut T,
 ) -> Result<Made, Fault>
     requires { IsLoadedOld read.now.old }
     ensures { FromTexts (MakesAfterTable options read.now) (T.view store.old) result (T.view store.new) }
 {
-    let named = names_of(alloc, options.limit, &read.old, systems, store)?;
-    made_over(alloc, options.shown, read, named)
+    let named = names_of(alloc, options.limit, &read.old, kept, store)?;
+    made_over(alloc, options.shown, read, named, &mut kept.tables)
 }
 
 /// What is made of a word whose systems are sealed, each under its name, by the next steps.
@@ -110,6 +111,7 @@ fn made_over(
     shown: bool,
     read: &ReadTransducer,
     named: OldNames,
+    kept: &mut KeptTables,
 ) -> Result<Made, Fault>
     requires old { IsLoadedOld read.now.old }
     requires named { (custom : Custom) × AreOldNames read.now.old custom named.names }
@@ -117,11 +119,11 @@ fn made_over(
 {
     let OldNames { names, mut steps } = named;
     let over = base_of(alloc, &names.headers, &read.old.name, Some(Direction::Msd))?;
-    let word = transduced_word(alloc, read, &names, &mut steps)?;
+    let word = transduced_word(alloc, read, &names, kept, &mut steps)?;
     letters_fit(&word);
     let name = over.name(alloc)?;
     let tracks = [name];
-    kept(alloc, &tracks, &word, &steps, shown)
+    word_made(alloc, &tracks, &word, &steps, shown)
 }
 
 /// The word of the outputs of the transducer that runs over the old word. The word's table is read first.
@@ -129,6 +131,7 @@ fn transduced_word(
     alloc: Global,
     read: &ReadTransducer,
     names: &Names,
+    kept: &mut KeptTables,
     steps: &mut Steps,
 ) -> Result<Word, Fault>
     requires old { IsLoadedOld read.now.old }
@@ -137,7 +140,7 @@ fn transduced_word(
     ensures { (custom : Custom) → AreOldNames read.now.old custom names.now → MakesTransduced steps.old custom read.now result steps.new }
 {
     names.systems.are_sealed();
-    let library = read_tables(alloc, &read.old.tables, &names.systems, steps)?;
+    let library = read_tables(alloc, &read.old.tables, &names.systems, kept, steps)?;
     let word = word_in(&library, &read.old.name);
     let made = transduced(alloc, &read.transducer, word, steps)?;
     Ok(made)

@@ -28,7 +28,7 @@ use Rattle.adder_check.proofs.SureAdders.{surely_adder}
 read_file : (listed : Branching) (read : Automaton) → IsRead listed read → IsOfFile listed false read
 read_file listed read is = record { sizes = is.sizes; canonical = is.canonical; language = is.language }
 
-file_made : (listed : Branching) (reversed : Bool) (old new : StepLog) (d : Automaton) → DoesFile listed reversed old (Ok d) new → IsOfFile listed reversed d
+pub file_made : (listed : Branching) (reversed : Bool) (old new : StepLog) (d : Automaton) → DoesFile listed reversed old (Ok d) new → IsOfFile listed reversed d
 file_made listed reversed old new d (inr (f, does, none)) = absurd (no_fault d f none)
 file_made listed reversed old new d (inl (read, mid, does, turns)) = by reversed turns
   where
@@ -36,7 +36,7 @@ file_made listed reversed old new d (inl (read, mid, does, turns)) = by reversed
     by true turn = reversed_file listed read mid new (Ok d) does.step.made_is turn
     by false turn = subst (IsOfFile listed false) (sym (equal_value d read turn.0)) (read_file listed read does.step.made_is)
 
-language_made : (read_direction : Direction) (listed : Branching) (reversed : Bool) (old new : StepLog) (d : Automaton) → DoesLanguage read_direction listed reversed old (Ok d) new → IsOfFile listed reversed d
+pub language_made : (read_direction : Direction) (listed : Branching) (reversed : Bool) (old new : StepLog) (d : Automaton) → DoesLanguage read_direction listed reversed old (Ok d) new → IsOfFile listed reversed d
 language_made read_direction listed reversed old new d (inr (f, does, none)) = absurd (no_fault d f none)
 language_made read_direction listed reversed old new d (inl (made, mid, does, kept)) = subst (IsOfFile listed reversed) (sym kept.1.0) (file_made listed reversed old mid made does)
 

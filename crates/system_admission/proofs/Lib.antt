@@ -3,9 +3,13 @@ pub mod FileMeanings
 pub mod FileTables
 pub mod NumberSteps
 pub mod AdmittedSystems
+pub mod BrokenLaws
 pub mod OneFiles
 pub mod OneAdmissions
 pub mod OneNames
 pub mod AddedSteps
+pub mod ShiftedSteps
 pub mod NameAnswers
+pub mod KeptLemmas
+pub mod KeptSteps
 pub mod UserSteps

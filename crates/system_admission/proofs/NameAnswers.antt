@@ -17,7 +17,7 @@ use Rattle.system_names.specs.UserNames.{IsUserName}
 use Rattle.system_files.specs.SystemFiles.{Custom, SystemFiles}
 use Rattle.system_files.specs.SystemLoading.{FailsFiles}
 use Rattle.system_files.specs.UserSystems.{IsDefinedBy, IsUserSystem}
-use Rattle.system_admission.specs.Admissions.{AdmitsFiles, IsSystemIn}
+use Rattle.system_admission.specs.Admissions.{AdmitsFiles, IsFirstFaultIn, IsSystemIn}
 use Rattle.system_admission.specs.NameAdmissions.{AdmitsUnder, FailsName, IsNamedSystem, as_loading}
 use Rattle.system_admission.specs.SystemSteps.{HasFiles, RefusesName, fault_of}
 use Rattle.system_admission.specs.declared.system_fault.SystemFault.{SystemFault}
@@ -32,19 +32,19 @@ module _ (custom : Custom) (name : List ℕ) (other : ¬ IsBuiltInName name) (ol
   not_loaded read_direction part loads.Memory named fails = tt
 
   module _ (new : StepLog) (read_direction : Direction) (files : SystemFiles) (has : HasFiles custom name read_direction files) where
-    refused : (refusal : AdmitFault) → AdmitsFiles read_direction files old (Err refusal) new → RefusesName custom name old (fault_of name refusal) new
-    refused refusal does = inr (inr (record { direction = read_direction; files = files; has_files = has; refusal = refusal; admits = does; fault_is = refl }))
+    refused : (refusal : AdmitFault) → AdmitsFiles read_direction files old (Err refusal) new → IsFirstFaultIn read_direction files refusal → RefusesName custom name old (fault_of name refusal) new
+    refused refusal does first = inr (inr (record { direction = read_direction; files = files; has_files = has; refusal = refusal; admits = does; first = first; fault_is = refl }))
 
-    fails : (refusal : AdmitFault) → AdmitsFiles read_direction files old (Err refusal) new → FailsName custom name old new (fault_of name refusal)
-    fails (admits.NotAdmitted law) does = inr (other, refused (admits.NotAdmitted law) does)
-    fails (admits.Letters step) does = inr (other, refused (admits.Letters step) does)
-    fails (admits.States step) does = inr (other, refused (admits.States step) does)
-    fails admits.Memory does = tt
+    fails : (refusal : AdmitFault) → AdmitsFiles read_direction files old (Err refusal) new → IsFirstFaultIn read_direction files refusal → FailsName custom name old new (fault_of name refusal)
+    fails (admits.NotAdmitted law) does first = inr (other, refused (admits.NotAdmitted law) does first)
+    fails (admits.Letters step) does first = inr (other, refused (admits.Letters step) does first)
+    fails (admits.States step) does first = inr (other, refused (admits.States step) does first)
+    fails admits.Memory does first = tt
 
     -- its files are not admitted
     pub not_admitted : (fault : SystemFault) → AdmitsUnder name read_direction files old new (Err fault) → FailsName custom name old new fault
     not_admitted fault (inl ran_out) = subst (FailsName custom name old new) (sym ran_out) tt
-    not_admitted fault (inr (refusal, does, is)) = subst (FailsName custom name old new) (sym is) (fails refusal does)
+    not_admitted fault (inr (refusal, does, first, is)) = subst (FailsName custom name old new) (sym is) (fails refusal does first)
 
     -- they are admitted, and the system is sealed
     pub is_named : (user : UserSystem) (s : SystemValue) → AdmitsFiles read_direction files old (Ok user) new → IsSystemIn read_direction files user → IsSealed s → system_of s ≡ user_system user → s.direction ≡ user.direction
@@ -66,7 +66,7 @@ failing {A = A} {E = E} P Q r fault is holds = let M : Result A E → Type 0 = �
 pub under_loading : (name : List ℕ) (read_direction : Direction) (files : SystemFiles) (old new : StepLog) (fault : SystemFault) → AdmitsUnder name read_direction files old new (Err fault)
     → as_loading (let bad : Result SystemValue SystemFault = Err fault in bad) ≡ Ok tt
 under_loading name read_direction files old new fault (inl ran_out) = ap (λ (f : SystemFault). as_loading (let bad : Result SystemValue SystemFault = Err f in bad)) ran_out
-under_loading name read_direction files old new fault (inr (refusal, does, is)) = ap (λ (f : SystemFault). as_loading (let bad : Result SystemValue SystemFault = Err f in bad)) is ∙ by refusal
+under_loading name read_direction files old new fault (inr (refusal, does, first, is)) = ap (λ (f : SystemFault). as_loading (let bad : Result SystemValue SystemFault = Err f in bad)) is ∙ by refusal
   where
     by : (r : AdmitFault) → as_loading (let bad : Result SystemValue SystemFault = Err (fault_of name r) in bad) ≡ Ok tt
     by (admits.NotAdmitted law) = refl

@@ -2,5 +2,7 @@
 pub mod Admissions
 pub mod SystemSteps
 pub mod NameAdmissions
+pub mod KeptSystems
+pub mod KeptViews
 pub mod UserSystems
 pub mod AdmissionLaws

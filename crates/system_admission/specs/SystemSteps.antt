@@ -14,7 +14,7 @@ use Rattle.system_names.specs.Names.{IsBuiltInName}
 use Rattle.system_names.specs.UserNames.{IsUserName, IsUsersName}
 use Rattle.wal_outside.specs.declared.folder.Folder.{Folder}
 use Rattle.wal_outside.specs.declared.folder.Folder.TheVariants.{Bases}
-use Rattle.system_admission.specs.Admissions.{AdmitsFiles}
+use Rattle.system_admission.specs.Admissions.{AdmitsFiles, IsFirstFaultIn}
 use Rattle.system_admission.specs.declared.system_fault.SystemFault.{SystemFault}
 use Rattle.system_admission.specs.declared.system_fault.SystemFault.TheVariants as faults
 
@@ -38,13 +38,14 @@ pub record IsAdmittedName (custom : Custom) (name : List ℕ) (old : StepLog) (u
   pub has_files : HasFiles custom name direction files
   pub admits : AdmitsFiles direction files old (Ok user) new
 
--- they are not admitted
+-- They are not admitted. Where a law is the cause, it is false of the words and the sums of the files, and each law before it is true.
 pub record IsNotAdmitted (custom : Custom) (name : List ℕ) (old : StepLog) (fault : SystemFault) (new : StepLog) : Type 0 where
   pub direction : Direction
   pub files : SystemFiles
   pub has_files : HasFiles custom name direction files
   pub refusal : AdmitFault
   pub admits : AdmitsFiles direction files old (Err refusal) new
+  pub first : IsFirstFaultIn direction files refusal
   pub fault_is : fault ≡ fault_of name refusal
 
 -- no user's system is called so; or its files are not there; or they are not admitted

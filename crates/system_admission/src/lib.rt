@@ -7,6 +7,12 @@ mod system_fault;
 /// The files of a system, admitted.
 mod admission;
 
+/// The files of a system, as their texts are.
+mod pair;
+
+/// Systems that are kept, each beside its files.
+mod kept;
+
 /// The system of a name, read, admitted and sealed.
 mod named_system;
 
@@ -17,6 +23,7 @@ mod user_systems;
 mod laws;
 
 pub use admission::admit_files;
+pub use kept::KeptSystems;
 pub use laws::{admissions_add_steps, admissions_have_one_outcome, admitted_systems_are_meant};
 pub use named_system::admit_system;
 pub use system_fault::SystemFault;

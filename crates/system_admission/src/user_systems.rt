@@ -6,6 +6,7 @@ ghost use Rattle.formula_resolve.specs.FirstMentions.{each_once};
 ghost use Rattle.system_names.specs.Names.{IsBuiltInName};
 ghost use Rattle.system_admission.specs.UserSystems.{AdmitsUsers, AdmitsUser};
 
+use crate::kept::KeptSystems;
 use crate::named_system::admit_system;
 use crate::system_fault::SystemFault;
 use digit_tuple::faults::OutOfMemory;
@@ -14,7 +15,6 @@ use digit_tuple::steps::Steps;
 use formula_resolve::{Headers, Mention, first_systems};
 use named_systems::NamedSystems;
 use std::alloc::Global;
-use std::rc::Rc;
 use system_files::SystemTexts;
 use system_names::built_in;
 use wal_outside::Store;
@@ -32,7 +32,7 @@ pub struct UserSystems {
 
 impl UserSystems {
     /// Those of these names, each once, that are not built in: their files are read and admitted, one system after another, by
-    /// the first steps under a limit.
+    /// the first steps under a limit; a kept system is used where its files are the same.
     ///
     /// # Errors
     /// Why the first one is not admitted: `Load` with `Unknown` and the name of the missing file, or the name itself where it is
@@ -42,6 +42,7 @@ impl UserSystems {
         alloc: Global,
         limit: u32,
         names: &[Name],
+        kept: &mut KeptSystems,
         store: &mut T,
     ) -> Result<Self, SystemFault>
         ensures { AdmitsUsers limit names.now (T.view store.old) result (T.view store.new) }
@@ -53,7 +54,7 @@ impl UserSystems {
         };
         for name in names {
             if built_in(name.as_bytes()).is_none() {
-                users.admit(alloc, name, store)?;
+                users.admit(alloc, name, kept, store)?;
             }
         }
         Ok(users)
@@ -64,15 +65,15 @@ impl UserSystems {
         &mut self,
         alloc: Global,
         name: &Name,
+        kept: &mut KeptSystems,
         store: &mut T,
     ) -> Result<(), SystemFault>
         requires { ¬ IsBuiltInName name.now }
         ensures { AdmitsUser name.now self.old (T.view store.old) result self.new (T.view store.new) }
     {
-        let system = admit_system(alloc, name, &mut self.texts, store, &mut self.steps);
+        let system = admit_system(alloc, name, kept, &mut self.texts, store, &mut self.steps);
         self.texts.can_stand();
-        let shared = Rc::new(alloc, system?)?;
-        self.named.add(alloc, name, shared)?;
+        self.named.add(alloc, name, system?)?;
         Ok(())
     }
 }

@@ -1,5 +1,5 @@
 -- The texts of users' systems that were read so far. A name is read once, so that what is said of them holds of one folder.
-use Rattle.std.specs.Prelude.{◌≡◌, ℕ, ◌<◌, ◌≤◌, List, length, Option, None, Some, IfSome}
+use Rattle.std.specs.Prelude.{◌≡◌, ℕ, ◌<◌, ◌≤◌, List, length, slice_get, Option, None, Some, IfSome}
 use Rattle.std.specs.List.{AllByRecursion}
 use Rattle.wal_outside.specs.Files.{Files}
 use Rattle.wal_outside.specs.Views.{StoreView}
@@ -26,6 +26,11 @@ StandsAs there TooLong = (text : List ℕ) × (there ≡ Some text) × (TEXT_LIM
 -- all that was found is in the folder
 abbrev pub Agrees : Custom → List FoundText → Type 0
 Agrees custom found = AllByRecursion (λ (f : FoundText). StandsAs (custom f.name) f.finding) found
+
+-- this text was found under the name
+pub record HasText (found : List FoundText) (name text : List ℕ) : Type 0 where
+  pub place : ℕ
+  pub there : slice_get found place ≡ Some (record { name = name; finding = Text text })
 
 -- what was found before was found still; and it is in the store's folder, where the store reports that, if it did before
 pub record HasFound (before : List FoundText) (old : StoreView) (after : List FoundText) : Type 0 where

@@ -44,7 +44,7 @@ impl Model for SystemTexts {
 
 impl SystemTexts {
     ghost use Rattle.std.specs.Prelude.{◌≡◌, ◌<◌, [], ◌∷◌, ◌++◌, Some, length, slice_get, IfOk, IfSome, OnErr, OnOk, MatchOption};
-    ghost use Rattle.system_files.specs.SystemTexts.{CanStand};
+    ghost use Rattle.system_files.specs.SystemTexts.{CanStand, HasText};
     ghost use Rattle.system_files.specs.TextViews.{found_view};
     ghost use Rattle.system_files.specs.Looks.{IsNew, IsAt, CanBeFound, is_text};
 
@@ -62,6 +62,19 @@ impl SystemTexts {
         ensures { CanStand self.now }
     {
         let _ = &self.found;
+    }
+
+    /// The text that was found under a name, if the name was read and a text is there that is not too long. The time is in proportion
+    /// to how many were read.
+    pub fn text(&self, name: &Name) -> Option<&[u8]>
+        ensures { IfSome result (λ text. HasText self.now name.now text.now) }
+    {
+        let place = self.place_of(name)?;
+        match &self.at(place).finding {
+            Finding::Text(text) => Some(text),
+            Finding::Absent => None,
+            Finding::TooLong => None,
+        }
     }
 
     /// The place of what was found under a name, if it was read. The time is in proportion to how many were.

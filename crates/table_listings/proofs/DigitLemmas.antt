@@ -1,10 +1,9 @@
 -- Letters on tracks, digit by digit and letter by letter.
-use Rattle.std.proofs.Common.{◌≡◌, ℕ, zero, suc, ◌+◌, ◌<◌, List, [], ◌∷◌, ◌++◌, length, take, get_or, sym, ap, ◌∙◌, subst, arith}
+use Rattle.std.proofs.Common.{◌≡◌, ℕ, ◌+◌, ◌<◌, List, [], ◌∷◌, ◌++◌, length, take, get_or, sym, ap, ◌∙◌, subst}
 use Rattle.std.specs.Prelude.{ℤ}
 use Rattle.std.specs.List.{Contains}
 use Rattle.std.proofs.lemmas.List.{take_more}
 use Rattle.digit_tuple.specs.Tuples.{Codes}
-use Rattle.digit_tuple.proofs.AllLemmas.{all_append}
 use Rattle.digit_tuple.proofs.TupleLemmas.{letter_from_members, members_from_letter}
 use Rattle.listings.specs.Tracks.{HasDigits, IsOnTracks}
 use Rattle.table_listings.specs.Laws.{ListedPlacesAreWords}
@@ -24,18 +23,6 @@ digits_more sets digits i set other l m e all one =
     let P : List (List ℤ) → Type 0 = λ x. HasDigits x (take (i + 1) digits) in
     let Q : List ℤ → Type 0 = λ x. HasDigits (take i sets ++ set ∷ []) x in
     subst P (sym s) (subst Q (sym t) (push_digit (take i sets) (take i digits) set (get_or digits i other) all one))
-
--- one letter more
-pub letters_more : (sets letters : List (List ℤ)) (i : ℕ) (letter : List ℤ) → i < length letters → letter ≡ get_or letters i letter → IsOnTracks sets (take i letters) → HasDigits sets letter → IsOnTracks sets (take (i + 1) letters)
-letters_more sets letters i letter l e all one =
-    let s : take (i + 1) letters ≡ take i letters ++ letter ∷ [] = take_more letters i letter l ∙ ap (λ (x : List ℤ). take i letters ++ x ∷ []) (sym e) in
-    subst (IsOnTracks sets) (sym s) (all_append (HasDigits sets) (take i letters) (letter ∷ []) all (one, tt))
-
--- a letter of those that are on the tracks is one with digits
-pub letter_of_all : (sets letters : List (List ℤ)) (i : ℕ) (letter : List ℤ) → i < length letters → IsOnTracks sets letters → HasDigits sets (get_or letters i letter)
-letter_of_all sets [] i letter l all = absurd (omega (arith, l))
-letter_of_all sets (a ∷ letters) zero letter l all = all.0
-letter_of_all sets (a ∷ letters) (suc i) letter l all = letter_of_all sets letters i letter (omega (arith, l)) all.1
 
 -- what is on the tracks is a word, and the other way round
 on_tracks_word : (sets place : List (List ℤ)) → IsOnTracks sets place → (word : List ℕ) × Codes sets place word

@@ -8,7 +8,7 @@ returns-in-Found g c =
     let old : StoreView = g.T.Store.view c.args.store.now in
     let new : StoreView = g.T.Store.view c.read.new.self in
     found_there old new c.args.file c.read.new.into.items c.listed_in.result (rw (c.as_str.ensures, c.name_of.ensures, c.folder_of-folder.ensures) at c.in-Found.ensures.answer) c.in-Found.ensures.size c.in-Found.ensures.unchanged
-    c.in-Found.ensures.faults c.in-Found.ensures.place (rw c.deref.ensures.value at c.listed_in.ensures)
+    c.in-Found.ensures.faults c.in-Found.ensures.place c.listed_in.ensures
 
 pub returns-in-Absent : goal.returns-in-Absent
 returns-in-Absent g c =

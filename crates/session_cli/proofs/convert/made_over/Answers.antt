@@ -63,8 +63,8 @@ returns-in_err-copy c =
     let p = err_from_is_err_and c.from_residual-in_err-copy.result c.from_residual-in_err-copy.ensures.1 in
     λ custom named ledger files word stores same listed. rw (p.1, p.2) tt
 
-pub kept-requires : goal.kept-requires
-kept-requires c =
+pub word_made-requires : goal.word_made-requires
+word_made-requires c =
     let read = c.args.read.now in
     let old = c.requires.old in
     let change = c.in_ok-change.change in
@@ -79,7 +79,7 @@ returns c =
     let change = c.in_ok-change.change in
     let word = c.in_ok-word.word in
     let possible = convertible read c.args.named.names c.in_ok-over.over change _ c.requires.named.1.headers c.in_ok-over.ensures c.in_ok-change.ensures (c.in_ok-system.ensures change.system c.in_ok-change.ensures.name_is) refl in
-    let keeps = subst (λ (n : List ℕ). Keeps (n ∷ []) word c.args.shown c.converted_word.new.steps.lines c.kept.result) c.in_ok-copy.ensures c.kept.ensures in
+    let keeps = subst (λ (n : List ℕ). Keeps (n ∷ []) word c.args.shown c.converted_word.new.steps.lines c.word_made.result) c.in_ok-copy.ensures c.word_made.ensures in
     λ custom named ledger files name stores same listed.
     let here = subst (λ (k : Custom). AreOldNames read.old k c.args.named.names) (sym same) named in
-    convert_kept ledger read possible.over possible.over_is change possible.change_is name c.args.named.steps files stores listed word c.converted_word.new.steps.lines (c.in_ok-word.ensures _ change here possible) c.letters_fit.ensures c.args.shown c.kept.result keeps
+    convert_kept ledger read possible.over possible.over_is change possible.change_is name c.args.named.steps files stores listed word c.converted_word.new.steps.lines (c.in_ok-word.ensures _ change here possible) c.letters_fit.ensures c.args.shown c.word_made.result keeps

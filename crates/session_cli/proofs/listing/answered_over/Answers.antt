@@ -9,11 +9,12 @@ use Rattle.digit_tuple.specs.declared.step_fault.StepFault.{StepFault}
 use Rattle.dfa_reading.specs.Headers.{Header}
 use Rattle.num_system.specs.Sealed.{SystemValue}
 use Rattle.num_system.specs.Tracks as tracks
+use Rattle.number_relations.specs.Relations.{RelationValue}
 use Rattle.word_walk.specs.Listed.{is_listed}
 use Rattle.table_listings.specs.Questions.{Answers, IsAskedOn, IsUnanswered}
 use Rattle.session_cli.specs.ListingMakes.{DoesRelation, HaveHeader, IsPlaceFault, sets_below}
 use Rattle.session_cli.proofs.ListingReady.{relation_sizes}
-use Rattle.session_cli.proofs.ListingSteps.{lines_refused, place_refused, step_refused}
+use Rattle.session_cli.proofs.ListingSteps.{lines_refused, place_refused, step_not_made}
 use Rattle.session_cli.proofs.listing.answered_over.Goals as goal
 
 pub track_sets-requires : goal.track_sets-requires
@@ -46,14 +47,15 @@ returns-in_err-relation c =
     let on = subst (λ (sets : List (List ℤ)). IsAskedOn sets asked.question) own c.in_ok-refuse_place.ensures in
     let fault = c.in_err-relation.field-0.0 in
     rw (p.1, p.2)
-    (step_refused (λ (r : Result Automaton StepFault). DoesRelation found table.listed c.args.steps.now r c.table_relation.new.steps) (Some (tracks.direction_of found)) (sets_below table.listed.header found) asked.name asked.question on fault c.in_err-relation.ensures)
+    (step_not_made (λ (r : Result Automaton StepFault). DoesRelation found table.listed c.args.steps.now r c.relation.new.steps) (Some (tracks.direction_of found)) (sets_below table.listed.header found) asked.name asked.question on fault c.in_err-relation.ensures.refused)
 
 pub answer-requires-clause-sizes : goal.answer-requires-clause-sizes
 answer-requires-clause-sizes c =
     let table = c.args.table.now in
     let found : List SystemValue = map rc_value c.args.tracks.now in
     let own : c.in_ok-sets.sets ≡ sets_below table.listed.header found = c.in_ok-sets.ensures ∙ ap (λ (h : Header). sets_below h found) c.header.ensures in
-    ap (λ (d : Automaton). d.sizes) c.dfa.ensures.value ∙ (relation_sizes table found c.in_ok-relation.relation c.args.steps.now c.table_relation.new.steps c.requires c.in_ok-relation.ensures ∙ sym (ap sizes_of own))
+    let automaton : c.dfa.result.now ≡ c.in_ok-relation.relation.value.automaton = c.dfa.ensures.value ∙ ap (λ (r : RelationValue). r.automaton) c.as_ref.ensures in
+    ap (λ (d : Automaton). d.sizes) automaton ∙ (relation_sizes table found c.in_ok-relation.relation.value c.args.steps.now c.relation.new.steps c.requires c.in_ok-relation.ensures.made ∙ sym (ap sizes_of own))
 
 pub returns-in_err-reply : goal.returns-in_err-reply
 returns-in_err-reply c =
@@ -63,14 +65,15 @@ returns-in_err-reply c =
     let found : List SystemValue = map rc_value c.args.tracks.now in
     let own : c.in_ok-sets.sets ≡ sets_below table.listed.header found = c.in_ok-sets.ensures ∙ ap (λ (h : Header). sets_below h found) c.header.ensures in
     let on = subst (λ (sets : List (List ℤ)). IsAskedOn sets asked.question) own c.in_ok-refuse_place.ensures in
-    let relation = c.in_ok-relation.relation in
+    let relation = c.in_ok-relation.relation.value in
+    let automaton : c.dfa.result.now ≡ relation.automaton = c.dfa.ensures.value ∙ ap (λ (r : RelationValue). r.automaton) c.as_ref.ensures in
     let fault = c.in_err-reply.field-0.0 in
     let direction : c.direction_of.result ≡ tracks.direction_of found = c.direction_of.ensures in
     let moved = subst (λ (sets : List (List ℤ)). IsUnanswered (is_listed c.dfa.result.now (Some c.direction_of.result)) sets asked.question fault) own c.in_err-reply.ensures in
     let turned = subst (λ (w : Direction). IsUnanswered (is_listed c.dfa.result.now (Some w)) (sets_below table.listed.header found) asked.question fault) direction moved in
-    let long = subst (λ (d : Automaton). IsUnanswered (is_listed d (Some (tracks.direction_of found))) (sets_below table.listed.header found) asked.question fault) c.dfa.ensures.value turned in
+    let long = subst (λ (d : Automaton). IsUnanswered (is_listed d (Some (tracks.direction_of found))) (sets_below table.listed.header found) asked.question fault) automaton turned in
     rw (p.1, p.2)
-    (lines_refused (λ (r : Result Automaton StepFault). DoesRelation found table.listed c.args.steps.now r c.table_relation.new.steps) (Some (tracks.direction_of found)) (sets_below table.listed.header found) asked.name asked.question on relation.automaton (relation, refl, c.in_ok-relation.ensures) fault long)
+    (lines_refused (λ (r : Result Automaton StepFault). DoesRelation found table.listed c.args.steps.now r c.relation.new.steps) (Some (tracks.direction_of found)) (sets_below table.listed.header found) asked.name asked.question on relation.automaton (relation, refl, c.in_ok-relation.ensures.made) fault long)
 
 pub returns : goal.returns
 returns c =
@@ -79,9 +82,10 @@ returns c =
     let found : List SystemValue = map rc_value c.args.tracks.now in
     let own : c.in_ok-sets.sets ≡ sets_below table.listed.header found = c.in_ok-sets.ensures ∙ ap (λ (h : Header). sets_below h found) c.header.ensures in
     let on = subst (λ (sets : List (List ℤ)). IsAskedOn sets asked.question) own c.in_ok-refuse_place.ensures in
-    let relation = c.in_ok-relation.relation in
+    let relation = c.in_ok-relation.relation.value in
+    let automaton : c.dfa.result.now ≡ relation.automaton = c.dfa.ensures.value ∙ ap (λ (r : RelationValue). r.automaton) c.as_ref.ensures in
     let direction : c.direction_of.result ≡ tracks.direction_of found = c.direction_of.ensures in
     let moved = subst (λ (sets : List (List ℤ)). Answers (is_listed c.dfa.result.now (Some c.direction_of.result)) sets asked.question c.in_ok-reply.reply) own c.in_ok-reply.ensures in
     let turned = subst (λ (w : Direction). Answers (is_listed c.dfa.result.now (Some w)) (sets_below table.listed.header found) asked.question c.in_ok-reply.reply) direction moved in
-    let answers = subst (λ (d : Automaton). Answers (is_listed d (Some (tracks.direction_of found))) (sets_below table.listed.header found) asked.question c.in_ok-reply.reply) c.dfa.ensures.value turned in
-    record { on = on; read = relation.automaton; does = (relation, refl, c.in_ok-relation.ensures); answers = answers }
+    let answers = subst (λ (d : Automaton). Answers (is_listed d (Some (tracks.direction_of found))) (sets_below table.listed.header found) asked.question c.in_ok-reply.reply) automaton turned in
+    record { on = on; read = relation.automaton; does = (relation, refl, c.in_ok-relation.ensures.made); answers = answers }

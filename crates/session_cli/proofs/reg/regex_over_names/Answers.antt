@@ -27,16 +27,16 @@ pub returns-in_err-users : goal.returns-in_err-users
 returns-in_err-users g c =
     let p = err_from_is_err_and c.from_residual-in_err-users.result c.from_residual-in_err-users.ensures.1 in
     let fault = c.in_err-users.field-0.0 in
-    let limit = c.args.options.limit in
+    let limit = c.args.quoted.options.limit in
     let names : c.deref.result.now ≡ each_once bytes_eq c.args.names.now = c.deref.ensures.value ∙ c.in_ok-once.ensures in
     rw (p.1, p.2) (texts_refused _ _ _ _ fault c.in_err-users.ensures
-    (λ custom refused name. head_refused limit custom (record { name = name; alphabets = heads.Systems c.args.names.now; body = c.args.body.now }) fault (subst (λ (ns : List (List ℕ)). Fails (systems_known limit custom ns) fault) names refused)))
+    (λ custom refused name. head_refused limit custom (record { name = name; alphabets = heads.Systems c.args.names.now; body = c.args.quoted.body.now }) fault (subst (λ (ns : List (List ℕ)). Fails (systems_known limit custom ns) fault) names refused)))
 
 pub of_names-requires-clause-there : goal.of_names-requires-clause-there
 of_names-requires-clause-there g c =
     let names : c.deref.result.now ≡ each_once bytes_eq c.args.names.now = c.deref.ensures.value ∙ c.in_ok-once.ensures in
     let first = c.in_ok-users.ensures in
-    let admitted = subst (λ (ns : List (List ℕ)). AreAdmitted c.args.options.limit ns first.stands.0 c.in_ok-users.users) names (first.gives first.stands.0 first.stands.1) in
+    let admitted = subst (λ (ns : List (List ℕ)). AreAdmitted c.args.quoted.options.limit ns first.stands.0 c.in_ok-users.users) names (first.gives first.stands.0 first.stands.1) in
     (all_once (IsThere c.in_ok-users.users.named) [] c.args.names.now admitted.there).1
 
 pub returns-in_err-systems : goal.returns-in_err-systems
@@ -44,7 +44,7 @@ returns-in_err-systems g c =
     let p = err_from_is_err_and c.from_residual-in_err-systems.result c.from_residual-in_err-systems.ensures.1 in
     let why = c.in_err-systems.field-0.0 in
     let fault = fault_of_tracks why in
-    let limit = c.args.options.limit in
+    let limit = c.args.quoted.options.limit in
     let users = c.in_ok-users.users in
     let names : c.deref.result.now ≡ each_once bytes_eq c.args.names.now = c.deref.ensures.value ∙ c.in_ok-once.ensures in
     let first = c.in_ok-users.ensures in
@@ -53,7 +53,7 @@ returns-in_err-systems g c =
     rw (p.1, p.2) (texts_read _ _ _ _ users (Err fault) own first
     (λ k admitted name.
     let admits = (subst (λ (ns : List (List ℕ)). AreAdmitted limit ns k users) names admitted).admits in
-    tracks_fail limit k (record { name = name; alphabets = heads.Systems c.args.names.now; body = c.args.body.now }) users.steps fault admits (parted_so k users.named c.args.names.now why admitted.meant c.in_err-systems.ensures)))
+    tracks_fail limit k (record { name = name; alphabets = heads.Systems c.args.names.now; body = c.args.quoted.body.now }) users.steps fault admits (parted_so k users.named c.args.names.now why admitted.meant c.in_err-systems.ensures)))
 
 pub regex_over_systems-requires-clause-named : goal.regex_over_systems-requires-clause-named
 regex_over_systems-requires-clause-named g c =
@@ -62,18 +62,18 @@ regex_over_systems-requires-clause-named g c =
 
 pub returns : goal.returns
 returns g c =
-    let limit = c.args.options.limit in
-    let shown = c.args.options.shown in
+    let limit = c.args.quoted.options.limit in
+    let shown = c.args.quoted.options.shown in
     let users = c.in_ok-users.users in
     let t = c.in_ok-systems.systems in
     let names : c.deref.result.now ≡ each_once bytes_eq c.args.names.now = c.deref.ensures.value ∙ c.in_ok-once.ensures in
     let first = c.in_ok-users.ensures in
     let custom = first.stands.0 in
     let tracks = OverSystems t.direction (named_in t.systems.items) in
-    let own = own_made custom (after_tracks users.steps custom [] c.args.body.now tracks) (no_track_read users.steps custom [] c.args.body.now tracks) shown c.regex_over_systems.result
+    let own = own_made custom (after_tracks users.steps custom [] c.args.quoted.body.now tracks) (no_track_read users.steps custom [] c.args.quoted.body.now tracks) shown c.regex_over_systems.result
     (c.regex_over_systems.ensures custom [] (tracks_so custom users.named t c.args.names.now (first.gives custom first.stands.1).meant c.in_ok-systems.ensures).are) in
     texts_read _ _ _ _ users c.regex_over_systems.result own first
     (λ k admitted name.
     let admits = (subst (λ (ns : List (List ℕ)). AreAdmitted limit ns k users) names admitted).admits in
     let so = tracks_so k users.named t c.args.names.now admitted.meant c.in_ok-systems.ensures in
-    tracks_made limit k (record { name = name; alphabets = heads.Systems c.args.names.now; body = c.args.body.now }) users.steps tracks shown c.regex_over_systems.result admits so (c.regex_over_systems.ensures k name so.are))
+    tracks_made limit k (record { name = name; alphabets = heads.Systems c.args.names.now; body = c.args.quoted.body.now }) users.steps tracks shown c.regex_over_systems.result admits so (c.regex_over_systems.ensures k name so.are))

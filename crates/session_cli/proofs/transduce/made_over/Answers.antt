@@ -40,8 +40,8 @@ returns-in_err-name c =
     let p = err_from_is_err_and c.from_residual-in_err-name.result c.from_residual-in_err-name.ensures.1 in
     λ custom named ledger files word mapping stores same listed. rw (p.1, p.2) tt
 
-pub kept-requires : goal.kept-requires
-kept-requires c =
+pub word_made-requires : goal.word_made-requires
+word_made-requires c =
     let read = c.args.read.now in
     let over : HasMsdBase read = (c.in_ok-over.over, subst (λ (h : Headers). IsBaseOf (Some Msd) h read.old.name c.in_ok-over.over) c.requires.named.1.headers c.in_ok-over.ensures) in
     let word = c.in_ok-word.word in
@@ -55,7 +55,7 @@ returns c =
     let over : HasMsdBase read = (c.in_ok-over.over, subst (λ (h : Headers). IsBaseOf (Some Msd) h read.old.name c.in_ok-over.over) c.requires.named.1.headers c.in_ok-over.ensures) in
     let word = c.in_ok-word.word in
     let lines = c.transduced_word.new.steps.lines in
-    let keeps : Keeps (name_of_base over.0 ∷ []) word c.args.shown lines c.kept.result = subst (λ (n : List ℕ). Keeps (n ∷ []) word c.args.shown lines c.kept.result) c.in_ok-name.ensures c.kept.ensures in
+    let keeps : Keeps (name_of_base over.0 ∷ []) word c.args.shown lines c.word_made.result = subst (λ (n : List ℕ). Keeps (n ∷ []) word c.args.shown lines c.word_made.result) c.in_ok-name.ensures c.word_made.ensures in
     λ custom named ledger files name mapping stores same listed.
     let here : AreOldNames read.old (custom_of ledger) c.args.named.names = subst (λ (k : Custom). AreOldNames read.old k c.args.named.names) (sym same) named in
-    transduced_kept ledger read over name mapping c.args.named.steps files stores listed word lines (c.in_ok-word.ensures (custom_of ledger) here) c.letters_fit.ensures c.args.shown c.kept.result keeps
+    transduced_kept ledger read over name mapping c.args.named.steps files stores listed word lines (c.in_ok-word.ensures (custom_of ledger) here) c.letters_fit.ensures c.args.shown c.word_made.result keeps

@@ -1,9 +1,15 @@
-use Rattle.std.proofs.Common.{◌≡◌, ℕ, List, Err, ◌∙◌, ap, rules, subst}
-use Rattle.digit_tuple.specs.declared.step_fault.StepFault.TheVariants as steps
+use Rattle.std.proofs.Common.{◌≡◌, ℕ, ◌≤◌, List, length, Err, ap, ◌∙◌, rules, sym, subst}
+use Rattle.digit_tuple.specs.Steps.{StepLog}
+use Rattle.digit_tuple.specs.declared.direction.Direction.{Direction}
+use Rattle.num_system.specs.Sealed.{SystemValue}
 use Rattle.system_names.specs.UserNames.{IsUserName}
-use Rattle.system_admission.specs.NameAdmissions.{FailsName, IsNamedSystem, as_loading}
+use Rattle.system_files.specs.SystemFiles.{AreFilesOf}
+use Rattle.system_admission.specs.KeptSystems.{CanBeKept}
+use Rattle.system_admission.specs.KeptViews.{pair_view}
+use Rattle.system_admission.specs.NameAdmissions.{AdmitsUnder, FailsName, IsNamedSystem, SealsFiles, as_loading}
 use Rattle.system_admission.specs.declared.system_fault.SystemFault.TheVariants as faults
-use Rattle.system_admission.proofs.NameAnswers.{failing, is_named, not_admitted, not_loaded, read_before, under_loading}
+use Rattle.system_admission.proofs.KeptLemmas.{can_be_kept, sealed_named, seals_more, seals_named}
+use Rattle.system_admission.proofs.NameAnswers.{failing, not_admitted, not_loaded, read_before, under_loading}
 use Rattle.system_admission.proofs.named_system.admit_system.Goals as goal
 
 pub returns-in_err-files-clause-gives : goal.returns-in_err-files-clause-gives
@@ -11,35 +17,76 @@ returns-in_err-files-clause-gives g c = λ custom agrees.
     let name = c.args.name.now in
     let load = c.in_err-files.field-0.0 in
     let is_name = subst (λ (n : List ℕ). IsUserName c.in-Some.user.direction c.in-Some.user.part.now n) c.as_str.ensures c.in-Some.ensures in
-    failing (IsNamedSystem custom name c.args.steps.now c.args.steps.now) (FailsName custom name c.args.steps.now c.args.steps.now) c.from_residual-in_err-files.result (faults.Load load)
+    failing (λ s. IsNamedSystem custom name c.args.steps.now c.args.steps.now s.value) (FailsName custom name c.args.steps.now c.args.steps.now) c.from_residual-in_err-files.result (faults.Load load)
     (let e = c.from_residual-in_err-files.ensures in search rules)
     (not_loaded custom name c.requires c.args.steps.now c.in-Some.user.direction c.in-Some.user.part.now load is_name (c.in_err-files.ensures.gives custom agrees))
 
-pub returns-in_err-admitted-clause-gives : goal.returns-in_err-admitted-clause-gives
-returns-in_err-admitted-clause-gives g c = λ custom agrees.
-    let name = c.args.name.now in
-    let fault = c.in_err-admitted.field-0.0 in
+pub returns-in_default-pair_of-clause-gives : goal.returns-in_default-pair_of-clause-gives
+returns-in_default-pair_of-clause-gives g c = λ custom agrees.
     let is_name = subst (λ (n : List ℕ). IsUserName c.in-Some.user.direction c.in-Some.user.part.now n) c.as_str.ensures c.in-Some.ensures in
-    failing (IsNamedSystem custom name c.args.steps.now c.admit_named.new.steps) (FailsName custom name c.args.steps.now c.admit_named.new.steps) c.from_residual-in_err-admitted.result fault
-    (let e = c.from_residual-in_err-admitted.ensures in search rules)
-    (not_admitted custom name c.requires c.args.steps.now c.admit_named.new.steps c.in-Some.user.direction c.in_ok-files.files
-    (record { part = c.in-Some.user.part.now; is_name = is_name; found = c.in_ok-files.ensures.gives custom agrees }) fault c.in_err-admitted.ensures.steps)
+    sealed_named (λ s. s.value) custom c.args.name.now c.in-Some.user.part.now c.in-Some.user.direction c.in_ok-files.files c.args.steps.now c.sealed_system.new.steps c.sealed_system.result is_name (c.in_ok-files.ensures.gives custom agrees)
+    c.sealed_system.ensures
 
-pub returns-in_err-admitted-clause-read : goal.returns-in_err-admitted-clause-read
-returns-in_err-admitted-clause-read g c =
-    let fault = c.in_err-admitted.field-0.0 in
-    let answer : c.from_residual-in_err-admitted.result ≡ Err fault = (let e = c.from_residual-in_err-admitted.ensures in search rules) in
-    read_before _ _ c.in_ok-files.files c.from_residual-in_err-admitted.result
-    (ap as_loading answer ∙ under_loading c.args.name.now c.in-Some.user.direction c.in_ok-files.files c.args.steps.now c.admit_named.new.steps fault c.in_err-admitted.ensures.steps) c.in_ok-files.ensures.has_read
+pub returns-in-Some-2-clause-gives : goal.returns-in-Some-2-clause-gives
+returns-in-Some-2-clause-gives g c = λ custom agrees.
+    let name = c.args.name.now in
+    let part = c.in-Some.user.part.now in
+    let direction = c.in-Some-pair_of.ensures.direction in
+    let is_name = subst (λ (n : List ℕ). IsUserName c.in-Some.user.direction part n) c.as_str.ensures c.in-Some.ensures in
+    let found = c.in_ok-files.ensures.gives custom agrees in
+    let admits = rw c.in-Some-2.is at c.in_ok-system.ensures in
+    admits custom name (record {
+      part = part;
+      is_name = subst (λ (d : Direction). IsUserName d part name) (sym direction) is_name;
+      is_pair = c.in-Some-pair_of.ensures.pair custom agrees (c.reversed.ensures ∙ found.reversed);
+    })
 
-pub returns-in_err-sealed-clause-gives : goal.returns-in_err-sealed-clause-gives
-returns-in_err-sealed-clause-gives g c = λ custom agrees.
-    failing (IsNamedSystem custom c.args.name.now c.args.steps.now c.admit_named.new.steps) (FailsName custom c.args.name.now c.args.steps.now c.admit_named.new.steps) c.from_residual-in_err-sealed.result
-    (faults.Step steps.Memory) (let e = c.from_residual-in_err-sealed.ensures in search rules) tt
+pub returns-in_err-system-2-clause-gives : goal.returns-in_err-system-2-clause-gives
+returns-in_err-system-2-clause-gives g c = λ custom agrees.
+    let name = c.args.name.now in
+    let new = c.sealed_system-2.new.steps in
+    let fault = c.in_err-system-2.field-0.0 in
+    let files = c.in_ok-files.files in
+    let same : c.admit.new.steps ≡ c.args.steps.now = rw c.in_default-2.is at c.in_ok-system.ensures in
+    let is_name = subst (λ (n : List ℕ). IsUserName c.in-Some.user.direction c.in-Some.user.part.now n) c.as_str.ensures c.in-Some.ensures in
+    let under = subst (λ (log : StepLog). AdmitsUnder name c.in-Some.user.direction files log new (Err fault)) same c.in_err-system-2.ensures in
+    failing (λ s. IsNamedSystem custom name c.args.steps.now new s.value) (FailsName custom name c.args.steps.now new) c.from_residual-in_err-system-2.result fault (let e = c.from_residual-in_err-system-2.ensures in search rules)
+    (not_admitted custom name c.requires c.args.steps.now new c.in-Some.user.direction files (record { part = c.in-Some.user.part.now; is_name = is_name; found = c.in_ok-files.ensures.gives custom agrees }) fault under)
+
+pub returns-in_err-system-2-clause-read : goal.returns-in_err-system-2-clause-read
+returns-in_err-system-2-clause-read g c =
+    let fault = c.in_err-system-2.field-0.0 in
+    let answer : c.from_residual-in_err-system-2.result ≡ Err fault = (let e = c.from_residual-in_err-system-2.ensures in search rules) in
+    read_before _ _ c.in_ok-files.files c.from_residual-in_err-system-2.result
+    (ap as_loading answer ∙ under_loading c.args.name.now c.in-Some.user.direction c.in_ok-files.files c.admit.new.steps c.sealed_system-2.new.steps fault c.in_err-system-2.ensures) c.in_ok-files.ensures.has_read
+
+pub keep-requires-clause-first : goal.keep-requires-clause-first
+keep-requires-clause-first g c =
+    let new = c.sealed_system-2.new.steps in
+    subst (λ (first : ℕ). first ≤ length new.lines) (sym c.count-first.ensures) (seals_more c.in-Some.user.direction c.in_ok-files.files c.admit.new.steps new c.in_ok-system-2.system.value c.in_ok-system-2.ensures)
+
+pub keep-requires-clause-right : goal.keep-requires-clause-right
+keep-requires-clause-right g c =
+    let custom = c.can_stand.ensures.0 in
+    let agrees = c.can_stand.ensures.1 in
+    let part = c.in-Some.user.part.now in
+    let pair = pair_view c.in-Some-pair_of.pair in
+    let old = c.admit.new.steps in
+    let new = c.sealed_system-2.new.steps in
+    let files = c.in_ok-files.files in
+    let s : SystemValue = c.in_ok-system-2.system.value in
+    let direction = sym c.in-Some-pair_of.ensures.direction in
+    let found = c.in_ok-files.ensures.gives custom agrees in
+    let seals = subst (λ (d : Direction). SealsFiles d files old new s) direction c.in_ok-system-2.ensures in
+    subst (λ (first : ℕ). CanBeKept pair first new s) (sym c.count-first.ensures)
+    (can_be_kept custom part pair files old new s (subst (λ (d : Direction). AreFilesOf custom d part files) direction found) (c.in-Some-pair_of.ensures.pair custom agrees (c.reversed.ensures ∙ found.reversed)) seals)
 
 pub returns-clause-gives : goal.returns-clause-gives
 returns-clause-gives g c = λ custom agrees.
+    let new = c.sealed_system-2.new.steps in
+    let s : SystemValue = c.in_ok-system-2.system.value in
+    let files = c.in_ok-files.files in
+    let same : c.admit.new.steps ≡ c.args.steps.now = rw c.in_default-2.is at c.in_ok-system.ensures in
     let is_name = subst (λ (n : List ℕ). IsUserName c.in-Some.user.direction c.in-Some.user.part.now n) c.as_str.ensures c.in-Some.ensures in
-    is_named custom c.args.name.now c.requires c.args.steps.now c.admit_named.new.steps c.in-Some.user.direction c.in_ok-files.files
-    (record { part = c.in-Some.user.part.now; is_name = is_name; found = c.in_ok-files.ensures.gives custom agrees }) c.in_ok-admitted.admitted c.in_ok-sealed.sealed
-    c.in_ok-admitted.ensures.steps c.in_ok-admitted.ensures.defined c.is_sealed.ensures c.in_ok-sealed.ensures.system c.in_ok-sealed.ensures.direction
+    seals_named custom c.args.name.now c.in-Some.user.part.now c.in-Some.user.direction files c.args.steps.now new s is_name (c.in_ok-files.ensures.gives custom agrees)
+    (subst (λ (log : StepLog). SealsFiles c.in-Some.user.direction files log new s) same c.in_ok-system-2.ensures)

@@ -1,6 +1,4 @@
-use Rattle.std.proofs.Common.{ap, ◌∙◌}
 use Rattle.std.proofs.lemmas.Result.{err_from_is_err_and}
-use Rattle.named_systems.specs.NamedSystems.{with_system}
 use Rattle.system_admission.proofs.UserSteps.{user_refused, user_unkept, user_added}
 use Rattle.system_admission.proofs.user_systems.UserSystems.admit.Goals as goal
 
@@ -9,17 +7,11 @@ returns-in_err-system g c =
     let p = err_from_is_err_and c.from_residual.result c.from_residual.ensures.1 in
     rw (p.1, p.2) (user_refused c.args.name.now c.args.self.now _ _ _ c.in_err-system.field-0.0 c.in_err-system.ensures.gives c.in_err-system.ensures.found c.can_stand.ensures c.in_err-system.ensures.read)
 
-pub returns-in_err-shared : goal.returns-in_err-shared
-returns-in_err-shared g c =
-    let p = err_from_is_err_and c.from_residual-in_err-shared.result c.from_residual-in_err-shared.ensures.1 in
-    rw (p.1, p.2) (user_unkept c.args.name.now c.args.self.now _ _ _ c.in_ok-system.field-0 c.in_ok-system.ensures.found c.can_stand.ensures c.in_ok-system.ensures.read)
-
 pub returns-in_err-add : goal.returns-in_err-add
 returns-in_err-add g c =
     let p = err_from_is_err_and c.from_residual-in_err-add.result c.from_residual-in_err-add.ensures.1 in
-    rw (p.1, p.2) (user_unkept c.args.name.now c.args.self.now _ _ _ c.in_ok-system.field-0 c.in_ok-system.ensures.found c.can_stand.ensures c.in_ok-system.ensures.read)
+    rw (p.1, p.2) (user_unkept c.args.name.now c.args.self.now _ _ _ c.in_ok-system.field-0.value c.in_ok-system.ensures.found c.can_stand.ensures c.in_ok-system.ensures.read)
 
 pub returns : goal.returns
 returns g c =
-    let named = c.in_ok-add.ensures.ok ∙ ap (with_system c.args.self.now.named c.args.name.now) c.in_ok-shared.ensures.ok in
-    user_added c.args.name.now c.args.self.now _ _ _ c.in_ok-system.field-0 c.in_ok-system.ensures.gives named c.in_ok-system.ensures.found c.can_stand.ensures c.in_ok-system.ensures.read
+    user_added c.args.name.now c.args.self.now _ _ _ c.in_ok-system.field-0.value c.in_ok-system.ensures.gives c.in_ok-add.ensures.ok c.in_ok-system.ensures.found c.can_stand.ensures c.in_ok-system.ensures.read

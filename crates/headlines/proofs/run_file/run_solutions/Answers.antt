@@ -1,0 +1,5 @@
+use Rattle.headlines.proofs.RunFileSteps as steps
+use Rattle.headlines.proofs.run_file.run_solutions.Goals as goal
+
+pub returns : goal.returns
+returns c = steps.run_solutions

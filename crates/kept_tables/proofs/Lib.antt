@@ -1,0 +1,3 @@
+pub mod TableShifts
+pub mod SameSystems
+pub mod KeptLemmas

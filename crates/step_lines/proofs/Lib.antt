@@ -1,0 +1,2 @@
+pub mod ShiftedSteps
+pub mod LineLemmas

@@ -1,0 +1,61 @@
+//! The files of a user's system, as their texts are.
+
+ghost use Rattle.std.specs.Prelude.{◌≡◌, IfOk, IfSome};
+ghost use Rattle.system_files.specs.SystemFiles.{Custom, is_reversed, taken_name as name_taken};
+ghost use Rattle.system_files.specs.SystemTexts.{Agrees};
+ghost use Rattle.system_admission.specs.KeptSystems.{IsPairOf};
+ghost use Rattle.system_admission.specs.KeptViews.{pair_view};
+
+use digit_tuple::direction::Direction;
+use digit_tuple::faults::OutOfMemory;
+use digit_tuple::name::Name;
+use std::alloc::Global;
+use system_files::SystemTexts;
+use system_names::{UserName, adder_name};
+
+/// The files of a system, and the direction in which it is read.
+#[derive(Drop)]
+pub(crate) struct SystemPair<'a> {
+    /// The direction.
+    pub(crate) direction: Direction,
+    /// The name of the language.
+    pub(crate) name: Name,
+    /// The text of the language.
+    pub(crate) language: &'a [u8],
+    /// The text of the adder beside it.
+    pub(crate) adder: &'a [u8],
+}
+
+/// The files of a user's system among the texts that were read, those of the other direction if they are `reversed`. None where memory
+/// runs out.
+pub(crate) fn pair_of<'a>(
+    alloc: Global,
+    user: &UserName<'_>,
+    reversed: bool,
+    texts: &'a SystemTexts,
+) -> Option<SystemPair<'a>>
+    ensures direction { IfSome result (λ pair. pair.direction ≡ user.now.direction) }
+    ensures pair { IfSome result (λ pair. (custom : Custom) → Agrees custom texts.now → reversed ≡ is_reversed custom user.now.direction user.now.part.now → IsPairOf custom user.now.part.now (pair_view pair)) }
+{
+    let name = taken_name(alloc, user, reversed).ok()?;
+    let adder = adder_name(alloc, &name).ok()?;
+    let language = texts.text(&name)?;
+    let adder = texts.text(&adder)?;
+    Some(SystemPair {
+        direction: user.direction,
+        name,
+        language,
+        adder,
+    })
+}
+
+// The name of the language that is taken.
+fn taken_name(alloc: Global, user: &UserName<'_>, reversed: bool) -> Result<Name, OutOfMemory>
+    ensures { IfOk result (λ name. (custom : Custom) → reversed ≡ is_reversed custom user.now.direction user.now.part.now → name ≡ name_taken custom user.now.direction user.now.part.now) }
+{
+    if reversed {
+        user.opposite().name(alloc)
+    } else {
+        user.name(alloc)
+    }
+}
