@@ -3,12 +3,12 @@ use Rattle.std.proofs.Common.{◌≡◌, ℕ, Bool, List, Result, Ok, Err, refl}
 use Rattle.wal_outside.specs.Files.{Files}
 use Rattle.wal_outside.specs.Views.{StoreView}
 use Rattle.session_cli.specs.declared.fault.Fault.{Fault}
-use Rattle.session_cli.specs.declared.plan.Action.{Action}
-use Rattle.session_cli.specs.declared.plan.Plan.{Plan}
+use Rattle.session_cli.specs.declared.file_change.Action.{Action}
+use Rattle.session_cli.specs.declared.file_change.FileChange.{FileChange}
 use Rattle.session_cli.specs.Checks.{Check, Passing, Then}
 use Rattle.system_files.specs.SystemFiles.{Custom}
 use Rattle.session_cli.specs.Accepting.{Success, Said, Accepted, Storing, Saying, storing, saying}
-use Rattle.session_cli.specs.Plans.{Plans, Tells, Acts, writing, printing}
+use Rattle.session_cli.specs.FileChanges.{ChangesFile, Tells, Acts, writing, printing}
 use Rattle.session_cli.specs.StoreReads.{HasRead, FromFiles}
 use Rattle.session_cli.proofs.CheckSteps.{IsSingle, then_single, passing_single, fails_first, fails_after}
 
@@ -18,21 +18,21 @@ acts_after custom first rest y shown (Ok action) passed a = record { accepted = 
 acts_after custom first rest y shown (Err f) passed refused = fails_after first rest y f passed refused
 
 -- a command that stores
-pub stores_plan : (custom : Custom) (checks : Check Success) (shown : Bool) (r : Result Plan Fault) → Plans custom checks shown r → Acts custom (storing checks) shown (writing r)
-stores_plan custom checks shown (Ok plan) p = record {
+pub stores_change : (custom : Custom) (checks : Check Success) (shown : Bool) (r : Result FileChange Fault) → ChangesFile custom checks shown r → Acts custom (storing checks) shown (writing r)
+stores_change custom checks shown (Ok change) p = record {
   accepted = Storing p.made.success;
   answers = (p.made.success, p.made.answers, refl);
   is_of = record { has_text = p.made.has_text; printed_is = p.made.printed_is; folder_is = p.folder_is; name_is = p.name_is };
 }
-stores_plan custom checks shown (Err f) refused = fails_first checks (λ success. Passing (λ accepted. accepted ≡ Storing success)) f refused
+stores_change custom checks shown (Err f) refused = fails_first checks (λ success. Passing (λ accepted. accepted ≡ Storing success)) f refused
 
 -- what a command reads that stores
-written_read : (old new : StoreView) (r : Result Plan Fault) → HasRead old r new → HasRead old (writing r) new
-written_read old new (Ok plan) read = record { files = read.files; later = read.later; cause = read.cause }
+written_read : (old new : StoreView) (r : Result FileChange Fault) → HasRead old r new → HasRead old (writing r) new
+written_read old new (Ok change) read = record { files = read.files; later = read.later; cause = read.cause }
 written_read old new (Err f) read = record { files = read.files; later = read.later; cause = read.cause }
 
-pub from_plan : (First : Files → Result Plan Fault → Type 0) (Gives : Files → Result Action Fault → Type 0) (old new : StoreView) (r : Result Plan Fault) → FromFiles First old r new → ((found : Files) → First found r → Gives found (writing r)) → FromFiles Gives old (writing r) new
-from_plan First Gives old new r first so = record { found = first.found; reported = first.reported; gives = so first.found first.gives; has_read = written_read old new r first.has_read }
+pub from_change : (First : Files → Result FileChange Fault → Type 0) (Gives : Files → Result Action Fault → Type 0) (old new : StoreView) (r : Result FileChange Fault) → FromFiles First old r new → ((found : Files) → First found r → Gives found (writing r)) → FromFiles Gives old (writing r) new
+from_change First Gives old new r first so = record { found = first.found; reported = first.reported; gives = so first.found first.gives; has_read = written_read old new r first.has_read }
 
 -- a command that says something
 pub tells_action : (custom : Custom) (checks : Check Said) (shown : Bool) (r : Result (List ℕ) Fault) → Tells checks shown r → Acts custom (saying checks) shown (printing r)

@@ -3,12 +3,12 @@ use Rattle.std.proofs.Common.{◌≡◌, Bool, Result, Ok, Err, sym, ap, ◌∙�
 use Rattle.wal_outside.specs.Places.{Place}
 use Rattle.session_cli.specs.declared.fault.Fault.{Fault}
 use Rattle.session_cli.specs.declared.fault.Fault.TheVariants as faults
-use Rattle.session_cli.specs.declared.plan.Made.{Made}
-use Rattle.session_cli.specs.declared.plan.Plan.{Plan}
+use Rattle.session_cli.specs.declared.file_change.Made.{Made}
+use Rattle.session_cli.specs.declared.file_change.FileChange.{FileChange}
 use Rattle.system_files.specs.SystemFiles.{Custom}
 use Rattle.session_cli.specs.Checks.{Check, Passing, Then, Fails}
 use Rattle.session_cli.specs.Accepting.{Success}
-use Rattle.session_cli.specs.Plans.{Makes, Plans}
+use Rattle.session_cli.specs.FileChanges.{Makes, ChangesFile}
 
 -- a check answers in one way at most
 abbrev pub IsSingle : {Y : Type 0} → Check Y → Type 0
@@ -119,13 +119,13 @@ pub makes_after : {Y : Type 0} (custom : Custom) (first : Check Y) (rest : Y →
 makes_after custom first rest y shown (Ok made) passed m = record { success = m.success; answers = (y, passed, m.answers); has_text = m.has_text; printed_is = m.printed_is }
 makes_after custom first rest y shown (Err f) passed refused = fails_after first rest y f passed refused
 
-pub plans_after : {Y : Type 0} (custom : Custom) (first : Check Y) (rest : Y → Check Success) (y : Y) (shown : Bool) (r : Result Plan Fault) → first.answers (Ok y) → Plans custom (rest y) shown r → Plans custom (Then first rest) shown r
-plans_after custom first rest y shown (Ok plan) passed p = record {
+pub changes_after : {Y : Type 0} (custom : Custom) (first : Check Y) (rest : Y → Check Success) (y : Y) (shown : Bool) (r : Result FileChange Fault) → first.answers (Ok y) → ChangesFile custom (rest y) shown r → ChangesFile custom (Then first rest) shown r
+changes_after custom first rest y shown (Ok change) passed p = record {
   made = record { success = p.made.success; answers = (y, passed, p.made.answers); has_text = p.made.has_text; printed_is = p.made.printed_is };
   folder_is = p.folder_is;
   name_is = p.name_is;
 }
-plans_after custom first rest y shown (Err f) passed refused = fails_after first rest y f passed refused
+changes_after custom first rest y shown (Err f) passed refused = fails_after first rest y f passed refused
 
 -- what refuses a check refuses another one that reads at least as much and has its faults
 pub fails_wider : {Y Z : Type 0} (check : Check Y) (wider : Check Z) → ((f : Fault) → check.answers (Err f) → wider.answers (Err f)) → ((place : Place) → check.reads place → wider.reads place) → (f : Fault) → Fails check f → Fails wider f

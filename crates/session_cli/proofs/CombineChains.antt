@@ -21,18 +21,18 @@ use Rattle.session_cli.specs.declared.combine.ListedAutomata.{ListedAutomata}
 use Rattle.session_cli.specs.declared.fault.Fault.{Fault}
 use Rattle.session_cli.specs.declared.fault.Fault.TheVariants as faults
 use Rattle.session_cli.specs.declared.fault.Grammar.TheVariants as grammars
-use Rattle.session_cli.specs.declared.plan.Made.{Made}
-use Rattle.session_cli.specs.declared.plan.Plan.{Plan}
+use Rattle.session_cli.specs.declared.file_change.Made.{Made}
+use Rattle.session_cli.specs.declared.file_change.FileChange.{FileChange}
 use Rattle.session_cli.specs.Accepting.{Success, stored}
 use Rattle.session_cli.specs.Checks.{Pure, Fails}
 use Rattle.session_cli.specs.CombineMakes.{IsReadList, MakesAfterListedSystems, automata_of, head_of}
 use Rattle.session_cli.specs.CombineOutcomes.{WordTracks, PlainAnswers, ShapeAnswers, CombinedAnswers, HaveSystemsOfFirst, first_plain, listed_files, listed_names, listed_systems, after_listed_systems, after_listed_tables, after_combine_head, combine_checks}
 use Rattle.session_cli.specs.FileChecks.{FilesAnswers, files_loaded}
 use Rattle.session_cli.specs.HeadAnswers.{HeadAnswers, fault_of_head}
-use Rattle.session_cli.specs.Plans.{Makes, Plans}
+use Rattle.session_cli.specs.FileChanges.{Makes, ChangesFile}
 use Rattle.session_cli.specs.SystemChecks.{SystemsAnswers, systems_known}
 use Rattle.session_cli.proofs.CheckNames.{WordTracksAnswers, combine_success, after_combined, after_shape, after_plain}
-use Rattle.session_cli.proofs.CheckSteps.{fails_first, fails_after, makes_after, plans_after}
+use Rattle.session_cli.proofs.CheckSteps.{fails_first, fails_after, makes_after, changes_after}
 use Rattle.session_cli.proofs.CommandSteps.{files_store}
 use Rattle.session_cli.proofs.FilesElsewhere.{listed_elsewhere}
 use Rattle.session_cli.proofs.StoreReads.{IsOwn, own_made}
@@ -53,14 +53,14 @@ word_at : (limit : ℕ) (ledger : Ledger) (head : CombineHead) (success : Succes
 word_at limit ledger head success (tables, files, (admitted, systems, (none, plain, (one, shape, (lines, combined, (tracks, are, (is, text))))))) = record { folder_is = sym (ap (λ (s : Success). s.folder) is); name_is = sym (ap (λ (s : Success). s.name) is) }
 
 -- a command whose head is this one
-pub list_planned : (limit : ℕ) (ledger : Ledger) (text : List ℕ) (shown : Bool) (head : CombineHead) (plan : Plan) → HeadAnswers DerivesCombine text (Ok head) → plan.folder ≡ Words → plan.name ≡ head.word
-    → Makes (custom_of ledger) (after_combine_head limit ledger head) shown (Ok plan.made) → Plans (custom_of ledger) (combine_checks limit ledger text) shown (Ok plan)
-list_planned limit ledger text shown head plan spells folder_is name_is made =
+pub list_changed : (limit : ℕ) (ledger : Ledger) (text : List ℕ) (shown : Bool) (head : CombineHead) (change : FileChange) → HeadAnswers DerivesCombine text (Ok head) → change.folder ≡ Words → change.name ≡ head.word
+    → Makes (custom_of ledger) (after_combine_head limit ledger head) shown (Ok change.made) → ChangesFile (custom_of ledger) (combine_checks limit ledger text) shown (Ok change)
+list_changed limit ledger text shown head change spells folder_is name_is made =
     let at : IsWordAt head made.success = word_at limit ledger head made.success made.answers in
-    plans_after (custom_of ledger) (Pure (HeadAnswers DerivesCombine text)) (λ h. after_combine_head limit ledger h) head shown (Ok plan) spells (record { made = made; folder_is = folder_is ∙ at.folder_is; name_is = name_is ∙ at.name_is })
+    changes_after (custom_of ledger) (Pure (HeadAnswers DerivesCombine text)) (λ h. after_combine_head limit ledger h) head shown (Ok change) spells (record { made = made; folder_is = folder_is ∙ at.folder_is; name_is = name_is ∙ at.name_is })
 
-pub list_failed : (limit : ℕ) (ledger : Ledger) (text : List ℕ) (shown : Bool) (head : CombineHead) (fault : Fault) → HeadAnswers DerivesCombine text (Ok head) → Fails (after_combine_head limit ledger head) fault → Plans (custom_of ledger) (combine_checks limit ledger text) shown (Err fault)
-list_failed limit ledger text shown head fault spells refused = plans_after (custom_of ledger) (Pure (HeadAnswers DerivesCombine text)) (λ h. after_combine_head limit ledger h) head shown (Err fault) spells refused
+pub list_failed : (limit : ℕ) (ledger : Ledger) (text : List ℕ) (shown : Bool) (head : CombineHead) (fault : Fault) → HeadAnswers DerivesCombine text (Ok head) → Fails (after_combine_head limit ledger head) fault → ChangesFile (custom_of ledger) (combine_checks limit ledger text) shown (Err fault)
+list_failed limit ledger text shown head fault spells refused = changes_after (custom_of ledger) (Pure (HeadAnswers DerivesCombine text)) (λ h. after_combine_head limit ledger h) head shown (Err fault) spells refused
 
 -- its files are not loaded
 pub list_unloaded : (limit : ℕ) (ledger : Ledger) (head : CombineHead) (fault : Fault) → Fails (files_loaded ledger (listed_files head.automata)) fault → Fails (after_combine_head limit ledger head) fault

@@ -7,12 +7,12 @@ use Rattle.definitions.specs.Texts.{HasTreeText}
 use Rattle.definitions.specs.Trees.{Ledger, Combine, custom_of}
 use Rattle.session_cli.specs.declared.fault.Fault.{Fault}
 use Rattle.session_cli.specs.declared.fault.Fault.TheVariants as faults
-use Rattle.session_cli.specs.declared.plan.Made.{Made}
+use Rattle.session_cli.specs.declared.file_change.Made.{Made}
 use Rattle.session_cli.specs.Accepting.{stored}
 use Rattle.session_cli.specs.Checks.{Fails}
 use Rattle.session_cli.specs.CombineOutcomes.{WordTracks, parts_from}
 use Rattle.session_cli.specs.Lines.{shown_steps}
-use Rattle.session_cli.specs.Plans.{Makes}
+use Rattle.session_cli.specs.FileChanges.{Makes}
 use Rattle.session_cli.specs.WordPrinting.{IsWordTextOf, HasNoWordText, named_text}
 use Rattle.session_cli.proofs.CheckNames.{combine_success}
 

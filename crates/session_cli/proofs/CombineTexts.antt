@@ -39,7 +39,7 @@ use Rattle.system_files.specs.SystemFiles.{Custom}
 use Rattle.session_cli.specs.CombineMakes.{first_names}
 use Rattle.session_cli.specs.CombineOutcomes.{WordTracks, HaveSystemsOfFirst, first_plain, listed_files, listed_names, listed_systems, parts_from}
 use Rattle.session_cli.specs.CombineSteps.{ArePartsFrom, AreCombineSteps}
-use Rattle.session_cli.specs.FormulaPlans.{HasSystems}
+use Rattle.session_cli.specs.FormulaLoads.{HasSystems}
 use Rattle.session_cli.specs.FormulaSteps.{AreMeant}
 use Rattle.session_cli.specs.TableReads.{relations_in}
 use Rattle.session_cli.specs.WordPrinting.{HaveNames, tracks_named, named_text}

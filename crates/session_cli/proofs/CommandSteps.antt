@@ -8,9 +8,9 @@ use Rattle.wal_outside.specs.declared.folder.Folder.{Folder}
 use Rattle.wal_outside.specs.Views.{StoreView}
 use Rattle.session_cli.specs.declared.fault.Fault.{Fault}
 use Rattle.session_cli.specs.declared.fault.Fault.TheVariants as faults
-use Rattle.session_cli.specs.declared.plan.Action.{Action}
-use Rattle.session_cli.specs.declared.plan.Action.TheVariants as actions
-use Rattle.session_cli.specs.declared.plan.Plan.{Plan}
+use Rattle.session_cli.specs.declared.file_change.Action.{Action}
+use Rattle.session_cli.specs.declared.file_change.Action.TheVariants as actions
+use Rattle.session_cli.specs.declared.file_change.FileChange.{FileChange}
 use Rattle.session_cli.specs.Checks.{Fails}
 use Rattle.definitions.specs.Texts.{HasTextAt, Stores}
 use Rattle.definitions.specs.Trees.{Bytes, Ledger, ledger_of, custom_of}
@@ -19,8 +19,8 @@ use Rattle.session_cli.specs.Outcomes.{checks_of}
 use Rattle.script_runs.specs.Replies.{failed_by}
 use Rattle.session_cli.specs.SessionLanguage.{IsAnswer, failed_at}
 use Rattle.session_cli.specs.Accepting.{Success, Said, Accepted, Storing, Saying}
-use Rattle.session_cli.specs.Plans.{IsPlanOf, IsAction, IsActionOf}
-use Rattle.session_cli.specs.Commands.{Commands, DoesAction, WritesPlan}
+use Rattle.session_cli.specs.FileChanges.{IsFileChangeOf, IsAction, IsActionOf}
+use Rattle.session_cli.specs.Commands.{Commands, DoesAction, WritesChange}
 use Rattle.session_cli.specs.Lines.{said_text}
 use Rattle.session_cli.specs.StoreReads.{IsReadFault, HasRead}
 use Rattle.session_cli.proofs.CheckNames.{is_store_fault}
@@ -168,9 +168,9 @@ same_put old place other stored folders names = λ i. option_map (λ files. put 
 
 -- a command whose files were read, and whose action was to be done
 module _ (limit : ℕ) (ledger : Ledger) (old mid new : StoreView) (text : List ℕ) (shown : Bool) (found : Files) (by : IsAnswering old.files ledger found) where
-  module _ (plan : Plan) (success : Success) (answers : (checks_of limit by.known text).answers (Ok (Storing success))) (is_of : IsPlanOf (custom_of by.known) success shown plan) (read : HasRead {X = Action} old (Ok (actions.Write plan)) mid) where
+  module _ (change : FileChange) (success : Success) (answers : (checks_of limit by.known text).answers (Ok (Storing success))) (is_of : IsFileChangeOf (custom_of by.known) success shown change) (read : HasRead {X = Action} old (Ok (actions.Write change)) mid) where
     -- it stores something
-    stored_command : (printed : List ℕ) → WritesPlan {X = List ℕ} mid (plan.folder, plan.name) plan.made.stored.items (Ok printed) new → printed ≡ plan.made.printed → Commands limit ledger old text shown (Ok tt) printed new
+    stored_command : (printed : List ℕ) → WritesChange {X = List ℕ} mid (change.folder, change.name) change.made.stored.items (Ok printed) new → printed ≡ change.made.printed → Commands limit ledger old text shown (Ok tt) printed new
     stored_command printed w is = record {
       answer = Ok (Storing success);
       gives = is ∙ is_of.printed_is;
@@ -178,7 +178,7 @@ module _ (limit : ℕ) (ledger : Ledger) (old mid new : StoreView) (text : List 
       known_is = by.known_is;
       answered = answers;
       stored = record {
-        files = (plan.made.stored.items, is_of.has_text, w.files ∙ (ap (λ (o : Option Files). option_map (λ files. put files plan.folder plan.name plan.made.stored.items) o) read.files ∙ same_put old.files (plan.folder, plan.name) (success.folder, success.name) plan.made.stored.items is_of.folder_is is_of.name_is));
+        files = (change.made.stored.items, is_of.has_text, w.files ∙ (ap (λ (o : Option Files). option_map (λ files. put files change.folder change.name change.made.stored.items) o) read.files ∙ same_put old.files (change.folder, change.name) (success.folder, success.name) change.made.stored.items is_of.folder_is is_of.name_is));
         later = omega (arith, w.later, read.later);
         cause = λ is. cc;
         failed = w.cause ∙ read.cause;
@@ -186,10 +186,10 @@ module _ (limit : ℕ) (ledger : Ledger) (old mid new : StoreView) (text : List 
     }
 
     -- or that failed
-    unstored_command : (fault : Fault) → WritesPlan {X = List ℕ} mid (plan.folder, plan.name) plan.made.stored.items (Err fault) new → Commands limit ledger old text shown (Err fault) [] new
+    unstored_command : (fault : Fault) → WritesChange {X = List ℕ} mid (change.folder, change.name) change.made.stored.items (Err fault) new → Commands limit ledger old text shown (Err fault) [] new
     unstored_command fault wrote = by_fault fault wrote
       where
-        by_fault : (f : Fault) → WritesPlan {X = List ℕ} mid (plan.folder, plan.name) plan.made.stored.items (Err f) new → Commands limit ledger old text shown (Err f) [] new
+        by_fault : (f : Fault) → WritesChange {X = List ℕ} mid (change.folder, change.name) change.made.stored.items (Err f) new → Commands limit ledger old text shown (Err f) [] new
         by_fault (faults.Store folder at) w = record {
           answer = Err (faults.Store folder at);
           gives = (refl, refl);
@@ -262,10 +262,10 @@ module _ (limit : ℕ) (ledger : Ledger) (old mid new : StoreView) (text : List 
       by_accepted (Saying tells) answers is_of = said_command said tells answers is_of read same
 
   pub done_command : (action : Action) (printed : List ℕ) → IsAction (custom_of by.known) (checks_of limit by.known text) shown action → HasRead {X = Action} old (Ok action) mid → DoesAction mid action (Ok printed) new → Commands limit ledger old text shown (Ok tt) printed new
-  done_command (actions.Write plan) printed a read (wrote, is) = by_accepted a.accepted a.answers a.is_of
+  done_command (actions.Write change) printed a read (wrote, is) = by_accepted a.accepted a.answers a.is_of
     where
-      by_accepted : (accepted : Accepted) → (checks_of limit by.known text).answers (Ok accepted) → IsActionOf (custom_of by.known) accepted shown (actions.Write plan) → Commands limit ledger old text shown (Ok tt) printed new
-      by_accepted (Storing success) answers is_of = stored_command plan success answers is_of read printed wrote is
+      by_accepted : (accepted : Accepted) → (checks_of limit by.known text).answers (Ok accepted) → IsActionOf (custom_of by.known) accepted shown (actions.Write change) → Commands limit ledger old text shown (Ok tt) printed new
+      by_accepted (Storing success) answers is_of = stored_command change success answers is_of read printed wrote is
       by_accepted (Saying said) answers is_of = absurd is_of
   done_command (actions.Print said) printed a read (is, same) = done_print said printed a read (same_ok printed said is) same
     where
@@ -273,10 +273,10 @@ module _ (limit : ℕ) (ledger : Ledger) (old mid new : StoreView) (text : List 
       same_ok x y e = cc
 
   pub undone_command : (action : Action) (fault : Fault) → IsAction (custom_of by.known) (checks_of limit by.known text) shown action → HasRead {X = Action} old (Ok action) mid → DoesAction mid action (Err fault) new → Commands limit ledger old text shown (Err fault) [] new
-  undone_command (actions.Write plan) fault a read (wrote, is) = by_accepted a.accepted a.answers a.is_of
+  undone_command (actions.Write change) fault a read (wrote, is) = by_accepted a.accepted a.answers a.is_of
     where
-      by_accepted : (accepted : Accepted) → (checks_of limit by.known text).answers (Ok accepted) → IsActionOf (custom_of by.known) accepted shown (actions.Write plan) → Commands limit ledger old text shown (Err fault) [] new
-      by_accepted (Storing success) answers is_of = unstored_command plan success answers is_of read fault wrote
+      by_accepted : (accepted : Accepted) → (checks_of limit by.known text).answers (Ok accepted) → IsActionOf (custom_of by.known) accepted shown (actions.Write change) → Commands limit ledger old text shown (Err fault) [] new
+      by_accepted (Storing success) answers is_of = unstored_command change success answers is_of read fault wrote
       by_accepted (Saying said) answers is_of = absurd is_of
   undone_command (actions.Print said) fault a read (is, same) = absurd (no_fault said fault is)
     where

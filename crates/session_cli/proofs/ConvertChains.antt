@@ -23,8 +23,8 @@ use Rattle.session_cli.specs.declared.convert.Change.{Change}
 use Rattle.session_cli.specs.declared.convert.ReadConvert.{ReadConvert}
 use Rattle.session_cli.specs.declared.fault.Fault.{Fault}
 use Rattle.session_cli.specs.declared.old_word.OldWord.{OldWord}
-use Rattle.session_cli.specs.declared.plan.Made.{Made}
-use Rattle.session_cli.specs.declared.plan.Plan.{Plan}
+use Rattle.session_cli.specs.declared.file_change.Made.{Made}
+use Rattle.session_cli.specs.declared.file_change.FileChange.{FileChange}
 use Rattle.session_cli.specs.Accepting.{Success}
 use Rattle.session_cli.specs.BaseWords.{IsBaseOf, named_base, over_base}
 use Rattle.session_cli.specs.Checks.{Pure, Fails}
@@ -35,9 +35,9 @@ use Rattle.session_cli.specs.FileChecks.{FilesAnswers, files_loaded}
 use Rattle.session_cli.specs.HeadAnswers.{HeadAnswers, fault_of_head}
 use Rattle.session_cli.specs.ImageOutcomes.{old_mentions}
 use Rattle.session_cli.specs.OldWordMakes.{IsLoadedOld, IsOldAt}
-use Rattle.session_cli.specs.Plans.{Makes, Plans}
+use Rattle.session_cli.specs.FileChanges.{Makes, ChangesFile}
 use Rattle.session_cli.specs.SystemChecks.{SystemsAnswers, systems_known}
-use Rattle.session_cli.proofs.CheckSteps.{fails_first, fails_after, makes_after, plans_after}
+use Rattle.session_cli.proofs.CheckSteps.{fails_first, fails_after, makes_after, changes_after}
 use Rattle.session_cli.proofs.CommandSteps.{files_store}
 use Rattle.session_cli.proofs.FilesElsewhere.{listed_elsewhere}
 use Rattle.session_cli.proofs.HeadSteps.{head_unread}
@@ -59,14 +59,14 @@ convert_at limit ledger head success (tables, files, (other, known, (admitted, s
     record { folder_is = sym (ap (λ (s : Success). s.folder) is); name_is = sym (ap (λ (s : Success). s.name) is) }
 
 -- a command whose head is this one
-pub convert_planned : (limit : ℕ) (ledger : Ledger) (text : List ℕ) (shown : Bool) (head : ConvertHead) (plan : Plan) → HeadAnswers DerivesConvert text (Ok head) → plan.folder ≡ Words → plan.name ≡ head.word
-    → Makes (custom_of ledger) (after_convert_head limit ledger head) shown (Ok plan.made) → Plans (custom_of ledger) (convert_checks limit ledger text) shown (Ok plan)
-convert_planned limit ledger text shown head plan spells folder_is name_is made =
+pub convert_changed : (limit : ℕ) (ledger : Ledger) (text : List ℕ) (shown : Bool) (head : ConvertHead) (file_change : FileChange) → HeadAnswers DerivesConvert text (Ok head) → file_change.folder ≡ Words → file_change.name ≡ head.word
+    → Makes (custom_of ledger) (after_convert_head limit ledger head) shown (Ok file_change.made) → ChangesFile (custom_of ledger) (convert_checks limit ledger text) shown (Ok file_change)
+convert_changed limit ledger text shown head file_change spells folder_is name_is made =
     let at : IsConvertAt head made.success = convert_at limit ledger head made.success made.answers in
-    plans_after (custom_of ledger) (Pure (HeadAnswers DerivesConvert text)) (λ h. after_convert_head limit ledger h) head shown (Ok plan) spells (record { made = made; folder_is = folder_is ∙ at.folder_is; name_is = name_is ∙ at.name_is })
+    changes_after (custom_of ledger) (Pure (HeadAnswers DerivesConvert text)) (λ h. after_convert_head limit ledger h) head shown (Ok file_change) spells (record { made = made; folder_is = folder_is ∙ at.folder_is; name_is = name_is ∙ at.name_is })
 
-pub convert_failed : (limit : ℕ) (ledger : Ledger) (text : List ℕ) (shown : Bool) (head : ConvertHead) (fault : Fault) → HeadAnswers DerivesConvert text (Ok head) → Fails (after_convert_head limit ledger head) fault → Plans (custom_of ledger) (convert_checks limit ledger text) shown (Err fault)
-convert_failed limit ledger text shown head fault spells refused = plans_after (custom_of ledger) (Pure (HeadAnswers DerivesConvert text)) (λ h. after_convert_head limit ledger h) head shown (Err fault) spells refused
+pub convert_failed : (limit : ℕ) (ledger : Ledger) (text : List ℕ) (shown : Bool) (head : ConvertHead) (fault : Fault) → HeadAnswers DerivesConvert text (Ok head) → Fails (after_convert_head limit ledger head) fault → ChangesFile (custom_of ledger) (convert_checks limit ledger text) shown (Err fault)
+convert_failed limit ledger text shown head fault spells refused = changes_after (custom_of ledger) (Pure (HeadAnswers DerivesConvert text)) (λ h. after_convert_head limit ledger h) head shown (Err fault) spells refused
 
 module _ (limit : ℕ) (ledger : Ledger) (head : ConvertHead) where
   -- the file of the old word is not loaded

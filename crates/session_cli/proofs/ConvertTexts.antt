@@ -20,7 +20,7 @@ use Rattle.session_cli.specs.declared.convert.Change.{Change}
 use Rattle.session_cli.specs.declared.convert.ReadConvert.{ReadConvert}
 use Rattle.session_cli.specs.declared.fault.Fault.{Fault}
 use Rattle.session_cli.specs.declared.old_word.OldWord.{OldWord}
-use Rattle.session_cli.specs.declared.plan.Made.{Made}
+use Rattle.session_cli.specs.declared.file_change.Made.{Made}
 use Rattle.session_cli.specs.BaseWords.{IsBaseOf, named_base}
 use Rattle.session_cli.specs.Checks.{Fails}
 use Rattle.session_cli.specs.ConvertMakes.{IsConverted, head_of}
@@ -29,7 +29,7 @@ use Rattle.session_cli.specs.ConvertSteps.{DoesConvert}
 use Rattle.session_cli.specs.ImageOutcomes.{IsOldWordRead}
 use Rattle.session_cli.specs.OldWordMakes.{AreTablesOfOld, Keeps}
 use Rattle.session_cli.specs.OldWordSteps.{old_word_done}
-use Rattle.session_cli.specs.Plans.{Makes}
+use Rattle.session_cli.specs.FileChanges.{Makes}
 use Rattle.session_cli.specs.WordPrinting.{HaveNames, named_text}
 use Rattle.session_cli.proofs.BaseTexts.{one_name}
 use Rattle.session_cli.proofs.BaseWordLemmas.{base_text}

@@ -12,7 +12,7 @@ use Rattle.formula_resolve.specs.Mentions.{mentions}
 use Rattle.formula_resolve.specs.declared.file.File.{File}
 use Rattle.formula_resolve.specs.declared.file.File.TheVariants.{Automaton, Word}
 use Rattle.system_files.specs.SystemFiles.{Custom}
-use Rattle.session_cli.specs.FormulaPlans.{LoadsTables}
+use Rattle.session_cli.specs.FormulaLoads.{LoadsTables}
 use Rattle.session_cli.proofs.TextReads.{with_bases}
 
 one_elsewhere : (files : Files) (custom : Custom) (file : File) (table : Loaded) → IsListedBy files file table → IsListedBy (with_bases files custom) file table

@@ -12,8 +12,8 @@ use Rattle.formula_parse.specs.Trees as trees
 use Rattle.session_cli.specs.declared.fault.Grammar.TheVariants as grammars
 use Rattle.session_cli.specs.declared.fault.Fault.{Fault}
 use Rattle.session_cli.specs.declared.fault.Fault.TheVariants as faults
-use Rattle.session_cli.specs.declared.plan.Made.{Made}
-use Rattle.session_cli.specs.declared.plan.Plan.{Plan}
+use Rattle.session_cli.specs.declared.file_change.Made.{Made}
+use Rattle.session_cli.specs.declared.file_change.FileChange.{FileChange}
 use Rattle.session_cli.specs.Checks.{Pure, Fails}
 use Rattle.definitions.specs.Trees.{Variable, Ledger, custom_of}
 use Rattle.dfa_loading.specs.declared.loaded.Loaded.{Loaded}
@@ -22,9 +22,9 @@ use Rattle.session_cli.specs.HeadAnswers.{HeadAnswers}
 use Rattle.session_cli.specs.FormulaOutcomes.{FormulaAnswers, ResolvedAnswers, BuiltAnswers, bindings_now, after_systems, after_tables, after_text, after_named_head, formula_checks}
 use Rattle.session_cli.specs.MacroChecks.{ExpandedAnswers, expanded}
 use Rattle.session_cli.specs.SystemChecks.{SystemsAnswers, systems_known}
-use Rattle.session_cli.specs.Plans.{Makes, Plans}
+use Rattle.session_cli.specs.FileChanges.{Makes, ChangesFile}
 use Rattle.session_cli.proofs.CheckNames.{loaded, mentioned_systems, VariablesAnswers, after_variables, after_steps, after_resolution, after_formula}
-use Rattle.session_cli.proofs.CheckSteps.{fails_first, fails_after, makes_after, plans_after}
+use Rattle.session_cli.proofs.CheckSteps.{fails_first, fails_after, makes_after, changes_after}
 
 -- where the head breaks the grammar
 pub named_syntax : (word : List ℕ) (folder : Folder) (limit : ℕ) (ledger : Ledger) (text : List ℕ) (at : ℕ) → HasHead (DerivesNamed word) (λ (h : NamedHead). h) text (Err (head_faults.Syntax at)) → Fails (formula_checks word folder limit ledger text) (faults.Syntax grammars.Command at)
@@ -45,15 +45,15 @@ stands_at limit ledger folder head success (expansion, expands, (formula, reads,
 }
 
 -- a command whose head is this one
-pub named_planned : (word : List ℕ) (folder : Folder) (limit : ℕ) (ledger : Ledger) (text : List ℕ) (shown : Bool) (head : NamedHead) (plan : Plan) → HasHead (DerivesNamed word) (λ (h : NamedHead). h) text (Ok head) → plan.folder ≡ folder → plan.name ≡ head.name
-    → Makes (custom_of ledger) (after_named_head limit ledger folder head) shown (Ok plan.made) → Plans (custom_of ledger) (formula_checks word folder limit ledger text) shown (Ok plan)
-named_planned word folder limit ledger text shown head plan spells folder_is name_is made =
+pub named_changed : (word : List ℕ) (folder : Folder) (limit : ℕ) (ledger : Ledger) (text : List ℕ) (shown : Bool) (head : NamedHead) (change : FileChange) → HasHead (DerivesNamed word) (λ (h : NamedHead). h) text (Ok head) → change.folder ≡ folder → change.name ≡ head.name
+    → Makes (custom_of ledger) (after_named_head limit ledger folder head) shown (Ok change.made) → ChangesFile (custom_of ledger) (formula_checks word folder limit ledger text) shown (Ok change)
+named_changed word folder limit ledger text shown head change spells folder_is name_is made =
     let at : IsAt folder head made.success = stands_at limit ledger folder head made.success made.answers in
-    plans_after (custom_of ledger) (Pure (HeadAnswers (DerivesNamed word) text)) (λ h. after_named_head limit ledger folder h) head shown (Ok plan) spells (record { made = made; folder_is = folder_is ∙ at.folder_is; name_is = name_is ∙ at.name_is })
+    changes_after (custom_of ledger) (Pure (HeadAnswers (DerivesNamed word) text)) (λ h. after_named_head limit ledger folder h) head shown (Ok change) spells (record { made = made; folder_is = folder_is ∙ at.folder_is; name_is = name_is ∙ at.name_is })
 
 pub named_failed : (word : List ℕ) (folder : Folder) (limit : ℕ) (ledger : Ledger) (text : List ℕ) (shown : Bool) (head : NamedHead) (fault : Fault) → HasHead (DerivesNamed word) (λ (h : NamedHead). h) text (Ok head)
-    → Fails (after_named_head limit ledger folder head) fault → Plans (custom_of ledger) (formula_checks word folder limit ledger text) shown (Err fault)
-named_failed word folder limit ledger text shown head fault spells refused = plans_after (custom_of ledger) (Pure (HeadAnswers (DerivesNamed word) text)) (λ h. after_named_head limit ledger folder h) head shown (Err fault) spells refused
+    → Fails (after_named_head limit ledger folder head) fault → ChangesFile (custom_of ledger) (formula_checks word folder limit ledger text) shown (Err fault)
+named_failed word folder limit ledger text shown head fault spells refused = changes_after (custom_of ledger) (Pure (HeadAnswers (DerivesNamed word) text)) (λ h. after_named_head limit ledger folder h) head shown (Err fault) spells refused
 
 -- a call of a macro is not expanded
 pub head_unexpanded : (limit : ℕ) (ledger : Ledger) (folder : Folder) (head : NamedHead) (fault : Fault) → Fails (expanded ledger head.body) fault → Fails (after_named_head limit ledger folder head) fault

@@ -29,7 +29,7 @@ use Rattle.definitions.proofs.FileTables.{file_is_table}
 use Rattle.definitions.proofs.TableRelations.{table_holds}
 use Rattle.definitions.proofs.WordTexts.{word_text_means}
 use Rattle.session_cli.specs.FormulaOutcomes.{bindings_now}
-use Rattle.session_cli.specs.FormulaPlans.{HasSystems}
+use Rattle.session_cli.specs.FormulaLoads.{HasSystems}
 use Rattle.session_cli.specs.FormulaSteps.{AreMeant}
 use Rattle.session_cli.specs.TableReads.{TableRead, AreTablesRead, library_with}
 use Rattle.session_cli.specs.TableReading.{AreReadable}

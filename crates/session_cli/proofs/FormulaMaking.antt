@@ -11,7 +11,7 @@ use Rattle.definitions.proofs.CustomTexts.{found_custom}
 use Rattle.definitions.specs.Trees.{Ledger, ledger_of, custom_of}
 use Rattle.session_cli.specs.declared.fault.Fault.{Fault}
 use Rattle.session_cli.specs.declared.formula.ReadFormula.{ReadFormula}
-use Rattle.session_cli.specs.declared.plan.Made.{Made}
+use Rattle.session_cli.specs.declared.file_change.Made.{Made}
 use Rattle.session_cli.specs.FormulaMakes.{tree_of, IsReadFormula, MakesAfterSystems}
 use Rattle.session_cli.specs.FormulaOutcomes.{after_systems}
 use Rattle.session_cli.proofs.CommandSteps.{files_store}

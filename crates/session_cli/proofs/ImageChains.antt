@@ -25,8 +25,8 @@ use Rattle.session_cli.specs.declared.image.ReadImage.{ReadImage}
 use Rattle.session_cli.specs.declared.fault.Fault.{Fault}
 use Rattle.session_cli.specs.declared.fault.Fault.TheVariants as faults
 use Rattle.session_cli.specs.declared.fault.Grammar.TheVariants as grammars
-use Rattle.session_cli.specs.declared.plan.Made.{Made}
-use Rattle.session_cli.specs.declared.plan.Plan.{Plan}
+use Rattle.session_cli.specs.declared.file_change.Made.{Made}
+use Rattle.session_cli.specs.declared.file_change.FileChange.{FileChange}
 use Rattle.session_cli.specs.Accepting.{Success, stored}
 use Rattle.session_cli.specs.Checks.{Pure, Fails}
 use Rattle.session_cli.specs.FileChecks.{FilesAnswers, files_loaded}
@@ -34,10 +34,10 @@ use Rattle.session_cli.specs.HeadAnswers.{HeadAnswers, fault_of_head}
 use Rattle.session_cli.specs.ImageMakes.{IsReadImage, MakesAfterOldSystems, head_of}
 use Rattle.session_cli.specs.ImageOutcomes.{WordTrack, OneTrackAnswers, LengthsAnswers, ImagedAnswers, old_mentions, after_old_systems, after_old_table, after_image_head, image_checks}
 use Rattle.session_cli.specs.MorphismChecks.{MorphismAnswers, morphism_loaded}
-use Rattle.session_cli.specs.Plans.{Makes, Plans}
+use Rattle.session_cli.specs.FileChanges.{Makes, ChangesFile}
 use Rattle.session_cli.specs.SystemChecks.{SystemsAnswers, systems_known}
 use Rattle.session_cli.proofs.CheckNames.{TrackAnswers, OldAnswers, image_success, after_image_steps, after_track, after_lengths, after_one_track, after_image_morphism}
-use Rattle.session_cli.proofs.CheckSteps.{fails_first, fails_after, makes_after, plans_after}
+use Rattle.session_cli.proofs.CheckSteps.{fails_first, fails_after, makes_after, changes_after}
 use Rattle.session_cli.proofs.CommandSteps.{files_store}
 use Rattle.session_cli.proofs.FilesElsewhere.{listed_elsewhere}
 use Rattle.session_cli.proofs.StoreReads.{IsOwn, own_made}
@@ -59,14 +59,14 @@ image_at limit ledger head success (rules, read, (tables, files, (admitted, syst
     record { folder_is = sym (ap (λ (s : Success). s.folder) is); name_is = sym (ap (λ (s : Success). s.name) is) }
 
 -- a command whose head is this one
-pub image_planned : (limit : ℕ) (ledger : Ledger) (text : List ℕ) (shown : Bool) (head : ImageHead) (plan : Plan) → HeadAnswers (DerivesImage (codes "image")) text (Ok head) → plan.folder ≡ Words → plan.name ≡ head.word
-    → Makes (custom_of ledger) (after_image_head limit ledger head) shown (Ok plan.made) → Plans (custom_of ledger) (image_checks limit ledger text) shown (Ok plan)
-image_planned limit ledger text shown head plan spells folder_is name_is made =
+pub image_changed : (limit : ℕ) (ledger : Ledger) (text : List ℕ) (shown : Bool) (head : ImageHead) (change : FileChange) → HeadAnswers (DerivesImage (codes "image")) text (Ok head) → change.folder ≡ Words → change.name ≡ head.word
+    → Makes (custom_of ledger) (after_image_head limit ledger head) shown (Ok change.made) → ChangesFile (custom_of ledger) (image_checks limit ledger text) shown (Ok change)
+image_changed limit ledger text shown head change spells folder_is name_is made =
     let at : IsImageAt head made.success = image_at limit ledger head made.success made.answers in
-    plans_after (custom_of ledger) (Pure (HeadAnswers (DerivesImage (codes "image")) text)) (λ h. after_image_head limit ledger h) head shown (Ok plan) spells (record { made = made; folder_is = folder_is ∙ at.folder_is; name_is = name_is ∙ at.name_is })
+    changes_after (custom_of ledger) (Pure (HeadAnswers (DerivesImage (codes "image")) text)) (λ h. after_image_head limit ledger h) head shown (Ok change) spells (record { made = made; folder_is = folder_is ∙ at.folder_is; name_is = name_is ∙ at.name_is })
 
-pub image_failed : (limit : ℕ) (ledger : Ledger) (text : List ℕ) (shown : Bool) (head : ImageHead) (fault : Fault) → HeadAnswers (DerivesImage (codes "image")) text (Ok head) → Fails (after_image_head limit ledger head) fault → Plans (custom_of ledger) (image_checks limit ledger text) shown (Err fault)
-image_failed limit ledger text shown head fault spells refused = plans_after (custom_of ledger) (Pure (HeadAnswers (DerivesImage (codes "image")) text)) (λ h. after_image_head limit ledger h) head shown (Err fault) spells refused
+pub image_failed : (limit : ℕ) (ledger : Ledger) (text : List ℕ) (shown : Bool) (head : ImageHead) (fault : Fault) → HeadAnswers (DerivesImage (codes "image")) text (Ok head) → Fails (after_image_head limit ledger head) fault → ChangesFile (custom_of ledger) (image_checks limit ledger text) shown (Err fault)
+image_failed limit ledger text shown head fault spells refused = changes_after (custom_of ledger) (Pure (HeadAnswers (DerivesImage (codes "image")) text)) (λ h. after_image_head limit ledger h) head shown (Err fault) spells refused
 
 module _ (limit : ℕ) (ledger : Ledger) (head : ImageHead) where
   -- its morphism is not loaded

@@ -23,7 +23,7 @@ use Rattle.session_cli.specs.declared.fault.Fault.{Fault}
 use Rattle.session_cli.specs.declared.fault.Fault.TheVariants as faults
 use Rattle.session_cli.specs.Checks.{Fails}
 use Rattle.session_cli.specs.FormulaFaults.{fault_of_loading}
-use Rattle.session_cli.specs.FormulaPlans.{AreUnloaded, LoadsTables}
+use Rattle.session_cli.specs.FormulaLoads.{AreUnloaded, LoadsTables}
 use Rattle.session_cli.specs.MorphismChecks.{morphism_loaded}
 use Rattle.session_cli.specs.StoreReads.{FromFiles}
 use Rattle.session_cli.proofs.TextReads.{reads_both}

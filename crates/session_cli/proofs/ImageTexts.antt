@@ -22,13 +22,13 @@ use Rattle.system_files.specs.SystemFiles.{Custom}
 use Rattle.session_cli.specs.declared.fault.Fault.{Fault}
 use Rattle.session_cli.specs.declared.fault.Fault.TheVariants as faults
 use Rattle.session_cli.specs.declared.image.ReadImage.{ReadImage}
-use Rattle.session_cli.specs.declared.plan.Made.{Made}
+use Rattle.session_cli.specs.declared.file_change.Made.{Made}
 use Rattle.session_cli.specs.Accepting.{stored}
 use Rattle.session_cli.specs.Checks.{Fails}
 use Rattle.session_cli.specs.ImageMakes.{AreTablesOf, IsImaged, old_system_of, old_tracks_of}
 use Rattle.session_cli.specs.ImageOutcomes.{WordTrack}
 use Rattle.session_cli.specs.Lines.{shown_steps}
-use Rattle.session_cli.specs.Plans.{Makes}
+use Rattle.session_cli.specs.FileChanges.{Makes}
 use Rattle.session_cli.specs.TableReads.{library_with}
 use Rattle.session_cli.specs.WordPrinting.{HaveNames, IsWordTextOf, HasNoWordText, named_text}
 use Rattle.session_cli.proofs.CheckNames.{TrackAnswers, image_success}

@@ -20,7 +20,7 @@ use Rattle.system_files.specs.SystemFiles.{Custom}
 use Rattle.session_cli.specs.Checks.{Pure, Fails}
 use Rattle.session_cli.specs.FormulaSteps.{AreMeant}
 use Rattle.session_cli.specs.ImageFaults.{fault_of_imaging}
-use Rattle.session_cli.specs.FormulaPlans.{HasSystems}
+use Rattle.session_cli.specs.FormulaLoads.{HasSystems}
 use Rattle.session_cli.specs.ImageMakes.{IsImaged, old_system_of, old_systems_of}
 use Rattle.session_cli.specs.ImageOutcomes.{IsOldWordRead, AreImageStepsRefused, ImagedAnswers}
 use Rattle.session_cli.specs.declared.image.ReadImage.{ReadImage}

@@ -27,8 +27,8 @@ use Rattle.language_steps.specs.declared.op.LanguageOp.TheVariants.{Pair, One}
 use Rattle.definitions.specs.Trees.{Language, Ledger, custom_of, ledger_of, trees_of}
 use Rattle.session_cli.specs.declared.fault.Fault.{Fault}
 use Rattle.session_cli.specs.declared.fault.Fault.TheVariants as faults
-use Rattle.session_cli.specs.declared.plan.Made.{Made}
-use Rattle.session_cli.specs.declared.plan.Plan.{Plan}
+use Rattle.session_cli.specs.declared.file_change.Made.{Made}
+use Rattle.session_cli.specs.declared.file_change.FileChange.{FileChange}
 use Rattle.session_cli.specs.declared.step_options.StepOptions.{StepOptions}
 use Rattle.session_cli.specs.Accepting.{Success, stored}
 use Rattle.session_cli.specs.Checks.{Pure, Fails}
@@ -37,10 +37,10 @@ use Rattle.session_cli.specs.HeadAnswers.{HeadAnswers, fault_of_head}
 use Rattle.session_cli.specs.LanguageMakes.{MakesLanguage}
 use Rattle.session_cli.specs.LanguageOutcomes.{DerivesOperation, all_plain, after_header, after_language_head, after_language_tables, after_sets, language_checks, language_done, language_files, language_success, one_header, tree_op}
 use Rattle.session_cli.specs.Lines.{shown_steps}
-use Rattle.session_cli.specs.Plans.{IsNotPrinted, Makes, Plans, Prints}
-use Rattle.session_cli.specs.TextPlans.{IsTextRefused}
+use Rattle.session_cli.specs.FileChanges.{IsNotPrinted, Makes, ChangesFile, Prints}
+use Rattle.session_cli.specs.TextChanges.{IsTextRefused}
 use Rattle.session_cli.specs.TrackSystems.{fault_of}
-use Rattle.session_cli.proofs.CheckSteps.{fails_first, makes_after, plans_after}
+use Rattle.session_cli.proofs.CheckSteps.{fails_first, makes_after, changes_after}
 use Rattle.session_cli.proofs.CommandSteps.{files_store}
 use Rattle.session_cli.proofs.HeadSteps.{head_unread}
 use Rattle.session_cli.proofs.StoreReads.{IsOwn, own_made}
@@ -166,14 +166,14 @@ stands_at : (limit : ℕ) (ledger : Ledger) (op : LanguageOp) (head : LanguagesH
 stands_at limit ledger op head success (tables, t, (plain, p, (sets, s, (lines, l, (is, text))))) = record { folder_is = sym (ap (λ (x : Success). x.folder) is); name_is = sym (ap (λ (x : Success). x.name) is) }
 
 -- a command whose head is this one
-pub language_planned : (op : LanguageOp) (limit : ℕ) (ledger : Ledger) (text : List ℕ) (shown : Bool) (head : LanguagesHead) (plan : Plan) → HeadAnswers (DerivesOperation op) text (Ok head) → plan.folder ≡ Automata → plan.name ≡ head.name
-    → Makes (custom_of ledger) (after_language_head limit ledger op head) shown (Ok plan.made) → Plans (custom_of ledger) (language_checks op limit ledger text) shown (Ok plan)
-language_planned op limit ledger text shown head plan spells folder_is name_is made =
+pub language_changed : (op : LanguageOp) (limit : ℕ) (ledger : Ledger) (text : List ℕ) (shown : Bool) (head : LanguagesHead) (change : FileChange) → HeadAnswers (DerivesOperation op) text (Ok head) → change.folder ≡ Automata → change.name ≡ head.name
+    → Makes (custom_of ledger) (after_language_head limit ledger op head) shown (Ok change.made) → ChangesFile (custom_of ledger) (language_checks op limit ledger text) shown (Ok change)
+language_changed op limit ledger text shown head change spells folder_is name_is made =
     let at : IsAt head made.success = stands_at limit ledger op head made.success made.answers in
-    plans_after (custom_of ledger) (Pure (HeadAnswers (DerivesOperation op) text)) (λ h. after_language_head limit ledger op h) head shown (Ok plan) spells (record { made = made; folder_is = folder_is ∙ at.folder_is; name_is = name_is ∙ at.name_is })
+    changes_after (custom_of ledger) (Pure (HeadAnswers (DerivesOperation op) text)) (λ h. after_language_head limit ledger op h) head shown (Ok change) spells (record { made = made; folder_is = folder_is ∙ at.folder_is; name_is = name_is ∙ at.name_is })
 
-pub language_failed : (op : LanguageOp) (limit : ℕ) (ledger : Ledger) (text : List ℕ) (shown : Bool) (head : LanguagesHead) (fault : Fault) → HeadAnswers (DerivesOperation op) text (Ok head) → Fails (after_language_head limit ledger op head) fault → Plans (custom_of ledger) (language_checks op limit ledger text) shown (Err fault)
-language_failed op limit ledger text shown head fault spells refused = plans_after (custom_of ledger) (Pure (HeadAnswers (DerivesOperation op) text)) (λ h. after_language_head limit ledger op h) head shown (Err fault) spells refused
+pub language_failed : (op : LanguageOp) (limit : ℕ) (ledger : Ledger) (text : List ℕ) (shown : Bool) (head : LanguagesHead) (fault : Fault) → HeadAnswers (DerivesOperation op) text (Ok head) → Fails (after_language_head limit ledger op head) fault → ChangesFile (custom_of ledger) (language_checks op limit ledger text) shown (Err fault)
+language_failed op limit ledger text shown head fault spells refused = changes_after (custom_of ledger) (Pure (HeadAnswers (DerivesOperation op) text)) (λ h. after_language_head limit ledger op h) head shown (Err fault) spells refused
 
 -- what is made of tables that files list is refused by no fault of the store
 pub language_own : (options : StepOptions) (op : LanguageOp) (names : List (List ℕ)) (tables : List Loaded) (files : Files) (r : Result Made Fault) → AreListedBy files (language_files names) tables → MakesLanguage options op names tables r → IsOwn r

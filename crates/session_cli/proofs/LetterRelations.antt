@@ -84,7 +84,7 @@ module _ (t : Setting) (s : Name) (k : ℕ) (b : ℤ) (usable : IsUsable t s k) 
         subst (λ (f : Formula). AreKnownIn (library_of r t.words) f) (sym is)
         (subst (λ (l : LibraryValue). AreKnownIn l (image_formula s k b)) (sym library_same) (known_in usable.rules usable.word s k (library_in t) usable.setting.library usable.few usable.system usable.systems b usable.some))
 
-    -- what is built of the formula is built by the letter's plan
+    -- what is built of the formula is built by the letter's change
     pub built_here : (old new : StepLog) (result : Result RelationValue StepFault) → BuildsFormula (library_of r t.words) (formula_plan (headers_in r) (formula_of r)) old result new → BuildsFormula (library_in t) (letter_plan s k b) old result new
     built_here old new result does =
         subst (λ (f : Formula). BuildsFormula (library_in t) (formula_plan (image_headers s k) f) old result new) is

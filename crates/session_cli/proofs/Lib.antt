@@ -31,7 +31,7 @@ pub mod TableMeanings
 pub mod TableFits
 pub mod TableReads
 pub mod TrackSystemSteps
-pub mod RegexPlans
+pub mod RegexWrites
 pub mod RegSteps
 pub mod HeadSteps
 pub mod LoadedTexts
@@ -49,7 +49,7 @@ pub mod FormulaReady
 pub mod FormulaGround
 pub mod FormulaRefusals
 pub mod FormulaChains
-pub mod FormulaPlanning
+pub mod FormulaWrites
 pub mod FormulaMaking
 pub mod ListedTables
 pub mod ListedParts
@@ -77,7 +77,7 @@ pub mod ConvertedSteps
 pub mod OneConverts
 pub mod ImageTexts
 pub mod ImageChains
-pub mod ImagePlanning
+pub mod ImageWrites
 pub mod OldWordReads
 pub mod OldWordChains
 pub mod LoadedTransducers
@@ -85,7 +85,7 @@ pub mod TransduceSteps
 pub mod TransduceReads
 pub mod TransduceTexts
 pub mod TransduceChains
-pub mod TransducePlanning
+pub mod TransduceWrites
 pub mod LanguageWords
 pub mod NamedLanguages
 pub mod LanguageTexts

@@ -28,7 +28,7 @@ use Rattle.definitions.proofs.TableRelations.{table_holds}
 use Rattle.system_files.specs.SystemFiles.{Custom}
 use Rattle.session_cli.specs.CombineMakes.{HasRelations}
 use Rattle.session_cli.specs.CombineOutcomes.{listed_names, listed_mentions, listed_files, listed_systems, first_plain}
-use Rattle.session_cli.specs.FormulaPlans.{HasSystems}
+use Rattle.session_cli.specs.FormulaLoads.{HasSystems}
 use Rattle.session_cli.specs.FormulaSteps.{AreMeant}
 use Rattle.session_cli.specs.TableReads.{TableRead, AreTablesRead, relations_in, library_with}
 use Rattle.session_cli.specs.TableReading.{AreReadable}

@@ -29,7 +29,7 @@ use Rattle.session_cli.specs.Lines.{shown_steps}
 use Rattle.session_cli.specs.ListingFaults.{fault_of_listing}
 use Rattle.session_cli.specs.ListingMakes.{AnswersBy, reply_of, answer_text}
 use Rattle.session_cli.specs.ListingOutcomes.{AreTableTracks, HasListing, IsRead, IsReadRefused, IsReply, PlaceAnswers, ReadingAnswers, Reply, ReplyAnswers, TellsListed, after_listing_head, after_listing_systems, after_listing_tables, after_place, after_read, after_tracks, listing_files, listing_systems, reply_text, too_long}
-use Rattle.session_cli.specs.Plans.{Tells}
+use Rattle.session_cli.specs.FileChanges.{Tells}
 use Rattle.session_cli.specs.RefusingChecks.{Refusing}
 use Rattle.session_cli.specs.SystemChecks.{SystemsAnswers, systems_known}
 use Rattle.session_cli.specs.TrackSystems.{fault_of}

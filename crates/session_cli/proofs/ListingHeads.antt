@@ -13,7 +13,7 @@ use Rattle.session_cli.specs.declared.fault.Fault.{Fault}
 use Rattle.session_cli.specs.Checks.{Fails, Pure}
 use Rattle.session_cli.specs.HeadAnswers.{HeadAnswers, fault_of_head}
 use Rattle.session_cli.specs.ListingOutcomes.{TestAnswers, after_listing_head, inf_checks, test_checks, words_asked}
-use Rattle.session_cli.specs.Plans.{Tells}
+use Rattle.session_cli.specs.FileChanges.{Tells}
 use Rattle.session_cli.specs.RefusingChecks.{Refusing}
 use Rattle.session_cli.proofs.CheckSteps.{fails_first}
 use Rattle.session_cli.proofs.HeadSteps.{head_unread}

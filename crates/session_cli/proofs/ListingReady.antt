@@ -29,7 +29,7 @@ use Rattle.definitions.specs.TableSteps.{DoesTable, IsTable}
 use Rattle.definitions.proofs.FileTables.{file_is_table}
 use Rattle.definitions.proofs.TableRelations.{table_holds}
 use Rattle.system_files.specs.SystemFiles.{Custom}
-use Rattle.session_cli.specs.FormulaPlans.{HasSystems}
+use Rattle.session_cli.specs.FormulaLoads.{HasSystems}
 use Rattle.session_cli.specs.FormulaSteps.{AreMeant}
 use Rattle.session_cli.specs.ListingMakes.{CanBeListed, HasTracks, HaveHeader, sets_below}
 use Rattle.session_cli.specs.ListingOutcomes.{listing_files, listing_mentions, listing_systems}

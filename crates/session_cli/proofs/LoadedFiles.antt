@@ -13,7 +13,7 @@ use Rattle.session_cli.specs.declared.fault.Fault.TheVariants as faults
 use Rattle.session_cli.specs.Checks.{Fails}
 use Rattle.session_cli.specs.FileChecks.{files_loaded}
 use Rattle.session_cli.specs.FormulaFaults.{fault_of_loading}
-use Rattle.session_cli.specs.FormulaPlans.{AreUnloaded}
+use Rattle.session_cli.specs.FormulaLoads.{AreUnloaded}
 use Rattle.session_cli.specs.StoreReads.{IsReadFault}
 
 pub caused_so : (f : LoadFault) (old new : StoreView) → IsCausedBy f old new → IsReadFault (fault_of_loading f) old new

@@ -12,13 +12,13 @@ use Rattle.definitions.specs.Texts.{HasTreeText}
 use Rattle.definitions.specs.Trees.{Entry, Ledger, Tree, custom_of, tree_of}
 use Rattle.system_files.specs.SystemFiles.{Custom}
 use Rattle.session_cli.specs.declared.fault.Fault.{Fault}
-use Rattle.session_cli.specs.declared.plan.Made.{Made}
+use Rattle.session_cli.specs.declared.file_change.Made.{Made}
 use Rattle.session_cli.specs.Accepting.{stored}
 use Rattle.session_cli.specs.Checks.{Fails, Passing}
 use Rattle.session_cli.specs.Lines.{shown_steps}
 use Rattle.session_cli.specs.OldWordMakes.{Keeps}
 use Rattle.session_cli.specs.OldWordSteps.{AreOldWordSteps, AreOldWordStepsRefused, after_old_steps, made_of_old, old_word_done, old_word_success}
-use Rattle.session_cli.specs.Plans.{Makes}
+use Rattle.session_cli.specs.FileChanges.{Makes}
 use Rattle.session_cli.specs.TrackSystems.{fault_of}
 use Rattle.session_cli.specs.WordPrinting.{named_text}
 use Rattle.session_cli.proofs.CheckSteps.{fails_first, makes_after}

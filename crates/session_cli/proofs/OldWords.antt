@@ -27,7 +27,7 @@ use Rattle.definitions.proofs.WordTexts.{word_text_means}
 use Rattle.definitions.specs.Texts.{Stores}
 use Rattle.definitions.specs.Trees.{Ledger, custom_of}
 use Rattle.system_files.specs.SystemFiles.{Custom}
-use Rattle.session_cli.specs.FormulaPlans.{HasSystems}
+use Rattle.session_cli.specs.FormulaLoads.{HasSystems}
 use Rattle.session_cli.specs.FormulaSteps.{AreMeant}
 use Rattle.session_cli.specs.ImageMakes.{HasOldWord}
 use Rattle.session_cli.specs.ImageOutcomes.{old_mentions}

@@ -20,8 +20,8 @@ use Rattle.definitions.specs.Texts.{IsFixedText}
 use Rattle.definitions.specs.Trees.{Ledger, custom_of}
 use Rattle.system_files.specs.SystemFiles.{Custom}
 use Rattle.session_cli.specs.declared.fault.Fault.{Fault}
-use Rattle.session_cli.specs.declared.plan.Made.{Made}
-use Rattle.session_cli.specs.declared.plan.Plan.{Plan}
+use Rattle.session_cli.specs.declared.file_change.Made.{Made}
+use Rattle.session_cli.specs.declared.file_change.FileChange.{FileChange}
 use Rattle.session_cli.specs.Accepting.{Success, stored}
 use Rattle.session_cli.specs.BaseWords.{base_name}
 use Rattle.session_cli.specs.Checks.{Pure, Fails}
@@ -29,13 +29,13 @@ use Rattle.session_cli.specs.HeadAnswers.{HeadAnswers}
 use Rattle.session_cli.specs.Lines.{shown_steps}
 use Rattle.session_cli.specs.MorphismChecks.{MorphismAnswers, morphism_loaded}
 use Rattle.session_cli.specs.MorphismFaults.{fault_of_promotion}
-use Rattle.session_cli.specs.Plans.{IsMade, Makes, Plans}
+use Rattle.session_cli.specs.FileChanges.{IsMade, Makes, ChangesFile}
 use Rattle.session_cli.specs.PromoteOutcomes.{PromotedAnswers, after_morphism, promote_checks}
 use Rattle.system_admission.specs.SystemSteps.{no_steps}
 use Rattle.session_cli.specs.WordPrinting.{IsWordTextOf, HasNoWordText, named_text}
 use Rattle.session_cli.proofs.CheckNames.{fixed_success, after_promote_head}
 use Rattle.session_cli.proofs.BaseTexts.{fixed_text}
-use Rattle.session_cli.proofs.CheckSteps.{fails_first, fails_after, plans_after}
+use Rattle.session_cli.proofs.CheckSteps.{fails_first, fails_after, changes_after}
 use Rattle.session_cli.proofs.StoringTexts.{unstored, word_refused}
 
 -- what has no fixed point, or passes a limit
@@ -93,9 +93,9 @@ module _ (limit : ℕ) (ledger : Ledger) (text : List ℕ) where
         fails_after (Pure (HeadAnswers DerivesPromote text)) (λ h. after_promote_head limit ledger h) head fault spells
         (fails_after (morphism_loaded ledger head.morphism) (λ rs. after_morphism limit (custom_of ledger) head.word rs) rules fault there refused)
 
-    pub promote_planned : (rules : Rules) (shown : Bool) (plan : Plan) → MorphismAnswers ledger head.morphism (Ok rules) → plan.folder ≡ Words → plan.name ≡ head.word → Makes (custom_of ledger) (after_morphism limit (custom_of ledger) head.word rules) shown (Ok plan.made)
-        → Plans (custom_of ledger) (promote_checks limit ledger text) shown (Ok plan)
-    promote_planned rules shown plan there folder name made =
+    pub promote_changed : (rules : Rules) (shown : Bool) (change : FileChange) → MorphismAnswers ledger head.morphism (Ok rules) → change.folder ≡ Words → change.name ≡ head.word → Makes (custom_of ledger) (after_morphism limit (custom_of ledger) head.word rules) shown (Ok change.made)
+        → ChangesFile (custom_of ledger) (promote_checks limit ledger text) shown (Ok change)
+    promote_changed rules shown change there folder name made =
         let at : (Words ≡ made.success.folder) × (head.word ≡ made.success.name) = stands_at limit (custom_of ledger) head.word rules made.success made.answers in
-        plans_after (custom_of ledger) (Pure (HeadAnswers DerivesPromote text)) (λ h. after_promote_head limit ledger h) head shown (Ok plan) spells
-        (plans_after (custom_of ledger) (morphism_loaded ledger head.morphism) (λ rs. after_morphism limit (custom_of ledger) head.word rs) rules shown (Ok plan) there (record { made = made; folder_is = folder ∙ at.0; name_is = name ∙ at.1 }))
+        changes_after (custom_of ledger) (Pure (HeadAnswers DerivesPromote text)) (λ h. after_promote_head limit ledger h) head shown (Ok change) spells
+        (changes_after (custom_of ledger) (morphism_loaded ledger head.morphism) (λ rs. after_morphism limit (custom_of ledger) head.word rs) rules shown (Ok change) there (record { made = made; folder_is = folder ∙ at.0; name_is = name ∙ at.1 }))

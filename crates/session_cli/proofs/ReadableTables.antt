@@ -22,7 +22,7 @@ use Rattle.formula_build.specs.Resolved as resolved
 use Rattle.formula_build.specs.Solutions.{direction_named}
 use Rattle.system_files.specs.SystemFiles.{Custom}
 use Rattle.definitions.specs.TableLaws.{FilesAreTables}
-use Rattle.session_cli.specs.FormulaPlans.{HasSystems}
+use Rattle.session_cli.specs.FormulaLoads.{HasSystems}
 use Rattle.session_cli.specs.FormulaSteps.{AreMeant}
 use Rattle.session_cli.specs.TableReads.{AreSystemsUnder}
 use Rattle.session_cli.specs.TableReading.{IsReadable, AreReadable}

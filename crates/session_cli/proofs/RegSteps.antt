@@ -12,8 +12,8 @@ use Rattle.command_head.proofs.Breaking.{syntax_breaks, number_breaks}
 use Rattle.session_cli.specs.declared.fault.Grammar.TheVariants as grammars
 use Rattle.session_cli.specs.declared.fault.Fault.{Fault}
 use Rattle.session_cli.specs.declared.fault.Fault.TheVariants as faults
-use Rattle.session_cli.specs.declared.plan.Made.{Made}
-use Rattle.session_cli.specs.declared.plan.Plan.{Plan}
+use Rattle.session_cli.specs.declared.file_change.Made.{Made}
+use Rattle.session_cli.specs.declared.file_change.FileChange.{FileChange}
 use Rattle.session_cli.specs.Checks.{Pure, Fails}
 use Rattle.definitions.specs.Trees.{Ledger, custom_of}
 use Rattle.definitions.specs.Tracks.{Tracks}
@@ -23,9 +23,9 @@ use Rattle.session_cli.specs.Accepting.{Success}
 use Rattle.session_cli.specs.HeadAnswers.{HeadAnswers}
 use Rattle.session_cli.specs.RegOutcomes.{systems_named, TracksAnswers, after_tracks, after_head, reg_checks}
 use Rattle.session_cli.specs.SystemChecks.{SystemsAnswers, systems_known}
-use Rattle.session_cli.specs.Plans.{Makes, Plans}
+use Rattle.session_cli.specs.FileChanges.{Makes, ChangesFile}
 use Rattle.session_cli.proofs.CheckNames.{after_admission}
-use Rattle.session_cli.proofs.CheckSteps.{fails_first, fails_after, makes_after, plans_after}
+use Rattle.session_cli.proofs.CheckSteps.{fails_first, fails_after, makes_after, changes_after}
 
 -- what is read of a text is what its parts derive, or where they break the grammar
 spelled : (text : List ℕ) (head : RegHead) → reg_at text ≡ Ok head → DerivesReg (texts_of (parts_of text)) head
@@ -63,11 +63,11 @@ stands_at : (limit : ℕ) (custom : Custom) (head : RegHead) (success : Success)
 stands_at limit custom head success (admitted, known, (tracks, means, (pattern, parses, (lines, steps, (is, text))))) = record { folder = sym (ap (λ (s : Success). s.folder) is); name = sym (ap (λ (s : Success). s.name) is) }
 
 -- a `reg` whose head is this one
-pub reg_planned : (limit : ℕ) (ledger : Ledger) (text : List ℕ) (shown : Bool) (head : RegHead) (plan : Plan) → reg_at text ≡ Ok head → plan.folder ≡ Automata → plan.name ≡ head.name → Makes (custom_of ledger) (after_head limit (custom_of ledger) head) shown (Ok plan.made)
-    → Plans (custom_of ledger) (reg_checks limit ledger text) shown (Ok plan)
-reg_planned limit ledger text shown head plan read folder name made =
+pub reg_changed : (limit : ℕ) (ledger : Ledger) (text : List ℕ) (shown : Bool) (head : RegHead) (change : FileChange) → reg_at text ≡ Ok head → change.folder ≡ Automata → change.name ≡ head.name → Makes (custom_of ledger) (after_head limit (custom_of ledger) head) shown (Ok change.made)
+    → ChangesFile (custom_of ledger) (reg_checks limit ledger text) shown (Ok change)
+reg_changed limit ledger text shown head change read folder name made =
     let at : IsAt head made.success = stands_at limit (custom_of ledger) head made.success made.answers in
-    plans_after (custom_of ledger) (Pure (HeadAnswers DerivesReg text)) (λ h. after_head limit (custom_of ledger) h) head shown (Ok plan) (spelled text head read) (record { made = made; folder_is = folder ∙ at.folder; name_is = name ∙ at.name })
+    changes_after (custom_of ledger) (Pure (HeadAnswers DerivesReg text)) (λ h. after_head limit (custom_of ledger) h) head shown (Ok change) (spelled text head read) (record { made = made; folder_is = folder ∙ at.folder; name_is = name ∙ at.name })
 
 pub reg_failed : (limit : ℕ) (ledger : Ledger) (text : List ℕ) (shown : Bool) (head : RegHead) (fault : Fault) → reg_at text ≡ Ok head → Fails (after_head limit (custom_of ledger) head) fault → Fails (reg_checks limit ledger text) fault
-reg_failed limit ledger text shown head fault read refused = plans_after (custom_of ledger) (Pure (HeadAnswers DerivesReg text)) (λ h. after_head limit (custom_of ledger) h) head shown (Err fault) (spelled text head read) refused
+reg_failed limit ledger text shown head fault read refused = changes_after (custom_of ledger) (Pure (HeadAnswers DerivesReg text)) (λ h. after_head limit (custom_of ledger) h) head shown (Err fault) (spelled text head read) refused

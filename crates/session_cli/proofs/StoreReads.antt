@@ -10,11 +10,11 @@ use Rattle.session_cli.specs.declared.fault.Fault.TheVariants as faults
 use Rattle.formula_parse.specs.declared.fault.ParseFault.{ParseFault}
 use Rattle.formula_parse.specs.declared.fault.ParseFault.TheVariants as parses
 use Rattle.session_cli.specs.FormulaFaults.{fault_of_formula}
-use Rattle.session_cli.specs.declared.plan.Made.{Made}
-use Rattle.session_cli.specs.declared.plan.Plan.{Plan}
+use Rattle.session_cli.specs.declared.file_change.Made.{Made}
+use Rattle.session_cli.specs.declared.file_change.FileChange.{FileChange}
 use Rattle.session_cli.specs.Checks.{Check, Fails}
 use Rattle.session_cli.specs.Accepting.{Success}
-use Rattle.session_cli.specs.Plans.{Makes, Plans}
+use Rattle.session_cli.specs.FileChanges.{Makes, ChangesFile}
 use Rattle.session_cli.proofs.CheckNames.{is_store_fault}
 use Rattle.session_cli.specs.StoreReads.{IsReadFault, HasRead, FromFiles}
 use Rattle.system_files.specs.SystemFiles.{Custom}
@@ -176,9 +176,9 @@ pub own_made : (custom : Custom) (checks : Check Success) → ((place : Place) �
 own_made custom checks none shown (Ok made) makes = tt
 own_made custom checks none shown (Err f) refused = own_fault checks none f refused
 
-pub own_plan : (custom : Custom) (checks : Check Success) → ((place : Place) → checks.reads place → ⊥) → (shown : Bool) (r : Result Plan Fault) → Plans custom checks shown r → IsOwn r
-own_plan custom checks none shown (Ok plan) plans = tt
-own_plan custom checks none shown (Err f) refused = own_fault checks none f refused
+pub own_change : (custom : Custom) (checks : Check Success) → ((place : Place) → checks.reads place → ⊥) → (shown : Bool) (r : Result FileChange Fault) → ChangesFile custom checks shown r → IsOwn r
+own_change custom checks none shown (Ok change) changes = tt
+own_change custom checks none shown (Err f) refused = own_fault checks none f refused
 
 -- a fault of a formula's text is none of the store
 pub own_parse : (fault : ParseFault) → is_store_fault (fault_of_formula fault) ≡ false

@@ -6,12 +6,12 @@ use Rattle.system_files.specs.SystemFiles.{Custom}
 use Rattle.word_output.specs.Words.{WordValue}
 use Rattle.session_cli.specs.declared.fault.Fault.{Fault}
 use Rattle.session_cli.specs.declared.fault.Fault.TheVariants as faults
-use Rattle.session_cli.specs.declared.plan.Made.{Made}
+use Rattle.session_cli.specs.declared.file_change.Made.{Made}
 use Rattle.session_cli.specs.Accepting.{Success, stored}
 use Rattle.session_cli.specs.Checks.{Fails}
 use Rattle.session_cli.specs.Lines.{shown_steps}
-use Rattle.session_cli.specs.Plans.{Makes}
-use Rattle.session_cli.specs.TextPlans.{IsTextRefused, StoresText}
+use Rattle.session_cli.specs.FileChanges.{Makes}
+use Rattle.session_cli.specs.TextChanges.{IsTextRefused, StoresText}
 use Rattle.session_cli.specs.WordPrinting.{HasNoWordText, named_text}
 use Rattle.session_cli.proofs.CheckNames.{text_success}
 

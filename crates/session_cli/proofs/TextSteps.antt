@@ -13,25 +13,25 @@ use Rattle.morph_words.specs.declared.fault.RulesFault.TheVariants as rules_faul
 use Rattle.definitions.specs.Trees.{Ledger, custom_of}
 use Rattle.system_files.specs.SystemFiles.{Custom}
 use Rattle.session_cli.specs.declared.fault.Fault.{Fault}
-use Rattle.session_cli.specs.declared.plan.Made.{Made}
-use Rattle.session_cli.specs.declared.plan.Plan.{Plan}
+use Rattle.session_cli.specs.declared.file_change.Made.{Made}
+use Rattle.session_cli.specs.declared.file_change.FileChange.{FileChange}
 use Rattle.session_cli.specs.Accepting.{Success, stored}
 use Rattle.session_cli.specs.Checks.{Pure, Fails}
 use Rattle.session_cli.specs.HeadAnswers.{HeadAnswers}
 use Rattle.session_cli.specs.MorphismFaults.{fault_of_rules}
-use Rattle.session_cli.specs.Plans.{IsMade, Makes, Plans}
+use Rattle.session_cli.specs.FileChanges.{IsMade, Makes, ChangesFile}
 use Rattle.session_cli.specs.TextOutcomes.{RulesAnswers, after_rules_head, macro_checks, morphism_checks}
-use Rattle.session_cli.specs.TextPlans.{IsTextRefused, StoresText}
+use Rattle.session_cli.specs.TextChanges.{IsTextRefused, StoresText}
 use Rattle.session_cli.proofs.CheckNames.{text_success}
-use Rattle.session_cli.proofs.CheckSteps.{fails_first, fails_after, makes_after, plans_after}
+use Rattle.session_cli.proofs.CheckSteps.{fails_first, fails_after, makes_after, changes_after}
 use Rattle.session_cli.proofs.StoringTexts.{text_stored, unstored}
 
 -- what is in the quotes of a `macro` is stored
-pub macro_planned : (ledger : Ledger) (text : List ℕ) (shown : Bool) (head : NamedHead) (plan : Plan) → HasHead (DerivesNamed (codes "macro")) (λ (h : NamedHead). h) text (Ok head) → plan.folder ≡ Macros → plan.name ≡ head.name → StoresText head.body (Ok plan.made)
-    → Plans (custom_of ledger) (macro_checks ledger text) shown (Ok plan)
-macro_planned ledger text shown head plan spells folder name stores =
-    let made : IsMade (custom_of ledger) (stored (custom_of ledger) (text_success Macros head.name head.body)) shown plan.made = text_stored (custom_of ledger) Macros head.name head.body shown (Ok plan.made) stores in
-    plans_after (custom_of ledger) (Pure (HeadAnswers (DerivesNamed (codes "macro")) text)) (λ (h : NamedHead). stored (custom_of ledger) (text_success Macros h.name h.body)) head shown (Ok plan) spells
+pub macro_changed : (ledger : Ledger) (text : List ℕ) (shown : Bool) (head : NamedHead) (change : FileChange) → HasHead (DerivesNamed (codes "macro")) (λ (h : NamedHead). h) text (Ok head) → change.folder ≡ Macros → change.name ≡ head.name → StoresText head.body (Ok change.made)
+    → ChangesFile (custom_of ledger) (macro_checks ledger text) shown (Ok change)
+macro_changed ledger text shown head change spells folder name stores =
+    let made : IsMade (custom_of ledger) (stored (custom_of ledger) (text_success Macros head.name head.body)) shown change.made = text_stored (custom_of ledger) Macros head.name head.body shown (Ok change.made) stores in
+    changes_after (custom_of ledger) (Pure (HeadAnswers (DerivesNamed (codes "macro")) text)) (λ (h : NamedHead). stored (custom_of ledger) (text_success Macros h.name h.body)) head shown (Ok change) spells
     (record { made = made; folder_is = folder ∙ sym (ap (λ (s : Success). s.folder) made.answers.0); name_is = name ∙ sym (ap (λ (s : Success). s.name) made.answers.0) })
 
 pub macro_failed : (ledger : Ledger) (text : List ℕ) (head : NamedHead) (fault : Fault) → HasHead (DerivesNamed (codes "macro")) (λ (h : NamedHead). h) text (Ok head) → IsTextRefused head.body fault → Fails (macro_checks ledger text) fault
@@ -65,11 +65,11 @@ rules_refused custom head fault refused = fails_first (Pure (RulesAnswers head.b
 stands_at : (custom : Custom) (head : NamedHead) (success : Success) → (after_rules_head custom head).answers (Ok success) → (Morphisms ≡ success.folder) × (head.name ≡ success.name)
 stands_at custom head success (rules, parses, (is, text)) = (sym (ap (λ (s : Success). s.folder) is), sym (ap (λ (s : Success). s.name) is))
 
-pub morphism_planned : (ledger : Ledger) (text : List ℕ) (shown : Bool) (head : NamedHead) (plan : Plan) → HasHead (DerivesNamed (codes "morphism")) (λ (h : NamedHead). h) text (Ok head) → plan.folder ≡ Morphisms → plan.name ≡ head.name
-    → Makes (custom_of ledger) (after_rules_head (custom_of ledger) head) shown (Ok plan.made) → Plans (custom_of ledger) (morphism_checks ledger text) shown (Ok plan)
-morphism_planned ledger text shown head plan spells folder name made =
+pub morphism_changed : (ledger : Ledger) (text : List ℕ) (shown : Bool) (head : NamedHead) (change : FileChange) → HasHead (DerivesNamed (codes "morphism")) (λ (h : NamedHead). h) text (Ok head) → change.folder ≡ Morphisms → change.name ≡ head.name
+    → Makes (custom_of ledger) (after_rules_head (custom_of ledger) head) shown (Ok change.made) → ChangesFile (custom_of ledger) (morphism_checks ledger text) shown (Ok change)
+morphism_changed ledger text shown head change spells folder name made =
     let at : (Morphisms ≡ made.success.folder) × (head.name ≡ made.success.name) = stands_at (custom_of ledger) head made.success made.answers in
-    plans_after (custom_of ledger) (Pure (HeadAnswers (DerivesNamed (codes "morphism")) text)) (λ h. after_rules_head (custom_of ledger) h) head shown (Ok plan) spells (record { made = made; folder_is = folder ∙ at.0; name_is = name ∙ at.1 })
+    changes_after (custom_of ledger) (Pure (HeadAnswers (DerivesNamed (codes "morphism")) text)) (λ h. after_rules_head (custom_of ledger) h) head shown (Ok change) spells (record { made = made; folder_is = folder ∙ at.0; name_is = name ∙ at.1 })
 
 pub morphism_failed : (ledger : Ledger) (text : List ℕ) (head : NamedHead) (fault : Fault) → HasHead (DerivesNamed (codes "morphism")) (λ (h : NamedHead). h) text (Ok head) → Fails (after_rules_head (custom_of ledger) head) fault → Fails (morphism_checks ledger text) fault
 morphism_failed ledger text head fault spells refused = fails_after (Pure (HeadAnswers (DerivesNamed (codes "morphism")) text)) (λ h. after_rules_head (custom_of ledger) h) head fault spells refused

@@ -9,7 +9,7 @@ use Rattle.num_system.specs.Sealed.{SystemValue}
 use Rattle.num_system.specs.Tracks.{systems_of}
 use Rattle.numeration.specs.Representation as representation
 use Rattle.digit_tuple.proofs.SystemLemmas.{length-digit_set}
-use Rattle.session_cli.specs.FormulaPlans.{tracks_over}
+use Rattle.session_cli.specs.FormulaLoads.{tracks_over}
 
 -- the track of a variable over a system
 abbrev pub one_track : Variable → SystemValue → SystemTrack

@@ -22,8 +22,8 @@ use Rattle.definitions.specs.Trees.{Ledger, Transduced, ledger_of, custom_of}
 use Rattle.system_files.specs.SystemFiles.{Custom}
 use Rattle.session_cli.specs.declared.base_system.BaseSystem.{BaseSystem}
 use Rattle.session_cli.specs.declared.fault.Fault.{Fault}
-use Rattle.session_cli.specs.declared.plan.Made.{Made}
-use Rattle.session_cli.specs.declared.plan.Plan.{Plan}
+use Rattle.session_cli.specs.declared.file_change.Made.{Made}
+use Rattle.session_cli.specs.declared.file_change.FileChange.{FileChange}
 use Rattle.session_cli.specs.declared.step_options.StepOptions.{StepOptions}
 use Rattle.session_cli.specs.declared.transduce.ReadTransducer.{ReadTransducer}
 use Rattle.session_cli.specs.Accepting.{Success}
@@ -33,13 +33,13 @@ use Rattle.session_cli.specs.FileChecks.{FilesAnswers, files_loaded}
 use Rattle.session_cli.specs.HeadAnswers.{HeadAnswers, fault_of_head}
 use Rattle.session_cli.specs.ImageOutcomes.{old_mentions}
 use Rattle.session_cli.specs.OldWordMakes.{IsLoadedOld}
-use Rattle.session_cli.specs.Plans.{Makes, Plans}
+use Rattle.session_cli.specs.FileChanges.{Makes, ChangesFile}
 use Rattle.session_cli.specs.SystemChecks.{SystemsAnswers, systems_known}
 use Rattle.session_cli.specs.TransduceMakes.{IsReadBy, MakesAfterSystems, MakesAfterTable, head_of}
 use Rattle.session_cli.specs.TransduceOutcomes.{after_transduce_head, after_transduced_base, after_transduced_systems, after_transduced_table, after_transducer, transduce_checks}
 use Rattle.session_cli.specs.TransduceSteps.{DoesTransduce}
 use Rattle.session_cli.specs.TransducerChecks.{TransducerAnswers, transducer_loaded}
-use Rattle.session_cli.proofs.CheckSteps.{fails_first, fails_after, makes_after, plans_after}
+use Rattle.session_cli.proofs.CheckSteps.{fails_first, fails_after, makes_after, changes_after}
 use Rattle.session_cli.proofs.CommandSteps.{files_store}
 use Rattle.session_cli.proofs.FilesElsewhere.{listed_elsewhere}
 use Rattle.session_cli.proofs.HeadSteps.{head_unread}
@@ -64,15 +64,15 @@ transduce_at limit ledger head success (t, read, (tables, files, (admitted, syst
     record { folder_is = sym (ap (λ (s : Success). s.folder) is); name_is = sym (ap (λ (s : Success). s.name) is) }
 
 -- a command whose head is this one
-pub transduce_planned : (limit : ℕ) (ledger : Ledger) (text : List ℕ) (shown : Bool) (head : ImageHead) (plan : Plan) → HeadAnswers (DerivesImage (codes "transduce")) text (Ok head) → plan.folder ≡ Words → plan.name ≡ head.word
-    → Makes (custom_of ledger) (after_transduce_head limit ledger head) shown (Ok plan.made) → Plans (custom_of ledger) (transduce_checks limit ledger text) shown (Ok plan)
-transduce_planned limit ledger text shown head plan spells folder_is name_is made =
+pub transduce_changed : (limit : ℕ) (ledger : Ledger) (text : List ℕ) (shown : Bool) (head : ImageHead) (change : FileChange) → HeadAnswers (DerivesImage (codes "transduce")) text (Ok head) → change.folder ≡ Words → change.name ≡ head.word
+    → Makes (custom_of ledger) (after_transduce_head limit ledger head) shown (Ok change.made) → ChangesFile (custom_of ledger) (transduce_checks limit ledger text) shown (Ok change)
+transduce_changed limit ledger text shown head change spells folder_is name_is made =
     let at : IsTransduceAt head made.success = transduce_at limit ledger head made.success made.answers in
-    plans_after (custom_of ledger) (Pure (HeadAnswers derives text)) (λ h. after_transduce_head limit ledger h) head shown (Ok plan) spells (record { made = made; folder_is = folder_is ∙ at.folder_is; name_is = name_is ∙ at.name_is })
+    changes_after (custom_of ledger) (Pure (HeadAnswers derives text)) (λ h. after_transduce_head limit ledger h) head shown (Ok change) spells (record { made = made; folder_is = folder_is ∙ at.folder_is; name_is = name_is ∙ at.name_is })
 
 pub transduce_failed : (limit : ℕ) (ledger : Ledger) (text : List ℕ) (shown : Bool) (head : ImageHead) (fault : Fault) → HeadAnswers (DerivesImage (codes "transduce")) text (Ok head) → Fails (after_transduce_head limit ledger head) fault
-    → Plans (custom_of ledger) (transduce_checks limit ledger text) shown (Err fault)
-transduce_failed limit ledger text shown head fault spells refused = plans_after (custom_of ledger) (Pure (HeadAnswers derives text)) (λ h. after_transduce_head limit ledger h) head shown (Err fault) spells refused
+    → ChangesFile (custom_of ledger) (transduce_checks limit ledger text) shown (Err fault)
+transduce_failed limit ledger text shown head fault spells refused = changes_after (custom_of ledger) (Pure (HeadAnswers derives text)) (λ h. after_transduce_head limit ledger h) head shown (Err fault) spells refused
 
 module _ (limit : ℕ) (ledger : Ledger) (head : ImageHead) where
   -- its transducer is not loaded

@@ -4,14 +4,14 @@ use Rattle.wal_outside.specs.declared.folder.Folder.{Folder}
 use Rattle.command_head.specs.Parts.{first_word_of}
 use Rattle.session_cli.specs.declared.fault.Fault.{Fault}
 use Rattle.session_cli.specs.declared.fault.Fault.TheVariants as faults
-use Rattle.session_cli.specs.declared.plan.Action.{Action}
-use Rattle.session_cli.specs.declared.plan.Plan.{Plan}
+use Rattle.session_cli.specs.declared.file_change.Action.{Action}
+use Rattle.session_cli.specs.declared.file_change.FileChange.{FileChange}
 use Rattle.session_cli.specs.declared.command_word.CommandWord.{CommandWord}
 use Rattle.session_cli.specs.Checks.{Pure, Fails}
 use Rattle.definitions.specs.Trees.{Ledger, custom_of}
 use Rattle.session_cli.specs.Outcomes.{LengthAnswers, WordAnswers, word_text, checks_by, after_length, checks_of}
 use Rattle.session_cli.specs.FormulaOutcomes.{formula_checks}
-use Rattle.session_cli.specs.Plans.{Plans, Acts}
+use Rattle.session_cli.specs.FileChanges.{ChangesFile, Acts}
 use Rattle.session_cli.specs.declared.step_options.StepOptions.{StepOptions}
 use Rattle.session_cli.proofs.CheckSteps.{fails_first, fails_after}
 use Rattle.session_cli.proofs.ActionSteps.{acts_after}
@@ -24,11 +24,11 @@ acted_by_word word limit ledger text shown result short is acts =
     (acts_after (custom_of ledger) (Pure (WordAnswers text)) (λ w. checks_by w limit ledger text) word shown result is acts)
 
 -- what a formula's command with these parts gives
-pub planned_formula : (word at : List ℕ) (folder to : Folder) (options these : StepOptions) (ledger : Ledger) (text : List ℕ) (result : Result Plan Fault) → word ≡ at → folder ≡ to → options ≡ these → Plans (custom_of ledger) (formula_checks word folder options.limit ledger text) options.shown result
-    → Plans (custom_of ledger) (formula_checks at to these.limit ledger text) these.shown result
-planned_formula word at folder to options these ledger text result words folders same plans =
-    subst (λ (o : StepOptions). Plans (custom_of ledger) (formula_checks at to o.limit ledger text) o.shown result) same
-    (subst (λ (f : Folder). Plans (custom_of ledger) (formula_checks at f options.limit ledger text) options.shown result) folders (subst (λ (w : List ℕ). Plans (custom_of ledger) (formula_checks w folder options.limit ledger text) options.shown result) words plans))
+pub change_of_formula : (word at : List ℕ) (folder to : Folder) (options these : StepOptions) (ledger : Ledger) (text : List ℕ) (result : Result FileChange Fault) → word ≡ at → folder ≡ to → options ≡ these → ChangesFile (custom_of ledger) (formula_checks word folder options.limit ledger text) options.shown result
+    → ChangesFile (custom_of ledger) (formula_checks at to these.limit ledger text) these.shown result
+change_of_formula word at folder to options these ledger text result words folders same changes =
+    subst (λ (o : StepOptions). ChangesFile (custom_of ledger) (formula_checks at to o.limit ledger text) o.shown result) same
+    (subst (λ (f : Folder). ChangesFile (custom_of ledger) (formula_checks at f options.limit ledger text) options.shown result) folders (subst (λ (w : List ℕ). ChangesFile (custom_of ledger) (formula_checks w folder options.limit ledger text) options.shown result) words changes))
 
 -- a command that is too long, and one whose first word is none
 pub too_long : (limit : ℕ) (ledger : Ledger) (text : List ℕ) → 65536 < length text → Fails (checks_of limit ledger text) (faults.Long 65536)

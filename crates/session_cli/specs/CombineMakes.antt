@@ -20,14 +20,14 @@ use Rattle.definitions.specs.Trees.{Ledger, custom_of}
 use Rattle.system_files.specs.SystemFiles.{Custom}
 use Rattle.session_cli.specs.declared.combine.ListedAutomata.{ListedAutomata}
 use Rattle.session_cli.specs.declared.fault.Fault.{Fault}
-use Rattle.session_cli.specs.declared.plan.Made.{Made}
+use Rattle.session_cli.specs.declared.file_change.Made.{Made}
 use Rattle.session_cli.specs.declared.step_options.StepOptions.{StepOptions}
 use Rattle.session_cli.specs.Checks.{Fails, Pure}
 use Rattle.session_cli.specs.CombineOutcomes.{listed_names, listed_files, listed_systems, first_plain, HaveSystemsOfFirst, CombinedAnswers, after_listed_tables, after_listed_systems}
 use Rattle.session_cli.specs.CombineSteps.{AreCombineSteps}
-use Rattle.session_cli.specs.FormulaPlans.{HasSystems}
+use Rattle.session_cli.specs.FormulaLoads.{HasSystems}
 use Rattle.session_cli.specs.FormulaSteps.{AreMeant}
-use Rattle.session_cli.specs.Plans.{Makes}
+use Rattle.session_cli.specs.FileChanges.{Makes}
 
 -- the automata in their order
 abbrev pub automata_in : List valued.ValuedName → List ValuedName

@@ -8,8 +8,8 @@ use Rattle.wal_outside.specs.Views.{StoreView}
 use Rattle.script_runs.specs.Replies.{failed_by}
 use Rattle.session_cli.specs.declared.fault.Fault.{Fault}
 use Rattle.session_cli.specs.declared.fault.Fault.TheVariants as faults
-use Rattle.session_cli.specs.declared.plan.Action.{Action}
-use Rattle.session_cli.specs.declared.plan.Action.TheVariants as actions
+use Rattle.session_cli.specs.declared.file_change.Action.{Action}
+use Rattle.session_cli.specs.declared.file_change.Action.TheVariants as actions
 use Rattle.definitions.specs.Trees.{Ledger, custom_of}
 use Rattle.session_cli.specs.Accepting.{Answer}
 use Rattle.session_cli.specs.Lines.{accepted_text}
@@ -69,13 +69,13 @@ WriteCause place old new (Ok _) = new.failed ≡ old.failed
 WriteCause place old new (Err fault) = IsWriteFault place old new fault
 
 -- what writing a text at a place does to the store
-pub record WritesPlan {X : Type 0} (old : StoreView) (place : Place) (stored : List ℕ) (result : Result X Fault) (new : StoreView) : Type 0 where
+pub record WritesChange {X : Type 0} (old : StoreView) (place : Place) (stored : List ℕ) (result : Result X Fault) (new : StoreView) : Type 0 where
   pub files : WritesFile old.files place stored result new.files
   pub later : old.faults ≤ new.faults
   pub cause : WriteCause place old new result
 
--- An action was done, and this is to be printed: a plan's text is written, and then what the plan prints; or a text is printed, and nothing is
+-- An action was done, and this is to be printed: a change's text is written, and then what the change prints; or a text is printed, and nothing is
 -- written.
 abbrev pub DoesAction : StoreView → Action → Result (List ℕ) Fault → StoreView → Type 0
-DoesAction old (actions.Write plan) result new = WritesPlan old (plan.folder, plan.name) plan.made.stored.items result new × IfOk result (λ printed. printed ≡ plan.made.printed)
+DoesAction old (actions.Write change) result new = WritesChange old (change.folder, change.name) change.made.stored.items result new × IfOk result (λ printed. printed ≡ change.made.printed)
 DoesAction old (actions.Print printed) result new = (result ≡ Ok printed) × (new ≡ old)

@@ -17,7 +17,7 @@ use Rattle.session_cli.specs.declared.convert.ReadConvert.{ReadConvert}
 use Rattle.session_cli.specs.declared.convert.Target.{Target}
 use Rattle.session_cli.specs.declared.fault.Fault.{Fault}
 use Rattle.session_cli.specs.declared.old_word.OldWord.{OldWord}
-use Rattle.session_cli.specs.declared.plan.Made.{Made}
+use Rattle.session_cli.specs.declared.file_change.Made.{Made}
 use Rattle.session_cli.specs.declared.step_options.StepOptions.{StepOptions}
 use Rattle.session_cli.specs.BaseWords.{IsBaseOf}
 use Rattle.session_cli.specs.Checks.{Fails}
@@ -25,7 +25,7 @@ use Rattle.session_cli.specs.ConvertOutcomes.{IsChange, after_convert_systems, a
 use Rattle.session_cli.specs.ConvertSteps.{DoesConvert, IsSealedBase}
 use Rattle.session_cli.specs.OldWordMakes.{AreTablesOfOld, IsMadeOfOld}
 use Rattle.session_cli.specs.OldWordSteps.{old_word_done}
-use Rattle.session_cli.specs.Plans.{Makes}
+use Rattle.session_cli.specs.FileChanges.{Makes}
 use Rattle.session_cli.specs.TrackSystems.{fault_of}
 
 -- a head of this new name, the system and the old word

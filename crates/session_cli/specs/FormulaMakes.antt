@@ -17,10 +17,10 @@ use Rattle.definitions.specs.Texts.{Stores}
 use Rattle.definitions.specs.Trees.{Ledger, custom_of}
 use Rattle.session_cli.specs.declared.fault.Fault.{Fault}
 use Rattle.session_cli.specs.declared.formula.ReadFormula.{ReadFormula}
-use Rattle.session_cli.specs.declared.plan.Made.{Made}
+use Rattle.session_cli.specs.declared.file_change.Made.{Made}
 use Rattle.session_cli.specs.declared.step_options.StepOptions.{StepOptions}
 use Rattle.session_cli.specs.FormulaOutcomes.{after_systems, after_tables}
-use Rattle.session_cli.specs.Plans.{Makes}
+use Rattle.session_cli.specs.FileChanges.{Makes}
 
 -- the formula
 abbrev pub tree_of : ReadFormula → trees.Formula

@@ -1,5 +1,5 @@
 -- The steps by which a formula is decided: after those of the systems that are admitted, first those that read the tables of the automata and
--- words that it names, then those of its plan, over the systems that names mean.
+-- words that it names, then those of its change, over the systems that names mean.
 use Rattle.std.specs.Prelude.{◌≡◌, ◌⊎◌, List, [], Result, Err}
 use Rattle.std.specs.List.{AllByRecursion}
 use Rattle.digit_tuple.specs.Steps.{StepLog}
@@ -25,7 +25,7 @@ AreMeant custom systems = AllByRecursion (λ (s : NamedSystem). IsSystemNamed cu
 abbrev pub library_of : List NamedSystem → LibraryValue
 library_of systems = library_with [] systems
 
--- All tables are read. The steps of the formula's plan, over sealed systems each under its name, and over the relations and words of the tables, make
+-- All tables are read. The steps of the formula's change, over sealed systems each under its name, and over the relations and words of the tables, make
 -- this relation, or are refused by this fault. The lines are those of all steps that were done.
 pub record AreFormulaSteps (admitted : StepLog) (custom : Custom) (tables : List Loaded) (formula : trees.Formula) (result : Result RelationValue StepFault) (lines : List StepLine) : Type 0 where
   pub systems : List NamedSystem
@@ -45,6 +45,6 @@ pub record IsReadingStopped (admitted : StepLog) (custom : Custom) (tables : Lis
   pub meant : AreMeant custom systems
   pub refused : IsReadingRefused systems admitted tables fault
 
--- a step that reads a table, or one of the plan, is the first to pass a limit
+-- a step that reads a table, or one of the change, is the first to pass a limit
 abbrev pub AreStepsRefused : StepLog → Custom → List Loaded → trees.Formula → StepFault → Type 0
 AreStepsRefused admitted custom tables formula fault = IsReadingStopped admitted custom tables fault ⊎ ((lines : List StepLine) × AreFormulaSteps admitted custom tables formula (Err fault) lines)

@@ -20,7 +20,7 @@ use Rattle.word_images.specs.ImageWords.{AreOutputs, IsMapped, IsMissing}
 use Rattle.session_cli.specs.declared.image_fault.ImageFault.{ImageFault}
 use Rattle.session_cli.specs.declared.image_fault.ImageFault.TheVariants.{Morphism, Missing, Step}
 
--- the plan of the formula of a letter
+-- the change of the formula of a letter
 abbrev pub letter_plan : Name → ℕ → ℤ → Made
 letter_plan s k b = formula_plan (image_headers s k) (image_formula s k b)
 

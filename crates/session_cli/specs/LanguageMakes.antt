@@ -9,11 +9,11 @@ use Rattle.definitions.specs.Texts.{Stores}
 use Rattle.language_steps.specs.declared.op.LanguageOp.{LanguageOp}
 use Rattle.definitions.specs.Trees.{Ledger, custom_of}
 use Rattle.session_cli.specs.declared.fault.Fault.{Fault}
-use Rattle.session_cli.specs.declared.plan.Made.{Made}
+use Rattle.session_cli.specs.declared.file_change.Made.{Made}
 use Rattle.session_cli.specs.declared.step_options.StepOptions.{StepOptions}
 use Rattle.session_cli.specs.Checks.{Fails}
 use Rattle.session_cli.specs.LanguageOutcomes.{after_language_tables, language_files}
-use Rattle.session_cli.specs.Plans.{Makes}
+use Rattle.session_cli.specs.FileChanges.{Makes}
 
 -- all are over the same sets
 pub record AreAlike (tables : List Loaded) : Type 0 where

@@ -42,12 +42,12 @@ pub mod ImageFaults
 pub mod LetterSettings
 pub mod LetterParts
 pub mod OneImage
-pub mod Plans
+pub mod FileChanges
 pub mod StoreReads
 pub mod UserSystems
 pub mod TrackSystems
 pub mod VariablesOver
-pub mod FormulaPlans
+pub mod FormulaLoads
 pub mod FormulaMakes
 pub mod MacroMakes
 pub mod CombineMakes
@@ -58,7 +58,7 @@ pub mod TransduceMakes
 pub mod ListingFaults
 pub mod WordPrinting
 pub mod BaseWords
-pub mod TextPlans
+pub mod TextChanges
 pub mod TableReading
 pub mod ListingMakes
 pub mod Commands

@@ -38,7 +38,7 @@ use Rattle.session_cli.specs.declared.step_options.StepOptions.{StepOptions}
 use Rattle.session_cli.specs.FormulaSteps.{AreMeant}
 use Rattle.session_cli.specs.ListingOutcomes.{Reply, Lines, Verdict, reply_text, after_listing_systems, after_listing_tables, listing_files, listing_systems}
 use Rattle.session_cli.specs.Lines.{shown_steps}
-use Rattle.session_cli.specs.Plans.{Tells}
+use Rattle.session_cli.specs.FileChanges.{Tells}
 use Rattle.session_cli.specs.TableReading.{IsReadable}
 use Rattle.session_cli.specs.TableReads.{AreSystemsUnder}
 use Rattle.session_cli.specs.WordPrinting.{HaveNames, tracks_named}

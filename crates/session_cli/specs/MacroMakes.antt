@@ -16,10 +16,10 @@ use Rattle.definitions.specs.Texts.{Stores}
 use Rattle.session_cli.specs.declared.fault.Grammar.TheVariants as grammars
 use Rattle.session_cli.specs.declared.fault.Fault.{Fault}
 use Rattle.session_cli.specs.declared.fault.Fault.TheVariants as faults
-use Rattle.session_cli.specs.declared.plan.Made.{Made}
+use Rattle.session_cli.specs.declared.file_change.Made.{Made}
 use Rattle.session_cli.specs.declared.step_options.StepOptions.{StepOptions}
 use Rattle.session_cli.specs.FormulaOutcomes.{after_text}
-use Rattle.session_cli.specs.Plans.{Makes}
+use Rattle.session_cli.specs.FileChanges.{Makes}
 
 -- why a text is not expanded by some files
 abbrev pub IsUnexpanded : Files → List ℕ → Fault → Type 0

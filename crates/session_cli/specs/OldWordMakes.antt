@@ -15,9 +15,9 @@ use Rattle.system_files.specs.SystemFiles.{Custom}
 use Rattle.session_cli.specs.declared.fault.Fault.{Fault}
 use Rattle.session_cli.specs.declared.old_word.OldNames.{OldNames}
 use Rattle.session_cli.specs.declared.old_word.OldWord.{OldWord}
-use Rattle.session_cli.specs.declared.plan.Made.{Made}
+use Rattle.session_cli.specs.declared.file_change.Made.{Made}
 use Rattle.session_cli.specs.Checks.{Fails}
-use Rattle.session_cli.specs.FormulaPlans.{AreUnloaded, HasSystems}
+use Rattle.session_cli.specs.FormulaLoads.{AreUnloaded, HasSystems}
 use Rattle.session_cli.specs.FormulaSteps.{AreMeant}
 use Rattle.session_cli.specs.ImageOutcomes.{old_mentions}
 use Rattle.session_cli.specs.Lines.{shown_steps}

@@ -15,14 +15,14 @@ use Rattle.definitions.specs.Trees.{Ledger, custom_of}
 use Rattle.system_files.specs.SystemFiles.{Custom}
 use Rattle.session_cli.specs.declared.base_system.BaseSystem.{BaseSystem}
 use Rattle.session_cli.specs.declared.fault.Fault.{Fault}
-use Rattle.session_cli.specs.declared.plan.Made.{Made}
+use Rattle.session_cli.specs.declared.file_change.Made.{Made}
 use Rattle.session_cli.specs.declared.step_options.StepOptions.{StepOptions}
 use Rattle.session_cli.specs.declared.transduce.ReadTransducer.{ReadTransducer}
 use Rattle.session_cli.specs.BaseWords.{IsBaseOf, IsOverBase}
 use Rattle.session_cli.specs.Checks.{Fails}
 use Rattle.session_cli.specs.OldWordMakes.{AreTablesOfOld, IsMadeOfOld}
 use Rattle.session_cli.specs.OldWordSteps.{old_word_done}
-use Rattle.session_cli.specs.Plans.{Makes}
+use Rattle.session_cli.specs.FileChanges.{Makes}
 use Rattle.session_cli.specs.TransduceOutcomes.{after_transduce_head, after_transduced_systems, after_transduced_table}
 use Rattle.session_cli.specs.TransduceSteps.{DoesTransduce}
 

@@ -13,10 +13,10 @@ ghost use Rattle.session_cli.specs.RunOutcomes.{run_word_text};
 ghost use Rattle.session_cli.specs.SessionLanguage.{session_language};
 ghost use Rattle.session_cli.specs.SoundLanguage.{session_is_sound};
 
+use crate::actions::COMMAND_LIMIT;
 use crate::fault::{Fault, Grammar};
 use crate::lines::send_fault;
 use crate::loading::loaded_text;
-use crate::planning::COMMAND_LIMIT;
 use crate::printed::Printed;
 use crate::run_word::{RunWord, run_word};
 use crate::session::Session;

@@ -15,14 +15,14 @@ ghost use Rattle.session_cli.specs.Checks.{Fails, Pure};
 ghost use Rattle.session_cli.specs.CombineMakes.{IsReadList, IsPossible, HasRelations, MakesAfterListed, MakesAfterListedSystems, MakesWord, automata_in, first_names, listed_systems_of};
 ghost use Rattle.session_cli.specs.CombineOutcomes.{listed_names, listed_mentions, first_plain, PlainAnswers, HaveSystemsOfFirst, ShapeAnswers, IsFirstOver, after_combine_head, combine_checks};
 ghost use Rattle.session_cli.specs.CombineSteps.{ArePartsFrom};
-ghost use Rattle.session_cli.specs.FormulaPlans.{HasSystems};
+ghost use Rattle.session_cli.specs.FormulaLoads.{HasSystems};
 ghost use Rattle.session_cli.specs.FormulaSteps.{AreMeant};
-ghost use Rattle.session_cli.specs.Plans.{Makes, Plans};
+ghost use Rattle.session_cli.specs.FileChanges.{Makes, ChangesFile};
 ghost use Rattle.session_cli.specs.StoreReads.{FromFiles, FromTexts};
 
 use crate::fault::Fault;
+use crate::file_change::{FileChange, Made};
 use crate::kept::Kept;
-use crate::plan::{Made, Plan};
 use crate::printed::Printed;
 use crate::step_options::StepOptions;
 use crate::table_loading::load_mentioned;
@@ -50,20 +50,20 @@ use word_output::word::Word;
 /// automata, their systems, that none is over sets, that all have the systems of the first, its steps, and the length of the
 /// text to store. Each file is read once, also where it is listed more often, and no text is changed. Built-in systems that it
 /// names first are sealed and kept.
-pub(crate) fn plan_combine<T: Store>(
+pub(crate) fn combine_change<T: Store>(
     alloc: Global,
     options: StepOptions,
     text: &[u8],
     kept: &mut Kept,
     store: &mut T,
-) -> Result<Plan, Fault>
+) -> Result<FileChange, Fault>
     requires { length text.now ≤ 65536 }
-    ensures { FromFiles (λ found plan. (ledger : Ledger) → Stores ledger found → Plans (custom_of ledger) (combine_checks options.limit ledger text.now) options.shown plan) (T.view store.old) result (T.view store.new) }
+    ensures { FromFiles (λ found change. (ledger : Ledger) → Stores ledger found → ChangesFile (custom_of ledger) (combine_checks options.limit ledger text.now) options.shown change) (T.view store.old) result (T.view store.new) }
 {
     let head = combine_parts(alloc, text)?;
     let CombineParts { word, automata } = head;
     match combine_made(alloc, options, automata, kept, store) {
-        Ok(made) => Ok(Plan {
+        Ok(made) => Ok(FileChange {
             folder: Folder::Words,
             name: word,
             made,

@@ -18,14 +18,14 @@ ghost use Rattle.session_cli.specs.ConvertMakes.{HasSameLetters, IsConvertible, 
 ghost use Rattle.session_cli.specs.ConvertOutcomes.{IsChange, UnknownBaseAnswers, after_convert_head, convert_checks, is_numbered as is_numbered_name, no_unknown_base, related_base};
 ghost use Rattle.session_cli.specs.ConvertSteps.{IsSealedBase};
 ghost use Rattle.session_cli.specs.OldWordMakes.{AreOldNames, IsLoadedOld};
-ghost use Rattle.session_cli.specs.Plans.{Makes, Plans};
+ghost use Rattle.session_cli.specs.FileChanges.{Makes, ChangesFile};
 ghost use Rattle.session_cli.specs.StoreReads.{FromFiles, FromTexts};
 
 use crate::base_system::{BaseSystem, base_named, base_of};
 use crate::fault::Fault;
+use crate::file_change::{FileChange, Made};
 use crate::kept::Kept;
 use crate::old_word::{OldNames, OldWord, load_old, names_of, word_in, word_made};
-use crate::plan::{Made, Plan};
 use crate::step_options::StepOptions;
 use crate::table_reading::read_tables;
 use crate::word_text::letters_fit;
@@ -52,18 +52,18 @@ use word_output::word::Word;
 /// that the new system is a base and both bases are powers of one integer, its steps, and the length of the text to store. The
 /// file is read once, no file of the new system is read, and no text is changed. Built-in systems that it names first are sealed
 /// and kept.
-pub(crate) fn plan_convert<T: Store>(
+pub(crate) fn convert_change<T: Store>(
     alloc: Global,
     options: StepOptions,
     text: &[u8],
     kept: &mut Kept,
     store: &mut T,
-) -> Result<Plan, Fault>
-    ensures { FromFiles (λ found plan. (ledger : Ledger) → Stores ledger found → Plans (custom_of ledger) (convert_checks options.limit ledger text.now) options.shown plan) (T.view store.old) result (T.view store.new) }
+) -> Result<FileChange, Fault>
+    ensures { FromFiles (λ found file_change. (ledger : Ledger) → Stores ledger found → ChangesFile (custom_of ledger) (convert_checks options.limit ledger text.now) options.shown file_change) (T.view store.old) result (T.view store.new) }
 {
     let head = convert_parts(alloc, text)?;
     match convert_made(alloc, options, &head, kept, store) {
-        Ok(made) => Ok(Plan {
+        Ok(made) => Ok(FileChange {
             folder: Folder::Words,
             name: head.word,
             made,

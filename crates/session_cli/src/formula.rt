@@ -12,16 +12,16 @@ ghost use Rattle.definitions.specs.Texts.{Stores};
 ghost use Rattle.definitions.specs.Trees.{Ledger, custom_of};
 ghost use Rattle.session_cli.specs.FormulaMakes.{IsReadFormula, MakesAfterTables, MakesAfterSystems, systems_of};
 ghost use Rattle.session_cli.specs.FormulaOutcomes.{after_named_head, formula_checks};
-ghost use Rattle.session_cli.specs.FormulaPlans.{LoadsTables, HasSystems};
+ghost use Rattle.session_cli.specs.FormulaLoads.{LoadsTables, HasSystems};
 ghost use Rattle.session_cli.specs.FormulaSteps.{AreMeant};
 ghost use Rattle.session_cli.specs.MacroMakes.{ExpandsTo, MakesOfText};
-ghost use Rattle.session_cli.specs.Plans.{Makes, Plans};
+ghost use Rattle.session_cli.specs.FileChanges.{Makes, ChangesFile};
 ghost use Rattle.session_cli.specs.StoreReads.{FromFiles, FromTexts};
 
 use crate::fault::{Fault, Grammar};
+use crate::file_change::{FileChange, Made};
 use crate::formula_text::formula_text;
 use crate::kept::Kept;
-use crate::plan::{Made, Plan};
 use crate::printed::Printed;
 use crate::step_options::StepOptions;
 use crate::table_loading::load_mentioned;
@@ -54,20 +54,20 @@ pub(crate) struct FormulaCommand<'a> {
 /// What a command of this word stores and prints, or the first of its checks that refuses it: the shape of its head, its calls
 /// of macros, its formula, the files of the automata and words that this names, its systems, its resolution, its steps, and the length of
 /// the text to store. Each file is read once, and no text is changed. Built-in systems that it names first are sealed and kept.
-pub(crate) fn plan_formula<T: Store>(
+pub(crate) fn formula_change<T: Store>(
     alloc: Global,
     command: FormulaCommand<'_>,
     text: &[u8],
     kept: &mut Kept,
     store: &mut T,
-) -> Result<Plan, Fault>
+) -> Result<FileChange, Fault>
     requires { is_name command.word.now ≡ true }
-    ensures { FromFiles (λ found plan. (ledger : Ledger) → Stores ledger found → Plans (custom_of ledger) (formula_checks command.entry.word.now command.entry.folder command.entry.options.limit ledger text.now) command.entry.options.shown plan) (T.view store.old) result (T.view store.new) }
+    ensures { FromFiles (λ found change. (ledger : Ledger) → Stores ledger found → ChangesFile (custom_of ledger) (formula_checks command.entry.word.now command.entry.folder command.entry.options.limit ledger text.now) command.entry.options.shown change) (T.view store.old) result (T.view store.new) }
 {
     match named_parts(alloc, command.word, text) {
         Ok(NamedParts { name, body }) => {
             match formula_made(alloc, command.options, body, kept, store) {
-                Ok(made) => Ok(Plan {
+                Ok(made) => Ok(FileChange {
                     folder: command.folder,
                     name,
                     made,

@@ -3,7 +3,7 @@
 ghost use Rattle.std.specs.Prelude.{◌≡◌, map, IfOk, MatchResult};
 ghost use Rattle.std.specs.Rc.{rc_value};
 ghost use Rattle.definitions.specs.FormulaTexts.{truth_text as text_of_truth};
-ghost use Rattle.session_cli.specs.FormulaPlans.{HaveTracks, IsTextOf, HasNoTextOf, tracks_over};
+ghost use Rattle.session_cli.specs.FormulaLoads.{HaveTracks, IsTextOf, HasNoTextOf, tracks_over};
 
 use crate::fault::Fault;
 use dfa_text::print_within;

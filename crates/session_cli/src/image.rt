@@ -13,18 +13,18 @@ ghost use Rattle.definitions.specs.Texts.{Stores};
 ghost use Rattle.definitions.specs.Trees.{Ledger, custom_of};
 ghost use Rattle.system_files.specs.SystemFiles.{Custom};
 ghost use Rattle.session_cli.specs.Checks.{Fails, Pure};
-ghost use Rattle.session_cli.specs.FormulaPlans.{HasSystems};
+ghost use Rattle.session_cli.specs.FormulaLoads.{HasSystems};
 ghost use Rattle.session_cli.specs.FormulaSteps.{AreMeant};
 ghost use Rattle.session_cli.specs.ImageMakes.{ReadsImage, IsReadImage, IsMappable, HasOldWord, MakesImage, MakesAfterOld, MakesAfterOldSystems, old_systems_of};
 ghost use Rattle.session_cli.specs.ImageOutcomes.{OneTrackAnswers, LengthsAnswers, after_image_head, image_checks, old_mentions};
-ghost use Rattle.session_cli.specs.Plans.{Makes, Plans};
+ghost use Rattle.session_cli.specs.FileChanges.{Makes, ChangesFile};
 ghost use Rattle.session_cli.specs.StoreReads.{FromFiles, FromTexts};
 
 use crate::fault::Fault;
+use crate::file_change::{FileChange, Made};
 use crate::image_fault::ImageFault;
 use crate::imaging::image;
 use crate::kept::Kept;
-use crate::plan::{Made, Plan};
 use crate::printed::Printed;
 use crate::step_options::StepOptions;
 use crate::table_loading::load_mentioned;
@@ -50,18 +50,18 @@ use word_output::word::Word;
 /// morphism, that of the old word, the word's systems, that it has one track, that all images have one length, its steps with
 /// the letters that have no rule, and the length of the text to store. Each file is read once, and no text is changed. Built-in
 /// systems that it names first are sealed and kept.
-pub(crate) fn plan_image<T: Store>(
+pub(crate) fn image_change<T: Store>(
     alloc: Global,
     options: StepOptions,
     text: &[u8],
     kept: &mut Kept,
     store: &mut T,
-) -> Result<Plan, Fault>
-    ensures { FromFiles (λ found plan. (ledger : Ledger) → Stores ledger found → Plans (custom_of ledger) (image_checks options.limit ledger text.now) options.shown plan) (T.view store.old) result (T.view store.new) }
+) -> Result<FileChange, Fault>
+    ensures { FromFiles (λ found change. (ledger : Ledger) → Stores ledger found → ChangesFile (custom_of ledger) (image_checks options.limit ledger text.now) options.shown change) (T.view store.old) result (T.view store.new) }
 {
     let head = image_parts(alloc, b"image", text)?;
     match image_made(alloc, options, &head, kept, store) {
-        Ok(made) => Ok(Plan {
+        Ok(made) => Ok(FileChange {
             folder: Folder::Words,
             name: head.word,
             made,

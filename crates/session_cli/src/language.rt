@@ -10,11 +10,11 @@ ghost use Rattle.definitions.specs.Trees.{Ledger, custom_of};
 ghost use Rattle.language_steps.specs.Operands.{HasCount};
 ghost use Rattle.session_cli.specs.LanguageMakes.{AreAlike, MakesLanguage, RefusesTables};
 ghost use Rattle.session_cli.specs.LanguageOutcomes.{DerivesOperation, after_language_head, language_checks, language_files, language_mentions};
-ghost use Rattle.session_cli.specs.Plans.{Makes, Plans};
+ghost use Rattle.session_cli.specs.FileChanges.{Makes, ChangesFile};
 ghost use Rattle.session_cli.specs.StoreReads.{FromFiles};
 
 use crate::fault::Fault;
-use crate::plan::{Made, Plan};
+use crate::file_change::{FileChange, Made};
 use crate::reg::made_of;
 use crate::step_options::StepOptions;
 use crate::table_loading::load_mentioned;
@@ -34,19 +34,19 @@ use wal_outside::{Folder, Store};
 /// What a language command stores and prints, or the first of its checks that refuses it: the shape of its head, the files of the
 /// automata, that all are over sets, that all have the header of the first, its steps, and the length of the text to store. Each
 /// file is read once, also where it is listed more often, and no text is changed.
-pub(crate) fn plan_language<T: Store>(
+pub(crate) fn language_change<T: Store>(
     alloc: Global,
     options: StepOptions,
     op: LanguageOp,
     text: &[u8],
     store: &mut T,
-) -> Result<Plan, Fault>
-    ensures { FromFiles (λ found plan. (ledger : Ledger) → Stores ledger found → Plans (custom_of ledger) (language_checks op options.limit ledger text.now) options.shown plan) (T.view store.old) result (T.view store.new) }
+) -> Result<FileChange, Fault>
+    ensures { FromFiles (λ found change. (ledger : Ledger) → Stores ledger found → ChangesFile (custom_of ledger) (language_checks op options.limit ledger text.now) options.shown change) (T.view store.old) result (T.view store.new) }
 {
     let head = head_of(alloc, op, text)?;
     let LanguagesParts { name, languages } = head;
     match language_made(alloc, options, op, &languages, store) {
-        Ok(made) => Ok(Plan {
+        Ok(made) => Ok(FileChange {
             folder: Folder::Automata,
             name,
             made,

@@ -10,7 +10,7 @@ mod lines;
 // what a command prints
 mod printed;
 // what an accepted command leaves
-mod plan;
+mod file_change;
 // what a session keeps from one command to the next
 mod kept;
 // the systems of users that a command names
@@ -66,7 +66,7 @@ mod listing;
 // the command `convert`
 mod convert;
 // what a command stores and prints, from its text
-mod planning;
+mod actions;
 // one command
 mod session;
 // the words of commands that load a file or end a run

@@ -8,8 +8,8 @@ ghost use Rattle.session_cli.specs.StoreReads.{FromFiles, FromTexts};
 ghost use Rattle.session_cli.specs.WordPrinting.{HaveNames};
 
 use crate::fault::Fault;
+use crate::file_change::Made;
 use crate::kept::Kept;
-use crate::plan::Made;
 use crate::printed::Printed;
 use crate::table_loading::load_mentioned;
 use crate::user_systems::admitted;

@@ -8,13 +8,13 @@ ghost use Rattle.definitions.specs.Texts.{Stores};
 ghost use Rattle.definitions.specs.Trees.{Ledger, custom_of};
 ghost use Rattle.system_files.specs.SystemFiles.{Custom};
 ghost use Rattle.session_cli.specs.BaseWords.{IsOverBase, PrintsOverBase};
-ghost use Rattle.session_cli.specs.Plans.{Makes, Plans};
+ghost use Rattle.session_cli.specs.FileChanges.{Makes, ChangesFile};
 ghost use Rattle.session_cli.specs.PromoteOutcomes.{after_morphism, promote_checks};
 ghost use Rattle.session_cli.specs.StoreReads.{FromFiles};
 
 use crate::base_system::BaseSystem;
 use crate::fault::Fault;
-use crate::plan::{Made, Plan};
+use crate::file_change::{FileChange, Made};
 use crate::printed::Printed;
 use crate::step_options::StepOptions;
 use crate::word_text::{letters_fit, word_text};
@@ -32,18 +32,18 @@ use word_output::word::Word;
 
 /// What a `promote` stores and prints, or the first of its checks that refuses it: the shape of its head, the file of the
 /// morphism, that the morphism has a fixed point, the step, and the length of the text to store. The file is read from the store.
-pub(crate) fn plan_promote<T: Store>(
+pub(crate) fn promote_change<T: Store>(
     alloc: Global,
     options: StepOptions,
     text: &[u8],
     store: &mut T,
-) -> Result<Plan, Fault>
-    ensures { FromFiles (λ found plan. (ledger : Ledger) → Stores ledger found → Plans (custom_of ledger) (promote_checks options.limit ledger text.now) options.shown plan) (T.view store.old) result (T.view store.new) }
+) -> Result<FileChange, Fault>
+    ensures { FromFiles (λ found change. (ledger : Ledger) → Stores ledger found → ChangesFile (custom_of ledger) (promote_checks options.limit ledger text.now) options.shown change) (T.view store.old) result (T.view store.new) }
 {
     let head = promote_parts(alloc, text)?;
     let morphism = load_morphism(alloc, &head.morphism, store)?;
     let made = fixed_point(alloc, options, &morphism)?;
-    Ok(Plan {
+    Ok(FileChange {
         folder: Folder::Words,
         name: head.word,
         made,

@@ -15,11 +15,11 @@ ghost use Rattle.system_admission.specs.SystemSteps.{no_steps};
 ghost use Rattle.session_cli.specs.StoreReads.{FromTexts};
 ghost use Rattle.session_cli.specs.TrackSystems.{named_in};
 ghost use Rattle.named_systems.specs.TrackSystems.{IsIn};
-ghost use Rattle.session_cli.specs.Plans.{AreFormedAlphabets, Makes, ParsesTo, Plans, Prints};
+ghost use Rattle.session_cli.specs.FileChanges.{AreFormedAlphabets, Makes, ParsesTo, ChangesFile, Prints};
 
 use crate::fault::{Fault, Grammar};
+use crate::file_change::{FileChange, Made};
 use crate::kept::Kept;
-use crate::plan::{Made, Plan};
 use crate::printed::Printed;
 use crate::step_options::StepOptions;
 use crate::track_systems::{languages, tracks};
@@ -52,15 +52,15 @@ struct Quoted<'a> {
 
 /// What a `reg` stores and prints, or the first of its checks that refuses it: the shape of its head, its systems, their
 /// direction, its expression, its steps, and the length of the text to store. Files of users' systems are read from the store.
-pub(crate) fn plan_reg<T: Store>(
+pub(crate) fn reg_change<T: Store>(
     alloc: Global,
     options: StepOptions,
     text: &[u8],
     kept: &mut Kept,
     store: &mut T,
-) -> Result<Plan, Fault>
+) -> Result<FileChange, Fault>
     requires { length text.now ≤ 65536 }
-    ensures { FromTexts (λ custom plan. (ledger : Ledger) → custom_of ledger ≡ custom → Plans (custom_of ledger) (reg_checks options.limit ledger text.now) options.shown plan) (T.view store.old) result (T.view store.new) }
+    ensures { FromTexts (λ custom change. (ledger : Ledger) → custom_of ledger ≡ custom → ChangesFile (custom_of ledger) (reg_checks options.limit ledger text.now) options.shown change) (T.view store.old) result (T.view store.new) }
 {
     match reg_parts(alloc, text) {
         Ok(
@@ -70,7 +70,7 @@ pub(crate) fn plan_reg<T: Store>(
                 body,
             },
         ) => match made_over(alloc, Quoted { body, options }, alphabets, kept, store) {
-            Ok(made) => Ok(Plan {
+            Ok(made) => Ok(FileChange {
                 folder: Folder::Automata,
                 name,
                 made,

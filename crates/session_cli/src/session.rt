@@ -3,13 +3,13 @@ ghost use Rattle.std.specs.Prelude.{◌≡◌, IfSome};
 ghost use Rattle.definitions.specs.Texts.{Stores};
 ghost use Rattle.definitions.specs.Trees.{Ledger};
 ghost use Rattle.session_cli.specs.Views.{SessionView};
-ghost use Rattle.session_cli.specs.declared.plan.Action.TheVariants.{Write};
-ghost use Rattle.session_cli.specs.Commands.{Commands, DoesAction, WritesPlan};
+ghost use Rattle.session_cli.specs.declared.file_change.Action.TheVariants.{Write};
+ghost use Rattle.session_cli.specs.Commands.{Commands, DoesAction, WritesChange};
 
+use crate::actions::action_of;
 use crate::fault::Fault;
+use crate::file_change::{Action, FileChange};
 use crate::kept::Kept;
-use crate::plan::{Action, Plan};
-use crate::planning::action_of;
 use crate::printed::Printed;
 use crate::step_options::StepOptions;
 use digit_tuple::name::Name;
@@ -41,8 +41,8 @@ impl Session {
         }
     }
 
-    /// How many kept results were used so far: systems of users that were admitted once, where a later command reads the same files. The
-    /// count stays at its type's greatest value. It takes no memory.
+    /// How many kept results were used so far: users' systems that an earlier command admitted, and relations and words that it made
+    /// of files, where a later command reads the same. The count stays at its type's greatest value. It takes no memory.
     pub fn reused(&self) -> u64 {
         self.kept.reused()
     }
@@ -84,19 +84,19 @@ fn done<T: Store>(action: Action, store: &mut T) -> Result<Printed, Fault>
     ensures { DoesAction (T.view store.old) action result (T.view store.new) }
 {
     match action {
-        Action::Write(plan) => written(plan, store),
+        Action::Write(change) => written(change, store),
         Action::Print(printed) => Ok(printed),
     }
 }
 
-/// Stores the text of a plan, and gives what is printed.
+/// Stores the text of a change, and gives what is printed.
 ///
 /// # Errors
 /// As `write_text`.
-fn written<T: Store>(plan: Plan, store: &mut T) -> Result<Printed, Fault>
-    ensures { DoesAction (T.view store.old) (Write plan) result (T.view store.new) }
+fn written<T: Store>(change: FileChange, store: &mut T) -> Result<Printed, Fault>
+    ensures { DoesAction (T.view store.old) (Write change) result (T.view store.new) }
 {
-    let Plan { folder, name, made } = plan;
+    let FileChange { folder, name, made } = change;
     write_text(folder, name, &made.stored, store)?;
     Ok(made.printed)
 }
@@ -106,7 +106,7 @@ fn written<T: Store>(plan: Plan, store: &mut T) -> Result<Printed, Fault>
 /// # Errors
 /// `Store` where the store failed, and `Memory` where it had none; the store's texts are as before.
 fn write_text<T: Store>(folder: Folder, name: Name, text: &[u8], store: &mut T) -> Result<(), Fault>
-    ensures { WritesPlan (T.view store.old) (folder, name) text.now result (T.view store.new) }
+    ensures { WritesChange (T.view store.old) (folder, name) text.now result (T.view store.new) }
 {
     match store.write(folder, name.as_str(), text) {
         Ok(()) => Ok(()),

@@ -1,7 +1,7 @@
 //! The tables of files that a command mentions.
 
 ghost use Rattle.formula_resolve.specs.FirstMentions.{first_files as first_files_of};
-ghost use Rattle.session_cli.specs.FormulaPlans.{LoadsTables};
+ghost use Rattle.session_cli.specs.FormulaLoads.{LoadsTables};
 ghost use Rattle.session_cli.specs.StoreReads.{FromFiles};
 
 use crate::fault::Fault;

@@ -3,12 +3,12 @@
 ghost use Rattle.std.specs.Prelude.{ℕ, Bool, List};
 ghost use Rattle.definitions.specs.Trees.{Ledger, custom_of};
 ghost use Rattle.system_files.specs.SystemFiles.{Custom};
-ghost use Rattle.session_cli.specs.Plans.{Makes, Plans};
+ghost use Rattle.session_cli.specs.FileChanges.{Makes, ChangesFile};
 ghost use Rattle.session_cli.specs.TextOutcomes.{after_rules_head, macro_checks, morphism_checks};
-ghost use Rattle.session_cli.specs.TextPlans.{StoresText};
+ghost use Rattle.session_cli.specs.TextChanges.{StoresText};
 
 use crate::fault::Fault;
-use crate::plan::{Made, Plan};
+use crate::file_change::{FileChange, Made};
 use crate::printed::Printed;
 use command_head::{NamedParts, named_parts};
 use morph_words::Morphism;
@@ -17,12 +17,12 @@ use wal_outside::{Folder, TEXT_LIMIT};
 
 /// What a `macro` stores, or the first of its checks that refuses it: the shape of its head, and the length of the text to store.
 /// It makes no step.
-pub(crate) fn plan_macro(alloc: Global, text: &[u8]) -> Result<Plan, Fault>
-    ensures { (ledger : Ledger) (shown : Bool) → Plans (custom_of ledger) (macro_checks ledger text.now) shown result }
+pub(crate) fn macro_change(alloc: Global, text: &[u8]) -> Result<FileChange, Fault>
+    ensures { (ledger : Ledger) (shown : Bool) → ChangesFile (custom_of ledger) (macro_checks ledger text.now) shown result }
 {
     match named_parts(alloc, b"macro", text) {
         Ok(NamedParts { name, body }) => match text_made(alloc, body) {
-            Ok(made) => Ok(Plan {
+            Ok(made) => Ok(FileChange {
                 folder: Folder::Macros,
                 name,
                 made,
@@ -35,12 +35,12 @@ pub(crate) fn plan_macro(alloc: Global, text: &[u8]) -> Result<Plan, Fault>
 
 /// What a `morphism` stores, or the first of its checks that refuses it: the shape of its head, its rules, and the length of the
 /// text to store. It makes no step.
-pub(crate) fn plan_morphism(alloc: Global, text: &[u8]) -> Result<Plan, Fault>
-    ensures { (ledger : Ledger) (shown : Bool) → Plans (custom_of ledger) (morphism_checks ledger text.now) shown result }
+pub(crate) fn morphism_change(alloc: Global, text: &[u8]) -> Result<FileChange, Fault>
+    ensures { (ledger : Ledger) (shown : Bool) → ChangesFile (custom_of ledger) (morphism_checks ledger text.now) shown result }
 {
     match named_parts(alloc, b"morphism", text) {
         Ok(NamedParts { name, body }) => match rules_made(alloc, body) {
-            Ok(made) => Ok(Plan {
+            Ok(made) => Ok(FileChange {
                 folder: Folder::Morphisms,
                 name,
                 made,

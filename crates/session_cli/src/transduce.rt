@@ -5,16 +5,16 @@ ghost use Rattle.definitions.specs.Texts.{Stores};
 ghost use Rattle.definitions.specs.Trees.{Ledger, custom_of};
 ghost use Rattle.system_files.specs.SystemFiles.{Custom};
 ghost use Rattle.session_cli.specs.OldWordMakes.{AreOldNames, IsLoadedOld};
-ghost use Rattle.session_cli.specs.Plans.{Makes, Plans};
+ghost use Rattle.session_cli.specs.FileChanges.{Makes, ChangesFile};
 ghost use Rattle.session_cli.specs.StoreReads.{FromFiles, FromTexts};
 ghost use Rattle.session_cli.specs.TransduceMakes.{HasMsdBase, MakesAfterSystems, MakesAfterTable, MakesTransduced, ReadsTransducer};
 ghost use Rattle.session_cli.specs.TransduceOutcomes.{after_transduce_head, transduce_checks};
 
 use crate::base_system::base_of;
 use crate::fault::Fault;
+use crate::file_change::{FileChange, Made};
 use crate::kept::Kept;
 use crate::old_word::{OldNames, OldWord, load_old, names_of, word_in, word_made};
-use crate::plan::{Made, Plan};
 use crate::step_options::StepOptions;
 use crate::table_reading::read_tables;
 use crate::transducing::transduced;
@@ -34,18 +34,18 @@ use word_output::word::Word;
 /// transducer, that of the old word, the word's systems, that it has one track, over a base whose most significant digit comes
 /// first, its steps, and the length of the text to store. Each file is read once, and no text is changed. Built-in systems that
 /// it names first are sealed and kept.
-pub(crate) fn plan_transduce<T: Store>(
+pub(crate) fn transduce_change<T: Store>(
     alloc: Global,
     options: StepOptions,
     text: &[u8],
     kept: &mut Kept,
     store: &mut T,
-) -> Result<Plan, Fault>
-    ensures { FromFiles (λ found plan. (ledger : Ledger) → Stores ledger found → Plans (custom_of ledger) (transduce_checks options.limit ledger text.now) options.shown plan) (T.view store.old) result (T.view store.new) }
+) -> Result<FileChange, Fault>
+    ensures { FromFiles (λ found change. (ledger : Ledger) → Stores ledger found → ChangesFile (custom_of ledger) (transduce_checks options.limit ledger text.now) options.shown change) (T.view store.old) result (T.view store.new) }
 {
     let head = image_parts(alloc, b"transduce", text)?;
     match transduce_made(alloc, options, &head, kept, store) {
-        Ok(made) => Ok(Plan {
+        Ok(made) => Ok(FileChange {
             folder: Folder::Words,
             name: head.word,
             made,

@@ -6,7 +6,7 @@ use Rattle.formula_resolve.specs.FirstMentions.{first_files}
 use Rattle.formula_resolve.specs.declared.file.File.{File}
 use Rattle.session_cli.specs.CombineMakes.{automata_in}
 use Rattle.session_cli.specs.CombineOutcomes.{listed_files, listed_mentions}
-use Rattle.session_cli.specs.FormulaPlans.{AreUnloaded}
+use Rattle.session_cli.specs.FormulaLoads.{AreUnloaded}
 use Rattle.session_cli.proofs.CombineChains.{list_unloaded, list_loaded}
 use Rattle.session_cli.proofs.FilesElsewhere.{listed_elsewhere}
 use Rattle.session_cli.proofs.LoadedFiles.{unloaded}

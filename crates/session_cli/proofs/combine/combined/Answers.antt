@@ -8,7 +8,7 @@ use Rattle.definitions.specs.Trees.{custom_of}
 use Rattle.session_cli.specs.Checks.{Fails, Pure}
 use Rattle.session_cli.specs.CombineMakes.{AreStepsOver, automata_in, automata_of, first_names, head_of, listed_systems_of}
 use Rattle.session_cli.specs.CombineOutcomes.{PlainAnswers, ShapeAnswers, HaveSystemsOfFirst, first_plain, listed_names}
-use Rattle.session_cli.specs.FormulaPlans.{HasSystems}
+use Rattle.session_cli.specs.FormulaLoads.{HasSystems}
 use Rattle.session_cli.specs.FormulaSteps.{AreMeant}
 use Rattle.session_cli.specs.WordPrinting.{HaveNames, IsWordTextOf, HasNoWordText}
 use Rattle.session_cli.proofs.CombineChains.{list_plain, list_unlike, list_stopped, list_combined}

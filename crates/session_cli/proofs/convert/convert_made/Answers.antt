@@ -6,7 +6,7 @@ use Rattle.definitions.proofs.CustomTexts.{stored_custom}
 use Rattle.definitions.specs.Trees.{custom_of}
 use Rattle.session_cli.specs.ConvertOutcomes.{after_convert_table}
 use Rattle.session_cli.specs.ImageOutcomes.{old_mentions}
-use Rattle.session_cli.specs.Plans.{Makes}
+use Rattle.session_cli.specs.FileChanges.{Makes}
 use Rattle.session_cli.proofs.ConvertChains.{convert_read_made, convert_unloaded}
 use Rattle.session_cli.proofs.FilesElsewhere.{listed_elsewhere}
 use Rattle.session_cli.proofs.LoadedFiles.{unloaded}

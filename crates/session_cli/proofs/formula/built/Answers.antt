@@ -12,7 +12,7 @@ use Rattle.definitions.specs.Trees.{custom_of}
 use Rattle.session_cli.specs.FormulaFaults.{fault_of_resolution}
 use Rattle.session_cli.specs.FormulaMakes.{tree_of}
 use Rattle.session_cli.specs.FormulaOutcomes.{bindings_now}
-use Rattle.session_cli.specs.FormulaPlans.{HaveTracks, IsTextOf, HasNoTextOf}
+use Rattle.session_cli.specs.FormulaLoads.{HaveTracks, IsTextOf, HasNoTextOf}
 use Rattle.session_cli.specs.FormulaSteps.{AreMeant}
 use Rattle.session_cli.specs.Lines.{verdict_line}
 use Rattle.session_cli.specs.TableReading.{AreReadable}
@@ -22,7 +22,7 @@ use Rattle.session_cli.specs.VariablesOver.{variables_over}
 use Rattle.session_cli.proofs.CheckNames.{AreVariables}
 use Rattle.session_cli.proofs.FormulaChains.{systems_unresolved, resolved_unbuilt, steps_made}
 use Rattle.session_cli.proofs.FormulaGround.{ground_directions, ground_readable, ground_fits, ground_known, ground_means}
-use Rattle.session_cli.proofs.FormulaPlanning.{text_made, text_refused, verdict_is}
+use Rattle.session_cli.proofs.FormulaWrites.{text_made, text_refused, verdict_is}
 use Rattle.session_cli.proofs.FormulaReady.{stopped_here, set_up, fits_here, known_here, solution_here, tracks_here, variables_here, steps_here, resolves_here}
 use Rattle.session_cli.proofs.FormulaRefusals.{unresolved, unbuilt, unread}
 use Rattle.session_cli.proofs.FormulaSolutions.{are_variables, as_many, over_digits}

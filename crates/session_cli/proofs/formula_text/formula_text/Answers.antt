@@ -1,7 +1,7 @@
 use Rattle.std.proofs.Common.{◌≡◌, sym, ap, ◌∙◌}
 use Rattle.digit_tuple.specs.Sets.{sizes_of}
 use Rattle.digit_tuple.specs.Systems.{digit_sets}
-use Rattle.session_cli.specs.FormulaPlans.{tracks_over}
+use Rattle.session_cli.specs.FormulaLoads.{tracks_over}
 use Rattle.session_cli.proofs.TrackLists.{sizes_over}
 use Rattle.session_cli.proofs.formula_text.formula_text.Goals as goal
 

@@ -4,7 +4,7 @@ use Rattle.std.proofs.lemmas.List.{length-map, get_or-map}
 use Rattle.digit_tuple.specs.Systems.{IsDigitCount}
 use Rattle.digit_tuple.specs.declared.systems.SystemTrack.{SystemTrack}
 use Rattle.num_system.specs.Sealed.{SystemValue}
-use Rattle.session_cli.specs.FormulaPlans.{tracks_over}
+use Rattle.session_cli.specs.FormulaLoads.{tracks_over}
 use Rattle.session_cli.proofs.TrackLists.{tracks_more, digits_at}
 use Rattle.session_cli.proofs.formula_text.tracks_of.Goals as goal
 

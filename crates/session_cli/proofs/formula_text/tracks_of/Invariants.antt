@@ -1,6 +1,6 @@
 use Rattle.std.proofs.Common.{◌≡◌, map, take}
 use Rattle.std.specs.Rc.{rc_value}
-use Rattle.session_cli.specs.FormulaPlans.{tracks_over}
+use Rattle.session_cli.specs.FormulaLoads.{tracks_over}
 use Rattle.session_cli.proofs.formula_text.tracks_of.Given as goal
 
 abbrev pub invariant-loop-place : goal.invariant-loop-place

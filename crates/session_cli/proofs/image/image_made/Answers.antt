@@ -3,7 +3,7 @@ use Rattle.command_head.specs.HeadViews.{image_view}
 use Rattle.formula_resolve.specs.FirstMentions.{first_files}
 use Rattle.session_cli.specs.ImageOutcomes.{old_mentions}
 use Rattle.session_cli.proofs.FilesElsewhere.{listed_elsewhere}
-use Rattle.session_cli.proofs.ImagePlanning.{image_read_made}
+use Rattle.session_cli.proofs.ImageWrites.{image_read_made}
 use Rattle.session_cli.proofs.StoreReads.{from_refused}
 use Rattle.session_cli.proofs.TextReads.{then_texts}
 use Rattle.session_cli.proofs.image.image_made.Goals as goal

@@ -10,7 +10,7 @@ use Rattle.session_cli.specs.ImageMakes.{head_of, old_tracks_of}
 use Rattle.session_cli.specs.ImageOutcomes.{OneTrackAnswers}
 use Rattle.session_cli.specs.WordPrinting.{HaveNames, IsWordTextOf, HasNoWordText}
 use Rattle.session_cli.proofs.ImageChains.{tracks_refused, lengths_refused}
-use Rattle.session_cli.proofs.ImagePlanning.{image_kept, image_unkept, image_unmade}
+use Rattle.session_cli.proofs.ImageWrites.{image_kept, image_unkept, image_unmade}
 use Rattle.session_cli.proofs.ImageTexts.{image_names}
 use Rattle.session_cli.proofs.image.mapped.Goals as goal
 

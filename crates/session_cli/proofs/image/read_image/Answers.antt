@@ -5,7 +5,7 @@ use Rattle.dfa_loading.specs.Loading.{AreListedBy}
 use Rattle.formula_resolve.specs.FirstMentions.{first_files}
 use Rattle.formula_resolve.specs.declared.file.File.{File}
 use Rattle.session_cli.specs.FormulaFaults.{fault_of_loading}
-use Rattle.session_cli.specs.FormulaPlans.{AreUnloaded}
+use Rattle.session_cli.specs.FormulaLoads.{AreUnloaded}
 use Rattle.session_cli.specs.ImageOutcomes.{old_mentions}
 use Rattle.session_cli.proofs.ImageChains.{morphism_unloaded, old_unloaded}
 use Rattle.session_cli.proofs.ImageReads.{from_no_morphism, then_tables}

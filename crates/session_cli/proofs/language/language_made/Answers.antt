@@ -5,7 +5,7 @@ use Rattle.dfa_loading.specs.Loading.{AreListedBy}
 use Rattle.dfa_loading.specs.declared.loaded.Loaded.{Loaded}
 use Rattle.formula_resolve.specs.FirstMentions.{first_files}
 use Rattle.formula_resolve.specs.declared.file.File.{File}
-use Rattle.session_cli.specs.FormulaPlans.{AreUnloaded}
+use Rattle.session_cli.specs.FormulaLoads.{AreUnloaded}
 use Rattle.session_cli.specs.LanguageMakes.{MakesLanguage}
 use Rattle.session_cli.specs.LanguageOutcomes.{language_files}
 use Rattle.session_cli.proofs.LanguageChains.{language_loaded, language_own, language_unloaded}

@@ -5,7 +5,7 @@ use Rattle.dfa_loading.specs.Loading.{AreListedBy}
 use Rattle.formula_resolve.specs.FirstMentions.{first_files}
 use Rattle.formula_resolve.specs.declared.file.File.{File}
 use Rattle.definitions.proofs.CustomTexts.{stored_custom}
-use Rattle.session_cli.specs.FormulaPlans.{AreUnloaded}
+use Rattle.session_cli.specs.FormulaLoads.{AreUnloaded}
 use Rattle.session_cli.specs.ListingOutcomes.{listing_files}
 use Rattle.session_cli.proofs.FilesElsewhere.{listed_elsewhere}
 use Rattle.session_cli.proofs.ListingChains.{listing_loaded, listing_unloaded}

@@ -7,7 +7,7 @@ use Rattle.dfa_loading.specs.declared.loaded.Loaded.{Loaded}
 use Rattle.named_systems.specs.NamedSystems.{NamedSystem, AreSealed}
 use Rattle.table_listings.specs.declared.question.Answer.{Answer}
 use Rattle.system_files.specs.SystemFiles.{Custom}
-use Rattle.session_cli.specs.FormulaPlans.{HasSystems}
+use Rattle.session_cli.specs.FormulaLoads.{HasSystems}
 use Rattle.session_cli.specs.FormulaSteps.{AreMeant}
 use Rattle.session_cli.specs.ListingFaults.{fault_of_listing}
 use Rattle.session_cli.specs.ListingMakes.{AnswersBelow, CanBeListed, TellsAfterSystems, answer_text}

@@ -3,7 +3,7 @@ use Rattle.std.proofs.lemmas.Result.{err_from_is_err_and}
 use Rattle.dfa_loading.specs.Loading.{AreListedBy}
 use Rattle.formula_resolve.specs.FirstMentions.{first_files}
 use Rattle.formula_resolve.specs.declared.file.File.{File}
-use Rattle.session_cli.specs.FormulaPlans.{AreUnloaded}
+use Rattle.session_cli.specs.FormulaLoads.{AreUnloaded}
 use Rattle.session_cli.specs.ImageOutcomes.{old_mentions}
 use Rattle.session_cli.proofs.StoreReads.{from_none, from_read, from_refused}
 use Rattle.session_cli.proofs.old_word.load_old.Goals as goal

@@ -3,7 +3,7 @@ use Rattle.command_head.specs.Heads as heads
 use Rattle.command_head.specs.HeadViews.{alphabets_of}
 use Rattle.command_head.specs.declared.head.Alphabets.{Alphabets}
 use Rattle.definitions.specs.Tracks.{OverSets}
-use Rattle.session_cli.specs.Plans.{Makes}
+use Rattle.session_cli.specs.FileChanges.{Makes}
 use Rattle.session_cli.specs.RegOutcomes.{after_head, after_tracks}
 use Rattle.system_admission.specs.SystemSteps.{no_steps}
 use Rattle.session_cli.proofs.ReadingChecks.{no_track_read}

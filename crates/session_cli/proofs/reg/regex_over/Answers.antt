@@ -1,6 +1,6 @@
 use Rattle.std.proofs.lemmas.Result.{err_from_is_err_and}
 use Rattle.system_admission.specs.SystemSteps.{no_steps}
-use Rattle.session_cli.proofs.RegexPlans.{made_over_sets, refused_over_sets}
+use Rattle.session_cli.proofs.RegexWrites.{made_over_sets, refused_over_sets}
 use Rattle.session_cli.proofs.reg.regex_over.Goals as goal
 
 pub returns-in_err-automaton : goal.returns-in_err-automaton

@@ -4,7 +4,7 @@ use Rattle.std.proofs.lemmas.Result.{err_from_is_err_and}
 use Rattle.digit_tuple.specs.Sets.{sizes_of}
 use Rattle.product_op.specs.Validity.{AreLanguages}
 use Rattle.session_cli.specs.TrackSystems.{named_in}
-use Rattle.session_cli.proofs.RegexPlans.{made_over_systems, refused_over_systems, languages_fit}
+use Rattle.session_cli.proofs.RegexWrites.{made_over_systems, refused_over_systems, languages_fit}
 use Rattle.session_cli.proofs.TrackSystemSteps.{some_named}
 use Rattle.session_cli.proofs.reg.regex_over_systems.Goals as goal
 

@@ -10,7 +10,7 @@ use Rattle.session_cli.specs.OldWordMakes.{AreOldNames, Keeps}
 use Rattle.session_cli.specs.TransduceMakes.{HasMsdBase, head_of}
 use Rattle.session_cli.specs.WordPrinting.{HaveNames}
 use Rattle.session_cli.proofs.TransduceChains.{base_refused}
-use Rattle.session_cli.proofs.TransducePlanning.{transduced_kept, transduced_unmade}
+use Rattle.session_cli.proofs.TransduceWrites.{transduced_kept, transduced_unmade}
 use Rattle.session_cli.proofs.TransduceTexts.{transduced_names}
 use Rattle.session_cli.proofs.transduce.made_over.Goals as goal
 

@@ -4,7 +4,7 @@ use Rattle.definitions.specs.Texts.{Stores}
 use Rattle.definitions.specs.Trees.{Ledger, custom_of}
 use Rattle.session_cli.specs.Checks.{Fails}
 use Rattle.session_cli.specs.Outcomes.{checks_of}
-use Rattle.session_cli.specs.Plans.{IsAction}
+use Rattle.session_cli.specs.FileChanges.{IsAction}
 use Rattle.session_cli.proofs.CommandSteps.{answering, refused_command, done_command, undone_command}
 use Rattle.session_cli.proofs.session.Session.command.Goals as goal
 

@@ -22,15 +22,15 @@ use Rattle.definitions.specs.Trees.{Image, Ledger, custom_of, tree_of}
 use Rattle.system_files.specs.SystemFiles.{Custom}
 use Rattle.session_cli.specs.declared.fault.Fault.{Fault}
 use Rattle.session_cli.specs.declared.image.ReadImage.{ReadImage}
-use Rattle.session_cli.specs.declared.plan.Made.{Made}
+use Rattle.session_cli.specs.declared.file_change.Made.{Made}
 use Rattle.session_cli.specs.declared.step_options.StepOptions.{StepOptions}
 use Rattle.session_cli.specs.Checks.{Pure, Fails}
-use Rattle.session_cli.specs.FormulaPlans.{HasSystems}
+use Rattle.session_cli.specs.FormulaLoads.{HasSystems}
 use Rattle.session_cli.specs.FormulaSteps.{AreMeant}
 use Rattle.session_cli.specs.ImageMakes.{AreTablesOf, IsImaged, IsReadBy, MakesAfterOld, head_of, old_system_of, old_systems_of, old_tracks_of}
 use Rattle.session_cli.specs.ImageOutcomes.{WordTrack, ImagedAnswers, old_mentions, after_image_head, after_old_systems, after_old_table}
 use Rattle.session_cli.specs.Lines.{shown_steps}
-use Rattle.session_cli.specs.Plans.{Makes}
+use Rattle.session_cli.specs.FileChanges.{Makes}
 use Rattle.session_cli.specs.WordPrinting.{IsWordTextOf, HasNoWordText, named_text}
 use Rattle.session_cli.proofs.CheckNames.{TrackAnswers}
 use Rattle.session_cli.proofs.ImageChains.{image_loaded, image_tracked, image_stopped, image_done}

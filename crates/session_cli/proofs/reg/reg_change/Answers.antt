@@ -2,17 +2,17 @@ use Rattle.std.proofs.Common.{Ok, refl, sym, subst}
 use Rattle.command_head.specs.HeadViews.{head_view}
 use Rattle.system_files.specs.SystemFiles.{Custom}
 use Rattle.session_cli.specs.Checks.{Fails}
-use Rattle.session_cli.specs.Plans.{Makes}
+use Rattle.session_cli.specs.FileChanges.{Makes}
 use Rattle.session_cli.specs.RegOutcomes.{after_head}
-use Rattle.session_cli.proofs.RegSteps.{head_syntax, head_number, reg_planned, reg_failed}
+use Rattle.session_cli.proofs.RegSteps.{head_syntax, head_number, reg_changed, reg_failed}
 use Rattle.session_cli.proofs.TextReads.{texts_none, texts_read, texts_refused}
-use Rattle.session_cli.proofs.reg.plan_reg.Goals as goal
+use Rattle.session_cli.proofs.reg.reg_change.Goals as goal
 
 pub returns-in-Ok-made_over : goal.returns-in-Ok-made_over
 returns-in-Ok-made_over g c =
     let head = head_view c.in-Ok.field-0 in
     texts_read _ _ _ _ _ _ tt c.in-Ok-made_over.ensures
-    (λ custom makes ledger same. reg_planned c.args.options.limit ledger c.args.text.now c.args.options.shown head _ c.in-Ok.ensures.read refl refl
+    (λ custom makes ledger same. reg_changed c.args.options.limit ledger c.args.text.now c.args.options.shown head _ c.in-Ok.ensures.read refl refl
     (subst (λ (k : Custom). Makes k (after_head c.args.options.limit k head) c.args.options.shown (Ok c.in-Ok-made_over.made)) (sym same) (makes c.in-Ok.field-0.name)))
 
 pub returns-in-Err : goal.returns-in-Err

@@ -10,10 +10,10 @@ use Rattle.regex_build.specs.Patterns.{Pattern}
 use Rattle.regex_build.specs.Parsing.{Parses}
 use Rattle.session_cli.specs.declared.fault.Fault.{Fault}
 use Rattle.session_cli.specs.declared.fault.Fault.TheVariants as faults
-use Rattle.session_cli.specs.declared.plan.Action.{Action}
-use Rattle.session_cli.specs.declared.plan.Action.TheVariants as actions
-use Rattle.session_cli.specs.declared.plan.Made.{Made}
-use Rattle.session_cli.specs.declared.plan.Plan.{Plan}
+use Rattle.session_cli.specs.declared.file_change.Action.{Action}
+use Rattle.session_cli.specs.declared.file_change.Action.TheVariants as actions
+use Rattle.session_cli.specs.declared.file_change.Made.{Made}
+use Rattle.session_cli.specs.declared.file_change.FileChange.{FileChange}
 use Rattle.session_cli.specs.Checks.{Check, Pure, Fails}
 use Rattle.session_cli.specs.Lines.{shown_steps, success_text, said_text}
 use Rattle.definitions.specs.Texts.{HasText}
@@ -33,26 +33,26 @@ abbrev pub Makes : Custom → Check Success → Bool → Result Made Fault → T
 Makes custom checks shown result = MatchResult result (IsMade custom checks shown) (Fails checks)
 
 -- and is under the name of the accepted command
-pub record IsPlan (custom : Custom) (checks : Check Success) (shown : Bool) (plan : Plan) : Type 0 where
-  pub made : IsMade custom checks shown plan.made
-  pub folder_is : plan.folder ≡ made.success.folder
-  pub name_is : plan.name ≡ made.success.name
+pub record IsFileChange (custom : Custom) (checks : Check Success) (shown : Bool) (change : FileChange) : Type 0 where
+  pub made : IsMade custom checks shown change.made
+  pub folder_is : change.folder ≡ made.success.folder
+  pub name_is : change.name ≡ made.success.name
 
-abbrev pub Plans : Custom → Check Success → Bool → Result Plan Fault → Type 0
-Plans custom checks shown result = MatchResult result (IsPlan custom checks shown) (Fails checks)
+abbrev pub ChangesFile : Custom → Check Success → Bool → Result FileChange Fault → Type 0
+ChangesFile custom checks shown result = MatchResult result (IsFileChange custom checks shown) (Fails checks)
 
--- the plan is that of what a command stores
-pub record IsPlanOf (custom : Custom) (success : Success) (shown : Bool) (plan : Plan) : Type 0 where
-  pub has_text : HasText custom success.entry plan.made.stored.items
-  pub printed_is : plan.made.printed ≡ success_text shown success
-  pub folder_is : plan.folder ≡ success.folder
-  pub name_is : plan.name ≡ success.name
+-- the change is that of what a command stores
+pub record IsFileChangeOf (custom : Custom) (success : Success) (shown : Bool) (change : FileChange) : Type 0 where
+  pub has_text : HasText custom success.entry change.made.stored.items
+  pub printed_is : change.made.printed ≡ success_text shown success
+  pub folder_is : change.folder ≡ success.folder
+  pub name_is : change.name ≡ success.name
 
 -- the action is that of an accepted command: to write what it stores, or to print what it says
 abbrev pub IsActionOf : Custom → Accepted → Bool → Action → Type 0
-IsActionOf custom (Storing success) shown (actions.Write plan) = IsPlanOf custom success shown plan
+IsActionOf custom (Storing success) shown (actions.Write change) = IsFileChangeOf custom success shown change
 IsActionOf custom (Storing success) shown (actions.Print printed) = ⊥
-IsActionOf custom (Saying said) shown (actions.Write plan) = ⊥
+IsActionOf custom (Saying said) shown (actions.Write change) = ⊥
 IsActionOf custom (Saying said) shown (actions.Print printed) = printed ≡ said_text shown said
 
 -- and the checks accept the command
@@ -70,8 +70,8 @@ abbrev pub Tells : Check Said → Bool → Result (List ℕ) Fault → Type 0
 Tells checks shown result = MatchResult result (λ printed. (said : Said) × checks.answers (Ok said) × (printed ≡ said_text shown said)) (Fails checks)
 
 -- the action of a command that stores
-abbrev pub writing : Result Plan Fault → Result Action Fault
-writing (Ok plan) = Ok (actions.Write plan)
+abbrev pub writing : Result FileChange Fault → Result Action Fault
+writing (Ok change) = Ok (actions.Write change)
 writing (Err fault) = Err fault
 
 -- and of one that says something

@@ -1,10 +1,10 @@
 use Rattle.std.proofs.Common.{refl}
 use Rattle.std.proofs.lemmas.Result.{err_from_is_err_and}
 use Rattle.command_head.specs.HeadViews.{image_view}
-use Rattle.session_cli.proofs.TransduceChains.{transduce_broken, transduce_planned, transduce_failed}
+use Rattle.session_cli.proofs.TransduceChains.{transduce_broken, transduce_changed, transduce_failed}
 use Rattle.session_cli.proofs.StoreReads.{from_none, from_refused, from_read}
 use Rattle.session_cli.proofs.HeadSteps.{own_head}
-use Rattle.session_cli.proofs.transduce.plan_transduce.Goals as goal
+use Rattle.session_cli.proofs.transduce.transduce_change.Goals as goal
 
 pub returns-in_err-head : goal.returns-in_err-head
 returns-in_err-head g c =
@@ -15,7 +15,7 @@ returns-in_err-head g c =
 pub returns-in-Ok : goal.returns-in-Ok
 returns-in-Ok g c =
     from_read _ _ _ _ _ _ tt c.in-Ok.ensures
-    (λ found makes ledger stores. transduce_planned c.args.options.limit ledger c.args.text.now c.args.options.shown (image_view c.in_ok-head.head) _ c.in_ok-head.ensures refl refl (makes ledger stores))
+    (λ found makes ledger stores. transduce_changed c.args.options.limit ledger c.args.text.now c.args.options.shown (image_view c.in_ok-head.head) _ c.in_ok-head.ensures refl refl (makes ledger stores))
 
 pub returns-in-Err : goal.returns-in-Err
 returns-in-Err g c =

@@ -1,6 +1,6 @@
 //! What an accepted command leaves.
 ghost use Rattle.std.specs.Prelude.{◌≡◌};
-ghost use Rattle.session_cli.specs.Plans.{printing as printing_of, writing as writing_of};
+ghost use Rattle.session_cli.specs.FileChanges.{printing as printing_of, writing as writing_of};
 
 use crate::fault::Fault;
 use crate::printed::Printed;
@@ -18,7 +18,7 @@ pub(crate) struct Made {
 
 /// The file that a command writes, and what it makes.
 #[derive(Drop)]
-pub(crate) struct Plan {
+pub(crate) struct FileChange {
     /// The folder of the file.
     pub(crate) folder: Folder,
     /// Its name.
@@ -31,7 +31,7 @@ pub(crate) struct Plan {
 #[derive(Drop)]
 pub(crate) enum Action {
     /// A file is written, and something is printed.
-    Write(Plan),
+    Write(FileChange),
     /// This is printed, and no file is changed.
     Print(Printed),
 }
@@ -53,11 +53,11 @@ pub(crate) fn printing(said: Result<Printed, Fault>) -> Result<Action, Fault>
 ///
 /// # Errors
 /// Its fault.
-pub(crate) fn writing(plan: Result<Plan, Fault>) -> Result<Action, Fault>
-    ensures { result ≡ writing_of plan }
+pub(crate) fn writing(change: Result<FileChange, Fault>) -> Result<Action, Fault>
+    ensures { result ≡ writing_of change }
 {
-    match plan {
-        Ok(plan) => Ok(Action::Write(plan)),
+    match change {
+        Ok(change) => Ok(Action::Write(change)),
         Err(fault) => Err(fault),
     }
 }

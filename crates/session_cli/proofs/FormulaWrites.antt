@@ -12,7 +12,7 @@ use Rattle.formula_build.specs.VariableTracks.{IsOverVariables}
 use Rattle.number_relations.specs.Relations.{RelationValue, RelationHolds}
 use Rattle.session_cli.specs.declared.fault.Fault.{Fault}
 use Rattle.session_cli.specs.declared.fault.Fault.TheVariants as faults
-use Rattle.session_cli.specs.declared.plan.Made.{Made}
+use Rattle.session_cli.specs.declared.file_change.Made.{Made}
 use Rattle.session_cli.specs.Checks.{Pure, Fails}
 use Rattle.definitions.specs.Trees.{Variable, Bindings}
 use Rattle.definitions.specs.TreeMeanings.{meanings_in}
@@ -20,9 +20,9 @@ use Rattle.system_files.specs.SystemFiles.{Custom}
 use Rattle.session_cli.specs.Accepting.{FitsFile, stored}
 use Rattle.definitions.specs.FormulaTexts.{truth_text, IsSolutionText, IsFormulaText, HasVerdict}
 use Rattle.session_cli.specs.FormulaSteps.{AreMeant}
-use Rattle.session_cli.specs.FormulaPlans.{automaton_text, IsTextOf, HasNoTextOf}
+use Rattle.session_cli.specs.FormulaLoads.{automaton_text, IsTextOf, HasNoTextOf}
 use Rattle.session_cli.specs.Lines.{shown_steps, verdict_line}
-use Rattle.session_cli.specs.Plans.{Makes}
+use Rattle.session_cli.specs.FileChanges.{Makes}
 use Rattle.session_cli.specs.VariablesOver.{variables_over}
 use Rattle.session_cli.proofs.CheckNames.{VerdictAnswers, formula_success, after_variables}
 use Rattle.session_cli.proofs.CheckSteps.{fails_after, makes_after}

@@ -3,11 +3,11 @@ use Rattle.command_head.specs.Grammar.{DerivesNamed}
 use Rattle.command_head.specs.HeadViews.{named_view}
 use Rattle.session_cli.specs.HeadAnswers.{fault_of_head}
 use Rattle.session_cli.proofs.HeadSteps.{head_unread}
-use Rattle.session_cli.proofs.TextSteps.{macro_planned, macro_failed, macro_unread}
-use Rattle.session_cli.proofs.texts.plan_macro.Goals as goal
+use Rattle.session_cli.proofs.TextSteps.{macro_changed, macro_failed, macro_unread}
+use Rattle.session_cli.proofs.texts.macro_change.Goals as goal
 
 pub returns-in-Ok-text_made : goal.returns-in-Ok-text_made
-returns-in-Ok-text_made c = λ ledger shown. macro_planned ledger c.args.text.now shown (named_view c.in-Ok.field-0) _ c.in-Ok.ensures refl refl c.in-Ok-text_made.ensures
+returns-in-Ok-text_made c = λ ledger shown. macro_changed ledger c.args.text.now shown (named_view c.in-Ok.field-0) _ c.in-Ok.ensures refl refl c.in-Ok-text_made.ensures
 
 pub returns-in-Err-text_made : goal.returns-in-Err-text_made
 returns-in-Err-text_made c = λ ledger shown. macro_failed ledger c.args.text.now (named_view c.in-Ok.field-0) c.in-Err-text_made.fault c.in-Ok.ensures c.in-Err-text_made.ensures

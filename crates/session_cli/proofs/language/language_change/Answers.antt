@@ -6,11 +6,11 @@ use Rattle.definitions.specs.Trees.{custom_of}
 use Rattle.language_steps.specs.Operands.{HasCount}
 use Rattle.session_cli.specs.LanguageOutcomes.{after_language_head}
 use Rattle.session_cli.specs.Checks.{Fails}
-use Rattle.session_cli.specs.Plans.{Makes}
+use Rattle.session_cli.specs.FileChanges.{Makes}
 use Rattle.session_cli.proofs.HeadSteps.{own_head}
-use Rattle.session_cli.proofs.LanguageChains.{head_count, language_broken, language_failed, language_planned}
+use Rattle.session_cli.proofs.LanguageChains.{head_count, language_broken, language_failed, language_changed}
 use Rattle.session_cli.proofs.StoreReads.{from_none, from_read, from_refused}
-use Rattle.session_cli.proofs.language.plan_language.Goals as goal
+use Rattle.session_cli.proofs.language.language_change.Goals as goal
 
 pub returns-in_err-head : goal.returns-in_err-head
 returns-in_err-head g c =
@@ -27,7 +27,7 @@ pub returns-in-Ok : goal.returns-in-Ok
 returns-in-Ok g c =
     let head = languages_view c.in_ok-head.head in
     from_read _ _ _ _ _ _ tt c.in-Ok.ensures
-    (λ found makes ledger stores. language_planned c.args.op c.args.options.limit ledger c.args.text.now c.args.options.shown head _ c.in_ok-head.ensures refl refl
+    (λ found makes ledger stores. language_changed c.args.op c.args.options.limit ledger c.args.text.now c.args.options.shown head _ c.in_ok-head.ensures refl refl
     (subst (λ (names : List (List ℕ)). Makes (custom_of ledger) (after_language_head c.args.options.limit ledger c.args.op (record { name = head.name; languages = names })) c.args.options.shown (Ok c.in-Ok.made)) c.deref.ensures.value (makes ledger head.name stores)))
 
 pub returns-in-Err : goal.returns-in-Err

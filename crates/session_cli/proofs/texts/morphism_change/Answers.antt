@@ -4,11 +4,11 @@ use Rattle.command_head.specs.HeadViews.{named_view}
 use Rattle.definitions.specs.Trees.{custom_of}
 use Rattle.session_cli.specs.HeadAnswers.{fault_of_head}
 use Rattle.session_cli.proofs.HeadSteps.{head_unread}
-use Rattle.session_cli.proofs.TextSteps.{morphism_planned, morphism_failed, morphism_unread}
-use Rattle.session_cli.proofs.texts.plan_morphism.Goals as goal
+use Rattle.session_cli.proofs.TextSteps.{morphism_changed, morphism_failed, morphism_unread}
+use Rattle.session_cli.proofs.texts.morphism_change.Goals as goal
 
 pub returns-in-Ok-rules_made : goal.returns-in-Ok-rules_made
-returns-in-Ok-rules_made c = λ ledger shown. morphism_planned ledger c.args.text.now shown (named_view c.in-Ok.field-0) _ c.in-Ok.ensures refl refl (c.in-Ok-rules_made.ensures (custom_of ledger) c.in-Ok.field-0.name shown)
+returns-in-Ok-rules_made c = λ ledger shown. morphism_changed ledger c.args.text.now shown (named_view c.in-Ok.field-0) _ c.in-Ok.ensures refl refl (c.in-Ok-rules_made.ensures (custom_of ledger) c.in-Ok.field-0.name shown)
 
 pub returns-in-Err-rules_made : goal.returns-in-Err-rules_made
 returns-in-Err-rules_made c = λ ledger shown. morphism_failed ledger c.args.text.now (named_view c.in-Ok.field-0) c.in-Err-rules_made.fault c.in-Ok.ensures (c.in-Err-rules_made.ensures (custom_of ledger) c.in-Ok.field-0.name shown)

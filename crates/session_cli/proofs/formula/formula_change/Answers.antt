@@ -1,13 +1,13 @@
 use Rattle.std.proofs.Common.{refl}
 use Rattle.command_head.specs.HeadViews.{named_view}
-use Rattle.session_cli.proofs.FormulaChains.{named_syntax, named_number, named_planned, named_failed}
+use Rattle.session_cli.proofs.FormulaChains.{named_syntax, named_number, named_changed, named_failed}
 use Rattle.session_cli.proofs.StoreReads.{from_none, from_read, from_refused}
-use Rattle.session_cli.proofs.formula.plan_formula.Goals as goal
+use Rattle.session_cli.proofs.formula.formula_change.Goals as goal
 
 pub returns-in-Ok-formula_made : goal.returns-in-Ok-formula_made
 returns-in-Ok-formula_made g c =
     from_read _ _ _ _ _ _ tt c.in-Ok-formula_made.ensures
-    (λ found makes ledger stores. named_planned c.args.command.word.now c.args.command.folder c.args.command.options.limit ledger c.args.text.now c.args.command.options.shown (named_view c.in-Ok.field-0) _ c.in-Ok.ensures refl refl
+    (λ found makes ledger stores. named_changed c.args.command.word.now c.args.command.folder c.args.command.options.limit ledger c.args.text.now c.args.command.options.shown (named_view c.in-Ok.field-0) _ c.in-Ok.ensures refl refl
     (makes ledger c.args.command.folder c.in-Ok.field-0.name stores))
 
 pub returns-in-Err : goal.returns-in-Err

@@ -4,24 +4,24 @@ ghost use Rattle.wal_outside.specs.declared.folder.Folder.TheVariants.{Automata,
 ghost use Rattle.definitions.specs.Texts.{Stores};
 ghost use Rattle.definitions.specs.Trees.{Ledger, custom_of};
 ghost use Rattle.session_cli.specs.Outcomes.{checks_of};
-ghost use Rattle.session_cli.specs.Plans.{Acts};
+ghost use Rattle.session_cli.specs.FileChanges.{Acts};
 ghost use Rattle.session_cli.specs.StoreReads.{FromFiles};
 
-use crate::combine::plan_combine;
+use crate::combine::combine_change;
 use crate::command_word::{CommandWord, command_word};
-use crate::convert::plan_convert;
+use crate::convert::convert_change;
 use crate::fault::Fault;
-use crate::formula::{FormulaCommand, plan_formula};
-use crate::image::plan_image;
+use crate::file_change::{Action, printing, writing};
+use crate::formula::{FormulaCommand, formula_change};
+use crate::image::image_change;
 use crate::kept::Kept;
-use crate::language::plan_language;
+use crate::language::language_change;
 use crate::listing::{say_inf, say_test};
-use crate::plan::{Action, printing, writing};
-use crate::promote::plan_promote;
-use crate::reg::plan_reg;
+use crate::promote::promote_change;
+use crate::reg::reg_change;
 use crate::step_options::StepOptions;
-use crate::texts::{plan_macro, plan_morphism};
-use crate::transduce::plan_transduce;
+use crate::texts::{macro_change, morphism_change};
+use crate::transduce::transduce_change;
 use language_steps::{LanguageOp, OneOp, PairOp};
 use std::alloc::Global;
 use wal_outside::{Folder, Store};
@@ -70,42 +70,42 @@ pub(crate) fn action_of<T: Store>(
         return Err(Fault::Long(COMMAND_LIMIT));
     }
     match command_word(text) {
-        Some(CommandWord::Reg) => writing(plan_reg(alloc, options, text, kept, store)),
+        Some(CommandWord::Reg) => writing(reg_change(alloc, options, text, kept, store)),
         Some(CommandWord::Eval) => {
-            writing(plan_formula(alloc, eval(options), text, kept, store))
+            writing(formula_change(alloc, eval(options), text, kept, store))
         }
-        Some(CommandWord::Def) => writing(plan_formula(alloc, def(options), text, kept, store)),
-        Some(CommandWord::Macro) => writing(plan_macro(alloc, text)),
-        Some(CommandWord::Morphism) => writing(plan_morphism(alloc, text)),
-        Some(CommandWord::Promote) => writing(plan_promote(alloc, options, text, store)),
-        Some(CommandWord::Combine) => { writing(plan_combine(alloc, options, text, kept, store)) }
-        Some(CommandWord::Image) => writing(plan_image(alloc, options, text, kept, store)),
+        Some(CommandWord::Def) => writing(formula_change(alloc, def(options), text, kept, store)),
+        Some(CommandWord::Macro) => writing(macro_change(alloc, text)),
+        Some(CommandWord::Morphism) => writing(morphism_change(alloc, text)),
+        Some(CommandWord::Promote) => writing(promote_change(alloc, options, text, store)),
+        Some(CommandWord::Combine) => { writing(combine_change(alloc, options, text, kept, store)) }
+        Some(CommandWord::Image) => writing(image_change(alloc, options, text, kept, store)),
         Some(CommandWord::Union) => {
             let op = LanguageOp::Pair(PairOp::Union);
-            writing(plan_language(alloc, options, op, text, store))
+            writing(language_change(alloc, options, op, text, store))
         }
         Some(CommandWord::Intersect) => {
             let op = LanguageOp::Pair(PairOp::Intersection);
-            writing(plan_language(alloc, options, op, text, store))
+            writing(language_change(alloc, options, op, text, store))
         }
         Some(CommandWord::Concat) => {
             let op = LanguageOp::Pair(PairOp::Concatenation);
-            writing(plan_language(alloc, options, op, text, store))
+            writing(language_change(alloc, options, op, text, store))
         }
         Some(CommandWord::Star) => {
             let op = LanguageOp::One(OneOp::Star);
-            writing(plan_language(alloc, options, op, text, store))
+            writing(language_change(alloc, options, op, text, store))
         }
         Some(CommandWord::Reverse) => {
             let op = LanguageOp::One(OneOp::Reversal);
-            writing(plan_language(alloc, options, op, text, store))
+            writing(language_change(alloc, options, op, text, store))
         }
         Some(CommandWord::Transduce) => {
-            writing(plan_transduce(alloc, options, text, kept, store))
+            writing(transduce_change(alloc, options, text, kept, store))
         }
         Some(CommandWord::Test) => printing(say_test(alloc, options, text, kept, store)),
         Some(CommandWord::Inf) => printing(say_inf(alloc, options, text, kept, store)),
-        Some(CommandWord::Convert) => { writing(plan_convert(alloc, options, text, kept, store)) }
+        Some(CommandWord::Convert) => { writing(convert_change(alloc, options, text, kept, store)) }
         None => Err(Fault::Command),
     }
 }

@@ -1,10 +1,10 @@
 use Rattle.std.proofs.Common.{refl, ap, map}
 use Rattle.std.proofs.lemmas.Result.{err_from_is_err_and}
 use Rattle.command_head.specs.HeadViews.{valued_view, combine_view}
-use Rattle.session_cli.proofs.CombineChains.{list_broken, list_planned, list_failed}
+use Rattle.session_cli.proofs.CombineChains.{list_broken, list_changed, list_failed}
 use Rattle.session_cli.proofs.StoreReads.{from_none, from_refused, from_read}
 use Rattle.session_cli.proofs.HeadSteps.{own_head}
-use Rattle.session_cli.proofs.combine.plan_combine.Goals as goal
+use Rattle.session_cli.proofs.combine.combine_change.Goals as goal
 
 pub returns-in_err-head : goal.returns-in_err-head
 returns-in_err-head g c =
@@ -18,7 +18,7 @@ combine_made-requires-clause-some g c = λ none. c.in_ok-head.ensures.head.some 
 pub returns-in-Ok : goal.returns-in-Ok
 returns-in-Ok g c =
     from_read _ _ _ _ _ _ tt c.in-Ok.ensures
-    (λ found makes ledger stores. list_planned c.args.options.limit ledger c.args.text.now c.args.options.shown (combine_view c.in_ok-head.head) _ c.in_ok-head.ensures.head refl refl (makes ledger c.in_ok-head.head.word stores))
+    (λ found makes ledger stores. list_changed c.args.options.limit ledger c.args.text.now c.args.options.shown (combine_view c.in_ok-head.head) _ c.in_ok-head.ensures.head refl refl (makes ledger c.in_ok-head.head.word stores))
 
 pub returns-in-Err : goal.returns-in-Err
 returns-in-Err g c =

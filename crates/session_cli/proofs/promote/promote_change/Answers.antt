@@ -11,10 +11,10 @@ use Rattle.session_cli.specs.MorphismChecks.{morphism_loaded}
 use Rattle.session_cli.specs.PromoteOutcomes.{after_morphism}
 use Rattle.session_cli.proofs.HeadSteps.{head_unread, own_head}
 use Rattle.session_cli.proofs.LoadedMorphisms.{morphism_there, morphism_not_there, morphism_unloaded}
-use Rattle.session_cli.proofs.PromoteSteps.{no_more_read, promote_unread, promote_unloaded, promote_failed, promote_planned}
+use Rattle.session_cli.proofs.PromoteSteps.{no_more_read, promote_unread, promote_unloaded, promote_failed, promote_changed}
 use Rattle.session_cli.proofs.StoreReads.{from_none, from_read, from_refused, own_fault}
 use Rattle.session_cli.proofs.TextReads.{no_texts}
-use Rattle.session_cli.proofs.promote.plan_promote.Goals as goal
+use Rattle.session_cli.proofs.promote.promote_change.Goals as goal
 
 pub returns-in_err-head : goal.returns-in_err-head
 returns-in_err-head g c =
@@ -47,4 +47,4 @@ returns g c =
     let head = promote_view c.in_ok-head.head in
     let rules = c.in_ok-morphism.morphism in
     from_read _ _ _ _ rules _ tt (morphism_there head.morphism _ _ rules c.in_ok-morphism.ensures)
-    (λ found there ledger stores. promote_planned c.args.options.limit ledger c.args.text.now head c.in_ok-head.ensures rules c.args.options.shown _ (found, stores, there) refl refl (c.in_ok-made.ensures (custom_of ledger) head.word))
+    (λ found there ledger stores. promote_changed c.args.options.limit ledger c.args.text.now head c.in_ok-head.ensures rules c.args.options.shown _ (found, stores, there) refl refl (c.in_ok-made.ensures (custom_of ledger) head.word))

@@ -31,12 +31,12 @@ use Rattle.definitions.specs.Named.{AreNamed}
 use Rattle.session_cli.specs.TrackSystems.{fault_of}
 use Rattle.session_cli.specs.Lines.{shown_steps}
 use Rattle.definitions.specs.Tracks.{NamedSystem, systems_of, Tracks, OverSets, OverSystems, letter_sets, header_of}
-use Rattle.session_cli.specs.declared.plan.Made.{Made}
+use Rattle.session_cli.specs.declared.file_change.Made.{Made}
 use Rattle.definitions.specs.Texts.{IsTrackText}
 use Rattle.session_cli.specs.TrackSteps.{DoesExpression}
 use Rattle.session_cli.specs.Accepting.{Success, stored}
 use Rattle.session_cli.specs.RegOutcomes.{ParsedAnswers, StepsAnswers, after_tracks}
-use Rattle.session_cli.specs.Plans.{Prints, Makes}
+use Rattle.session_cli.specs.FileChanges.{Prints, Makes}
 use Rattle.session_cli.proofs.CheckNames.{regex_success, after_expression}
 use Rattle.session_cli.proofs.CheckSteps.{fails_first, fails_after, makes_after}
 use Rattle.definitions.proofs.NameLemmas.{named_are_systems}

@@ -10,13 +10,13 @@ use Rattle.word_output.specs.Words.{WordValue}
 use Rattle.definitions.specs.Texts.{Stores}
 use Rattle.definitions.specs.Trees.{Ledger, Transduced, Tree, custom_of}
 use Rattle.session_cli.specs.declared.fault.Fault.{Fault}
-use Rattle.session_cli.specs.declared.plan.Made.{Made}
+use Rattle.session_cli.specs.declared.file_change.Made.{Made}
 use Rattle.session_cli.specs.declared.transduce.ReadTransducer.{ReadTransducer}
 use Rattle.session_cli.specs.BaseWords.{name_of_base, named_base}
 use Rattle.session_cli.specs.Checks.{Fails}
 use Rattle.session_cli.specs.OldWordMakes.{AreTablesOfOld, Keeps}
 use Rattle.session_cli.specs.OldWordSteps.{old_word_done}
-use Rattle.session_cli.specs.Plans.{Makes}
+use Rattle.session_cli.specs.FileChanges.{Makes}
 use Rattle.session_cli.specs.TransduceMakes.{HasMsdBase, IsTransducedOld, head_of}
 use Rattle.session_cli.specs.TransduceOutcomes.{after_transduced_systems}
 use Rattle.session_cli.specs.TransduceSteps.{DoesTransduce}
