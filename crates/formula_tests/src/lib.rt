@@ -7,6 +7,10 @@
 #[cfg(test)]
 mod no_answer;
 
+// texts that are written part by part
+#[cfg(test)]
+mod written;
+
 // what texts give, and rows of what they are to give
 #[cfg(test)]
 mod answers;

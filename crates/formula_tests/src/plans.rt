@@ -3,10 +3,11 @@
 
 use crate::answers::{Asked, Repeated, expect_answers, expect_repeated};
 use crate::no_answer::NoAnswer;
+use crate::written::Written;
 use formula_parse::tree::Formula;
 use formula_plan::{FormulaPlan, Making, Track, plan};
 use formula_resolve::Headers;
-use std::alloc::{AllocError, Global};
+use std::alloc::Global;
 
 // Terms and comparisons.
 static TERMS: [(&str, &str); 26] = [
@@ -143,39 +144,39 @@ static NAMES: [(&str, &str); 8] = [
     ("Ex $f(x) & T[x]!=@0", "product, project x"),
 ];
 
-fn write_track(alloc: Global, track: &Track, out: &mut String) -> Result<(), AllocError> {
+fn write_track(alloc: Global, track: &Track, out: &mut Written) {
     match track {
-        Track::Own(name) => out.push_str(name.as_str()),
+        Track::Own(name) => out.put(name.as_str()),
         Track::Fresh(number) => {
-            let digits = number.to_string(alloc)?;
-            out.push('#')?;
-            out.push_str(&digits)
+            let digits = number.to_string(alloc);
+            out.put("#");
+            out.put_digits(digits);
         }
     }
 }
 
 // The step by which a relation is made, after those before it; nothing where there is none.
-fn write_step(alloc: Global, making: &Making, out: &mut String) -> Result<(), AllocError> {
+fn write_step(alloc: Global, making: &Making, out: &mut Written) {
     let Some(kind) = making.kind() else {
-        return Ok(());
+        return;
     };
     if !out.is_empty() {
-        out.push_str(", ")?;
+        out.put(", ");
     }
-    out.push_str(kind.name())?;
+    out.put(kind.name());
     match making {
         Making::Constant(_, number, track) => {
-            let digits = number.to_string(alloc)?;
-            out.push(' ')?;
-            out.push_str(&digits)?;
-            out.push(' ')?;
-            write_track(alloc, track, out)
+            let digits = number.to_string(alloc);
+            out.put(" ");
+            out.put_digits(digits);
+            out.put(" ");
+            write_track(alloc, track, out);
         }
         Making::Projected(track, _) => {
-            out.push(' ')?;
-            write_track(alloc, track, out)
+            out.put(" ");
+            write_track(alloc, track, out);
         }
-        _ => Ok(()),
+        _ => {}
     }
 }
 
@@ -185,17 +186,17 @@ fn planned(alloc: Global, formula: &Formula) -> Result<FormulaPlan, NoAnswer> {
 }
 
 // The steps of a plan.
-fn written(alloc: Global, planned: &FormulaPlan) -> Result<String, AllocError> {
-    let mut out = String::new(alloc);
+fn written(alloc: Global, planned: &FormulaPlan) -> Result<String, NoAnswer> {
+    let mut out = Written::new(alloc);
     for making in planned.plans.makings() {
-        write_step(alloc, making, &mut out)?;
+        write_step(alloc, making, &mut out);
     }
-    Ok(out)
+    out.whole()
 }
 
 // The steps of a formula.
 pub(crate) fn steps(alloc: Global, formula: &Formula) -> Result<String, NoAnswer> {
-    Ok(written(alloc, &planned(alloc, formula)?)?)
+    written(alloc, &planned(alloc, formula)?)
 }
 
 #[test]

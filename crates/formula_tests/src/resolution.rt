@@ -7,6 +7,7 @@ use crate::answers::{
 use crate::headers::headers;
 use crate::long_texts::repeated;
 use crate::no_answer::NoAnswer;
+use crate::written::Written;
 use digit_tuple::name::Name;
 use formula_parse::tree::Formula;
 use formula_resolve::{
@@ -15,7 +16,7 @@ use formula_resolve::{
 use std::alloc::{AllocError, Global};
 
 // Texts and their resolution.
-static ROWS: [(&str, &str); 72] = [
+static VARIABLES: [(&str, &str); 16] = [
     // Free variables.
     ("x=1", "x msd_2"),
     ("0=0", "-"),
@@ -37,7 +38,10 @@ static ROWS: [(&str, &str); 72] = [
     ),
     ("Ey (x=1 & (?msd_3 y=1 & x=2))", "Clash x msd_2 msd_3"),
     ("?msd_2 x=1 & (?lsd_2 x=1)", "Clash x msd_2 lsd_2"),
-    // One direction in each chain.
+];
+
+// One direction in each chain.
+static CHAINS: [(&str, &str); 20] = [
     ("?msd_2 x=1 & (?lsd_2 y=1)", "Direction msd_2 lsd_2"),
     ("?lsd_2 x=1 & (?msd_2 y=1)", "Direction lsd_2 msd_2"),
     ("x=1 & y=1 & (?lsd_3 z=1)", "Direction msd_2 lsd_3"),
@@ -70,7 +74,10 @@ static ROWS: [(&str, &str); 72] = [
     ),
     ("0=0 & ~?lsd_77 1=1", "-"),
     ("?msd_3 ?lsd_2 x=1", "x lsd_2"),
-    // Calls.
+];
+
+// Calls.
+static CALLS: [(&str, &str); 21] = [
     ("$f(x,y)", "x msd_2, y msd_2"),
     ("$f(y,x+1)", "x msd_2, y msd_2"),
     ("$f(x,x)", "x msd_2"),
@@ -92,7 +99,10 @@ static ROWS: [(&str, &str); 72] = [
     ("$q(x) & (?msd_3 x=1)", "x msd_3"),
     ("x=1 & $q(x)", "Clash x msd_2 msd_3"),
     ("$f(x,y) & (?lsd_2 z=1)", "Direction msd_2 lsd_2"),
-    // Words.
+];
+
+// Words.
+static INDEXED: [(&str, &str); 15] = [
     ("T[x]=@1", "x msd_2"),
     ("@1<T[x+y]", "x msd_2, y msd_2"),
     ("T[x][y]=@1", "Arity T 1 2"),
@@ -128,20 +138,20 @@ static SYSTEMS: [(&str, &str); 2] = [
 ];
 
 // Variables with their systems, or `-`.
-fn written(alloc: Global, variables: &[Variable]) -> Result<String, AllocError> {
-    let mut out = String::new(alloc);
+fn written(alloc: Global, variables: &[Variable]) -> Result<String, NoAnswer> {
+    let mut out = Written::new(alloc);
     for variable in variables {
         if !out.is_empty() {
-            out.push_str(", ")?;
+            out.put(", ");
         }
-        out.push_str(variable.name.as_str())?;
-        out.push(' ')?;
-        out.push_str(variable.system.as_str())?;
+        out.put(variable.name.as_str());
+        out.put(" ");
+        out.put(variable.system.as_str());
     }
     if out.is_empty() {
-        out.push('-')?;
+        out.put("-");
     }
-    Ok(out)
+    out.whole()
 }
 
 // A fault with what it keeps.
@@ -173,7 +183,7 @@ fn line_of(alloc: Global, fault: &ResolveFault) -> Result<String, AllocError> {
 // The resolution of a formula, or its fault.
 fn resolution(alloc: Global, formula: &Formula, headers: &Headers) -> Result<String, NoAnswer> {
     match resolve(alloc, formula, headers) {
-        Ok(resolved) => Ok(written(alloc, &resolved.variables)?),
+        Ok(resolved) => written(alloc, &resolved.variables),
         Err(fault) => Ok(line_of(alloc, &fault)?),
     }
 }
@@ -186,7 +196,10 @@ pub(crate) fn resolution_of(alloc: Global, formula: &Formula) -> Result<String, 
 
 #[test]
 fn texts_have_this_resolution(rt: HostRuntime) {
-    expect_answers(&rt, rt.alloc(), Asked::Resolution, &ROWS);
+    expect_answers(&rt, rt.alloc(), Asked::Resolution, &VARIABLES);
+    expect_answers(&rt, rt.alloc(), Asked::Resolution, &CHAINS);
+    expect_answers(&rt, rt.alloc(), Asked::Resolution, &CALLS);
+    expect_answers(&rt, rt.alloc(), Asked::Resolution, &INDEXED);
 }
 
 // A chain, with its resolution.
@@ -216,33 +229,33 @@ fn a_nested_text_of_65536_bytes_is_resolved(rt: HostRuntime) {
 }
 
 // A name after those before it.
-fn add_name(out: &mut String, mark: &str, name: &Name) -> Result<(), AllocError> {
+fn add_name(out: &mut Written, mark: &str, name: &Name) {
     if !out.is_empty() {
-        out.push(' ')?;
+        out.put(" ");
     }
-    out.push_str(mark)?;
-    out.push_str(name.as_str())
+    out.put(mark);
+    out.put(name.as_str());
 }
 
 // Files in their order, an automaton with `$` before its name.
-fn listed(alloc: Global, files: &[File]) -> Result<String, AllocError> {
-    let mut out = String::new(alloc);
+fn listed(alloc: Global, files: &[File]) -> Result<String, NoAnswer> {
+    let mut out = Written::new(alloc);
     for file in files {
         match file {
-            File::Automaton(name) => add_name(&mut out, "$", name)?,
-            File::Word(name) => add_name(&mut out, "", name)?,
+            File::Automaton(name) => add_name(&mut out, "$", name),
+            File::Word(name) => add_name(&mut out, "", name),
         }
     }
-    Ok(out)
+    out.whole()
 }
 
 // Names in their order.
-fn named(alloc: Global, names: &[Name]) -> Result<String, AllocError> {
-    let mut out = String::new(alloc);
+fn named(alloc: Global, names: &[Name]) -> Result<String, NoAnswer> {
+    let mut out = Written::new(alloc);
     for name in names {
-        add_name(&mut out, "", name)?;
+        add_name(&mut out, "", name);
     }
-    Ok(out)
+    out.whole()
 }
 
 // What a formula mentions.
@@ -253,7 +266,7 @@ fn mentions_in(alloc: Global, formula: &Formula) -> Result<Vec<Mention>, NoAnswe
 // The files that a formula mentions, each once.
 pub(crate) fn files_in(alloc: Global, formula: &Formula) -> Result<String, NoAnswer> {
     let files = first_files(alloc, &mentions_in(alloc, formula)?)?;
-    Ok(listed(alloc, &files)?)
+    listed(alloc, &files)
 }
 
 // The systems that a formula mentions, each once.
@@ -265,7 +278,7 @@ pub(crate) fn systems_in(alloc: Global, formula: &Formula) -> Result<String, NoA
 // The systems among what is mentioned, each once.
 fn systems_of(alloc: Global, mentioned: &[Mention], headers: &Headers) -> Result<String, NoAnswer> {
     let systems = first_systems(alloc, mentioned, headers)?;
-    Ok(named(alloc, &systems)?)
+    named(alloc, &systems)
 }
 
 #[test]

@@ -2,22 +2,22 @@
 
 use crate::answers::{Asked, expect_answers};
 use crate::no_answer::NoAnswer;
+use crate::written::Written;
 use digit_tuple::name::Name;
 use formula_parse::tree::{
     Connective, Fact, Factor, Formula, Index, Quantifier, Relation, Sign, Term,
 };
-use std::alloc::{AllocError, Global};
+use std::alloc::Global;
 
-fn write_names(names: &[Name], between: char, out: &mut String) -> Result<(), AllocError> {
+fn write_names(names: &[Name], between: &str, out: &mut Written) {
     let mut first = true;
     for name in names {
         if !first {
-            out.push(between)?;
+            out.put(between);
         }
-        out.push_str(name.as_str())?;
+        out.put(name.as_str());
         first = false;
     }
-    Ok(())
 }
 
 fn relation_text(relation: Relation) -> &'static str {
@@ -56,165 +56,168 @@ fn sign_text(sign: Sign) -> &'static str {
     }
 }
 
-fn write_opening(times: usize, out: &mut String) -> Result<(), AllocError> {
-    for _ in 0..times {
-        out.push('(')?;
-    }
-    Ok(())
+// What is before a factor.
+fn factor_mark(first: bool) -> &'static str {
+    if first { "(" } else { "*" }
 }
 
-fn write_term(alloc: Global, term: &Term, out: &mut String) -> Result<(), AllocError> {
+fn write_opening(times: usize, out: &mut Written) {
+    for _ in 0..times {
+        out.put("(");
+    }
+}
+
+fn write_term(alloc: Global, term: &Term, out: &mut Written) {
     match term {
-        Term::Variable(name) => out.push_str(name.as_str()),
+        Term::Variable(name) => out.put(name.as_str()),
         Term::Numeral(value) => {
-            let digits = value.to_string(alloc)?;
-            out.push_str(&digits)
+            let digits = value.to_string(alloc);
+            out.put_digits(digits);
         }
         Term::Product(factors) => {
-            let mut before = '(';
+            let mut first = true;
             for factor in factors {
                 match factor {
                     Factor::Times(term) => {
-                        out.push(before)?;
-                        write_term(alloc, term, out)?;
+                        out.put(factor_mark(first));
+                        write_term(alloc, term, out);
                     }
-                    Factor::Divided(divisor) => write_divisor(alloc, *divisor, out)?,
+                    Factor::Divided(divisor) => write_divisor(alloc, *divisor, out),
                 }
-                before = '*';
-            }
-            out.push(')')
-        }
-        Term::Sum(addends, last) => {
-            write_opening(addends.len(), out)?;
-            let mut first = true;
-            for addend in addends {
-                write_term(alloc, &addend.term, out)?;
-                if !first {
-                    out.push(')')?;
-                }
-                out.push_str(sign_text(addend.sign))?;
                 first = false;
             }
-            write_term(alloc, last, out)?;
-            out.push(')')
+            out.put(")");
+        }
+        Term::Sum(addends, last) => {
+            write_opening(addends.len(), out);
+            let mut first = true;
+            for addend in addends {
+                write_term(alloc, &addend.term, out);
+                if !first {
+                    out.put(")");
+                }
+                out.put(sign_text(addend.sign));
+                first = false;
+            }
+            write_term(alloc, last, out);
+            out.put(")");
         }
     }
 }
 
-fn write_divisor(alloc: Global, divisor: u64, out: &mut String) -> Result<(), AllocError> {
-    let digits = divisor.to_string(alloc)?;
-    out.push('/')?;
-    out.push_str(&digits)
+fn write_divisor(alloc: Global, divisor: u64, out: &mut Written) {
+    let digits = divisor.to_string(alloc);
+    out.put("/");
+    out.put_digits(digits);
 }
 
-fn write_index(alloc: Global, index: &Index, out: &mut String) -> Result<(), AllocError> {
-    out.push_str(index.word.as_str())?;
+fn write_index(alloc: Global, index: &Index, out: &mut Written) {
+    out.put(index.word.as_str());
     for place in &index.places {
-        out.push('[')?;
-        write_term(alloc, place, out)?;
-        out.push(']')?;
+        out.put("[");
+        write_term(alloc, place, out);
+        out.put("]");
     }
-    Ok(())
 }
 
-fn write_letter(alloc: Global, letter: i32, out: &mut String) -> Result<(), AllocError> {
-    let digits = letter.to_string(alloc)?;
-    out.push('@')?;
-    out.push_str(&digits)
+fn write_letter(alloc: Global, letter: i32, out: &mut Written) {
+    let digits = letter.to_string(alloc);
+    out.put("@");
+    out.put_digits(digits);
 }
 
-fn write_fact(alloc: Global, fact: &Fact, out: &mut String) -> Result<(), AllocError> {
+fn write_fact(alloc: Global, fact: &Fact, out: &mut Written) {
     match fact {
         Fact::Compare(left, relation, right) => {
-            write_term(alloc, left, out)?;
-            out.push_str(relation_text(*relation))?;
-            write_term(alloc, right, out)
+            write_term(alloc, left, out);
+            out.put(relation_text(*relation));
+            write_term(alloc, right, out);
         }
         Fact::Words(left, relation, right) => {
-            write_index(alloc, left, out)?;
-            out.push_str(relation_text(*relation))?;
-            write_index(alloc, right, out)
+            write_index(alloc, left, out);
+            out.put(relation_text(*relation));
+            write_index(alloc, right, out);
         }
         Fact::WordLetter(word, relation, letter) => {
-            write_index(alloc, word, out)?;
-            out.push_str(relation_text(*relation))?;
-            write_letter(alloc, *letter, out)
+            write_index(alloc, word, out);
+            out.put(relation_text(*relation));
+            write_letter(alloc, *letter, out);
         }
         Fact::LetterWord(letter, relation, word) => {
-            write_letter(alloc, *letter, out)?;
-            out.push_str(relation_text(*relation))?;
-            write_index(alloc, word, out)
+            write_letter(alloc, *letter, out);
+            out.put(relation_text(*relation));
+            write_index(alloc, word, out);
         }
         Fact::Call(name, arguments) => {
-            out.push('$')?;
-            out.push_str(name.as_str())?;
-            out.push('(')?;
+            out.put("$");
+            out.put(name.as_str());
+            out.put("(");
             let mut first = true;
             for argument in arguments {
                 if !first {
-                    out.push(',')?;
+                    out.put(",");
                 }
-                write_term(alloc, argument, out)?;
+                write_term(alloc, argument, out);
                 first = false;
             }
-            out.push(')')
+            out.put(")");
         }
     }
 }
 
-fn write_formula(alloc: Global, formula: &Formula, out: &mut String) -> Result<(), AllocError> {
+fn write_formula(alloc: Global, formula: &Formula, out: &mut Written) {
     match formula {
         Formula::Atom(atom) => {
-            out.push('{')?;
-            out.push_str(atom.system.as_str())?;
-            out.push(' ')?;
-            write_fact(alloc, &atom.fact, out)?;
-            out.push('}')
+            out.put("{");
+            out.put(atom.system.as_str());
+            out.put(" ");
+            write_fact(alloc, &atom.fact, out);
+            out.put("}");
         }
         Formula::Negated(inner) => {
-            out.push_str("(~")?;
-            write_formula(alloc, inner, out)?;
-            out.push(')')
+            out.put("(~");
+            write_formula(alloc, inner, out);
+            out.put(")");
         }
         Formula::Chain(operands, last) => {
-            write_opening(operands.len(), out)?;
+            write_opening(operands.len(), out);
             let mut first = true;
             for operand in operands {
-                write_formula(alloc, &operand.formula, out)?;
+                write_formula(alloc, &operand.formula, out);
                 if !first {
-                    out.push(')')?;
+                    out.put(")");
                 }
-                out.push_str(connective_text(operand.connective))?;
+                out.put(connective_text(operand.connective));
                 first = false;
             }
-            write_formula(alloc, last, out)?;
-            out.push(')')
+            write_formula(alloc, last, out);
+            out.put(")");
         }
         Formula::Quantified(quantifier, names, inner) => {
-            out.push_str(quantifier_text(*quantifier))?;
-            write_names(names, ',', out)?;
-            out.push(' ')?;
-            write_formula(alloc, inner, out)?;
-            out.push(')')
+            out.put(quantifier_text(*quantifier));
+            write_names(names, ",", out);
+            out.put(" ");
+            write_formula(alloc, inner, out);
+            out.put(")");
         }
         Formula::Marked(systems, inner) => {
-            out.push_str("(?")?;
-            write_names(systems, '?', out)?;
-            out.push(' ')?;
-            write_formula(alloc, inner, out)?;
-            out.push(')')
+            out.put("(?");
+            write_names(systems, "?", out);
+            out.put(" ");
+            write_formula(alloc, inner, out);
+            out.put(")");
         }
     }
 }
 
 // A tree as a text.
 pub(crate) fn tree_of(alloc: Global, tree: &Formula) -> Result<String, NoAnswer> {
-    let mut written = String::new(alloc);
-    write_formula(alloc, tree, &mut written)?;
-    Ok(written)
+    let mut written = Written::new(alloc);
+    write_formula(alloc, tree, &mut written);
+    written.whole()
 }
 
-static TREES: [(&str, &str); 69] = [
+static BINDING: [(&str, &str); 13] = [
     // A quantifier takes all that follows.
     ("Ax Ey x=y+y", "(Ax (Ey {msd_2 x=(y+y)}))"),
     (
@@ -251,7 +254,10 @@ static TREES: [(&str, &str); 69] = [
         "(x=1 | y=2) & z=3",
         "(({msd_2 x=1} | {msd_2 y=2}) & {msd_2 z=3})",
     ),
-    // From the left.
+];
+
+// From the left.
+static FROM_THE_LEFT: [(&str, &str); 8] = [
     ("x-1+y-2=z", "{msd_2 (((x-1)+y)-2)=z}"),
     ("x-(1+y)=z", "{msd_2 (x-(1+y))=z}"),
     (
@@ -278,7 +284,10 @@ static TREES: [(&str, &str); 69] = [
         "(x=1 => y=2) => z=3",
         "(({msd_2 x=1} => {msd_2 y=2}) => {msd_2 z=3})",
     ),
-    // How far a system holds.
+];
+
+// How far a system holds, and parentheses of a term and of a formula.
+static SYSTEMS: [(&str, &str); 15] = [
     ("(?lsd_2 x=1) & y=2", "((?lsd_2 {lsd_2 x=1}) & {msd_2 y=2})"),
     ("?lsd_2 x=1 & y=2", "((?lsd_2 {lsd_2 x=1}) & {lsd_2 y=2})"),
     (
@@ -301,7 +310,10 @@ static TREES: [(&str, &str); 69] = [
     ("2*(x+y)=z", "{msd_2 (2*(x+y))=z}"),
     ("(x+y)*2=z", "{msd_2 ((x+y)*2)=z}"),
     ("2*x*3=z", "{msd_2 (2*x*3)=z}"),
-    // Divisors, from the left.
+];
+
+// Divisors, from the left.
+static DIVISORS: [(&str, &str); 14] = [
     ("x/3=y", "{msd_2 (x/3)=y}"),
     ("x/1=y", "{msd_2 (x/1)=y}"),
     ("2*x/3*4=y", "{msd_2 (2*x/3*4)=y}"),
@@ -319,7 +331,10 @@ static TREES: [(&str, &str); 69] = [
         "x/18446744073709551615=0",
         "{msd_2 (x/18446744073709551615)=0}",
     ),
-    // For infinitely many.
+];
+
+// For infinitely many.
+static QUANTIFIED: [(&str, &str); 5] = [
     ("Ix x=1", "(Ix {msd_2 x=1})"),
     ("Ix Ey x=2*y", "(Ix (Ey {msd_2 x=(2*y)}))"),
     (
@@ -328,7 +343,10 @@ static TREES: [(&str, &str); 69] = [
     ),
     ("~?lsd_2 ~Ix x=1", "(~(?lsd_2 (~(Ix {lsd_2 x=1}))))"),
     ("IaI aI=1", "(IaI {msd_2 aI=1})"),
-    // Letters, words and calls.
+];
+
+// Letters, words and calls, and relations, names and numerals.
+static NAMED: [(&str, &str); 14] = [
     ("@-1!=T[0][1]", "{msd_2 @-1!=T[0][1]}"),
     ("@ - 1 != T[0][1]", "{msd_2 @-1!=T[0][1]}"),
     ("T[0]=@2147483647", "{msd_2 T[0]=@2147483647}"),
@@ -348,5 +366,10 @@ static TREES: [(&str, &str); 69] = [
 
 #[test]
 fn texts_have_these_trees(rt: HostRuntime) {
-    expect_answers(&rt, rt.alloc(), Asked::Tree, &TREES);
+    expect_answers(&rt, rt.alloc(), Asked::Tree, &BINDING);
+    expect_answers(&rt, rt.alloc(), Asked::Tree, &FROM_THE_LEFT);
+    expect_answers(&rt, rt.alloc(), Asked::Tree, &SYSTEMS);
+    expect_answers(&rt, rt.alloc(), Asked::Tree, &DIVISORS);
+    expect_answers(&rt, rt.alloc(), Asked::Tree, &QUANTIFIED);
+    expect_answers(&rt, rt.alloc(), Asked::Tree, &NAMED);
 }

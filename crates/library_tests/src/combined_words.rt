@@ -1,6 +1,6 @@
 //! Words of several relations: the line of the step and some letters, or why there is no word.
 
-use crate::outcomes::{expect, letter_text, lines_of};
+use crate::outcomes::{after_lines, expect, letter_text};
 use crate::reading_steps::{Base, relation_over, systems_for};
 use crate::row_fault::RowFault;
 use combinations::combine::combine;
@@ -80,17 +80,26 @@ struct Row {
     wanted: &'static str,
 }
 
+// The letters of some words, or the fault.
+fn letters_or_fault(
+    alloc: Global,
+    word: &Result<Word, CombineFault>,
+    words: &[&[u32]],
+) -> Result<String, RowFault> {
+    match word {
+        Ok(word) => letters_of(alloc, word, words),
+        Err(fault) => Ok(format!(in alloc; "{fault:?}")?),
+    }
+}
+
 // The lines of the steps and the letters of some words, or the lines and the fault.
 fn combined(alloc: Global, row: &Row) -> Result<String, RowFault> {
     let parts = parts_of(alloc, row.list)?;
     let systems = systems_for(alloc, &[row.system], Direction::Msd)?;
     let mut steps = Steps::new(alloc, row.limit);
-    let answer = match word_of(alloc, &parts, &systems, row.rest, &mut steps)? {
-        Ok(word) => letters_of(alloc, &word, row.words)?,
-        Err(fault) => format!(in alloc; "{fault:?}")?,
-    };
-    let lines = lines_of(alloc, &steps)?;
-    Ok(format!(in alloc; "{lines}{answer}")?)
+    let word = word_of(alloc, &parts, &systems, row.rest, &mut steps)?;
+    let answer = letters_or_fault(alloc, &word, row.words)?;
+    after_lines(alloc, &steps, &answer)
 }
 
 // The numbers below 3 and those below 5, in msd_2.

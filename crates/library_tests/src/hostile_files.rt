@@ -4,6 +4,7 @@ use crate::outcomes::expect_value;
 use crate::row_fault::RowFault;
 use dfa_reading::{FileFault, read_relation};
 use std::alloc::Global;
+use std::process::Abort;
 
 // No row is longer.
 const LONGEST: usize = 16_777_216;
@@ -135,12 +136,13 @@ fn first_unread(alloc: Global, rows: &[(&[u8], usize)]) -> usize {
 
 #[test]
 fn files_are_read(rt: HostRuntime) {
-    expect_value(&rt, "files", &first_unread(rt.alloc(), &READ), &READ.len());
+    let rows: &[(&[u8], usize)] = &READ;
+    expect_value(&rt, "files", &first_unread(rt.alloc(), rows), &rows.len());
 }
 
 // Files that break the format, and the line at which each does: the first that is out of form, where there is none the first
 // with a target that is no state, and for a file that ends too early the line after its last.
-static BROKEN: [(&[u8], u64); 126] = [
+static BROKEN_ENDS: [(&[u8], u64); 19] = [
     // files that end too early
     (b"", 1),
     (b"\n", 2),
@@ -162,6 +164,10 @@ static BROKEN: [(&[u8], u64); 126] = [
     (b"false\n\n# so\n0 -> 0", 4),
     (b"false\nmsd_2\n0 1\n", 2),
     (b"true\n\n\n\0\n", 4),
+];
+
+// The same of first lines that are no header, and of names and directions of systems.
+static BROKEN_HEADERS: [(&[u8], u64); 26] = [
     // first lines that are no header
     (b"true false\n", 1),
     (b"true msd_2\n0 1\n", 1),
@@ -194,7 +200,10 @@ static BROKEN: [(&[u8], u64); 126] = [
     (b"msd_2 {0,1}\n0 1\n", 1),
     (b"{0,1} msd_2\n0 1\n", 1),
     (b"{0,1}msd_2\n0 1\n", 1),
-    // sets
+];
+
+// The same of sets.
+static BROKEN_SETS: [(&[u8], u64); 27] = [
     (b"{}\n0 1\n", 1),
     (b"{ }\n0 1\n", 1),
     (b"{0} {}\n0 1\n", 1),
@@ -222,6 +231,10 @@ static BROKEN: [(&[u8], u64); 126] = [
     (b"{2147483648}\n0 1\n", 1),
     (b"{-2147483649}\n0 1\n", 1),
     (b"{1000000000000000000000000000000000000000}\n0 1\n", 1),
+];
+
+// The same of states.
+static BROKEN_STATES: [(&[u8], u64); 26] = [
     // transitions before a state
     (b"msd_2\n0 -> 0\n", 2),
     (b"{0}\n\n* -> 0\n0 1\n", 3),
@@ -252,6 +265,10 @@ static BROKEN: [(&[u8], u64); 126] = [
     // a state given twice
     (b"msd_2\n0 1\n0 -> 0\n0 0\n", 4),
     (b"msd_2\n0 1\n1 1\n00 1\n", 4),
+];
+
+// The same of digits and targets.
+static BROKEN_LINES: [(&[u8], u64); 28] = [
     // digits
     (b"msd_2\n0 1\n2 -> 0\n", 3),
     (b"msd_fib\n0 1\n0 -> 0\n2 -> 0\n", 4),
@@ -337,14 +354,20 @@ fn first_unbroken(alloc: Global, rows: &[(&[u8], u64)]) -> usize {
     count
 }
 
+// Asserts that each of these files breaks the format at its line.
+fn expect_broken(rt: &impl Abort, alloc: Global, row: &str, rows: &[(&[u8], u64)]) {
+    expect_value(rt, row, &first_unbroken(alloc, rows), &rows.len());
+}
+
 #[test]
 fn files_break_at_their_lines(rt: HostRuntime) {
-    let broken = first_unbroken(rt.alloc(), &BROKEN);
-    expect_value(&rt, "broken files", &broken, &BROKEN.len());
-    let missing = first_unbroken(rt.alloc(), &MISSING);
-    expect_value(&rt, "missing targets", &missing, &MISSING.len());
-    let bytes = first_unbroken(rt.alloc(), &BYTES);
-    expect_value(&rt, "bytes", &bytes, &BYTES.len());
+    expect_broken(&rt, rt.alloc(), "ends", &BROKEN_ENDS);
+    expect_broken(&rt, rt.alloc(), "headers", &BROKEN_HEADERS);
+    expect_broken(&rt, rt.alloc(), "sets", &BROKEN_SETS);
+    expect_broken(&rt, rt.alloc(), "states", &BROKEN_STATES);
+    expect_broken(&rt, rt.alloc(), "digits and targets", &BROKEN_LINES);
+    expect_broken(&rt, rt.alloc(), "missing targets", &MISSING);
+    expect_broken(&rt, rt.alloc(), "bytes", &BYTES);
 }
 
 // A prefix, a part so many times, and an end, and the line at which they break the format, or None where they are read.
@@ -453,6 +476,7 @@ fn first_other(alloc: Global, files: &[LongFile]) -> Result<usize, RowFault> {
 
 #[test]
 fn files_may_be_long(rt: HostRuntime) {
-    let found = first_other(rt.alloc(), &LONG).ok();
-    expect_value(&rt, "long files", &found, &Some(LONG.len()));
+    let rows: &[LongFile] = &LONG;
+    let found = first_other(rt.alloc(), rows).ok();
+    expect_value(&rt, "long files", &found, &Some(rows.len()));
 }

@@ -64,6 +64,13 @@ pub fn lines_of(alloc: Global, steps: &Steps) -> Result<String, RowFault> {
     Ok(text)
 }
 
+/// The lines of steps, and after them what the steps give.
+pub fn after_lines(alloc: Global, steps: &Steps, answer: &str) -> Result<String, RowFault> {
+    let mut text = lines_of(alloc, steps)?;
+    text.push_str(answer)?;
+    Ok(text)
+}
+
 // The text of a step's line.
 fn line_text(alloc: Global, line: StepLine) -> Result<String, RowFault> {
     let kind = line.kind.name();

@@ -1,8 +1,9 @@
 //! Fixed points of morphisms: the line of the step and the letters at the first places, or why there is no word.
 
-use crate::outcomes::{expect, letter_text, lines_of};
+use crate::outcomes::{after_lines, expect, letter_text};
 use crate::row_fault::RowFault;
 use digit_tuple::steps::Steps;
+use fixed_points::promote_fault::PromoteFault;
 use fixed_points::promotion::promote;
 use morph_words::Morphism;
 use std::alloc::Global;
@@ -27,16 +28,25 @@ fn letters_of(alloc: Global, word: &Word, base: u32) -> Result<String, RowFault>
     Ok(text)
 }
 
+// The letters at the first places, or the fault.
+fn letters_or_fault(
+    alloc: Global,
+    word: &Result<Word, PromoteFault>,
+    base: u32,
+) -> Result<String, RowFault> {
+    match word {
+        Ok(word) => letters_of(alloc, word, base),
+        Err(fault) => Ok(format!(in alloc; "{fault:?}")?),
+    }
+}
+
 // The lines of the steps, and the letters of the fixed point of rules in this base; or the lines and the fault.
 fn promoted(alloc: Global, rules: &str, limit: u32, base: u32) -> Result<String, RowFault> {
     let morphism = Morphism::parse(alloc, rules.as_bytes())?;
     let mut steps = Steps::new(alloc, limit);
-    let answer = match promote(alloc, &morphism, &mut steps) {
-        Ok(word) => letters_of(alloc, &word, base)?,
-        Err(fault) => format!(in alloc; "{fault:?}")?,
-    };
-    let lines = lines_of(alloc, &steps)?;
-    Ok(format!(in alloc; "{lines}{answer}")?)
+    let word = promote(alloc, &morphism, &mut steps);
+    let answer = letters_or_fault(alloc, &word, base)?;
+    after_lines(alloc, &steps, &answer)
 }
 
 // Rules, the limit, the base of the word, and what is given: the line of the step and the letters at the places 0 to 7, or the fault

@@ -1,6 +1,7 @@
 //! Calls of automata: what is printed of scripts over stores that hold files.
 
 use crate::no_answer::NoAnswer;
+use crate::tables::{ROW_END, first_field, table};
 use crate::whole::{Ran, SURE, code_of, expect, expect_printed, run_over, run_script};
 use std::alloc::Global;
 use wal_outside::{Folder, MemStore, TEXT_LIMIT};
@@ -9,7 +10,7 @@ use wal_outside::{Folder, MemStore, TEXT_LIMIT};
 type FileRow = (&'static str, &'static str);
 
 /// Scripts that call what they made before, and what they print.
-static CALLS: [(&str, &str); 22] = [
+const CALLS: &str = table![
     (
         "reg one msd_2 \"1\"; eval t \"$one(1) & ~$one(2)\";",
         "TRUE\n",
@@ -184,7 +185,8 @@ fn run_with(alloc: Global, name: &str, text: &[u8], script: &str) -> Ran {
 
 #[test]
 fn calls_print_as_listed(rt: HostRuntime) {
-    for (script, printed) in &CALLS {
+    for row in CALLS.split_terminator(ROW_END) {
+        let (script, printed) = first_field(row);
         let ran = run_script(rt.alloc(), script.as_bytes());
         expect_printed(&rt, script, &ran, printed);
     }

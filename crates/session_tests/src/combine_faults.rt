@@ -1,10 +1,11 @@
 //! Automata that are combined or not: the first fault of commands.
 
-use crate::combine_files::COMBINED;
-use crate::given::{ScriptRow, expect_scripts};
+use crate::combine_files::combined;
+use crate::given::expect_scripts;
+use crate::tables::table;
 
 /// Scripts of one command, refused or not.
-static REFUSED: [ScriptRow; 79] = [
+const REFUSED: &str = table![
     (
         "combine C g;",
         "error 1: F11 Unknown Automata Library/g\n",
@@ -398,5 +399,5 @@ static REFUSED: [ScriptRow; 79] = [
 
 #[test]
 fn words_are_combined_or_refused_as_listed(rt: HostRuntime) {
-    expect_scripts(&rt, rt.alloc(), &COMBINED, "walnut", &REFUSED);
+    expect_scripts(&rt, rt.alloc(), combined(), "walnut", REFUSED);
 }

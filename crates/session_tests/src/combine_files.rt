@@ -4,7 +4,7 @@ use crate::given::FileRow;
 use wal_outside::Folder;
 
 /// Automata over systems, over sets and without tracks, files that break their format, and systems of users.
-pub static COMBINED: [FileRow; 35] = [
+static COMBINED: [FileRow; 35] = [
     (Folder::Bases, "msd_bin", "{0,1}\n0 1\n* -> 0\n"),
     (
         Folder::Bases,
@@ -97,3 +97,8 @@ pub static COMBINED: [FileRow; 35] = [
     ),
     (Folder::Automata, "fibs", "msd_fib\n0 1\n* -> 0\n"),
 ];
+
+/// The files in `COMBINED`.
+pub fn combined() -> &'static [FileRow] {
+    &COMBINED
+}

@@ -1,12 +1,13 @@
 //! Automata combined to words in commands: letters in formulas, stores that fail and limits.
 
-use crate::combine_files::COMBINED;
-use crate::given::{FailingRow, ScriptRow, expect_failing, expect_scripts, run_given};
+use crate::combine_files::combined;
+use crate::given::{FailingRow, expect_failing, expect_scripts, run_given};
+use crate::tables::table;
 use crate::whole::{Ran, ended, expect, expect_printed};
 use std::alloc::Global;
 
 /// Scripts with words that they make.
-static READ: [ScriptRow; 19] = [
+const READ: &str = table![
     (
         "def p \"x<3\"; def q \"x<5\"; combine C p=7 q=9; eval t \"C[0]=@7 & C[2]=@7 & C[3]=@9 & C[4]=@9 & C[5]=@0 & C[100]=@0\";",
         "TRUE\n",
@@ -269,7 +270,7 @@ static LIMITS: [(u32, &str, &str, u8, usize); 12] = [
 
 #[test]
 fn combined_words_stand_in_formulas(rt: HostRuntime) {
-    expect_scripts(&rt, rt.alloc(), &COMBINED, "walnut", &READ);
+    expect_scripts(&rt, rt.alloc(), combined(), "walnut", READ);
 }
 
 #[test]
@@ -281,7 +282,7 @@ fn a_store_that_fails_at_automata_of_a_word(rt: HostRuntime) {
 /// Runs a script where no step may be wider than this.
 fn run_within(alloc: Global, limit: u32, script: &str) -> Ran {
     let line = format!(in alloc; "walnut --states {limit}")?;
-    run_given(alloc, &COMBINED, &line, script)
+    run_given(alloc, combined(), &line, script)
 }
 
 #[test]

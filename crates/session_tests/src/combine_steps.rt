@@ -1,10 +1,11 @@
 //! Automata combined to words in commands: the lines of the steps, and what is stored.
 
-use crate::combine_files::COMBINED;
-use crate::given::{ScriptRow, expect_scripts};
+use crate::combine_files::combined;
+use crate::given::expect_scripts;
+use crate::tables::table;
 
 /// Scripts that show their steps, over an empty store.
-static SHOWN: [ScriptRow; 36] = [
+const SHOWN: &str = table![
     (
         "def p \"x<3\"; def q \"x<5\"; combine C p=7 q=9:",
         "step 1 read 4 3\nstep 2 pad 4 3\nstep 3 valid 4 3\nstep 4 read 5 4\nstep 5 pad 5 4\nstep 6 valid 5 4\nstep 7 combine 5 5\n",
@@ -224,7 +225,7 @@ static SHOWN: [ScriptRow; 36] = [
 ];
 
 /// Scripts that show their steps, over the files.
-static READ: [ScriptRow; 15] = [
+const READ: &str = table![
     (
         "combine C odd:",
         "step 1 read 2 2\nstep 2 pad 3 2\nstep 3 valid 2 2\nstep 4 combine 2 2\n",
@@ -319,6 +320,6 @@ static READ: [ScriptRow; 15] = [
 
 #[test]
 fn combined_words_show_their_steps(rt: HostRuntime) {
-    expect_scripts(&rt, rt.alloc(), &[], "walnut", &SHOWN);
-    expect_scripts(&rt, rt.alloc(), &COMBINED, "walnut", &READ);
+    expect_scripts(&rt, rt.alloc(), &[], "walnut", SHOWN);
+    expect_scripts(&rt, rt.alloc(), combined(), "walnut", READ);
 }

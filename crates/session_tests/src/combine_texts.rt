@@ -1,11 +1,11 @@
 //! Words of combined automata, as they are stored.
 
-use crate::combine_files::COMBINED;
-use crate::given::{StoredRow, expect_texts};
-use wal_outside::Folder;
+use crate::combine_files::combined;
+use crate::given::expect_texts;
+use crate::tables::table;
 
 /// Scripts, and the words that they store.
-static STORED: [StoredRow; 49] = [
+const STORED: &str = table![
     (
         "def p \"x<3\"; def q \"x<5\"; combine C p=7 q=9;",
         Folder::Words,
@@ -304,5 +304,5 @@ static STORED: [StoredRow; 49] = [
 
 #[test]
 fn combined_words_are_stored_as_listed(rt: HostRuntime) {
-    expect_texts(&rt, rt.alloc(), &COMBINED, &STORED);
+    expect_texts(&rt, rt.alloc(), combined(), STORED);
 }

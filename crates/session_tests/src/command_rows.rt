@@ -1,8 +1,8 @@
 //! How a script is cut into commands, and how a command's head is read: what is printed, the status and what is stored.
 
-use crate::rows::Row;
+use crate::tables::table;
 
-pub static COMMANDS: [Row; 50] = [
+pub const COMMANDS: &str = table![
     Row {
         script: "prove a;",
         printed: "error 1: F01 Command\n",

@@ -1,13 +1,14 @@
 //! The first faults of changes of base.
 
-use crate::convert_files::CONVERTED;
-use crate::given::{FailingRow, ScriptRow, expect_scripts, run_failing};
+use crate::convert_files::converted;
+use crate::given::{FailingRow, expect_scripts, run_failing};
+use crate::tables::table;
 use crate::whole::{ended, expect, expect_printed};
 use std::alloc::Global;
 use std::process::Abort;
 
 /// Scripts of commands that are refused.
-static REFUSED: [ScriptRow; 82] = [
+const REFUSED: &str = table![
     ("convert;", "error 1: F02 Syntax in command at 7\n", 1, 27),
     ("convert V;", "error 1: F02 Syntax in command at 9\n", 1, 27),
     (
@@ -484,7 +485,7 @@ static REFUSED: [ScriptRow; 82] = [
 
 #[test]
 fn changes_of_base_are_refused_by_their_first_fault(rt: HostRuntime) {
-    expect_scripts(&rt, rt.alloc(), &CONVERTED, "walnut", &REFUSED);
+    expect_scripts(&rt, rt.alloc(), converted(), "walnut", REFUSED);
 }
 
 /// A call of the store that fails, what is printed then, the status, and how many texts the store has.
@@ -500,7 +501,7 @@ static UNREAD: [FailingRow; 1] = [(2, "error 1: F34 NotRelated msd_2 msd_bin\n",
 /// Asserts that a script of which a call of the store fails prints what is listed, and ends so.
 fn expect_failing_so(rt: &impl Abort, alloc: Global, script: &str, rows: &[FailingRow]) {
     for (failing, printed, code, count) in rows {
-        let ran = run_failing(alloc, &CONVERTED, script, *failing);
+        let ran = run_failing(alloc, converted(), script, *failing);
         expect_printed(rt, script, &ran, printed);
         expect(rt, script, &ended(&ran), &(*code, *count));
     }

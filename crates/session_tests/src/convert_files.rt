@@ -7,7 +7,7 @@ use wal_outside::Folder;
 /// `T` is the Thue-Morse word, `L` the same with the least digit first, `R` the Rudin-Shapiro word and `D` the period-doubling word; `M`,
 /// `S`, `B`, `P` and `Q` are sums of digits over bases 3, 6, 36, 40 and 25, and `N` has two letters over base 9; `G`, `H`, `O`, `Y`, `Z` and `C` lack letters;
 /// `F`, `J` and `U` are not over one base; `X`, `K` and `W` are over systems that are not there or not admitted, and `V` breaks the format.
-pub static CONVERTED: [FileRow; 27] = [
+static CONVERTED: [FileRow; 27] = [
     (
         Folder::Words,
         "T",
@@ -101,8 +101,13 @@ pub static CONVERTED: [FileRow; 27] = [
     ),
 ];
 
+/// The files in `CONVERTED`.
+pub fn converted() -> &'static [FileRow] {
+    &CONVERTED
+}
+
 /// Words whose steps are wide.
-pub static WIDE_WORDS: [FileRow; 6] = [
+static WIDE_WORDS: [FileRow; 6] = [
     (
         Folder::Words,
         "W1",
@@ -134,3 +139,8 @@ pub static WIDE_WORDS: [FileRow; 6] = [
         "msd_3\n0 0\n0 -> 0\n1 -> 3\n2 -> 0\n1 1\n0 -> 0\n1 -> 2\n2 -> 3\n2 1\n0 -> 3\n1 -> 4\n2 -> 0\n3 1\n0 -> 2\n1 -> 0\n2 -> 1\n4 1\n0 -> 4\n1 -> 1\n2 -> 0\n",
     ),
 ];
+
+/// The files in `WIDE_WORDS`.
+pub fn wide_words() -> &'static [FileRow] {
+    &WIDE_WORDS
+}

@@ -1,10 +1,11 @@
 //! The lines of the steps of changes of base, at their limits too, and theorems on words over other bases.
 
-use crate::convert_files::{CONVERTED, WIDE_WORDS};
-use crate::given::{ScriptRow, expect_scripts};
+use crate::convert_files::{converted, wide_words};
+use crate::given::{expect_script, expect_scripts};
+use crate::tables::{ROW_END, first_field, table};
 
 /// Scripts that show their steps.
-static SHOWN: [ScriptRow; 42] = [
+const SHOWN: &str = table![
     (
         "convert New msd_4 T:",
         "step 1 read 2 2\nstep 2 pad 3 2\nstep 3 valid 2 2\nstep 4 reverse 2 2\nstep 5 join 2 2\nstep 6 reverse 2 2\n",
@@ -261,11 +262,11 @@ static SHOWN: [ScriptRow; 42] = [
 
 #[test]
 fn changes_of_base_show_their_steps(rt: HostRuntime) {
-    expect_scripts(&rt, rt.alloc(), &CONVERTED, "walnut", &SHOWN);
+    expect_scripts(&rt, rt.alloc(), converted(), "walnut", SHOWN);
 }
 
 /// Scripts in which commands read what others made.
-static SEQUENCES: [ScriptRow; 9] = [
+const SEQUENCES: &str = table![
     (
         "convert V msd_4 T: convert W msd_4 V:",
         "step 1 read 2 2\nstep 2 pad 3 2\nstep 3 valid 2 2\nstep 4 reverse 2 2\nstep 5 join 2 2\nstep 6 reverse 2 2\nstep 1 read 2 2\nstep 2 pad 3 2\nstep 3 valid 2 2\nstep 4 reverse 2 2\nstep 5 split 6 2\nstep 6 join 2 2\nstep 7 reverse 2 2\n",
@@ -308,7 +309,7 @@ static SEQUENCES: [ScriptRow; 9] = [
 ];
 
 /// Theorems on words that commands made.
-static THEOREMS: [ScriptRow; 5] = [
+const THEOREMS: &str = table![
     (
         "morphism h \"0->01 1->10\"; promote T h; convert V msd_4 T; convert L lsd_2 V; eval z \"?msd_4 V[0]=@0 & V[1]=@1 & V[2]=@1 & V[3]=@0 & V[7]=@1\";",
         "TRUE\n",
@@ -343,15 +344,12 @@ static THEOREMS: [ScriptRow; 5] = [
 
 #[test]
 fn changes_of_base_read_what_commands_made(rt: HostRuntime) {
-    expect_scripts(&rt, rt.alloc(), &CONVERTED, "walnut", &SEQUENCES);
-    expect_scripts(&rt, rt.alloc(), &[], "walnut", &THEOREMS);
+    expect_scripts(&rt, rt.alloc(), converted(), "walnut", SEQUENCES);
+    expect_scripts(&rt, rt.alloc(), &[], "walnut", THEOREMS);
 }
 
 /// Words of a command line, and a script that has its greatest width as limit, or one less.
-type LimitRow = (&'static str, ScriptRow);
-
-/// Steps at their widths, and at one less.
-static LIMITS: [LimitRow; 14] = [
+const LIMITS: &str = table![
     (
         "walnut --states 41",
         (
@@ -482,7 +480,8 @@ static LIMITS: [LimitRow; 14] = [
 
 #[test]
 fn changes_of_base_past_the_limit_are_refused(rt: HostRuntime) {
-    for (line, row) in &LIMITS {
-        expect_scripts(&rt, rt.alloc(), &WIDE_WORDS, line, &[*row]);
+    for row in LIMITS.split_terminator(ROW_END) {
+        let (line, row) = first_field(row);
+        expect_script(&rt, rt.alloc(), wide_words(), line, row);
     }
 }

@@ -1,11 +1,11 @@
-//! Words over other bases, from an independent program.
+//! Words over other bases, from an independent program. Of all rows, over sixteen words, the letters below 10,000 are those of the old word.
 
-use crate::convert_files::CONVERTED;
-use crate::given::{StoredRow, expect_texts};
-use wal_outside::Folder;
+use crate::convert_files::converted;
+use crate::given::expect_texts;
+use crate::tables::table;
 
 /// Scripts, and the words that they leave.
-static FIRST_TEXTS: [StoredRow; 12] = [
+const FIRST_TEXTS: &str = table![
     (
         "convert New msd_4 T;",
         Folder::Words,
@@ -81,7 +81,7 @@ static FIRST_TEXTS: [StoredRow; 12] = [
 ];
 
 /// Scripts, and the words that they leave, continued.
-static SECOND_TEXTS: [StoredRow; 7] = [
+const SECOND_TEXTS: &str = table![
     (
         "convert New lsd_27 M;",
         Folder::Words,
@@ -127,7 +127,7 @@ static SECOND_TEXTS: [StoredRow; 7] = [
 ];
 
 /// Scripts, and the words that they leave, continued.
-static THIRD_TEXTS: [StoredRow; 5] = [
+const THIRD_TEXTS: &str = table![
     (
         "convert New msd_40 P;",
         Folder::Words,
@@ -161,7 +161,7 @@ static THIRD_TEXTS: [StoredRow; 5] = [
 ];
 
 /// Scripts, and the words that they leave, continued.
-static FOURTH_TEXTS: [StoredRow; 11] = [
+const FOURTH_TEXTS: &str = table![
     (
         "convert New lsd_27 N;",
         Folder::Words,
@@ -231,7 +231,7 @@ static FOURTH_TEXTS: [StoredRow; 11] = [
 ];
 
 /// Scripts, and the words that they leave, continued.
-static FIFTH_TEXTS: [StoredRow; 4] = [
+const FIFTH_TEXTS: &str = table![
     (
         "convert New msd_2 Z;",
         Folder::Words,
@@ -259,7 +259,7 @@ static FIFTH_TEXTS: [StoredRow; 4] = [
 ];
 
 /// Scripts, and the words that they leave, continued.
-static SIXTH_TEXTS: [StoredRow; 3] = [
+const SIXTH_TEXTS: &str = table![
     (
         "convert New msd_2 C;",
         Folder::Words,
@@ -282,30 +282,30 @@ static SIXTH_TEXTS: [StoredRow; 3] = [
 
 #[test]
 fn first_words_are_changed_to_other_bases(rt: HostRuntime) {
-    expect_texts(&rt, rt.alloc(), &CONVERTED, &FIRST_TEXTS);
+    expect_texts(&rt, rt.alloc(), converted(), FIRST_TEXTS);
 }
 
 #[test]
 fn second_words_are_changed_to_other_bases(rt: HostRuntime) {
-    expect_texts(&rt, rt.alloc(), &CONVERTED, &SECOND_TEXTS);
+    expect_texts(&rt, rt.alloc(), converted(), SECOND_TEXTS);
 }
 
 #[test]
 fn third_words_are_changed_to_other_bases(rt: HostRuntime) {
-    expect_texts(&rt, rt.alloc(), &CONVERTED, &THIRD_TEXTS);
+    expect_texts(&rt, rt.alloc(), converted(), THIRD_TEXTS);
 }
 
 #[test]
 fn fourth_words_are_changed_to_other_bases(rt: HostRuntime) {
-    expect_texts(&rt, rt.alloc(), &CONVERTED, &FOURTH_TEXTS);
+    expect_texts(&rt, rt.alloc(), converted(), FOURTH_TEXTS);
 }
 
 #[test]
 fn fifth_words_are_changed_to_other_bases(rt: HostRuntime) {
-    expect_texts(&rt, rt.alloc(), &CONVERTED, &FIFTH_TEXTS);
+    expect_texts(&rt, rt.alloc(), converted(), FIFTH_TEXTS);
 }
 
 #[test]
 fn sixth_words_are_changed_to_other_bases(rt: HostRuntime) {
-    expect_texts(&rt, rt.alloc(), &CONVERTED, &SIXTH_TEXTS);
+    expect_texts(&rt, rt.alloc(), converted(), SIXTH_TEXTS);
 }

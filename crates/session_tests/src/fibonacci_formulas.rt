@@ -1,6 +1,7 @@
 //! Formulas over the Fibonacci system: sums against arithmetic, and theorems on the infinite Fibonacci word.
 
 use crate::no_answer::NoAnswer;
+use crate::tables::{ROW_END, first_field, table};
 use crate::whole::{Ran, expect, expect_printed, printed_in, run_script};
 use std::alloc::{AllocError, Global};
 use std::process::Abort;
@@ -66,7 +67,7 @@ static NOTIONS: [(&str, &str); 3] = [
 /// Statements, and whether they are true, after Mousavi, Schaeffer and Shallit, "Decision algorithms for
 /// Fibonacci-automatic words, I": cubes and no fourth power; no period from some place on; halves of squares and least
 /// periods are the Fibonacci numbers; palindromes of each length; no two letters 1 and no three letters 0 side by side.
-static STATEMENTS: [(&str, &str); 8] = [
+const STATEMENTS: &str = table![
     ("Ei,n n>0 & (At t<2*n => ($f(i+t) <=> $f(i+n+t)))", "TRUE\n"),
     (
         "Ei,n n>0 & (At t<3*n => ($f(i+t) <=> $f(i+n+t)))",
@@ -106,7 +107,8 @@ fn run_statement(alloc: Global, system: &str, word: &str, statement: &str) -> Ra
 }
 
 fn expect_statements(rt: &impl Abort, alloc: Global, system: &str, word: &str) {
-    for (statement, printed) in &STATEMENTS {
+    for row in STATEMENTS.split_terminator(ROW_END) {
+        let (statement, printed) = first_field(row);
         let ran = run_statement(alloc, system, word, statement);
         expect_printed(rt, statement, &ran, printed);
     }

@@ -1,8 +1,8 @@
 //! Expressions over the Fibonacci system: what is printed, the status and what is stored.
 
-use crate::rows::Row;
+use crate::tables::table;
 
-pub static FIBONACCI: [Row; 17] = [
+pub const FIBONACCI: &str = table![
     Row {
         script: "reg all msd_fib \"(0|1)*\":",
         printed: "step 1 regex 3 1\nstep 2 pad 2 1\nstep 3 valid 3 2\n",

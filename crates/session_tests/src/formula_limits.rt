@@ -1,6 +1,7 @@
 //! Formulas at their limits, and over a source, a sink and a store that fail.
 
 use crate::no_answer::NoAnswer;
+use crate::tables::{ROW_END, first_field, table};
 use crate::whole::{
     Outside, Ran, SURE, code_of, count_in, expect, expect_printed, expect_stored, is_stored,
     over_sink, run_line, run_script,
@@ -9,7 +10,7 @@ use std::alloc::Global;
 use wal_outside::Folder;
 
 /// What opens nesting, what closes it, and the fault of 129 of these.
-static NESTING: [(&str, &str, &str); 4] = [
+const NESTING: &str = table![
     ("(", ")", "error 1: F06 Depth in formula at 128\n"),
     ("~", "", "error 1: F06 Depth in formula at 128\n"),
     ("Ex ", "", "error 1: F06 Depth in formula at 384\n"),
@@ -27,7 +28,9 @@ fn run_nested(alloc: Global, open: &str, close: &str, depth: usize) -> Ran {
 // Of each 128 may be within one another, and 129 may not.
 #[test]
 fn formulas_nest_128_deep(rt: HostRuntime) {
-    for (open, close, fault) in &NESTING {
+    for row in NESTING.split_terminator(ROW_END) {
+        let (open, rest) = first_field(row);
+        let (close, fault) = first_field(rest);
         let most = run_nested(rt.alloc(), open, close, 128);
         expect(&rt, open, &code_of(&most), &0);
         let more = run_nested(rt.alloc(), open, close, 129);

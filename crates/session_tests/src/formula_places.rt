@@ -1,11 +1,12 @@
 //! Faults at the begin, in the middle and at the end of a formula, among commands that are answered.
 
+use crate::tables::{ROW_END, first_field, table};
 use crate::whole::{Ran, count_in, expect, expect_printed, run_script};
 use std::alloc::Global;
 use std::process::Abort;
 
 /// A formula, and what is printed of it and the true sentence after it.
-static PLACES: [(&str, &str); 28] = [
+const PLACES: &str = table![
     (
         "x+=1 & p=1 & q=2",
         "error 1: F02 Syntax in formula at 2\nTRUE\n",
@@ -125,7 +126,8 @@ fn expect_refused_alone(rt: &impl Abort, formula: &str, ran: &Ran, printed: &str
 
 #[test]
 fn faults_have_their_place(rt: HostRuntime) {
-    for (formula, printed) in &PLACES {
+    for row in PLACES.split_terminator(ROW_END) {
+        let (formula, printed) = first_field(row);
         let decided = run_between(rt.alloc(), "eval", formula);
         expect_refused_alone(&rt, formula, &decided, printed);
         let defined = run_between(rt.alloc(), "def", formula);

@@ -1,11 +1,12 @@
 //! Formulas: what is printed of their steps and of their truth, and the faults by which they are refused.
 
+use crate::tables::{ROW_END, first_field, table};
 use crate::whole::{Ran, SURE, ended, expect, expect_printed, run_line};
 use std::alloc::Global;
 use std::process::Abort;
 
 /// A command, and the lines of its steps with the verdict after them.
-static STEPS: [(&str, &str); 26] = [
+const STEPS: &str = table![
     (
         "eval a \"Ex x+x=0\":",
         "step 1 const 2 1\nstep 2 product 6 2\nstep 3 project 3 2\nstep 4 product 5 1\nstep 5 project 2 1\nstep 6 project 1 1\nTRUE\n",
@@ -115,7 +116,7 @@ static LIMITS: [(&str, &str, &str, u8); 6] = [
 ];
 
 /// A command that is refused, and the line of its fault.
-static FAULTS: [(&str, &str); 33] = [
+const FAULTS: &str = table![
     (
         "eval a \"x=1 | y=2 & z=3\";",
         "error 1: F03 MixedChain at 10\n",
@@ -225,7 +226,8 @@ fn expect_run(rt: &impl Abort, script: &str, ran: &Ran, printed: &str, code: u8)
 
 #[test]
 fn steps_of_formulas_are_shown(rt: HostRuntime) {
-    for (script, printed) in &STEPS {
+    for row in STEPS.split_terminator(ROW_END) {
+        let (script, printed) = first_field(row);
         let ran = run_under(rt.alloc(), "100000", script);
         expect_run(&rt, script, &ran, printed, 0);
     }
@@ -233,7 +235,8 @@ fn steps_of_formulas_are_shown(rt: HostRuntime) {
 
 #[test]
 fn formulas_are_refused_by_their_first_fault(rt: HostRuntime) {
-    for (script, printed) in &FAULTS {
+    for row in FAULTS.split_terminator(ROW_END) {
+        let (script, printed) = first_field(row);
         let ran = run_under(rt.alloc(), "100000", script);
         expect_run(&rt, script, &ran, printed, 1);
     }

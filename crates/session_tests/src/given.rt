@@ -1,7 +1,10 @@
 //! Runs over stores that hold given files, and tables of such runs.
 
 use crate::no_answer::NoAnswer;
-use crate::whole::{Outside, Ran, SURE, ended, expect, expect_printed, expect_stored, run_over};
+use crate::tables::{ROW_END, first_field, folder_of, numbers_of};
+use crate::whole::{
+    Outside, Ran, SURE, ended, expect, expect_bytes, expect_printed, expect_stored, run_over,
+};
 use std::alloc::Global;
 use std::process::Abort;
 use wal_outside::{Folder, MemStore};
@@ -9,17 +12,11 @@ use wal_outside::{Folder, MemStore};
 /// A file, by its folder, its name and its text.
 pub type FileRow = (Folder, &'static str, &'static str);
 
-/// A script, what it prints, the status, and how many texts the store has then.
-pub type ScriptRow = (&'static str, &'static str, u8, usize);
-
-/// A script, and a folder, a name and the text that it leaves there.
-pub type StoredRow = (&'static str, Folder, &'static str, &'static str);
-
 /// The number of a call of the store that fails, what a script prints then, the status, and how many texts the store has.
 pub type FailingRow = (u64, &'static str, u8, usize);
 
 /// A store with these files. Its call of this number fails; none does where the number is 0.
-fn store_of(alloc: Global, files: &[FileRow], failing: u64) -> Result<MemStore, NoAnswer> {
+pub fn store_of(alloc: Global, files: &[FileRow], failing: u64) -> Result<MemStore, NoAnswer> {
     let mut store = MemStore::new(alloc, vec![in alloc; failing]?);
     for (folder, name, text) in files {
         store.put(*folder, name, text.as_bytes())?;
@@ -56,26 +53,48 @@ pub fn run_outside(alloc: Global, files: &[FileRow], script: &str, outside: &Out
     run_over(alloc, "walnut", script.as_bytes(), outside, store)
 }
 
-/// Asserts that each script prints what is listed, and ends so.
-pub fn expect_scripts(
-    rt: &impl Abort,
-    alloc: Global,
-    files: &[FileRow],
-    line: &str,
-    rows: &[ScriptRow],
-) {
-    for (script, printed, code, count) in rows {
-        let ran = run_given(alloc, files, line, script);
-        expect_printed(rt, script, &ran, printed);
-        expect(rt, script, &ended(&ran), &(*code, *count));
+/// Asserts that a run ended with the status that a field says, and with as many texts as the next one says.
+pub fn expect_end(rt: &impl Abort, script: &str, ran: &Ran, end: &str) {
+    match numbers_of(end) {
+        Some(end) => expect(rt, script, &ended(ran), &end),
+        None => expect_bytes(rt, script, end.as_bytes(), b"a status and a number"),
     }
 }
 
-/// Asserts that each script leaves the text that is listed.
-pub fn expect_texts(rt: &impl Abort, alloc: Global, files: &[FileRow], rows: &[StoredRow]) {
-    for (script, folder, name, text) in rows {
-        let ran = run_given(alloc, files, "walnut", script);
-        expect_stored(rt, &ran, (*folder, name), text);
+/// Asserts that the script of a row prints what the row says, and ends so: the fields are the script, what it prints, the
+/// status, and how many texts the store has then.
+pub fn expect_script(rt: &impl Abort, alloc: Global, files: &[FileRow], line: &str, row: &str) {
+    let (script, rest) = first_field(row);
+    let (printed, end) = first_field(rest);
+    let ran = run_given(alloc, files, line, script);
+    expect_printed(rt, script, &ran, printed);
+    expect_end(rt, script, &ran, end);
+}
+
+/// Asserts that each script of a table prints what is listed, and ends so.
+pub fn expect_scripts(rt: &impl Abort, alloc: Global, files: &[FileRow], line: &str, rows: &str) {
+    for row in rows.split_terminator(ROW_END) {
+        expect_script(rt, alloc, files, line, row);
+    }
+}
+
+/// Asserts that the script of a row leaves the text that the row says: the fields are the script, and a folder, a name and
+/// the text that is there then.
+fn expect_text(rt: &impl Abort, alloc: Global, files: &[FileRow], row: &str) {
+    let (script, rest) = first_field(row);
+    let (folder, rest) = first_field(rest);
+    let (name, text) = first_field(rest);
+    let ran = run_given(alloc, files, "walnut", script);
+    match folder_of(folder) {
+        Some(folder) => expect_stored(rt, &ran, (folder, name), text),
+        None => expect_bytes(rt, row, folder.as_bytes(), b"a folder"),
+    }
+}
+
+/// Asserts that each script of a table leaves the text that is listed.
+pub fn expect_texts(rt: &impl Abort, alloc: Global, files: &[FileRow], rows: &str) {
+    for row in rows.split_terminator(ROW_END) {
+        expect_text(rt, alloc, files, row);
     }
 }
 

@@ -4,7 +4,7 @@ use crate::given::FileRow;
 use wal_outside::Folder;
 
 /// Words over systems built in and of users, words that lack letters, of several inputs and in files that break their format; and rules.
-pub static IMAGED: [FileRow; 63] = [
+static IMAGED: [FileRow; 63] = [
     (Folder::Bases, "msd_bin", "{0,1}\n0 1\n* -> 0\n"),
     (
         Folder::Bases,
@@ -173,3 +173,8 @@ pub static IMAGED: [FileRow; 63] = [
     (Folder::Morphisms, "no6", "0->0 1->1 2->0 3->1 4->0 5->1\n"),
     (Folder::Morphisms, "no25", "0->0 1->1 3->1 4->0 6->1\n"),
 ];
+
+/// The files in `IMAGED`.
+pub fn imaged() -> &'static [FileRow] {
+    &IMAGED
+}

@@ -1,13 +1,14 @@
 //! Images of words in commands: letters in formulas, faults and their order, stores that fail and limits.
 
-use crate::given::{FailingRow, FileRow, ScriptRow, expect_scripts, run_failing, run_given};
-use crate::image_files::IMAGED;
+use crate::given::{FailingRow, FileRow, expect_scripts, run_failing, run_given};
+use crate::image_files::imaged;
+use crate::tables::table;
 use crate::whole::{Ran, ended, expect, expect_printed};
 use std::alloc::Global;
 use wal_outside::Folder;
 
 /// Scripts of one command, refused or not.
-static REFUSED: [ScriptRow; 68] = [
+const REFUSED: &str = table![
     (
         "image W k T;",
         "error 1: F11 Unknown Morphism Library/k\n",
@@ -264,7 +265,7 @@ static REFUSED: [ScriptRow; 68] = [
 ];
 
 /// Scripts with words that they make.
-static READ: [ScriptRow; 17] = [
+const READ: &str = table![
     (
         "image U g T; eval z \"U[2]=@1 & U[3]=@1 & U[5]=@0\"; eval y \"Ax U[3*x]=T[x] & U[3*x+1]=T[x] & U[3*x+2]!=T[x]\";",
         "TRUE\nTRUE\n",
@@ -463,12 +464,12 @@ static LIMITS: [(u32, &str, &str, u8, usize); 13] = [
 
 #[test]
 fn images_are_made_or_refused_as_listed(rt: HostRuntime) {
-    expect_scripts(&rt, rt.alloc(), &IMAGED, "walnut", &REFUSED);
+    expect_scripts(&rt, rt.alloc(), imaged(), "walnut", REFUSED);
 }
 
 #[test]
 fn images_stand_in_formulas(rt: HostRuntime) {
-    expect_scripts(&rt, rt.alloc(), &IMAGED, "walnut", &READ);
+    expect_scripts(&rt, rt.alloc(), imaged(), "walnut", READ);
 }
 
 #[test]
@@ -483,7 +484,7 @@ fn a_store_that_fails_at_images(rt: HostRuntime) {
 /// Runs a script where no step may be wider than this.
 fn run_within(alloc: Global, limit: u32, script: &str) -> Ran {
     let line = format!(in alloc; "walnut --states {limit}")?;
-    run_given(alloc, &IMAGED, &line, script)
+    run_given(alloc, imaged(), &line, script)
 }
 
 #[test]

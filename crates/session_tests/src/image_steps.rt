@@ -1,10 +1,11 @@
 //! Images of words in commands: the lines of the steps.
 
-use crate::given::{ScriptRow, expect_scripts};
-use crate::image_files::IMAGED;
+use crate::given::expect_scripts;
+use crate::image_files::imaged;
+use crate::tables::table;
 
 /// Images of the Thue-Morse word over `msd_2`.
-static OVER_MSD_2: [ScriptRow; 10] = [
+const OVER_MSD_2: &str = table![
     (
         "image W g T:",
         "step 1 read 2 2\nstep 2 pad 3 2\nstep 3 valid 2 2\nstep 4 product 9 4\nstep 5 project 4 3\nstep 6 const 2 1\nstep 7 product 12 6\nstep 8 project 5 4\nstep 9 product 10 3\nstep 10 project 4 3\nstep 11 product 8 6\nstep 12 project 6 6\nstep 13 product 9 4\nstep 14 project 4 3\nstep 15 const 3 2\nstep 16 product 12 6\nstep 17 project 5 4\nstep 18 product 15 4\nstep 19 project 4 3\nstep 20 product 8 6\nstep 21 project 6 6\nstep 22 product 9 4\nstep 23 project 4 3\nstep 24 const 4 3\nstep 25 product 12 6\nstep 26 project 5 4\nstep 27 product 20 6\nstep 28 project 4 3\nstep 29 product 8 6\nstep 30 project 6 6\nstep 31 product 6 6\nstep 32 product 6 6\nstep 33 product 9 4\nstep 34 project 4 3\nstep 35 const 2 1\nstep 36 product 12 6\nstep 37 project 5 4\nstep 38 product 10 3\nstep 39 project 4 3\nstep 40 product 8 6\nstep 41 project 6 6\nstep 42 product 9 4\nstep 43 project 4 3\nstep 44 const 3 2\nstep 45 product 12 6\nstep 46 project 5 4\nstep 47 product 15 4\nstep 48 project 4 3\nstep 49 product 8 6\nstep 50 project 6 6\nstep 51 product 9 4\nstep 52 project 4 3\nstep 53 const 4 3\nstep 54 product 12 6\nstep 55 project 5 4\nstep 56 product 20 6\nstep 57 project 4 3\nstep 58 product 8 6\nstep 59 project 6 6\nstep 60 product 6 6\nstep 61 product 6 6\nstep 62 combine 6 6\n",
@@ -68,7 +69,7 @@ static OVER_MSD_2: [ScriptRow; 10] = [
 ];
 
 /// Images over `lsd_2` and `msd_fib`.
-static OVER_OTHERS: [ScriptRow; 7] = [
+const OVER_OTHERS: &str = table![
     (
         "image W one L:",
         "step 1 read 2 2\nstep 2 pad 2 2\nstep 3 valid 2 2\nstep 4 const 2 1\nstep 5 product 6 2\nstep 6 project 3 2\nstep 7 product 5 1\nstep 8 project 2 1\nstep 9 product 4 2\nstep 10 project 2 2\nstep 11 const 2 1\nstep 12 product 6 2\nstep 13 project 3 2\nstep 14 product 5 1\nstep 15 project 2 1\nstep 16 product 4 2\nstep 17 project 2 2\nstep 18 combine 2 2\n",
@@ -114,7 +115,7 @@ static OVER_OTHERS: [ScriptRow; 7] = [
 ];
 
 /// Codings, constant words and words of more letters.
-static OF_OTHERS: [ScriptRow; 9] = [
+const OF_OTHERS: &str = table![
     (
         "image W one M:",
         "step 1 read 3 3\nstep 2 pad 4 3\nstep 3 valid 7 5\nstep 4 const 2 1\nstep 5 product 45 21\nstep 6 project 22 21\nstep 7 product 29 2\nstep 8 project 3 2\nstep 9 product 8 2\nstep 10 project 3 2\nstep 11 const 2 1\nstep 12 product 45 21\nstep 13 project 22 21\nstep 14 product 29 2\nstep 15 project 3 2\nstep 16 product 8 3\nstep 17 project 4 3\nstep 18 combine 6 5\n",
@@ -172,7 +173,7 @@ static OF_OTHERS: [ScriptRow; 9] = [
 ];
 
 /// Images over systems of users.
-static OVER_USERS: [ScriptRow; 5] = [
+const OVER_USERS: &str = table![
     (
         "image W one X:",
         "step 1 read 3 2\nstep 2 order 21 6\nstep 3 product 31 18\nstep 4 project 14 9\nstep 5 product 10 4\nstep 6 read 17 16\nstep 7 pad 18 16\nstep 8 valid 49 16\nstep 9 product 24 2\nstep 10 project 3 2\nstep 11 product 61 24\nstep 12 project 17 16\nstep 13 product 55 25\nstep 14 project 22 16\nstep 15 read 3 2\nstep 16 pad 4 2\nstep 17 valid 3 2\nstep 18 const 2 1\nstep 19 product 37 16\nstep 20 project 17 16\nstep 21 product 24 2\nstep 22 project 3 2\nstep 23 product 5 2\nstep 24 project 3 2\nstep 25 const 2 1\nstep 26 product 37 16\nstep 27 project 17 16\nstep 28 product 24 2\nstep 29 project 3 2\nstep 30 product 5 2\nstep 31 project 3 2\nstep 32 combine 3 2\n",
@@ -206,7 +207,7 @@ static OVER_USERS: [ScriptRow; 5] = [
 ];
 
 /// Images of tables that are not minimal, and of a word that takes its own name.
-static OF_TABLES: [ScriptRow; 5] = [
+const OF_TABLES: &str = table![
     (
         "image W g Un:",
         "step 1 read 2 2\nstep 2 pad 3 2\nstep 3 valid 2 2\nstep 4 product 9 4\nstep 5 project 4 3\nstep 6 const 2 1\nstep 7 product 12 6\nstep 8 project 5 4\nstep 9 product 10 3\nstep 10 project 4 3\nstep 11 product 8 6\nstep 12 project 6 6\nstep 13 product 9 4\nstep 14 project 4 3\nstep 15 const 3 2\nstep 16 product 12 6\nstep 17 project 5 4\nstep 18 product 15 4\nstep 19 project 4 3\nstep 20 product 8 6\nstep 21 project 6 6\nstep 22 product 9 4\nstep 23 project 4 3\nstep 24 const 4 3\nstep 25 product 12 6\nstep 26 project 5 4\nstep 27 product 20 6\nstep 28 project 4 3\nstep 29 product 8 6\nstep 30 project 6 6\nstep 31 product 6 6\nstep 32 product 6 6\nstep 33 product 9 4\nstep 34 project 4 3\nstep 35 const 2 1\nstep 36 product 12 6\nstep 37 project 5 4\nstep 38 product 10 3\nstep 39 project 4 3\nstep 40 product 8 6\nstep 41 project 6 6\nstep 42 product 9 4\nstep 43 project 4 3\nstep 44 const 3 2\nstep 45 product 12 6\nstep 46 project 5 4\nstep 47 product 15 4\nstep 48 project 4 3\nstep 49 product 8 6\nstep 50 project 6 6\nstep 51 product 9 4\nstep 52 project 4 3\nstep 53 const 4 3\nstep 54 product 12 6\nstep 55 project 5 4\nstep 56 product 20 6\nstep 57 project 4 3\nstep 58 product 8 6\nstep 59 project 6 6\nstep 60 product 6 6\nstep 61 product 6 6\nstep 62 combine 6 6\n",
@@ -241,25 +242,25 @@ static OF_TABLES: [ScriptRow; 5] = [
 
 #[test]
 fn images_over_msd_2_show_their_steps(rt: HostRuntime) {
-    expect_scripts(&rt, rt.alloc(), &IMAGED, "walnut", &OVER_MSD_2);
+    expect_scripts(&rt, rt.alloc(), imaged(), "walnut", OVER_MSD_2);
 }
 
 #[test]
 fn images_over_lsd_2_and_msd_fib_show_their_steps(rt: HostRuntime) {
-    expect_scripts(&rt, rt.alloc(), &IMAGED, "walnut", &OVER_OTHERS);
+    expect_scripts(&rt, rt.alloc(), imaged(), "walnut", OVER_OTHERS);
 }
 
 #[test]
 fn images_of_other_words_show_their_steps(rt: HostRuntime) {
-    expect_scripts(&rt, rt.alloc(), &IMAGED, "walnut", &OF_OTHERS);
+    expect_scripts(&rt, rt.alloc(), imaged(), "walnut", OF_OTHERS);
 }
 
 #[test]
 fn images_over_systems_of_users_show_their_steps(rt: HostRuntime) {
-    expect_scripts(&rt, rt.alloc(), &IMAGED, "walnut", &OVER_USERS);
+    expect_scripts(&rt, rt.alloc(), imaged(), "walnut", OVER_USERS);
 }
 
 #[test]
 fn images_of_tables_show_their_steps(rt: HostRuntime) {
-    expect_scripts(&rt, rt.alloc(), &IMAGED, "walnut", &OF_TABLES);
+    expect_scripts(&rt, rt.alloc(), imaged(), "walnut", OF_TABLES);
 }

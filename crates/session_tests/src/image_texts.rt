@@ -1,11 +1,11 @@
 //! Images of words, as they are stored.
 
-use crate::given::{StoredRow, expect_texts};
-use crate::image_files::IMAGED;
-use wal_outside::Folder;
+use crate::given::expect_texts;
+use crate::image_files::imaged;
+use crate::tables::table;
 
 /// Scripts, and the words that they store.
-static STORED: [StoredRow; 33] = [
+const STORED: &str = table![
     (
         "image W g T;",
         Folder::Words,
@@ -208,5 +208,5 @@ static STORED: [StoredRow; 33] = [
 
 #[test]
 fn images_are_stored_as_listed(rt: HostRuntime) {
-    expect_texts(&rt, rt.alloc(), &IMAGED, &STORED);
+    expect_texts(&rt, rt.alloc(), imaged(), STORED);
 }

@@ -1,11 +1,12 @@
 //! Language commands at their greatest width and at one less, and over stores that fail.
 
-use crate::given::{ScriptRow, expect_scripts, run_failing, run_given};
-use crate::language_files::{FIFTH, LANGUAGES};
+use crate::given::{expect_scripts, run_failing, run_given};
+use crate::language_files::{FIFTH, languages};
+use crate::tables::table;
 use crate::whole::{ended, expect, expect_printed};
 
 /// Scripts under a limit of 20.
-static WITHIN_20: [ScriptRow; 3] = [
+const WITHIN_20: &str = table![
     (
         "reg a {0,1} \"(0000)*\"; reg b {0,1} \"(00000)*\"; union m a b:",
         "error 1: F19 States step 3\n",
@@ -27,7 +28,7 @@ static WITHIN_20: [ScriptRow; 3] = [
 ];
 
 /// Scripts under a limit of 21.
-static WITHIN_21: [ScriptRow; 3] = [
+const WITHIN_21: &str = table![
     (
         "reg a {0,1} \"(0000)*\"; reg b {0,1} \"(00000)*\"; union m a b:",
         "step 1 read 5 4\nstep 2 read 6 5\nstep 3 product 21 20\n",
@@ -49,7 +50,7 @@ static WITHIN_21: [ScriptRow; 3] = [
 ];
 
 /// Scripts under a limit of 30.
-static WITHIN_30: [ScriptRow; 1] = [(
+const WITHIN_30: &str = table![(
     "reg a {0,1} \"(00)*\"; reg b {0,1} \"(000)*\"; reg c {0,1} \"(00000)*\"; intersect m a b c:",
     "error 1: F19 States step 5\n",
     1,
@@ -57,7 +58,7 @@ static WITHIN_30: [ScriptRow; 1] = [(
 )];
 
 /// Scripts under a limit of 31.
-static WITHIN_31: [ScriptRow; 2] = [
+const WITHIN_31: &str = table![
     (
         "reg a {0,1} \"(00)*\"; reg b {0,1} \"(000)*\"; reg c {0,1} \"(00000)*\"; intersect m a b c:",
         "step 1 read 3 2\nstep 2 read 4 3\nstep 3 read 6 5\nstep 4 product 7 6\nstep 5 product 31 30\n",
@@ -68,7 +69,7 @@ static WITHIN_31: [ScriptRow; 2] = [
 ];
 
 /// Scripts under a limit of 32.
-static WITHIN_32: [ScriptRow; 2] = [
+const WITHIN_32: &str = table![
     ("union m fifth:", "step 1 read 32 32\n", 0, 2),
     (
         "reg s {0,1} \"00000|0000000\"; star m s:",
@@ -79,7 +80,7 @@ static WITHIN_32: [ScriptRow; 2] = [
 ];
 
 /// Scripts under a limit of 33.
-static WITHIN_33: [ScriptRow; 1] = [(
+const WITHIN_33: &str = table![(
     "reg s {0,1} \"00000|0000000\"; star m s:",
     "step 1 read 9 8\nstep 2 star 33 25\n",
     0,
@@ -89,12 +90,12 @@ static WITHIN_33: [ScriptRow; 1] = [(
 #[test]
 fn languages_past_the_limit_are_refused(rt: HostRuntime) {
     let alloc = rt.alloc();
-    expect_scripts(&rt, alloc, &FIFTH, "walnut --states 20", &WITHIN_20);
-    expect_scripts(&rt, alloc, &FIFTH, "walnut --states 21", &WITHIN_21);
-    expect_scripts(&rt, alloc, &FIFTH, "walnut --states 30", &WITHIN_30);
-    expect_scripts(&rt, alloc, &FIFTH, "walnut --states 31", &WITHIN_31);
-    expect_scripts(&rt, alloc, &FIFTH, "walnut --states 32", &WITHIN_32);
-    expect_scripts(&rt, alloc, &FIFTH, "walnut --states 33", &WITHIN_33);
+    expect_scripts(&rt, alloc, &FIFTH, "walnut --states 20", WITHIN_20);
+    expect_scripts(&rt, alloc, &FIFTH, "walnut --states 21", WITHIN_21);
+    expect_scripts(&rt, alloc, &FIFTH, "walnut --states 30", WITHIN_30);
+    expect_scripts(&rt, alloc, &FIFTH, "walnut --states 31", WITHIN_31);
+    expect_scripts(&rt, alloc, &FIFTH, "walnut --states 32", WITHIN_32);
+    expect_scripts(&rt, alloc, &FIFTH, "walnut --states 33", WITHIN_33);
 }
 
 /// The reversal of a language whose last letter but eleven is 1 has 4096 states.
@@ -123,7 +124,7 @@ static FAILING: [(u64, &str, u8, usize); 4] = [
 #[test]
 fn each_file_of_a_language_command_is_read_once(rt: HostRuntime) {
     for (failing, printed, code, count) in &FAILING {
-        let ran = run_failing(rt.alloc(), &LANGUAGES, "union m ab ab one ab;", *failing);
+        let ran = run_failing(rt.alloc(), languages(), "union m ab ab one ab;", *failing);
         expect_printed(&rt, printed, &ran, printed);
         expect(&rt, printed, &ended(&ran), &(*code, *count));
     }

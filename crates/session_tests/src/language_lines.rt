@@ -1,10 +1,11 @@
 //! The lines of the steps of language commands, from an independent program.
 
-use crate::given::{ScriptRow, expect_scripts};
-use crate::language_files::LANGUAGES;
+use crate::given::expect_scripts;
+use crate::language_files::languages;
+use crate::tables::table;
 
 /// Scripts that show their steps.
-static PRINTED: [ScriptRow; 76] = [
+const PRINTED: &str = table![
     ("star m ab:", "step 1 read 3 2\nstep 2 star 3 2\n", 0, 19),
     ("star m none:", "step 1 read 2 1\nstep 2 star 2 1\n", 0, 19),
     ("star m empty:", "step 1 read 2 1\nstep 2 star 2 1\n", 0, 19),
@@ -409,7 +410,7 @@ static PRINTED: [ScriptRow; 76] = [
 ];
 
 /// Scripts in which commands read what others made.
-static SEQUENCES: [ScriptRow; 4] = [
+const SEQUENCES: &str = table![
     (
         "union m ab one; star m m; reverse m m:",
         "step 1 read 2 2\nstep 2 reverse 3 2\n",
@@ -433,6 +434,6 @@ static SEQUENCES: [ScriptRow; 4] = [
 
 #[test]
 fn languages_show_their_steps(rt: HostRuntime) {
-    expect_scripts(&rt, rt.alloc(), &LANGUAGES, "walnut", &PRINTED);
-    expect_scripts(&rt, rt.alloc(), &LANGUAGES, "walnut", &SEQUENCES);
+    expect_scripts(&rt, rt.alloc(), languages(), "walnut", PRINTED);
+    expect_scripts(&rt, rt.alloc(), languages(), "walnut", SEQUENCES);
 }

@@ -1,10 +1,11 @@
 //! The first faults of language commands.
 
-use crate::given::{ScriptRow, expect_scripts};
-use crate::language_files::LANGUAGES;
+use crate::given::expect_scripts;
+use crate::language_files::languages;
+use crate::tables::table;
 
 /// Scripts of one command that is refused.
-static REFUSED: [ScriptRow; 90] = [
+const REFUSED: &str = table![
     ("union;", "error 1: F02 Syntax in command at 5\n", 1, 18),
     ("union m;", "error 1: F02 Syntax in command at 7\n", 1, 18),
     (
@@ -334,5 +335,5 @@ static REFUSED: [ScriptRow; 90] = [
 
 #[test]
 fn language_commands_are_refused_by_their_first_fault(rt: HostRuntime) {
-    expect_scripts(&rt, rt.alloc(), &LANGUAGES, "walnut", &REFUSED);
+    expect_scripts(&rt, rt.alloc(), languages(), "walnut", REFUSED);
 }

@@ -1,11 +1,11 @@
 //! The texts that language commands store, from an independent program.
 
-use crate::given::{StoredRow, expect_texts};
-use crate::language_files::LANGUAGES;
-use wal_outside::Folder;
+use crate::given::expect_texts;
+use crate::language_files::languages;
+use crate::tables::table;
 
 /// Scripts, and the languages that they store.
-static STORED: [StoredRow; 76] = [
+const STORED: &str = table![
     (
         "star m ab;",
         Folder::Automata,
@@ -436,5 +436,5 @@ static STORED: [StoredRow; 76] = [
 
 #[test]
 fn languages_are_stored_as_listed(rt: HostRuntime) {
-    expect_texts(&rt, rt.alloc(), &LANGUAGES, &STORED);
+    expect_texts(&rt, rt.alloc(), languages(), STORED);
 }

@@ -6,6 +6,10 @@
 #[cfg(test)]
 mod no_answer;
 
+// tables as texts
+#[cfg(test)]
+mod tables;
+
 // one run, and what it leaves
 #[cfg(test)]
 mod whole;
@@ -198,6 +202,10 @@ mod convert_lines;
 #[cfg(test)]
 mod convert_faults;
 
+// words that are wide to read
+#[cfg(test)]
+mod wide_files;
+
 // theorems on words that commands make
 #[cfg(test)]
 mod word_command_theorems;
@@ -214,6 +222,10 @@ mod user_system_rows;
 #[cfg(test)]
 mod user_system_steps;
 
+// systems and definitions that a session keeps
+#[cfg(test)]
+mod kept_rows;
+
 // files of commands, and ends of runs
 #[cfg(test)]
 mod load_rows;
@@ -228,9 +240,13 @@ mod words;
 
 // scripts in pieces, and calls of the outside that fail
 #[cfg(test)]
+mod every_command;
+#[cfg(test)]
 mod failures;
 
-// hostile files, formulas and numbers of tracks
+// hostile files, formulas and numbers of tracks, damaged files, and random scripts
+#[cfg(test)]
+mod damaged_files;
 #[cfg(test)]
 mod hostile_rows;
 

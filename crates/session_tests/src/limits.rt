@@ -111,6 +111,35 @@ fn a_stored_text_has_at_most_16777216_bytes(rt: HostRuntime) {
     expect(&rt, "one byte more", &ended(&more), &(1, 0));
 }
 
+/// The set of so many numbers from 0 on.
+fn set_of(alloc: Global, count: i32) -> Result<String, NoAnswer> {
+    let mut members = String::new(alloc);
+    let last = count.saturating_sub(1);
+    push_members(alloc, &mut members, 0, last)?;
+    Ok(format!(in alloc; "{{{members}{last}}}")?)
+}
+
+/// Runs a `reg` of the empty word over two sets of so many members.
+fn run_over_sets(alloc: Global, first: i32, second: i32) -> Ran {
+    let sets = (set_of(alloc, first)?, set_of(alloc, second)?);
+    let script = format!(in alloc; "reg p {} {} \"()\";", sets.0, sets.1)?;
+    run_script(alloc, script.as_bytes())
+}
+
+#[test]
+fn an_automaton_has_at_most_65536_letters(rt: HostRuntime) {
+    let most = run_over_sets(rt.alloc(), 256, 256);
+    expect(&rt, "65,536 letters", &ended(&most), &(0, 1));
+    let more = run_over_sets(rt.alloc(), 256, 257);
+    expect_printed(
+        &rt,
+        "65,792 letters",
+        &more,
+        "error 1: F18 Letters step 1\n",
+    );
+    expect(&rt, "65,792 letters", &ended(&more), &(1, 0));
+}
+
 /// Runs a `reg` of a digit within so many parentheses.
 fn run_nested(alloc: Global, depth: usize) -> Ran {
     let before = "(".repeat(alloc, depth)?;

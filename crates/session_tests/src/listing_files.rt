@@ -12,7 +12,7 @@ use wal_outside::Folder;
 /// has the words whose last letter but one is 1, from a table with two transitions of one letter, `signed`, `pairs` and `bounds` have negative
 /// members, `round` is (00001)*, `plane` has sixteen tracks and `wide` seventeen. `broken`, `late` and `dashed` break the format, `far`
 /// and `large` are over systems that are not there, and `own`, `ownl`, `trib` and `wrong` over users' systems.
-pub static LISTED: [FileRow; 43] = [
+static LISTED: [FileRow; 43] = [
     (
         Folder::Automata,
         "lt",
@@ -134,6 +134,11 @@ pub static LISTED: [FileRow; 43] = [
     ),
 ];
 
+/// The files in `LISTED`.
+pub fn listed() -> &'static [FileRow] {
+    &LISTED
+}
+
 /// The words whose last letter but four is 1, from a table with two transitions of one letter.
 pub static FIFTH: [FileRow; 1] = [(
     Folder::Automata,
@@ -142,7 +147,7 @@ pub static FIFTH: [FileRow; 1] = [(
 )];
 
 /// Two words, and the Tribonacci system.
-pub static WORDS: [FileRow; 4] = [
+static WORDS: [FileRow; 4] = [
     (
         Folder::Words,
         "T",
@@ -160,3 +165,8 @@ pub static WORDS: [FileRow; 4] = [
     ),
     (Folder::Bases, "msd_trib_addition", TRIBONACCI_ADDER),
 ];
+
+/// The files in `WORDS`.
+pub fn words() -> &'static [FileRow] {
+    &WORDS
+}

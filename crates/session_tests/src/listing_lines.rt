@@ -1,10 +1,11 @@
 //! The lines of the steps before words that are listed, and words listed one at a time, from an independent program.
 
-use crate::given::{ScriptRow, expect_scripts};
-use crate::listing_files::LISTED;
+use crate::given::expect_scripts;
+use crate::listing_files::listed;
+use crate::tables::table;
 
 /// Scripts that show their steps.
-static SHOWN: [ScriptRow; 26] = [
+const SHOWN: &str = table![
     (
         "test lt 2:",
         "step 1 read 3 2\nstep 2 pad 4 2\nstep 3 valid 3 2\n[0,1]\n[0,1][0,0]\n",
@@ -119,7 +120,7 @@ static SHOWN: [ScriptRow; 26] = [
 ];
 
 /// Each word is listed after the one before it.
-static ONE_BY_ONE: [ScriptRow; 9] = [
+const ONE_BY_ONE: &str = table![
     (
         "test few 1; test few 1 \"[1]\"; test few 1 \"[1][0]\";",
         "[1]\n[1][0]\n[0][1][1]\n",
@@ -178,10 +179,10 @@ static ONE_BY_ONE: [ScriptRow; 9] = [
 
 #[test]
 fn listings_show_their_steps(rt: HostRuntime) {
-    expect_scripts(&rt, rt.alloc(), &LISTED, "walnut", &SHOWN);
+    expect_scripts(&rt, rt.alloc(), listed(), "walnut", SHOWN);
 }
 
 #[test]
 fn listings_go_on_after_each_word(rt: HostRuntime) {
-    expect_scripts(&rt, rt.alloc(), &LISTED, "walnut", &ONE_BY_ONE);
+    expect_scripts(&rt, rt.alloc(), listed(), "walnut", ONE_BY_ONE);
 }

@@ -1,10 +1,11 @@
 //! The first faults of commands that list words.
 
-use crate::given::{ScriptRow, expect_scripts};
-use crate::listing_files::LISTED;
+use crate::given::expect_scripts;
+use crate::listing_files::listed;
+use crate::tables::table;
 
 /// Heads that are not whole, or have a part too many.
-static HEADS: [ScriptRow; 34] = [
+const HEADS: &str = table![
     ("test;", "error 1: F02 Syntax in command at 4\n", 1, 43),
     ("test lt;", "error 1: F02 Syntax in command at 7\n", 1, 43),
     ("test lt x;", "error 1: F02 Syntax in command at 8\n", 1, 43),
@@ -152,7 +153,7 @@ static HEADS: [ScriptRow; 34] = [
 ];
 
 /// Texts that are no place, each with the byte of its fault.
-static PLACES: [ScriptRow; 39] = [
+const PLACES: &str = table![
     (
         "test lt 5 \"\";",
         "error 1: F02 Syntax in command at 11\n",
@@ -390,7 +391,7 @@ static PLACES: [ScriptRow; 39] = [
 ];
 
 /// Files, systems and places that do not fit, and words of too many bytes.
-static REFUSED: [ScriptRow; 49] = [
+const REFUSED: &str = table![
     (
         "test g 5;",
         "error 1: F11 Unknown Automata Library/g\n",
@@ -584,11 +585,11 @@ static REFUSED: [ScriptRow; 49] = [
 
 #[test]
 fn heads_of_listings_break_at_their_bytes(rt: HostRuntime) {
-    expect_scripts(&rt, rt.alloc(), &LISTED, "walnut", &HEADS);
-    expect_scripts(&rt, rt.alloc(), &LISTED, "walnut", &PLACES);
+    expect_scripts(&rt, rt.alloc(), listed(), "walnut", HEADS);
+    expect_scripts(&rt, rt.alloc(), listed(), "walnut", PLACES);
 }
 
 #[test]
 fn listings_are_refused_by_their_first_fault(rt: HostRuntime) {
-    expect_scripts(&rt, rt.alloc(), &LISTED, "walnut", &REFUSED);
+    expect_scripts(&rt, rt.alloc(), listed(), "walnut", REFUSED);
 }

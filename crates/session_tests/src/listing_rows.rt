@@ -1,13 +1,14 @@
 //! Listings of tuples below 40 beside plain arithmetic, of what other commands made, at their limits, and over stores that fail.
 
-use crate::given::{FailingRow, FileRow, ScriptRow, expect_scripts, run_failing, run_given};
-use crate::listing_files::{FIFTH, LISTED, WORDS};
+use crate::given::{FailingRow, FileRow, expect_scripts, run_failing, run_given};
+use crate::listing_files::{FIFTH, listed, words};
+use crate::tables::table;
 use crate::whole::{ended, expect, expect_printed, printed_in};
 use std::alloc::Global;
 use std::process::Abort;
 
 /// Relations with all their tuples, each of numbers below 40, in the order of their representations.
-static TUPLES: [ScriptRow; 22] = [
+const TUPLES: &str = table![
     (
         "def r \"?msd_2 y=3*x & y<40\"; test r 2000; inf r;",
         "[]\n[0,1][1,1]\n[0,1][1,1][0,0]\n[0,1][0,0][1,0][1,1]\n[0,1][1,1][0,0][0,0]\n[0,1][1,1][0,1][1,1]\n[0,1][0,0][1,0][1,1][0,0]\n[0,1][0,0][1,1][1,0][1,1]\n[0,1][1,1][0,0][0,0][0,0]\n[0,1][1,1][0,0][0,1][1,1]\n[0,1][1,1][0,1][1,1][0,0]\n[0,1][0,0][1,0][0,0][1,0][1,1]\n[0,1][0,0][1,0][1,1][0,0][0,0]\n[0,1][0,0][1,0][1,1][0,1][1,1]\nFALSE\n",
@@ -144,11 +145,11 @@ static TUPLES: [ScriptRow; 22] = [
 
 #[test]
 fn tuples_of_relations_are_those_of_arithmetic(rt: HostRuntime) {
-    expect_scripts(&rt, rt.alloc(), &WORDS, "walnut", &TUPLES);
+    expect_scripts(&rt, rt.alloc(), words(), "walnut", TUPLES);
 }
 
 /// Scripts over an empty store.
-static MADE: [ScriptRow; 6] = [
+const MADE: &str = table![
     (
         "def lt \"y>x\"; test lt 3; test lt 2 \"[0,1][0,1]\"; inf lt; test lt 1 \"[2,0]\";",
         "[0,1]\n[0,1][0,0]\n[0,1][0,1]\n[0,1][1,0]\n[0,1][1,1]\nTRUE\nerror 1: F32 Place lt\n",
@@ -189,11 +190,11 @@ static MADE: [ScriptRow; 6] = [
 
 #[test]
 fn words_of_what_commands_made_are_listed(rt: HostRuntime) {
-    expect_scripts(&rt, rt.alloc(), &[], "walnut", &MADE);
+    expect_scripts(&rt, rt.alloc(), &[], "walnut", MADE);
 }
 
 /// Scripts under a limit of 31.
-static WITHIN_31: [ScriptRow; 4] = [
+const WITHIN_31: &str = table![
     ("test fifth 3:", "error 1: F19 States step 1\n", 1, 1),
     ("inf fifth;", "error 1: F19 States step 1\n", 1, 1),
     ("test fifth 3 \"[2]\";", "error 1: F32 Place fifth\n", 1, 1),
@@ -206,7 +207,7 @@ static WITHIN_31: [ScriptRow; 4] = [
 ];
 
 /// Scripts under a limit of 32.
-static WITHIN_32: [ScriptRow; 2] = [
+const WITHIN_32: &str = table![
     (
         "test fifth 3:",
         "step 1 read 32 32\n[1][0][0][0][0]\n[1][0][0][0][1]\n[1][0][0][1][0]\n",
@@ -218,8 +219,8 @@ static WITHIN_32: [ScriptRow; 2] = [
 
 #[test]
 fn listings_past_the_limit_are_refused(rt: HostRuntime) {
-    expect_scripts(&rt, rt.alloc(), &FIFTH, "walnut --states 31", &WITHIN_31);
-    expect_scripts(&rt, rt.alloc(), &FIFTH, "walnut --states 32", &WITHIN_32);
+    expect_scripts(&rt, rt.alloc(), &FIFTH, "walnut --states 31", WITHIN_31);
+    expect_scripts(&rt, rt.alloc(), &FIFTH, "walnut --states 32", WITHIN_32);
 }
 
 /// A call of the store that fails, what is printed then, the status, and how many texts the store has.
@@ -260,8 +261,8 @@ fn expect_failing_over(
 #[test]
 fn listings_read_and_never_write(rt: HostRuntime) {
     let alloc = rt.alloc();
-    expect_failing_over(&rt, alloc, &LISTED, "test lt 1; inf lt;", &FAILING);
-    expect_failing_over(&rt, alloc, &LISTED, "test own 2;", &FAILING_SYSTEM);
+    expect_failing_over(&rt, alloc, listed(), "test lt 1; inf lt;", &FAILING);
+    expect_failing_over(&rt, alloc, listed(), "test own 2;", &FAILING_SYSTEM);
 }
 
 /// All words of 85 letters: each of their lines has 256 bytes.

@@ -1,8 +1,6 @@
 //! Files of commands that scripts load, and ends of runs.
 
-use crate::given::{
-    FailingRow, FileRow, expect_scripts, run_failing, run_line_failing, run_outside,
-};
+use crate::given::{FailingRow, FileRow, run_failing, run_given, run_line_failing, run_outside};
 use crate::whole::{Outside, Ran, SURE, ended, expect, expect_printed, run_over};
 use std::alloc::Global;
 use wal_outside::{Folder, MemStore};
@@ -167,8 +165,9 @@ static ROWS: [LoadRow; 14] = [
 #[test]
 fn files_are_loaded_and_runs_end_as_listed(rt: HostRuntime) {
     for (given, script, printed, code, count) in &ROWS {
-        let rows = [(*script, *printed, *code, *count)];
-        expect_scripts(&rt, rt.alloc(), files_of(*given), "walnut", &rows);
+        let ran = run_given(rt.alloc(), files_of(*given), "walnut", script);
+        expect_printed(&rt, script, &ran, printed);
+        expect(&rt, script, &ended(&ran), &(*code, *count));
     }
 }
 
@@ -272,8 +271,9 @@ static STOPPING: [LoadRow; 9] = [
 #[test]
 fn runs_stop_at_the_first_refusal_as_listed(rt: HostRuntime) {
     for (given, script, printed, code, count) in &STOPPING {
-        let rows = [(*script, *printed, *code, *count)];
-        expect_scripts(&rt, rt.alloc(), files_of(*given), "walnut --stop", &rows);
+        let ran = run_given(rt.alloc(), files_of(*given), "walnut --stop", script);
+        expect_printed(&rt, script, &ran, printed);
+        expect(&rt, script, &ended(&ran), &(*code, *count));
     }
 }
 

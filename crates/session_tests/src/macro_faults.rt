@@ -1,10 +1,11 @@
 //! Macros in commands: the first fault of scripts with calls of macros, and of commands that store macros.
 
-use crate::given::{ScriptRow, expect_scripts};
-use crate::macro_rows::MACROS;
+use crate::given::expect_scripts;
+use crate::macro_rows::macros;
+use crate::tables::table;
 
 /// Calls that are none, places without an argument, and faults of the expanded text.
-static FAULTS: [ScriptRow; 65] = [
+const FAULTS: &str = table![
     (
         "eval a \"#dbl(6)\";",
         "error 1: F08 MacroArgs dbl 1 1\n",
@@ -388,7 +389,7 @@ static FAULTS: [ScriptRow; 65] = [
 ];
 
 /// Commands that store macros, and their heads.
-static HEADS: [ScriptRow; 22] = [
+const HEADS: &str = table![
     ("macro m \"x\";", "", 0, 29),
     ("macro m\"x\";", "", 0, 29),
     ("macro\tm\n\"x\" ;", "", 0, 29),
@@ -470,10 +471,10 @@ static HEADS: [ScriptRow; 22] = [
 
 #[test]
 fn calls_of_macros_have_these_faults(rt: HostRuntime) {
-    expect_scripts(&rt, rt.alloc(), &MACROS, "walnut", &FAULTS);
+    expect_scripts(&rt, rt.alloc(), macros(), "walnut", FAULTS);
 }
 
 #[test]
 fn macros_are_stored_where_their_heads_are_whole(rt: HostRuntime) {
-    expect_scripts(&rt, rt.alloc(), &MACROS, "walnut", &HEADS);
+    expect_scripts(&rt, rt.alloc(), macros(), "walnut", HEADS);
 }

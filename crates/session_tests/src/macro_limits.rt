@@ -1,8 +1,9 @@
 //! Macros at their limits, in long texts, and over stores that fail.
 
 use crate::given::{FailingRow, expect_failing, run_given};
-use crate::macro_rows::MACROS;
+use crate::macro_rows::macros;
 use crate::no_answer::NoAnswer;
+use crate::tables::{ROW_END, first_field, table};
 use crate::whole::{Ran, SURE, expect_printed, run_over};
 use std::alloc::Global;
 use wal_outside::{Folder, MemStore, TEXT_LIMIT};
@@ -76,7 +77,7 @@ static LONG: [(usize, &str, &str); 12] = [
 ];
 
 /// Formulas with four calls of a macro that is 16,383 calls, which makes 65,536.
-static CALLS: [(&str, &str); 5] = [
+const CALLS: &str = table![
     ("#m()#m()#m()#m()1=1", "TRUE\n"),
     ("#m()#m()#m()#m()1=1#e()", "error 1: F10 MacroLong 65536\n"),
     ("#m()#m()#m()#m()#tri()", "error 1: F10 MacroLong 65536\n"),
@@ -119,7 +120,7 @@ fn run_nested(alloc: Global, opened: &str, count: usize, inside: &str) -> Ran {
     let calls = opened.repeat(alloc, count)?;
     let closed = ")".repeat(alloc, count)?;
     let script = format!(in alloc; "eval a \"{calls}{inside}{closed}\";")?;
-    run_given(alloc, &MACROS, "walnut", &script)
+    run_given(alloc, macros(), "walnut", &script)
 }
 
 #[test]
@@ -167,7 +168,8 @@ fn run_with_calls(alloc: Global, formula: &str) -> Ran {
 
 #[test]
 fn a_command_has_at_most_65536_calls(rt: HostRuntime) {
-    for (formula, printed) in &CALLS {
+    for row in CALLS.split_terminator(ROW_END) {
+        let (formula, printed) = first_field(row);
         let ran = run_with_calls(rt.alloc(), formula);
         expect_printed(&rt, formula, &ran, printed);
     }

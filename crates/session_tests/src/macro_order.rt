@@ -1,10 +1,11 @@
 //! Macros in commands: texts with several faults, of which the first decides.
 
-use crate::given::{ScriptRow, expect_scripts};
-use crate::macro_rows::MACROS;
+use crate::given::expect_scripts;
+use crate::macro_rows::macros;
+use crate::tables::table;
 
 /// Scripts, and what they print.
-static ORDER: [ScriptRow; 44] = [
+const ORDER: &str = table![
     (
         "eval a \"#tri(#dbl(1))\";",
         "error 1: F08 MacroArgs dbl 1 1\n",
@@ -268,5 +269,5 @@ static ORDER: [ScriptRow; 44] = [
 
 #[test]
 fn the_first_fault_decides(rt: HostRuntime) {
-    expect_scripts(&rt, rt.alloc(), &MACROS, "walnut", &ORDER);
+    expect_scripts(&rt, rt.alloc(), macros(), "walnut", ORDER);
 }

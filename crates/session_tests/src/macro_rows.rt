@@ -1,10 +1,11 @@
 //! Macros in commands: what is printed and stored of scripts with calls of macros.
 
-use crate::given::{FileRow, ScriptRow, StoredRow, expect_scripts, expect_texts};
+use crate::given::{FileRow, expect_scripts, expect_texts};
+use crate::tables::table;
 use wal_outside::Folder;
 
 /// The macros that the scripts call, the Thue-Morse word, and the pairs of which the first number is the smaller one.
-pub static MACROS: [FileRow; 28] = [
+static MACROS: [FileRow; 28] = [
     (Folder::Macros, "dbl", "%0=2*%1"),
     (Folder::Macros, "two", "%0 & %0"),
     (Folder::Macros, "s", "#s()"),
@@ -51,8 +52,13 @@ pub static MACROS: [FileRow; 28] = [
     ),
 ];
 
+/// The files in `MACROS`.
+pub fn macros() -> &'static [FileRow] {
+    &MACROS
+}
+
 /// Scripts with calls that expand to formulas.
-static EXPANDED: [ScriptRow; 58] = [
+const EXPANDED: &str = table![
     ("eval a \"Ex #dbl(6,x)\";", "TRUE\n", 0, 29),
     ("eval a \"Ex #dbl(7,x)\";", "FALSE\n", 0, 29),
     ("eval a \"Ex #dbl (6,x)\";", "TRUE\n", 0, 29),
@@ -174,7 +180,7 @@ static EXPANDED: [ScriptRow; 58] = [
 ];
 
 /// Scripts, and what they store.
-static STORED: [StoredRow; 15] = [
+const STORED: &str = table![
     ("macro m \"x=1\";", Folder::Macros, "m", "x=1"),
     (
         "macro m \" %0 ;:\t#\r\n  %12%\";",
@@ -224,10 +230,10 @@ static STORED: [StoredRow; 15] = [
 
 #[test]
 fn formulas_with_macros_print_as_listed(rt: HostRuntime) {
-    expect_scripts(&rt, rt.alloc(), &MACROS, "walnut", &EXPANDED);
+    expect_scripts(&rt, rt.alloc(), macros(), "walnut", EXPANDED);
 }
 
 #[test]
 fn macros_and_formulas_with_macros_store_their_texts(rt: HostRuntime) {
-    expect_texts(&rt, rt.alloc(), &MACROS, &STORED);
+    expect_texts(&rt, rt.alloc(), macros(), STORED);
 }

@@ -1,12 +1,13 @@
 //! Files of rules that somebody wrote.
 
-use crate::given::run_given;
-use crate::whole::{Ran, SURE, ended, expect, expect_printed, run_over};
+use crate::given::{expect_end, run_given};
+use crate::tables::{ROW_END, first_field, table};
+use crate::whole::{Ran, SURE, expect_printed, run_over};
 use std::alloc::Global;
 use wal_outside::{Folder, MemStore, TEXT_LIMIT};
 
 /// Files of rules, what is printed where the fixed point is asked for, the status, and how many texts the store has then.
-static READ: [(&str, &str, u8, usize); 34] = [
+const READ: &str = table![
     ("0->01 1->10", "", 0, 2),
     ("0->01 1->10\n", "", 0, 2),
     ("0->01\n1->10\n", "", 0, 2),
@@ -176,10 +177,12 @@ fn promote_file(alloc: Global, text: &'static str) -> Ran {
 
 #[test]
 fn faults_of_files_of_rules_are_reported_by_line(rt: HostRuntime) {
-    for (text, printed, code, count) in &READ {
-        let ran = promote_file(rt.alloc(), *text);
+    for row in READ.split_terminator(ROW_END) {
+        let (text, rest) = first_field(row);
+        let (printed, end) = first_field(rest);
+        let ran = promote_file(rt.alloc(), text);
         expect_printed(&rt, text, &ran, printed);
-        expect(&rt, text, &ended(&ran), &(*code, *count));
+        expect_end(&rt, text, &ran, end);
     }
 }
 

@@ -1,10 +1,10 @@
 //! Rules of morphisms in commands: what is stored of them, and their first faults.
 
-use crate::given::{ScriptRow, StoredRow, expect_scripts, expect_texts};
-use wal_outside::Folder;
+use crate::given::{expect_scripts, expect_texts};
+use crate::tables::table;
 
 /// Scripts, and the rules that they store.
-static STORED: [StoredRow; 25] = [
+const STORED: &str = table![
     (
         "morphism h \"0->01 1->10\";",
         Folder::Morphisms,
@@ -143,7 +143,7 @@ static STORED: [StoredRow; 25] = [
 ];
 
 /// Rules with their first faults, and heads.
-static FAULTS: [ScriptRow; 77] = [
+const FAULTS: &str = table![
     (
         "morphism h \"\";",
         "error 1: F02 Syntax in rules at 0\n",
@@ -585,10 +585,10 @@ static FAULTS: [ScriptRow; 77] = [
 
 #[test]
 fn rules_are_stored_by_ascending_letter(rt: HostRuntime) {
-    expect_texts(&rt, rt.alloc(), &[], &STORED);
+    expect_texts(&rt, rt.alloc(), &[], STORED);
 }
 
 #[test]
 fn rules_have_their_first_fault(rt: HostRuntime) {
-    expect_scripts(&rt, rt.alloc(), &[], "walnut", &FAULTS);
+    expect_scripts(&rt, rt.alloc(), &[], "walnut", FAULTS);
 }

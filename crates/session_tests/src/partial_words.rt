@@ -1,6 +1,7 @@
 //! Words that lack letters: what their files say in formulas, and what commands make of them.
 
-use crate::given::{FileRow, ScriptRow, StoredRow, expect_scripts, expect_texts};
+use crate::given::{FileRow, expect_scripts, expect_texts};
+use crate::tables::table;
 use wal_outside::Folder;
 
 /// `G` has a letter at 0 alone, `P` at 1 alone, `H` at 0 and at numbers whose digits are all 1, and `N` nowhere. `b` is no
@@ -24,7 +25,7 @@ static FILES: [FileRow; 7] = [
 ];
 
 /// Scripts, what they print, how they end, and how many texts there are then.
-static PRINTED: [ScriptRow; 9] = [
+const PRINTED: &str = table![
     (
         "eval w \"$b(0)\";",
         "error 1: F12 File Automata Library/b line 4\n",
@@ -82,7 +83,7 @@ static PRINTED: [ScriptRow; 9] = [
 ];
 
 /// Scripts, and a text that each leaves.
-static STORED: [StoredRow; 6] = [
+const STORED: &str = table![
     (
         "morphism g \"5->56\"; image U g G;",
         Folder::Words,
@@ -123,10 +124,10 @@ static STORED: [StoredRow; 6] = [
 
 #[test]
 fn words_that_lack_letters_are_read_as_listed(rt: HostRuntime) {
-    expect_scripts(&rt, rt.alloc(), &FILES, "walnut", &PRINTED);
+    expect_scripts(&rt, rt.alloc(), &FILES, "walnut", PRINTED);
 }
 
 #[test]
 fn images_and_lists_of_words_that_lack_letters_are_stored(rt: HostRuntime) {
-    expect_texts(&rt, rt.alloc(), &FILES, &STORED);
+    expect_texts(&rt, rt.alloc(), &FILES, STORED);
 }

@@ -1,11 +1,12 @@
 //! Fixed points of morphisms as commands make them: the line of the step, what is stored, and why there is none.
 
-use crate::given::{ScriptRow, expect_scripts, run_given};
+use crate::given::{expect_scripts, run_given};
+use crate::tables::table;
 use crate::whole::{Ran, ended, expect, expect_printed};
 use std::alloc::Global;
 
 /// Morphisms whose fixed points are asked for, with the steps. The width is that of the letters that occur.
-static SHOWN: [ScriptRow; 29] = [
+const SHOWN: &str = table![
     (
         "morphism h \"0->01 1->10\"; promote W h:",
         "step 1 promote 2 2\n",
@@ -183,7 +184,7 @@ static SHOWN: [ScriptRow; 29] = [
 ];
 
 /// Morphisms without such a word, heads, and words in formulas.
-static REFUSED: [ScriptRow; 49] = [
+const REFUSED: &str = table![
     (
         "morphism h \"0->01 1->1\"; promote W h;",
         "error 1: F22 Morphism NotUniform 1\n",
@@ -527,12 +528,12 @@ static LIMITS: [(u32, &str, &str, u8, usize); 8] = [
 
 #[test]
 fn fixed_points_show_their_step(rt: HostRuntime) {
-    expect_scripts(&rt, rt.alloc(), &[], "walnut", &SHOWN);
+    expect_scripts(&rt, rt.alloc(), &[], "walnut", SHOWN);
 }
 
 #[test]
 fn morphisms_without_a_fixed_point_are_refused_by_their_kind(rt: HostRuntime) {
-    expect_scripts(&rt, rt.alloc(), &[], "walnut", &REFUSED);
+    expect_scripts(&rt, rt.alloc(), &[], "walnut", REFUSED);
 }
 
 /// Runs a script where no step may be wider than this.

@@ -1,11 +1,11 @@
 //! The words that commands make of morphisms, as they are stored.
 
-use crate::given::{StoredRow, expect_texts};
-use wal_outside::Folder;
+use crate::given::expect_texts;
+use crate::tables::table;
 
 /// The words that are stored: that of Axel Thue and Marston Morse, the period-doubling word, words of four letters for those of
 /// Walter Rudin and Harold Shapiro, of paperfolding and of Michael Baum and Melvin Sweet, and others.
-static STORED: [StoredRow; 24] = [
+const STORED: &str = table![
     (
         "morphism h \"0->01 1->10\"; promote W h:",
         Folder::Words,
@@ -154,5 +154,5 @@ static STORED: [StoredRow; 24] = [
 
 #[test]
 fn fixed_points_are_stored_as_words(rt: HostRuntime) {
-    expect_texts(&rt, rt.alloc(), &[], &STORED);
+    expect_texts(&rt, rt.alloc(), &[], STORED);
 }

@@ -4,6 +4,7 @@ use crate::command_rows::COMMANDS;
 use crate::fibonacci_rows::FIBONACCI;
 use crate::set_rows::SETS;
 use crate::system_rows::SYSTEMS;
+use crate::tables::{ROW_END, first_field, table};
 use crate::whole::{
     Ran, code_of, count_in, expect, expect_bytes, expect_printed, expect_stored, is_stored,
     run_script, stored_in,
@@ -12,40 +13,42 @@ use std::alloc::Global;
 use std::process::Abort;
 use wal_outside::Folder;
 
-pub struct Row {
-    pub script: &'static str,
-    pub printed: &'static str,
-    pub code: u8,
-    pub name: &'static str,
-    pub text: &'static str,
-}
-
 #[test]
 fn scripts_print_and_store_as_listed(rt: HostRuntime) {
-    expect_rows(&rt, rt.alloc(), &COMMANDS);
-    expect_rows(&rt, rt.alloc(), &SETS);
+    expect_rows(&rt, rt.alloc(), COMMANDS);
+    expect_rows(&rt, rt.alloc(), SETS);
 }
 
 #[test]
 fn expressions_over_systems_print_and_store_as_listed(rt: HostRuntime) {
-    expect_rows(&rt, rt.alloc(), &SYSTEMS);
-    expect_rows(&rt, rt.alloc(), &FIBONACCI);
+    expect_rows(&rt, rt.alloc(), SYSTEMS);
+    expect_rows(&rt, rt.alloc(), FIBONACCI);
 }
 
-fn expect_rows(rt: &impl Abort, alloc: Global, rows: &[Row]) {
-    for row in rows {
-        expect_row(rt, row, &run_script(alloc, row.script.as_bytes()));
+fn expect_rows(rt: &impl Abort, alloc: Global, rows: &str) {
+    for row in rows.split_terminator(ROW_END) {
+        expect_row(rt, row, &run_script(alloc, script_of(row).as_bytes()));
     }
 }
 
-/// Asserts that a run of a row's script printed and stored what it was to.
-pub fn expect_row(rt: &impl Abort, row: &Row, ran: &Ran) {
-    expect_printed(rt, row.script, ran, row.printed);
-    expect(rt, row.script, &code_of(ran), &row.code);
-    if row.name.is_empty() {
-        expect(rt, row.script, &count_in(ran), &0);
+/// The script of a row.
+pub fn script_of(row: &str) -> &str {
+    first_field(row).0
+}
+
+/// Asserts that a run of a row's script printed and stored what it was to: the fields are the script, what it prints, the
+/// status, and a name and the text that is under it, or no name.
+pub fn expect_row(rt: &impl Abort, row: &str, ran: &Ran) {
+    let (script, rest) = first_field(row);
+    let (printed, rest) = first_field(rest);
+    let (code, rest) = first_field(rest);
+    let (name, text) = first_field(rest);
+    expect_printed(rt, script, ran, printed);
+    expect(rt, script, &Some(code_of(ran)), &code.parse::<u8>().ok());
+    if name.is_empty() {
+        expect(rt, script, &count_in(ran), &0);
     } else {
-        expect_stored(rt, ran, (Folder::Automata, row.name), row.text);
+        expect_stored(rt, ran, (Folder::Automata, name), text);
     }
 }
 
@@ -60,7 +63,7 @@ fn each_command_stores_its_text(rt: HostRuntime) {
 }
 
 /// Expressions over {0,1} that match the same words.
-static PAIRS: [(&str, &str); 10] = [
+const PAIRS: &str = table![
     ("(0|1)*", ".*"),
     ("0*1|1", "0*1"),
     ("(01)*0", "0(10)*"),
@@ -87,7 +90,8 @@ fn expect_one_text(rt: &impl Abort, row: &str, one: &Ran, other: &Ran) {
 
 #[test]
 fn one_language_has_one_text(rt: HostRuntime) {
-    for (first, second) in &PAIRS {
+    for row in PAIRS.split_terminator(ROW_END) {
+        let (first, second) = first_field(row);
         let one = run_expression(rt.alloc(), first);
         expect_one_text(&rt, first, &one, &run_expression(rt.alloc(), second));
     }

@@ -1,8 +1,8 @@
 //! Expressions over sets: what is printed, the status and what is stored.
 
-use crate::rows::Row;
+use crate::tables::table;
 
-pub static SETS: [Row; 28] = [
+pub const SETS: &str = table![
     Row {
         script: "reg ab {0,1} \"0*1\";",
         printed: "",

@@ -1,9 +1,9 @@
 //! Expressions over base systems: what is printed, the status and what is stored; and the same under a limit of states.
 
-use crate::rows::Row;
+use crate::tables::table;
 use crate::whole::{SURE, ended, expect, expect_printed, run_line};
 
-pub static SYSTEMS: [Row; 29] = [
+pub const SYSTEMS: &str = table![
     Row {
         script: "reg one msd_2 \"1\":",
         printed: "step 1 regex 3 2\nstep 2 pad 3 2\nstep 3 valid 3 2\n",

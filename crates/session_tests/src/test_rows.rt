@@ -1,10 +1,11 @@
 //! The words that `test` lists, and which listings have an end, from an independent program.
 
-use crate::given::{ScriptRow, expect_scripts};
-use crate::listing_files::LISTED;
+use crate::given::expect_scripts;
+use crate::listing_files::listed;
+use crate::tables::table;
 
 /// Scripts that show no steps.
-static PLAIN: [ScriptRow; 107] = [
+const PLAIN: &str = table![
     ("test lt 3;", "[0,1]\n[0,1][0,0]\n[0,1][0,1]\n", 0, 43),
     (
         "test lt 2 \"[0,1][0,1]\";",
@@ -316,5 +317,5 @@ static PLAIN: [ScriptRow; 107] = [
 
 #[test]
 fn words_are_listed_in_order(rt: HostRuntime) {
-    expect_scripts(&rt, rt.alloc(), &LISTED, "walnut", &PLAIN);
+    expect_scripts(&rt, rt.alloc(), listed(), "walnut", PLAIN);
 }

@@ -1,11 +1,12 @@
 //! The first faults of commands that run transducers.
 
-use crate::given::{FailingRow, ScriptRow, expect_scripts, run_failing};
-use crate::transduce_files::{BROKEN, TRANSDUCED};
+use crate::given::{FailingRow, expect_scripts, run_failing};
+use crate::tables::table;
+use crate::transduce_files::{broken, transduced};
 use crate::whole::{ended, expect, expect_printed};
 
 /// Scripts of commands that are refused.
-static REFUSED: [ScriptRow; 45] = [
+const REFUSED: &str = table![
     ("transduce;", "error 1: F02 Syntax in command at 9\n", 1, 43),
     (
         "transduce S;",
@@ -264,7 +265,7 @@ static REFUSED: [ScriptRow; 45] = [
 ];
 
 /// Files of transducers that break the format, each with the line at which it does; they are read before the word.
-static LINES: [ScriptRow; 34] = [
+const LINES: &str = table![
     (
         "transduce S f0 T;",
         "error 1: F12 File Transducer Library/f0 line 1\n",
@@ -473,8 +474,8 @@ static LINES: [ScriptRow; 34] = [
 
 #[test]
 fn transducers_are_refused_by_their_first_fault(rt: HostRuntime) {
-    expect_scripts(&rt, rt.alloc(), &TRANSDUCED, "walnut", &REFUSED);
-    expect_scripts(&rt, rt.alloc(), &BROKEN, "walnut", &LINES);
+    expect_scripts(&rt, rt.alloc(), transduced(), "walnut", REFUSED);
+    expect_scripts(&rt, rt.alloc(), broken(), "walnut", LINES);
 }
 
 /// A call of the store that fails, what is printed then, the status, and how many texts the store has.
@@ -489,7 +490,7 @@ static FAILING: [FailingRow; 4] = [
 #[test]
 fn each_file_of_a_transducer_is_read_once(rt: HostRuntime) {
     for (failing, printed, code, count) in &FAILING {
-        let ran = run_failing(rt.alloc(), &TRANSDUCED, "transduce S sum T;", *failing);
+        let ran = run_failing(rt.alloc(), transduced(), "transduce S sum T;", *failing);
         expect_printed(&rt, printed, &ran, printed);
         expect(&rt, printed, &ended(&ran), &(*code, *count));
     }

@@ -11,7 +11,7 @@ use wal_outside::Folder;
 /// `shift` the letters a position later; `stop` stops at the first 1 and `first` after it; `blanks` is `sum` with blanks, comments and other
 /// numbers, `star` counts in threes, `signs` has negative numbers, the sets of `apart`, `zeros` and `one` lack letters, `idle` has no
 /// transition, `more` a state to which none leads, and `digits` begins with a letter of its own.
-pub static TRANSDUCED: [FileRow; 43] = [
+static TRANSDUCED: [FileRow; 43] = [
     (
         Folder::Words,
         "C",
@@ -165,8 +165,13 @@ pub static TRANSDUCED: [FileRow; 43] = [
     ),
 ];
 
+/// The files in `TRANSDUCED`.
+pub fn transduced() -> &'static [FileRow] {
+    &TRANSDUCED
+}
+
 /// Transducers that break the format, and words.
-pub static BROKEN: [FileRow; 33] = [
+static BROKEN: [FileRow; 33] = [
     (Folder::Transducers, "f0", ""),
     (Folder::Transducers, "f1", "\n"),
     (Folder::Transducers, "f2", "# a\n\n"),
@@ -230,8 +235,13 @@ pub static BROKEN: [FileRow; 33] = [
     ),
 ];
 
+/// The files in `BROKEN`.
+pub fn broken() -> &'static [FileRow] {
+    &BROKEN
+}
+
 /// Transducers alone.
-pub static TRANSDUCERS: [FileRow; 5] = [
+static TRANSDUCERS: [FileRow; 5] = [
     (
         Folder::Transducers,
         "sum",
@@ -254,3 +264,8 @@ pub static TRANSDUCERS: [FileRow; 5] = [
         "{0,1}\n0\n0 -> 0 / 0\n1 -> 1 / 0\n1\n0 -> 0 / 1\n1 -> 1 / 1\n",
     ),
 ];
+
+/// The files in `TRANSDUCERS`.
+pub fn transducers() -> &'static [FileRow] {
+    &TRANSDUCERS
+}

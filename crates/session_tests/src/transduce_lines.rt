@@ -1,10 +1,11 @@
 //! The lines of the steps of transducers, at their limits too, and theorems on the words that they make.
 
-use crate::given::{ScriptRow, expect_scripts};
-use crate::transduce_files::{TRANSDUCED, TRANSDUCERS};
+use crate::given::{expect_script, expect_scripts};
+use crate::tables::{ROW_END, first_field, table};
+use crate::transduce_files::{transduced, transducers};
 
 /// Scripts that show their steps.
-static SHOWN: [ScriptRow; 44] = [
+const SHOWN: &str = table![
     (
         "transduce Z sum T:",
         "step 1 read 2 2\nstep 2 pad 3 2\nstep 3 valid 2 2\nstep 4 transduce 11 7\nstep 5 reverse 8 8\n",
@@ -273,11 +274,11 @@ static SHOWN: [ScriptRow; 44] = [
 
 #[test]
 fn transducers_show_their_steps(rt: HostRuntime) {
-    expect_scripts(&rt, rt.alloc(), &TRANSDUCED, "walnut", &SHOWN);
+    expect_scripts(&rt, rt.alloc(), transduced(), "walnut", SHOWN);
 }
 
 /// Scripts in which commands read what others made.
-static SEQUENCES: [ScriptRow; 7] = [
+const SEQUENCES: &str = table![
     ("transduce S sum T;", "", 0, 44),
     ("transduce T sum T; transduce T sum T;", "", 0, 43),
     (
@@ -303,7 +304,7 @@ static SEQUENCES: [ScriptRow; 7] = [
 ];
 
 /// Theorems on words that commands made.
-static THEOREMS: [ScriptRow; 6] = [
+const THEOREMS: &str = table![
     (
         "morphism h \"0->01 1->10\"; promote T h; transduce S sum T; eval z \"Am S[4*m+1]=@1 & S[4*m+3]=@0\"; eval y \"S[0]=@0 & S[2]=@0 & S[4]=@1 & S[6]=@1\";",
         "TRUE\nTRUE\n",
@@ -344,15 +345,12 @@ static THEOREMS: [ScriptRow; 6] = [
 
 #[test]
 fn transducers_read_what_commands_made(rt: HostRuntime) {
-    expect_scripts(&rt, rt.alloc(), &TRANSDUCED, "walnut", &SEQUENCES);
-    expect_scripts(&rt, rt.alloc(), &TRANSDUCERS, "walnut", &THEOREMS);
+    expect_scripts(&rt, rt.alloc(), transduced(), "walnut", SEQUENCES);
+    expect_scripts(&rt, rt.alloc(), transducers(), "walnut", THEOREMS);
 }
 
 /// Words of a command line, and a script that has its greatest width as limit, or one less.
-type LimitRow = (&'static str, ScriptRow);
-
-/// Steps at their widths, and at one less.
-static LIMITS: [LimitRow; 12] = [
+const LIMITS: &str = table![
     (
         "walnut --states 20",
         ("transduce Z sum3 O:", "error 1: F19 States step 4\n", 1, 43),
@@ -425,7 +423,8 @@ static LIMITS: [LimitRow; 12] = [
 
 #[test]
 fn transducers_past_the_limit_are_refused(rt: HostRuntime) {
-    for (line, row) in &LIMITS {
-        expect_scripts(&rt, rt.alloc(), &TRANSDUCED, line, &[*row]);
+    for row in LIMITS.split_terminator(ROW_END) {
+        let (line, row) = first_field(row);
+        expect_script(&rt, rt.alloc(), transduced(), line, row);
     }
 }

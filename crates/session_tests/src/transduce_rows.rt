@@ -1,11 +1,12 @@
-//! The words that transducers make, from an independent program that runs them letter by letter.
+//! The words that transducers make, from an independent program that runs them letter by letter. Of all rows, over ten words, the
+//! letters below 10,000 are those of a plain run over the letters of the old word.
 
-use crate::given::{StoredRow, expect_texts};
-use crate::transduce_files::TRANSDUCED;
-use wal_outside::Folder;
+use crate::given::expect_texts;
+use crate::tables::table;
+use crate::transduce_files::transduced;
 
 /// Scripts, and the words that they leave.
-static FIRST_TEXTS: [StoredRow; 7] = [
+const FIRST_TEXTS: &str = table![
     (
         "transduce Z sum T;",
         Folder::Words,
@@ -51,7 +52,7 @@ static FIRST_TEXTS: [StoredRow; 7] = [
 ];
 
 /// Scripts, and the words that they leave, continued.
-static SECOND_TEXTS: [StoredRow; 1] = [(
+const SECOND_TEXTS: &str = table![(
     "transduce Z sum3 R;",
     Folder::Words,
     "Z",
@@ -59,7 +60,7 @@ static SECOND_TEXTS: [StoredRow; 1] = [(
 )];
 
 /// Scripts, and the words that they leave, continued.
-static THIRD_TEXTS: [StoredRow; 13] = [
+const THIRD_TEXTS: &str = table![
     (
         "transduce Z sum4 R;",
         Folder::Words,
@@ -141,7 +142,7 @@ static THIRD_TEXTS: [StoredRow; 13] = [
 ];
 
 /// Scripts, and the words that they leave, continued.
-static FOURTH_TEXTS: [StoredRow; 21] = [
+const FOURTH_TEXTS: &str = table![
     (
         "transduce Z copy M;",
         Folder::Words,
@@ -241,7 +242,7 @@ static FOURTH_TEXTS: [StoredRow; 21] = [
 ];
 
 /// Scripts, and the words that they leave, continued.
-static FIFTH_TEXTS: [StoredRow; 1] = [(
+const FIFTH_TEXTS: &str = table![(
     "transduce Z sum V;",
     Folder::Words,
     "Z",
@@ -249,7 +250,7 @@ static FIFTH_TEXTS: [StoredRow; 1] = [(
 )];
 
 /// Scripts, and the words that they leave, continued.
-static SIXTH_TEXTS: [StoredRow; 1] = [(
+const SIXTH_TEXTS: &str = table![(
     "transduce Z sum3 V;",
     Folder::Words,
     "Z",
@@ -258,30 +259,30 @@ static SIXTH_TEXTS: [StoredRow; 1] = [(
 
 #[test]
 fn first_transducers_make_their_words(rt: HostRuntime) {
-    expect_texts(&rt, rt.alloc(), &TRANSDUCED, &FIRST_TEXTS);
+    expect_texts(&rt, rt.alloc(), transduced(), FIRST_TEXTS);
 }
 
 #[test]
 fn second_transducers_make_their_words(rt: HostRuntime) {
-    expect_texts(&rt, rt.alloc(), &TRANSDUCED, &SECOND_TEXTS);
+    expect_texts(&rt, rt.alloc(), transduced(), SECOND_TEXTS);
 }
 
 #[test]
 fn third_transducers_make_their_words(rt: HostRuntime) {
-    expect_texts(&rt, rt.alloc(), &TRANSDUCED, &THIRD_TEXTS);
+    expect_texts(&rt, rt.alloc(), transduced(), THIRD_TEXTS);
 }
 
 #[test]
 fn fourth_transducers_make_their_words(rt: HostRuntime) {
-    expect_texts(&rt, rt.alloc(), &TRANSDUCED, &FOURTH_TEXTS);
+    expect_texts(&rt, rt.alloc(), transduced(), FOURTH_TEXTS);
 }
 
 #[test]
 fn fifth_transducers_make_their_words(rt: HostRuntime) {
-    expect_texts(&rt, rt.alloc(), &TRANSDUCED, &FIFTH_TEXTS);
+    expect_texts(&rt, rt.alloc(), transduced(), FIFTH_TEXTS);
 }
 
 #[test]
 fn sixth_transducers_make_their_words(rt: HostRuntime) {
-    expect_texts(&rt, rt.alloc(), &TRANSDUCED, &SIXTH_TEXTS);
+    expect_texts(&rt, rt.alloc(), transduced(), SIXTH_TEXTS);
 }

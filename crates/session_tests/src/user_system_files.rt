@@ -1,9 +1,11 @@
 //! Files of users' systems, and runs over stores that hold them.
 
 use crate::no_answer::NoAnswer;
+use crate::tables::numbers_of;
 use crate::tribonacci_adder::TRIBONACCI_ADDER;
-use crate::whole::{Ran, SURE, run_over};
+use crate::whole::{Ran, SURE, ended, expect, expect_bytes, run_over};
 use std::alloc::Global;
+use std::process::Abort;
 use wal_outside::{Folder, MemStore};
 
 /// A file, by its folder, its name and its text.
@@ -333,8 +335,16 @@ pub fn ask(alloc: Global, line: &str, name: &str) -> Ran {
 }
 
 /// A status, and how many texts the store has where a run adds so many.
-pub fn end_with(code: u8, added: usize) -> (u8, usize) {
+fn end_with(code: u8, added: usize) -> (u8, usize) {
     (code, FILE_COUNT.saturating_add(added))
+}
+
+/// Asserts that a run ended with the status that a field says, and added as many texts as the next one says.
+pub fn expect_added(rt: &impl Abort, script: &str, ran: &Ran, end: &str) {
+    match numbers_of(end) {
+        Some((code, added)) => expect(rt, script, &ended(ran), &end_with(code, added)),
+        None => expect_bytes(rt, script, end.as_bytes(), b"a status and a number"),
+    }
 }
 
 /// The end of a run of one command that prints this.

@@ -1,10 +1,11 @@
 //! Systems of users in commands: what is printed of scripts over stores that hold their files, and how these end.
 
-use crate::user_system_files::{ask, end_of, end_with, run_over_files};
+use crate::tables::{ROW_END, first_field, table};
+use crate::user_system_files::{ask, end_of, expect_added, run_over_files};
 use crate::whole::{ended, expect, expect_printed};
 
 /// Systems, and what is printed where they are asked whether 6 is a double.
-static QUESTIONS: [(&str, &str); 83] = [
+const QUESTIONS: &str = table![
     ("msd_bin", "TRUE\n"),
     ("lsd_bin", "TRUE\n"),
     ("msd_own", "TRUE\n"),
@@ -154,7 +155,7 @@ static QUESTIONS: [(&str, &str); 83] = [
 ];
 
 /// Scripts, what they print, the status, and how many texts they store.
-static SCRIPTS: [(&str, &str, u8, usize); 53] = [
+const SCRIPTS: &str = table![
     (
         "eval a \"?msd_none x=\";",
         "error 1: F02 Syntax in formula at 12\n",
@@ -457,7 +458,8 @@ static SCRIPTS: [(&str, &str, u8, usize); 53] = [
 
 #[test]
 fn systems_are_admitted_as_listed(rt: HostRuntime) {
-    for (name, printed) in &QUESTIONS {
+    for row in QUESTIONS.split_terminator(ROW_END) {
+        let (name, printed) = first_field(row);
         let ran = ask(rt.alloc(), "walnut", name);
         expect_printed(&rt, name, &ran, printed);
         expect(&rt, name, &ended(&ran), &end_of(printed));
@@ -466,9 +468,11 @@ fn systems_are_admitted_as_listed(rt: HostRuntime) {
 
 #[test]
 fn scripts_over_systems_print_as_listed(rt: HostRuntime) {
-    for (script, printed, code, added) in &SCRIPTS {
+    for row in SCRIPTS.split_terminator(ROW_END) {
+        let (script, rest) = first_field(row);
+        let (printed, end) = first_field(rest);
         let ran = run_over_files(rt.alloc(), "walnut", script, 0);
         expect_printed(&rt, script, &ran, printed);
-        expect(&rt, script, &ended(&ran), &end_with(*code, *added));
+        expect_added(&rt, script, &ran, end);
     }
 }

@@ -1,12 +1,13 @@
 //! Systems of users in commands: the steps of their admission, and what is stored over them.
 
+use crate::tables::{ROW_END, first_field, table};
 use crate::user_system_files::{ask, end_of, run_over_files};
 use crate::whole::{Ran, code_of, ended, expect, expect_printed, expect_stored};
 use std::alloc::Global;
 use wal_outside::Folder;
 
 /// Scripts that show their steps.
-static SHOWN: [(&str, &str); 19] = [
+const SHOWN: &str = table![
     (
         "eval a \"?msd_bin Ex x+x=6\":",
         "step 1 read 1 1\nstep 2 order 3 2\nstep 3 product 9 4\nstep 4 project 4 3\nstep 5 product 4 2\nstep 6 read 3 2\nstep 7 pad 4 2\nstep 8 valid 3 2\nstep 9 product 6 1\nstep 10 project 2 1\nstep 11 product 9 3\nstep 12 project 3 2\nstep 13 product 9 3\nstep 14 project 3 2\nstep 15 const 5 4\nstep 16 product 6 2\nstep 17 project 3 2\nstep 18 product 11 4\nstep 19 project 4 3\nstep 20 project 1 1\nTRUE\n",
@@ -86,7 +87,7 @@ static SHOWN: [(&str, &str); 19] = [
 ];
 
 /// Commands, and what they store under `a`.
-static STORED: [(&str, &str); 12] = [
+const STORED: &str = table![
     (
         "def a \"?msd_zeck x=4\";",
         "msd_zeck\n\n0 0\n0 -> 0\n1 -> 1\n\n1 0\n0 -> 2\n\n2 0\n1 -> 3\n\n3 1\n",
@@ -197,7 +198,8 @@ static LIMITS: [(u32, &str, &str); 38] = [
 
 #[test]
 fn steps_of_admission_come_first(rt: HostRuntime) {
-    for (script, printed) in &SHOWN {
+    for row in SHOWN.split_terminator(ROW_END) {
+        let (script, printed) = first_field(row);
         let ran = run_over_files(rt.alloc(), "walnut", script, 0);
         expect_printed(&rt, script, &ran, printed);
         expect(&rt, script, &code_of(&ran), &0);
@@ -206,7 +208,8 @@ fn steps_of_admission_come_first(rt: HostRuntime) {
 
 #[test]
 fn texts_over_systems_are_stored_as_listed(rt: HostRuntime) {
-    for (script, text) in &STORED {
+    for row in STORED.split_terminator(ROW_END) {
+        let (script, text) = first_field(row);
         let ran = run_over_files(rt.alloc(), "walnut", script, 0);
         expect_stored(&rt, &ran, (Folder::Automata, "a"), text);
     }

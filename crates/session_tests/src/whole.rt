@@ -66,9 +66,20 @@ pub fn run_over(
     outside: &Outside,
     store: MemStore,
 ) -> Ran {
-    let words = words_of(alloc, line)?;
     let source = source_of(alloc, script, outside)?;
     let out = sink_of(alloc, outside)?;
+    run_objects(alloc, line, source, out, store)
+}
+
+/// Runs over these objects, with the words of this command line.
+pub fn run_objects(
+    alloc: Global,
+    line: &str,
+    source: MemSource,
+    out: MemSink,
+    store: MemStore,
+) -> Ran {
+    let words = words_of(alloc, line)?;
     Ok(left_by(alloc, &words, source, out, store))
 }
 

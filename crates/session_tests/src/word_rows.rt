@@ -1,6 +1,7 @@
 //! Formulas with automatic words: what is printed and stored of scripts over stores that hold words.
 
 use crate::no_answer::NoAnswer;
+use crate::tables::{ROW_END, first_field, table};
 use crate::whole::{Ran, SURE, expect_printed, expect_stored, run_over};
 use std::alloc::Global;
 use wal_outside::{Folder, MemStore};
@@ -32,7 +33,7 @@ static FILES: [FileRow; 14] = [
 ];
 
 /// Scripts, and what they print.
-static PRINTED: [(&str, &str); 44] = [
+const PRINTED: &str = table![
     (
         "eval o \"Ei,n n>=1 & At t<=n => T[i+t]=T[i+n+t]\";",
         "FALSE\n",
@@ -173,7 +174,7 @@ static PRINTED: [(&str, &str); 44] = [
 ];
 
 /// Formulas with one free variable, and the texts that they store.
-static STORED: [(&str, &str); 5] = [
+const STORED: &str = table![
     (
         "T[x]=@1",
         "msd_2\n\n0 0\n0 -> 0\n1 -> 1\n\n1 1\n0 -> 1\n1 -> 0\n",
@@ -204,7 +205,8 @@ pub fn run_over_words(alloc: Global, files: &[FileRow], script: &str) -> Ran {
 
 #[test]
 fn formulas_with_words_print_as_listed(rt: HostRuntime) {
-    for (script, printed) in &PRINTED {
+    for row in PRINTED.split_terminator(ROW_END) {
+        let (script, printed) = first_field(row);
         let ran = run_over_words(rt.alloc(), &FILES, script);
         expect_printed(&rt, script, &ran, printed);
     }
@@ -218,7 +220,8 @@ fn run_definition(alloc: Global, formula: &str) -> Ran {
 
 #[test]
 fn formulas_with_words_store_their_texts(rt: HostRuntime) {
-    for (formula, text) in &STORED {
+    for row in STORED.split_terminator(ROW_END) {
+        let (formula, text) = first_field(row);
         let ran = run_definition(rt.alloc(), formula);
         expect_stored(&rt, &ran, (Folder::Automata, "w"), text);
     }

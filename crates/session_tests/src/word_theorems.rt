@@ -1,5 +1,6 @@
 //! Theorems of the literature on automatic words, with their verdicts.
 
+use crate::tables::{ROW_END, first_field, table};
 use crate::whole::{Ran, expect_printed};
 use crate::word_rows::run_over_words;
 use std::alloc::Global;
@@ -25,7 +26,7 @@ const POWER: &str = "reg power msd_2 \"0*10*\";";
 /// Thue; Marston Morse and Gustav Hedlund); powers in the period-doubling word, whose critical exponent is 4 (David Damanik);
 /// squares and palindromes of the paperfolding word (Jean-Paul Allouche and Mireille Bousquet-Mélou) and of the Rudin-Shapiro
 /// word (Jean-Paul Allouche); the last two words from the one before by sums and differences of letters.
-static STATEMENTS: [(&str, &str); 18] = [
+const STATEMENTS: &str = table![
     ("Ei,n n>=1 & At t<=n => T[i+t]=T[i+n+t]", "FALSE\n"),
     ("Ei,n n>=1 & At t<2*n => T[i+t]=T[i+n+t]", "FALSE\n"),
     (
@@ -81,7 +82,8 @@ fn run_statement(alloc: Global, statement: &str) -> Ran {
 
 #[test]
 fn automatic_words_are_as_in_the_literature(rt: HostRuntime) {
-    for (statement, verdict) in &STATEMENTS {
+    for row in STATEMENTS.split_terminator(ROW_END) {
+        let (statement, verdict) = first_field(row);
         let ran = run_statement(rt.alloc(), statement);
         expect_printed(&rt, statement, &ran, verdict);
     }

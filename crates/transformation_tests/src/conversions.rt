@@ -8,7 +8,7 @@ ghost use Rattle.num_system.specs.Tracks.{systems_of};
 
 use crate::fixed_words::{DOUBLING, THUE_MORSE};
 use crate::no_answer::NoAnswer;
-use crate::outcomes::{expect, letter_text, lines_of};
+use crate::outcomes::{after_lines, expect, fault_text, letter_text};
 use base_change::conversion::convert;
 use base_change::related::related;
 use base_k::base_k::{BaseK, GREATEST_BASE, LEAST_BASE};
@@ -134,6 +134,39 @@ fn in_base(base: Base) -> Result<BaseK, NoAnswer> {
     }
 }
 
+// The letters of both words, or the fault.
+fn letters_after(
+    alloc: Global,
+    rules: &str,
+    first: Base,
+    second: Base,
+    steps: &mut Steps,
+) -> Result<String, NoAnswer> {
+    let between = in_base(first)?;
+    let last = in_base(second)?;
+    let word = promoted(alloc, rules, steps)?;
+    let words = converted_twice(alloc, &word, between, last, steps);
+    letters_of_both(alloc, &words, first, second)
+}
+
+// The letters of two words, or the fault.
+fn letters_of_both(
+    alloc: Global,
+    words: &Result<(Word, Word), StepFault>,
+    first: Base,
+    second: Base,
+) -> Result<String, NoAnswer> {
+    match words {
+        Ok((between, last)) => {
+            let mut letters = letters_of(alloc, between, first)?;
+            letters.push(',')?;
+            letters.push_str(&letters_of(alloc, last, second)?)?;
+            Ok(letters)
+        }
+        Err(fault) => fault_text(alloc, *fault),
+    }
+}
+
 // The lines of the steps and the letters of both words, or the lines and the fault.
 fn changed(
     alloc: Global,
@@ -143,23 +176,8 @@ fn changed(
     limit: u32,
 ) -> Result<String, NoAnswer> {
     let mut steps = Steps::new(alloc, limit);
-    let word = promoted(alloc, rules, &mut steps)?;
-    let answer = match converted_twice(
-        alloc,
-        &word,
-        in_base(first)?,
-        in_base(second)?,
-        &mut steps,
-    ) {
-        Ok((between, last)) => {
-            let letters = letters_of(alloc, &between, first)?;
-            let others = letters_of(alloc, &last, second)?;
-            format!(in alloc; "{letters},{others}")?
-        }
-        Err(fault) => format!(in alloc; "{fault:?}")?,
-    };
-    let lines = lines_of(alloc, &steps)?;
-    Ok(format!(in alloc; "{lines}{answer}")?)
+    let answer = letters_after(alloc, rules, first, second, &mut steps)?;
+    after_lines(alloc, &steps, &answer)
 }
 
 // Rules, the base to which their word is changed first and then, the limit, and what is given. The letters are those of the fixed points.

@@ -2,6 +2,7 @@
 
 use crate::no_answer::NoAnswer;
 use digit_tuple::dfa::Dfa;
+use digit_tuple::step_fault::StepFault;
 use digit_tuple::steps::{StepLine, Steps};
 use digit_tuple::transitions::Transition;
 use std::alloc::Global;
@@ -9,13 +10,37 @@ use std::fmt::Debug;
 use std::process::Abort;
 use word_output::letter_function::LetterFunction;
 
-/// The lines of steps, each its kind, its width and its size.
-pub(crate) fn lines_of(alloc: Global, steps: &Steps) -> Result<String, NoAnswer> {
+// The lines of steps, each its kind, its width and its size.
+fn lines_of(alloc: Global, steps: &Steps) -> Result<String, NoAnswer> {
     let mut text = String::new(alloc);
     for number in 0..steps.count() {
         text.push_str(&line_text(alloc, steps.line(number))?)?;
     }
     Ok(text)
+}
+
+/// The lines of steps, and after them what the steps give.
+pub(crate) fn after_lines(alloc: Global, steps: &Steps, answer: &str) -> Result<String, NoAnswer> {
+    let mut text = lines_of(alloc, steps)?;
+    text.push_str(answer)?;
+    Ok(text)
+}
+
+/// The lines of steps and the function that they make, or the lines and the fault.
+pub(crate) fn made_text(
+    alloc: Global,
+    steps: &Steps,
+    made: &Result<LetterFunction, StepFault>,
+) -> Result<String, NoAnswer> {
+    match made {
+        Ok(made) => after_lines(alloc, steps, &function_text(alloc, made)?),
+        Err(fault) => after_lines(alloc, steps, &fault_text(alloc, *fault)?),
+    }
+}
+
+/// The name of a fault.
+pub(crate) fn fault_text(alloc: Global, fault: StepFault) -> Result<String, NoAnswer> {
+    Ok(format!(in alloc; "{fault:?}")?)
 }
 
 // The text of a step's line.

@@ -4,7 +4,7 @@ ghost use Rattle.std.specs.Prelude.{◌≡◌, ◌∷◌, [], IsTrue};
 
 use crate::fixed_words::{THUE_MORSE, fixed_word};
 use crate::no_answer::NoAnswer;
-use crate::outcomes::{expect, lines_of, table_of};
+use crate::outcomes::{after_lines, expect, fault_text, table_of};
 use base_change::join::join_letters;
 use base_change::related::related;
 use base_change::split::split_letters;
@@ -95,6 +95,21 @@ fn by_threes(
     split_letters(alloc, &joined, 2, 3, steps)
 }
 
+// Whether the automaton that is made is that of a function, or the fault.
+fn sameness(
+    alloc: Global,
+    made: &Result<LetterFunction, StepFault>,
+    function: &LetterFunction,
+) -> Result<String, NoAnswer> {
+    match made {
+        Ok(made) => {
+            let same = table_of(alloc, made.dfa())? == table_of(alloc, function.dfa())?;
+            Ok(same.to_string(alloc)?)
+        }
+        Err(fault) => fault_text(alloc, *fault),
+    }
+}
+
 // The lines of the steps there and back, and whether the automaton is the same then; or the lines and the fault.
 fn changed(alloc: Global, threes: bool, limit: u32) -> Result<String, NoAnswer> {
     let word = fixed_word(alloc, THUE_MORSE)?;
@@ -105,15 +120,8 @@ fn changed(alloc: Global, threes: bool, limit: u32) -> Result<String, NoAnswer> 
     } else {
         by_pairs(alloc, function, &mut steps)
     };
-    let answer = match back {
-        Ok(back) => {
-            let same = table_of(alloc, back.dfa())? == table_of(alloc, function.dfa())?;
-            format!(in alloc; "{same}")?
-        }
-        Err(fault) => format!(in alloc; "{fault:?}")?,
-    };
-    let lines = lines_of(alloc, &steps)?;
-    Ok(format!(in alloc; "{lines}{answer}")?)
+    let answer = sameness(alloc, &back, function)?;
+    after_lines(alloc, &steps, &answer)
 }
 
 // Whether by three digits, the limit, and what is given. The widths are those of an independent program.

@@ -2,7 +2,7 @@
 
 use crate::fixed_words::{DOUBLING, THUE_MORSE, fixed_word};
 use crate::no_answer::NoAnswer;
-use crate::outcomes::{expect, function_text, lines_of, table_of};
+use crate::outcomes::{expect, made_text, table_of};
 use class_reversal::reversal::reverse_classes;
 use digit_tuple::faults::OpFault;
 use digit_tuple::steps::Steps;
@@ -14,12 +14,8 @@ use word_output::letter_function::LetterFunction;
 fn reversed(alloc: Global, rules: &str, limit: u32) -> Result<String, NoAnswer> {
     let word = fixed_word(alloc, rules)?;
     let mut steps = Steps::new(alloc, limit);
-    let answer = match reverse_letters(alloc, word.function(), &mut steps) {
-        Ok(made) => function_text(alloc, &made)?,
-        Err(fault) => format!(in alloc; "{fault:?}")?,
-    };
-    let lines = lines_of(alloc, &steps)?;
-    Ok(format!(in alloc; "{lines}{answer}")?)
+    let made = reverse_letters(alloc, word.function(), &mut steps);
+    made_text(alloc, &steps, &made)
 }
 
 // The parity of all ones is that of the reversed word; that of the last ones needs two states until the first zero, and two after.
@@ -53,10 +49,8 @@ fn reversed_twice(alloc: Global, rules: &str) -> Result<String, NoAnswer> {
     let word = fixed_word(alloc, rules)?;
     let mut steps = Steps::new(alloc, 4);
     let there = reverse_letters(alloc, word.function(), &mut steps)?;
-    let back = reverse_letters(alloc, &there, &mut steps)?;
-    let lines = lines_of(alloc, &steps)?;
-    let text = function_text(alloc, &back)?;
-    Ok(format!(in alloc; "{lines}{text}")?)
+    let back = reverse_letters(alloc, &there, &mut steps);
+    made_text(alloc, &steps, &back)
 }
 
 // The state after a zero is the first one, and after a one the other, if it was the first.

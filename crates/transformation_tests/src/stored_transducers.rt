@@ -21,27 +21,20 @@ fn answer_text(alloc: Global, answer: &Result<Transducer, LoadFault>) -> Result<
 // A fault with its folder and its name.
 fn fault_text(alloc: Global, fault: &LoadFault) -> Result<String, NoAnswer> {
     match fault {
-        LoadFault::Unknown(folder, name) => Ok(format!(in alloc;
-            "unknown {}",
-            at(alloc, *folder, name)?
-        )?),
+        LoadFault::Unknown(folder, name) => at(alloc, "unknown", *folder, name),
         LoadFault::File(folder, name, FileFlaw::Line(line)) => {
-            Ok(format!(in alloc; "line {line} {}", at(alloc, *folder, name)?)?)
+            let what = format!(in alloc; "line {line}")?;
+            at(alloc, &what, *folder, name)
         }
-        LoadFault::File(folder, name, FileFlaw::TooLong) => {
-            Ok(format!(in alloc; "too long {}", at(alloc, *folder, name)?)?)
-        }
-        LoadFault::Store(folder, name) => Ok(format!(in alloc;
-            "store {}",
-            at(alloc, *folder, name)?
-        )?),
+        LoadFault::File(folder, name, FileFlaw::TooLong) => at(alloc, "too long", *folder, name),
+        LoadFault::Store(folder, name) => at(alloc, "store", *folder, name),
         LoadFault::Memory => Err(NoAnswer),
     }
 }
 
-// A folder and a name.
-fn at(alloc: Global, folder: Folder, name: &Name) -> Result<String, NoAnswer> {
-    Ok(format!(in alloc; "{folder:?} {}", name.as_str())?)
+// What a folder has under a name.
+fn at(alloc: Global, what: &str, folder: Folder, name: &Name) -> Result<String, NoAnswer> {
+    Ok(format!(in alloc; "{what} {folder:?} {}", name.as_str())?)
 }
 
 // What is loaded under a name.

@@ -2,7 +2,7 @@
 
 use crate::fixed_words::{DOUBLING, THUE_MORSE, fixed_word};
 use crate::no_answer::NoAnswer;
-use crate::outcomes::{expect, function_text, lines_of};
+use crate::outcomes::{expect, made_text};
 use crate::transducer_files::made_of;
 use digit_tuple::steps::Steps;
 use std::alloc::Global;
@@ -16,12 +16,8 @@ fn transduced(alloc: Global, text: &str, rules: &str, limit: u32) -> Result<Stri
     let transducer = made_of(alloc, text)?;
     let word = fixed_word(alloc, rules)?;
     let mut steps = Steps::new(alloc, limit);
-    let answer = match transduce(alloc, &transducer, word.function(), &mut steps) {
-        Ok(made) => function_text(alloc, &made)?,
-        Err(fault) => format!(in alloc; "{fault:?}")?,
-    };
-    let lines = lines_of(alloc, &steps)?;
-    Ok(format!(in alloc; "{lines}{answer}")?)
+    let made = transduce(alloc, &transducer, word.function(), &mut steps);
+    made_text(alloc, &steps, &made)
 }
 
 // Each step has its width as limit, and one less.
