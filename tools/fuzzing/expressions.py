@@ -1,12 +1,20 @@
 """Regular expressions: random ones as text, and the words that they match."""
 import itertools
+from functools import lru_cache, reduce
+
+import reading
+
+
+# How long the words are that are compared, by the number of letters: shorter where there are many.
+LENGTHS = {1: 6, 2: 6, 3: 6}
+LONGEST = 3
 
 
 class Expression:
     """A nondeterministic automaton of an expression: the places reached before anything is read, and by each letter."""
 
     def __init__(self, letters):
-        self.letters, self.zero = letters, (0,) * len(letters[0])
+        self.letters, self.rows = letters, reading.Rows(self.after, letters)
         self.silent, self.by, self.kept = {}, {}, {}
         self.count = 0
 
@@ -20,31 +28,38 @@ class Expression:
         else:
             self.by.setdefault((one, letter), []).append(other)
 
-    def reached(self, places):
-        found, left = set(places), list(places)
-        while left:
-            for other in self.silent.get(left.pop(), ()):
-                if other not in found:
-                    found.add(other)
-                    left.append(other)
-        return frozenset(found)
+    def reached(self, place):
+        """The places that are reached from a place before anything is read."""
+        if place not in self.kept:
+            found, left = {place}, [place]
+            while left:
+                new = set(self.silent.get(left.pop(), ())) - found
+                found |= new
+                left += new
+            self.kept[place] = frozenset(found)
+        return self.kept[place]
 
     def after(self, places, letter):
-        if (places, letter) not in self.kept:
-            self.kept[places, letter] = self.reached([to for it in places for to in self.by.get((it, letter), ())])
-        return self.kept[places, letter]
+        return frozenset().union(*(self.reached(to) for it in places for to in self.by.get((it, letter), ())))
 
-    def after_zeros(self, places):
-        """The places after any number of zero letters."""
-        while not self.after(places, self.zero) <= places:
-            places |= self.after(places, self.zero)
-        return places
+    def ends(self, start, end):
+        """Sets where it starts and where it ends."""
+        self.first, self.end = self.reached(start), end
 
-    def matches(self, word, before=lambda places: places, behind=lambda places: places):
-        places = before(self.reached([self.start]))
-        for letter in word:
-            places = self.after(places, letter)
-        return self.end in behind(places)
+    def accepts(self, places):
+        return self.end in places
+
+    def reader(self, tracks):
+        """Reads numbers by the expression."""
+        return reading.Reader(tracks, self.first, self.after, self.accepts)
+
+    def language(self):
+        """Its words by their length, each as the numbers of its letters."""
+        places, found = [self.first], []
+        for words in words_of(len(self.letters)):
+            found.append({word for word, reached in zip(words, places) if self.end in reached})
+            places = [other for one in places for other in self.rows[one]]
+        return found
 
 
 def letter_text(rng, letter):
@@ -109,34 +124,42 @@ def alternatives(rng, made, depth):
 
 
 def random_expression(rng, letters, depth=2):
-    """A text and what it matches."""
+    """A text, and an automaton of what it matches."""
     made = Expression(letters)
-    text, made.start, made.end = alternatives(rng, made, depth)
+    text, start, end = alternatives(rng, made, depth)
+    made.ends(start, end)
     return text, made
 
 
-def words_up_to(letters, length):
-    return itertools.chain.from_iterable(itertools.product(letters, repeat=it) for it in range(length + 1))
+@lru_cache(maxsize=None)
+def words_of(count):
+    """The words over a number of letters, up to a length, by their length and in order."""
+    return [[bytes(it) for it in itertools.product(range(count), repeat=length)] for length in range(LENGTHS.get(count, LONGEST) + 1)]
 
 
-def joins(word, parts):
-    """Whether a word is joined of one word of each part, in order."""
-    if not parts:
-        return not word
-    return any(parts[0](word[:at]) and joins(word[at:], parts[1:]) for at in range(len(word) + 1))
+def joined(heads, tails, length, least=0):
+    """The words of a length that are a head, which has a least length, with a tail."""
+    return {head + tail for at in range(least, length + 1) for head in heads[at] for tail in tails[length - at]}
 
 
-def repeats(word, part):
-    """Whether a word is joined of words of the part, none of which is empty."""
-    return not word or any(part(word[:at]) and repeats(word[at:], part) for at in range(1, len(word) + 1))
+def joins(one, other):
+    return [joined(one, other, length) for length in range(len(one))]
+
+
+def repeats(one):
+    """The words that are joined of words, none of which is empty."""
+    found = [{b""}]
+    for length in range(1, len(one)):
+        found.append(joined(one, found, length, 1))
+    return found
 
 
 def made_of(kind, parts):
-    """Whether a word is in what a language command makes of languages."""
+    """What a language command makes of languages, each of which is its words by their length."""
     return {
-        "union": lambda word: any(part(word) for part in parts),
-        "intersect": lambda word: all(part(word) for part in parts),
-        "concat": lambda word: joins(word, parts),
-        "star": lambda word: repeats(word, parts[0]),
-        "reverse": lambda word: parts[0](word[::-1]),
-    }[kind]
+        "union": lambda: [set.union(*words) for words in zip(*parts)],
+        "intersect": lambda: [set.intersection(*words) for words in zip(*parts)],
+        "concat": lambda: reduce(joins, parts),
+        "star": lambda: repeats(parts[0]),
+        "reverse": lambda: [{word[::-1] for word in words} for words in parts[0]],
+    }[kind]()

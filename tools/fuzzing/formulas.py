@@ -95,7 +95,7 @@ class Product(NamedTuple):
         return self.term.needs()
 
     def reach(self, name):
-        return f"{self.count}*({self.term.reach(name)})"
+        return f"{max(self.count, 1)}*({self.term.reach(name)})"
 
 
 class Quotient(NamedTuple):
@@ -296,10 +296,15 @@ def variables(tree):
     return sorted(found)
 
 
-def quantifiers(formula):
-    """How deep quantifiers are nested."""
-    inner = max([quantifiers(it) for it in formula.parts() if hasattr(it, "level")], default=0)
-    return inner + isinstance(formula, Quantified)
+def names_of(atom):
+    """The definitions and words that an atom asks."""
+    return [atom.name] if isinstance(atom, Call) else [atom.left.word, atom.right.word] if isinstance(atom, Letters) else []
+
+
+def quantifiers(formula, depths={}):
+    """How deep quantifiers are nested, where the definitions and words that it asks have some depths."""
+    inner = [quantifiers(it, depths) for it in formula.parts() if hasattr(it, "level")]
+    return max([*inner, *(depths.get(name, 0) for name in names_of(formula))], default=0) + isinstance(formula, Quantified)
 
 
 def is_plain(formula):

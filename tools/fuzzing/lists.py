@@ -1,10 +1,11 @@
 """Lists of words as `test` prints them."""
 import itertools
+from functools import lru_cache
 
 import systems
 
-# So many numbers of each track are tried, by the number of tracks.
-TRIED = {1: 300, 2: 24, 3: 9}
+# So many numbers of each track are tried, by the number of tracks and the depth of quantifiers.
+TRIED = {1: (300, 300, 60, 20), 2: (24, 24, 12, 6), 3: (9, 9, 6, 4)}
 
 
 def text_of(word):
@@ -19,12 +20,18 @@ def complete_length(over, bound):
     return length
 
 
-def representations(over, holds):
-    """The shortest words of the tuples for which it holds, up to a length, shorter ones first and then by their letters."""
-    bound = TRIED[len(over)]
+@lru_cache(maxsize=64)
+def words_in_order(over, depth):
+    """The shortest words of the tuples below a bound, up to a length, shorter ones first and then by their letters, each with its tuple."""
+    bound = TRIED[len(over)][min(depth, 3)]
     length = complete_length(over, bound)
-    words = [tuple(systems.word_of(over, at)) for at in itertools.product(range(bound), repeat=len(over)) if holds(*at)]
-    return sorted((it for it in words if len(it) <= length), key=lambda it: (len(it), it))
+    words = [(systems.word_of(over, at), at) for at in itertools.product(range(bound), repeat=len(over))]
+    return sorted((it for it in words if len(it[0]) <= length), key=lambda it: (len(it[0]), it[0]))
+
+
+def representations(over, holds, depth):
+    """The shortest words of the tuples for which it holds, up to a length and in order."""
+    return [word for word, at in words_in_order(over, depth) if holds(*at)]
 
 
 def differs(lines, wanted, count):

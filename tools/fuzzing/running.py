@@ -2,9 +2,9 @@
 import os
 import random
 import re
+import select
 import shutil
-import subprocess
-from pathlib import Path
+import signal
 from typing import NamedTuple
 
 import sessions
@@ -16,6 +16,8 @@ FORM = re.compile(rb"TRUE|FALSE|step \d+ [a-z]+ \d+ \d+|error \d+: F\d\d [A-Z][A
 LISTED = re.compile(r"\[.*\]")
 FAULT = re.compile(r"error (\d+): (F\d\d.*)")
 STEP = re.compile(r"step (\d+) \w+ (\d+) (\d+)")
+# Says where the lines end of a command that prints some.
+BEHIND = 'eval behind "0=0";'
 # The faults that a session of valid commands may have: limits.
 LIMITS = ("F18", "F19")
 
@@ -31,47 +33,77 @@ class Outcome(NamedTuple):
 
 
 class Room:
-    """A folder for sessions, with the ready-made words and systems."""
+    """A folder for sessions, with the ready-made words and systems, which becomes the folder of this process."""
 
     def __init__(self, folder):
-        self.folder = Path(folder)
-        shutil.copytree(sessions.LIBRARY, self.folder, dirs_exist_ok=True)
-        self.given = {path for path in self.folder.rglob("*") if path.is_file()}
+        self.script, self.output, work = f"{folder}/script", f"{folder}/output", f"{folder}/work"
+        shutil.copytree(sessions.LIBRARY, work)
+        os.chdir(work)
+        self.given = set(self.files())
+
+    def files(self):
+        """The files in folders of this one."""
+        return [file.path for entry in os.scandir(".") if entry.is_dir() for file in os.scandir(entry.path)]
 
     def fill(self, files):
         for name, text in files.items():
-            path = self.folder / name
-            path.parent.mkdir(exist_ok=True)
-            path.write_bytes(text if isinstance(text, bytes) else text.encode())
+            os.makedirs(os.path.dirname(name), exist_ok=True)
+            write(name, text if isinstance(text, bytes) else text.encode())
 
     def clean(self):
-        for entry in os.scandir(self.folder):
-            for file in os.scandir(entry.path) if entry.is_dir() else []:
-                if Path(file.path) not in self.given:
-                    os.unlink(file.path)
+        """Removes what a session has written."""
+        for path in self.files():
+            if path not in self.given:
+                os.unlink(path)
 
     def run(self, program, script, words):
         """The status and the output of the program, or none where it did not end."""
-        try:
-            ran = subprocess.run([program, *words], cwd=self.folder, input=script, capture_output=True, timeout=SECONDS)
-        except subprocess.TimeoutExpired:
-            return None, b""
-        return ran.returncode, ran.stdout
+        write(self.script, script)
+        files = [(os.POSIX_SPAWN_OPEN, 0, self.script, os.O_RDONLY, 0),
+                 (os.POSIX_SPAWN_OPEN, 1, self.output, os.O_WRONLY | os.O_CREAT | os.O_TRUNC, 0o600),
+                 (os.POSIX_SPAWN_OPEN, 2, os.devnull, os.O_WRONLY, 0)]
+        status = status_of(os.posix_spawn(program, [program, *words], os.environ, file_actions=files))
+        return status, b"" if status is None else read(self.output)
 
     def text_of(self, file):
-        path = self.folder / file if file else None
-        return path.read_text() if path and path.is_file() else None
+        text = read(file) if file else None
+        return None if text is None else text.decode()
+
+
+def write(path, data):
+    with open(path, "wb", buffering=0) as file:
+        file.write(data)
+
+
+def read(path):
+    """The bytes of a file, or none where there is no file."""
+    try:
+        with open(path, "rb", buffering=0) as file:
+            return file.read()
+    except FileNotFoundError:
+        return None
+
+
+def status_of(process):
+    """How a process ended, or none where it did not in time."""
+    waits = os.pidfd_open(process)
+    has_ended = bool(select.select([waits], [], [], SECONDS)[0])
+    os.close(waits)
+    if not has_ended:
+        os.kill(process, signal.SIGKILL)
+    status = os.waitpid(process, 0)[1]
+    return os.waitstatus_to_exitcode(status) if has_ended else None
 
 
 def script_of(commands, rng, shows_all):
-    """The script of commands, one a line, with the line of each and whether it shows its steps: then a sentence without steps follows."""
+    """The script of commands, one a line, with the line of each and whether it shows its steps. A sentence follows steps and lists."""
     lines, at = [], []
     for it in commands:
         if rng.random() < 0.05:
             lines.append("# a comment; with a sign")
         shows = shows_all or rng.random() < 0.1
         at.append((len(lines) + 1, shows))
-        lines.append(f'{it.text}::eval behind "0=0";' if shows else f"{it.text};")
+        lines.append(f"{it.text}{'::' if shows else ';'}" + (BEHIND if shows or it.is_list else ""))
     return "\n".join(lines) + "\n", at
 
 
@@ -90,7 +122,7 @@ def outcomes_of(commands, at, output, room):
             lines.append(left.pop())
         verdict = {"TRUE": True, "FALSE": False}.get(verdict)
         found[it.name] = Outcome(fault[2] if is_refused else "", verdict, widths, room.text_of(it.file), lines)
-        if shows and left and left.pop() != "TRUE":
+        if (shows or it.is_list) and (left.pop() if left else "") != "TRUE":
             left.append(f"no end of {it.name}")
     return found, left[::-1]
 

@@ -69,9 +69,8 @@ class Printer:
     def put(self, formula, allowed, is_last):
         if self.wants_macros and self.in_macro is None and self.rng.random() < 0.3:
             return f"({self.call_of_macro(formula)})"
-        text = formula.text(self, is_last)
         stands = formula.level in allowed or formula.level == "quantifier" and is_last
-        return text if stands and self.rng.random() < 0.8 else f"({formula.text(self, True)})"
+        return formula.text(self, is_last) if stands and self.rng.random() < 0.8 else f"({formula.text(self, True)})"
 
     def call_of_macro(self, formula):
         names = [it.name for it in variables(formula)]
@@ -95,7 +94,7 @@ class Session:
     def __init__(self, seed):
         self.rng = random.Random(seed)
         self.commands, self.checks, self.files = [], [], {}
-        self.fixed, self.space, self.count, self.languages = set(), {}, 0, []
+        self.fixed, self.space, self.depths, self.count, self.languages = set(), {}, {}, 0, []
         self.worlds = self.some_worlds()
         self.is_native = len(self.worlds) == 1
         self.printers = [Printer(self.rng, world, f"_{at}" if len(self.worlds) > 1 else "", self) for at, world in enumerate(self.worlds)]
@@ -171,6 +170,7 @@ class Session:
         at = rng.randrange(len(names))
         self.add_twins(formula, used, self.printers[at], names[at])
         self.function(name, ",".join(it.name for it in used), formula.code())
+        self.depths[name] = quantifiers(formula, self.depths)
         if used:
             self.grower.definitions.append((name, [it.track for it in used]))
 
@@ -179,7 +179,7 @@ class Session:
         tools = lru_cache(maxsize=None)(lambda: held_in_python(formula, used, bound, self.space))
         for name, world in zip(names, self.worlds):
             tracks = self.systems_of([it.track for it in used], world)
-            self.check("numbers", [name], lambda it, tracks=tracks: first_of(tables.held_below(it.text, tracks, bound), tools()))
+            self.check("numbers", [name], lambda it, tracks=tracks: first_of(tables.held_below(it.text, tracks, bound), tools(), bound, len(tracks)))
 
     def add_twins(self, formula, used, printer, name):
         """Commands that have to store the text of a definition."""
@@ -227,7 +227,10 @@ class Session:
         over, bound = self.systems_of(tracks, world), 120 if len(tracks) == 1 else 12
 
         def test(it):
-            found = tables.outputs_below(tables.parse(it.text), over, bound)
+            table = tables.parse(it.text)
+            if table.tracks != list(over):
+                return "another header"
+            found = zip(itertools.product(range(bound), repeat=len(over)), tables.outputs_below(table, bound))
             wrong = next((at for at, letter in found if letter != function(*at)), None)
             return "" if wrong is None else f"another letter at {wrong}"
         self.check("letters", [name], test)
@@ -239,14 +242,15 @@ class Session:
         for track in sorted(set(self.grower.tracks)):
             system = self.worlds[0][track]
             for name in LIBRARY_WORDS.get(systems.kind_of(system), []) if systems.is_msd(system) else []:
-                self.takes_word(name, track, library_table(name))
+                self.takes_word(name, track, *library_word(name))
 
-    def takes_word(self, name, track, table):
-        rows, over = tables.rows_of(table), table.tracks
-        self.space[name] = lru_cache(maxsize=None)(lambda at: tables.output_of(table, systems.word_of(over, [at]), rows))
+    def takes_word(self, name, track, table, letter):
+        """Takes a word whose table stands in a file. A ready-made word over no base lacks only transitions that no number follows."""
+        self.space[name] = letter
         self.fixed.add(name)
-        lacks_some = len(table.targets) < len(table.states) * systems.digits_of(over[0]) and systems.kind_of(over[0]).isdigit()
-        self.has_word(name, [track], set(table.outputs.values()) | ({None} if lacks_some else set()))
+        lacks_some = len(table.targets) < len(table.states) * systems.digits_of(table.tracks[0])
+        is_whole = name in LIBRARY_WORDS.get(systems.kind_of(table.tracks[0]), []) and not systems.kind_of(table.tracks[0]).isdigit()
+        self.has_word(name, [track], set(table.outputs.values()) | ({None} if lacks_some and not is_whole else set()))
 
     def add_combined_word(self):
         rng = self.rng
@@ -259,6 +263,7 @@ class Session:
         name = self.fresh("w")
         letters = [at if value is None else value for at, value in enumerate(values, 1)]
         held = [(self.space[one], letter) for one, letter in zip(chosen, letters)]
+        self.depths[name] = max(self.depths.get(one, 0) for one in chosen)
         self.space[name] = lru_cache(maxsize=None)(lambda *at: next((letter for holds, letter in held if holds(*at)), 0))
         for printer, world in zip(self.printers, self.worlds):
             parts = [printer.name_of(one) + ("" if value is None else f"={value}") for one, value in zip(chosen, values)]
@@ -275,19 +280,18 @@ class Session:
         text = random_file(rng, over, rng.randint(1, 4))
         table, name = tables.parse(text), self.fresh("g")
         self.files[f"Automata Library/{name}.txt"] = text
-        self.space[name] = lru_cache(maxsize=None)(tables.Reader(table).holds)
-        self.grower.definitions.append((name, tracks))
-        self.same_numbers(name, tracks, over)
+        self.has_numbers(name, tracks, tables.reader_of(table))
 
-    def same_numbers(self, name, tracks, over):
+    def has_numbers(self, name, tracks, reader):
         """A definition that calls an automaton holds of the numbers that the tool finds."""
+        self.space[name] = lru_cache(maxsize=None)(reader.holds)
+        self.grower.definitions.append((name, tracks))
         variables_of = [Var(it, track) for it, track in zip("xy", tracks)]
         called = ",".join(it.name for it in variables_of)
         made = self.command("def", "h", f'"${name}({called})"')
         bound = 60 if len(tracks) == 1 else 16
-        holds = self.space[name]
-        wanted = lambda: {at for at in itertools.product(range(bound), repeat=len(tracks)) if holds(*at)}
-        self.check("file", [made], lambda it: first_of(tables.held_below(it.text, over, bound), wanted()))
+        wanted = lambda: reader.held_below(bound)
+        self.check("file", [made], lambda it: first_of(tables.held_below(it.text, reader.tracks, bound), wanted(), bound, len(tracks)))
         self.is_canonical(made)
 
     def add_given_word(self):
@@ -299,7 +303,8 @@ class Session:
         rows = [f"{at} {output()}\n{row()}" for at in range(states)]
         name, text = self.fresh("v"), "\n".join([system + "\n", *rows])
         self.files[f"Word Automata Library/{name}.txt"] = text
-        self.takes_word(name, 0, tables.parse(text))
+        table = tables.parse(text)
+        self.takes_word(name, 0, table, letters_in(table))
 
     def add_promoted_word(self):
         rng, system = self.rng, self.worlds[0][0]
@@ -327,6 +332,7 @@ class Session:
         images = {it: [rng.randint(-1, 3) for _ in range(width)] for it in letters}
         morphism = self.command("morphism", "p", f'"{rules_text(rng, images)}"')
         name, read = self.fresh("w"), self.space[old]
+        self.depths[name] = self.depths.get(old, 0)
         self.command("image", "", f"{morphism} {old}", "", False, name)
         images[None] = [None] * width
         self.has_made(name, lru_cache(maxsize=None)(lambda at: images[read(at // width)][at % width]), images if lacks_some else only_letters(images))
@@ -348,6 +354,7 @@ class Session:
         self.command("transduce", "", f"{transducer} {old}", "", False, name)
         run = transducers.Run(made, self.space[old])
         self.space[name] = run.output_at
+        self.depths[name] = self.depths.get(old, 0)
         self.letters_as_in_tool(name, [0], self.worlds[0], run.output_at)
         self.has_word(name, [0], {output for _, output in made.lines.values()} | {None})
 
@@ -371,11 +378,7 @@ class Session:
         letters = list(itertools.product(*(range(systems.digits_of(it)) for it in over)))
         text, made = expressions.random_expression(rng, letters)
         name = self.command("reg", "g", f'{" ".join(over)} "{text}"')
-        is_msd = systems.is_msd(over[0])
-        ways = {"before": made.after_zeros} if is_msd else {"behind": made.after_zeros}
-        self.space[name] = lru_cache(maxsize=None)(lambda *at: made.matches(systems.word_of(over, at), **ways))
-        self.grower.definitions.append((name, tracks))
-        self.same_numbers(name, tracks, over)
+        self.has_numbers(name, tracks, made.reader(over))
 
     def add_sets(self):
         rng = self.rng
@@ -384,22 +387,22 @@ class Session:
             sets = rng.choice(self.languages)[1]
         text, made = expressions.random_expression(rng, list(itertools.product(*sets)))
         heads = " ".join("{" + ",".join(map(str, it)) + "}" for it in sets)
-        self.has_language(self.command("reg", "l", f'{heads} "{text}"'), sets, made.matches)
+        self.has_language(self.command("reg", "l", f'{heads} "{text}"'), sets, made.language())
 
-    def has_language(self, name, sets, matches):
+    def has_language(self, name, sets, language):
         """The stored language has the words that the tool finds."""
-        letters = list(itertools.product(*sets))
-        words = list(expressions.words_up_to(letters, 6 if len(letters) < 4 else 3))
-        matches = lru_cache(maxsize=None)(matches)
-
         def test(it):
             table = tables.parse(it.text)
-            rows = tables.rows_of(table)
-            wrong = next((word for word in words if bool(tables.output_of(table, word, rows)) != matches(word)), None)
-            return "" if wrong is None else f"the word {wrong}"
+            letters = list(tables.letters_of(table))
+            if letters != list(itertools.product(*sets)):
+                return "another header"
+            words = itertools.chain(*expressions.words_of(len(letters)))
+            found = zip(words, tables.held_words(table, len(language) - 1))
+            wrong = next((word for word, held in found if held != (word in language[len(word)])), None)
+            return "" if wrong is None else f"the word {[letters[at] for at in wrong]}"
         self.check("language", [name], test)
         self.is_canonical(name)
-        self.languages.append((name, sets, matches))
+        self.languages.append((name, sets, language))
 
     def add_language(self):
         rng = self.rng
@@ -418,7 +421,7 @@ class Session:
         if not choices:
             return
         chosen, tracks = rng.choice(choices)
-        listed = listed_words(chosen, self.space, tracks and self.systems_of(tracks, self.worlds[0]))
+        listed = self.listed_words(chosen, tracks)
         at = rng.randrange(-1, min(len(listed), 20))
         place = f' "{lists.text_of(listed[at])}"' if at >= 0 else ""
         wanted = [lists.text_of(word) for word in listed[at + 1:]]
@@ -427,6 +430,13 @@ class Session:
         self.check("list", [name], lambda it: lists.differs(it.lines, wanted, count))
         if tracks:
             self.add_infinity(chosen[0], tracks)
+
+    def listed_words(self, chosen, tracks):
+        """Words of a language, or shortest representations of a relation's tuples, up to a length, in the order of a list."""
+        if tracks:
+            return lists.representations(self.systems_of(tracks, self.worlds[0]), self.space[chosen[0]], self.depths.get(chosen[0], 0))
+        letters = list(itertools.product(*chosen[1]))
+        return [[letters[at] for at in word] for words in chosen[2] for word in sorted(words)]
 
     def add_infinity(self, name, tracks):
         """Whether infinitely many tuples satisfy a definition, by `inf` and by a sentence."""
@@ -446,30 +456,23 @@ class Session:
 
 
 def held_in_python(formula, used, bound, space):
-    """The tuples below a bound for which a formula is true."""
-    names = "".join(f"{it.name}," for it in used)
+    """Of each tuple below a bound, in order, whether a formula is true."""
     loops = " ".join(f"for {it.name} in range({bound})" for it in used) or "for _ in range(1)"
-    return eval(f"{{({names}) {loops} if {formula.code()}}}", space)
+    return bytes(eval(f"[{formula.code()} {loops}]", space))
 
 
-def first_of(stored, tools):
-    """Where two sets of numbers differ first, or nothing."""
+def first_of(stored, tools, bound, count):
+    """Where two relations of so many numbers below a bound differ first, or nothing."""
     if stored is None:
         return "another header"
-    differ = sorted(stored ^ tools)
-    return f"at {differ[0]} the tool says {differ[0] in tools}" if differ else ""
+    if stored == tools:
+        return ""
+    numbers = itertools.product(range(bound), repeat=count)
+    return next(f"at {at} the tool says {bool(told)}" for at, held, told in zip(numbers, stored, tools) if held != told)
 
 
 def only_letters(images):
     return {letter: image for letter, image in images.items() if letter is not None}
-
-
-def listed_words(chosen, space, over):
-    """Words of a language, or shortest representations of a relation's tuples, up to a length, in the order of a list."""
-    if over is None:
-        letters = list(itertools.product(*chosen[1]))
-        return [word for word in expressions.words_up_to(letters, 6 if len(letters) < 4 else 3) if chosen[2](word)]
-    return lists.representations(over, space[chosen[0]])
 
 
 def rules_text(rng, images):
@@ -490,6 +493,13 @@ def random_file(rng, over, states):
     return end.join(lines) + end
 
 
+def letters_in(table):
+    """The letters of a word by its table."""
+    return lru_cache(maxsize=10000)(lambda at: tables.output_of(table, systems.word_of(table.tracks, [at])))
+
+
 @lru_cache(maxsize=None)
-def library_table(name):
-    return tables.parse((LIBRARY / "Word Automata Library" / f"{name}.txt").read_text())
+def library_word(name):
+    """A ready-made word: its table and its letters."""
+    table = tables.parse((LIBRARY / "Word Automata Library" / f"{name}.txt").read_text())
+    return table, letters_in(table)

@@ -1,6 +1,8 @@
 """Numeration systems: their digits, and the representations of numbers."""
 import itertools
+import operator
 from functools import lru_cache
+from typing import NamedTuple
 
 # Of a system that is no base: its first weights, how often each further one counts those before it (oldest first), its digits.
 OTHERS = {
@@ -64,7 +66,41 @@ def word_of(systems, numbers):
     return columns if is_msd(systems[0]) else columns[::-1]
 
 
-@lru_cache(maxsize=64)
-def words_below(systems, bound):
-    """The tuples of numbers below a bound, each with its shortest word."""
-    return [(it, word_of(systems, it)) for it in itertools.product(range(bound), repeat=len(systems))]
+class Tree(NamedTuple):
+    """Words as a tree: of each node but the first, its parent and the number of its letter; and the node where each word ends."""
+
+    steps: list
+    ends: list
+
+    def reached(self, first, rows):
+        """What is reached at the end of each word from a first state, by the target of each state and letter."""
+        states = [first]
+        for parent, letter in self.steps:
+            states.append(rows[states[parent]][letter])
+        return [states[node] for node in self.ends]
+
+
+def numbered_words(systems, bound):
+    """The shortest words of the tuples of numbers below a bound, in the order of the tuples, with the numbers of their letters."""
+    width = max(len(representation(kind_of(it), bound - 1)) for it in systems)
+    words, lengths, factor = [(0,) * width], [0], 1
+    for system in reversed(systems):
+        rows = [representation(kind_of(system), number) for number in range(bound)]
+        columns = [(0,) * (width - len(row)) + tuple(digit * factor for digit in row) for row in rows]
+        words = [tuple(map(operator.add, one, other)) for one in columns for other in words]
+        lengths = [max(len(row), other) for row in rows for other in lengths]
+        factor *= digits_of(system)
+    turn = 1 if is_msd(systems[0]) else -1
+    return [word[width - length:][::turn] for word, length in zip(words, lengths)]
+
+
+@lru_cache(maxsize=256)
+def tree_below(systems, bound):
+    """The shortest words of the tuples of numbers below a bound, in the order of the tuples."""
+    nodes, ends = {}, []
+    for word in numbered_words(systems, bound):
+        node = 0
+        for letter in word:
+            node = nodes.setdefault((node, letter), len(nodes) + 1)
+        ends.append(node)
+    return Tree(list(nodes), ends)

@@ -2,6 +2,7 @@
 import itertools
 from typing import NamedTuple
 
+import reading
 import systems
 
 
@@ -37,77 +38,72 @@ def parse(text):
     return table
 
 
-class Reader:
-    """Reads words by a table, with several targets or none. What it reaches is kept."""
-
-    def __init__(self, table):
-        self.table, self.kept = table, {}
-        self.is_msd = systems.is_msd(table.tracks[0])
-        self.zero = (0,) * len(table.tracks)
-
-    def after(self, states, letter):
-        if (states, letter) not in self.kept:
-            targets = self.table.targets
-            self.kept[states, letter] = frozenset(target for state in states for target in targets.get((state, letter), ()))
-        return self.kept[states, letter]
-
-    def after_zeros(self, states):
-        """The states after any number of zero letters."""
-        while not self.after(states, self.zero) <= states:
-            states |= self.after(states, self.zero)
-        return states
-
-    def holds(self, *numbers):
-        """Whether the table accepts some representation of the numbers, with any leading zeros."""
-        states = frozenset(self.table.states[:1])
-        states = self.after_zeros(states) if self.is_msd else states
-        for letter in systems.word_of(self.table.tracks, numbers):
-            states = self.after(states, letter)
-        return any(self.table.outputs[state] for state in (states if self.is_msd else self.after_zeros(states)))
+def reader_of(table):
+    """Reads numbers by a table, with several targets of a letter or none."""
+    def after(states, letter):
+        return frozenset(target for state in states for target in table.targets.get((state, letter), ()))
+    return reading.Reader(table.tracks, frozenset(table.states[:1]), after, lambda states: any(table.outputs[state] for state in states))
 
 
-def rows_of(table):
-    """The target by each letter, of each state, where it has one."""
-    rows = {state: {} for state in table.states}
-    for (state, letter), targets in table.targets.items():
-        rows[state][letter] = targets[0]
-    return rows
-
-
-def output_of(table, word, rows=None):
+def output_of(table, word):
     """The output of the state to which a word leads, or none."""
-    state, rows = table.states[0], rows or rows_of(table)
+    state = table.states[0]
     for letter in word:
-        state = rows[state].get(letter)
-        if state is None:
+        targets = table.targets.get((state, letter))
+        if targets is None:
             return None
+        state = targets[0]
     return table.outputs[state]
 
 
-def outputs_below(table, tracks, bound):
-    """The tuples of numbers below a bound, each with the output to which its word leads."""
-    rows = rows_of(table)
-    return ((numbers, output_of(table, word, rows)) for numbers, word in systems.words_below(tuple(tracks), bound))
+def letters_of(table):
+    """The letters of a table, in order."""
+    return itertools.product(*map(digits_of_track, table.tracks))
+
+
+def rows_of(table):
+    """The target of each state, and of none, by the number of each letter, or none."""
+    letters, none = list(letters_of(table)), [None]
+    rows = {state: [table.targets.get((state, letter), none)[0] for letter in letters] for state in table.states}
+    return {**rows, None: none * len(letters)}
+
+
+def outputs_below(table, bound):
+    """The outputs to which the words of the tuples of numbers below a bound lead, in the order of the tuples."""
+    outputs = {**table.outputs, None: None}
+    states = systems.tree_below(tuple(table.tracks), bound).reached(table.states[0], rows_of(table))
+    return [outputs[state] for state in states]
 
 
 def held_below(text, tracks, bound):
-    """The tuples of numbers below a bound of which a stored text holds; none but its sentence where it has no track."""
+    """Of each tuple of numbers below a bound, in order, whether a stored text holds, which is a sentence where it has no track."""
     if not tracks:
-        return {()} if text == "true\n" else set()
+        return bytes([text == "true\n"])
     table = parse(text)
-    return {it for it, output in outputs_below(table, tracks, bound) if output} if table.tracks == list(tracks) else None
+    return bytes([bool(it) for it in outputs_below(table, bound)]) if table.tracks == list(tracks) else None
+
+
+def held_words(table, length):
+    """Of each word up to a length, shorter ones first and in order, whether a table accepts it."""
+    rows, outputs = rows_of(table), {**table.outputs, None: None}
+    level = table.states[:1]
+    states = list(level)
+    for _ in range(length):
+        level = [target for state in level for target in rows[state]]
+        states += level
+    return bytes([bool(outputs[state]) for state in states])
 
 
 def parts_of(table):
     """The class of each state: states of one class have one output, and lead into one class by each letter."""
-    letters = sorted({letter for _, letter in table.targets})
-    classes, count = dict(table.outputs), 0
+    targets, count = rows_of(table), 0
+    classes = {**table.outputs, None: None}
     while count != len(set(classes.values())):
         count = len(set(classes.values()))
-        rows = {it: (classes[it], *(classes.get((table.targets.get((it, by)) or [None])[0]) for by in letters)) for it in table.states}
+        rows = {it: (classes[it], *(classes[to] for to in targets[it])) for it in classes}
         numbers = {row: number for number, row in enumerate(dict.fromkeys(rows.values()))}
-        classes = {it: numbers[rows[it]] for it in table.states}
-    return classes
+        classes = {it: numbers[rows[it]] for it in classes}
+    return {it: classes[it] for it in table.states}
 
 
 def fault_of(text):
@@ -115,17 +111,16 @@ def fault_of(text):
     if text in ("true\n", "false\n"):
         return ""
     table = parse(text)
-    seen, pairs = [0], sorted(table.targets.items())
-    for state in table.states:
-        seen += [to for (at, _), found in pairs if at == state for to in found if to not in seen] if state in seen else []
-        seen = list(dict.fromkeys(seen))
-    if table.states != list(range(len(table.states))) or seen != table.states:
-        return "states are not numbered as words reach them"
     if any(len(found) != 1 for found in table.targets.values()):
         return "a letter has two targets"
-    useful = {it for it in table.states if table.outputs[it]}
-    for _ in table.states:
-        useful |= {at for (at, _), found in table.targets.items() if found[0] in useful}
+    rows, reached = rows_of(table), [0]
+    for state in reached:
+        reached += [to for to in dict.fromkeys(rows.get(state, ())) if to is not None and to not in reached]
+    if table.states != list(range(len(table.states))) or reached != table.states:
+        return "states are not numbered as words reach them"
+    useful, more = set(), {it for it in table.states if table.outputs[it]}
+    while more != useful:
+        useful, more = more, more | {it for it in table.states if not more.isdisjoint(rows[it])}
     if useful != set(table.states) and len(table.states) > 1:
         return "a state leads to no acceptance"
     return "" if len(set(parts_of(table).values())) == len(table.states) else "two states may be followed by the same"
