@@ -20,7 +20,7 @@ use Rattle.headlines.specs.Runs.{Answer, Answers, none, answer, AreIn, lines_of,
 -- from each answer one thing, so each has it
 pub each_from : {L : Type 0} (Q : Answer → Type 0) (known last : L) (answers : Answers) → EachBy (λ before a next. Q a) known answers last → Each Q answers
 each_from Q known last none each = tt
-each_from Q known last (answer first inside behind) (next, mid, is, rest, more) = (is, each_from Q next mid inside rest, each_from Q mid last behind more)
+each_from Q known last (answer first inside following) (next, mid, is, rest, more) = (is, each_from Q next mid inside rest, each_from Q mid last following more)
 
 module _ {F : Type 0} (l : CommandLanguage F) where
   abbrev pub answer_of : Answered l → Answer
@@ -29,13 +29,13 @@ module _ {F : Type 0} (l : CommandLanguage F) where
   abbrev pub answers_of : Turns l → Answers
   answers_of no_more = none
   answers_of cut_off = none
-  answers_of (turn first inside behind) = answer (answer_of first) (answers_of inside) (answers_of behind)
+  answers_of (turn first inside following) = answer (answer_of first) (answers_of inside) (answers_of following)
 
   lines_are : (turns : Turns l) → lines_of (answers_of turns) ≡ printed l (in_order l turns)
   lines_are no_more = refl
   lines_are cut_off = refl
-  lines_are (turn first inside behind) =
-      ap (λ (text : List ℕ). line_of l first.item first.reply ++ text) ((λ i. lines_are inside i ++ lines_are behind i) ∙ sym (printed-append l (in_order l inside) (in_order l behind)))
+  lines_are (turn first inside following) =
+      ap (λ (text : List ℕ). line_of l first.item first.reply ++ text) ((λ i. lines_are inside i ++ lines_are following i) ∙ sym (printed-append l (in_order l inside) (in_order l following)))
 
   -- at each depth the items of a text are cut from it
   placed : (depth : ℕ) (mid : Rest) (room : ℕ) (answers : Answers) → AreIn (place_with depth mid room) answers → (r : ℕ) × AreIn (record mid { room = r }) answers
@@ -53,11 +53,11 @@ module _ {F : Type 0} (l : CommandLanguage F) where
   are_in : (turns : Turns l) (depth : ℕ) (place last : Rest) (old new : State l) → Run l depth place old turns last new → AreIn place (answers_of turns)
   are_in no_more depth place last old new run = tt
   are_in cut_off depth place last old new run = tt
-  are_in (turn first inside behind) depth place last old new (mid, store, later, next, replies, loaded, ends, run) = (
+  are_in (turn first inside following) depth place last old new (mid, store, later, next, replies, loaded, ends, run) = (
     mid,
     next,
     inside_in inside depth (state_after l (with_room l old (room_at depth mid old.room)) first.reply store) later (are_in inside (suc depth)) first.reply loaded,
-    placed depth mid later.room (answers_of behind) (are_in behind depth (place_with depth mid later.room) last later new run),
+    placed depth mid later.room (answers_of following) (are_in following depth (place_with depth mid later.room) last later new run),
   )
 
   -- What holds of each reply, by what is seen of the ledger and the store and what is known of the store, holds of each answer.
@@ -81,11 +81,11 @@ module _ {F : Type 0} (l : CommandLanguage F) where
     pub each_says : (turns : Turns l) (depth : ℕ) (place last : Rest) (old new : State l) → Run l depth place old turns last new → Known old.store → Says turns old new
     each_says no_more depth place last old new run known = nothing_said old new run.1 known
     each_says cut_off depth place last old new run known = nothing_said old new run.1 known
-    each_says (turn first inside behind) depth place last old new (mid, store, later, next, replies, loaded, ends, run) known =
+    each_says (turn first inside following) depth place last old new (mid, store, later, next, replies, loaded, ends, run) known =
         let here : State l = with_room l old (room_at depth mid old.room) in
         let after : State l = state_after l here first.reply store in
         let there : Says inside after later = inside_says inside depth after later (each_says inside (suc depth)) first.reply loaded (keeps depth here first store replies known) in
-        let rest : Says behind later new = each_says behind depth (place_with depth mid later.room) last later new run there.1 in
+        let rest : Says following later new = each_says following depth (place_with depth mid later.room) last later new run there.1 in
         ((seen after.ledger after.store, seen later.ledger later.store, says depth here first store replies known, there.0, rest.0), rest.1)
 
   -- what a sink holds of the lines

@@ -57,10 +57,10 @@ module _ (limit : ℕ) (ledger : Ledger) (files : Files) (command : List ℕ) (n
 
   -- the word of this definition was made under this name
   of_tree : (name : List ℕ) (tree : Tree) → MayStandIn Words tree → success.folder ≡ Words → success.name ≡ name → success.entry ≡ Defined tree → IsStoredWord (custom_of ledger) files name (λ place letter. tree_letter (custom_of ledger) tree place letter) new
-  of_tree name tree stands folder_is name_is entry_is = record {
+  of_tree name tree may_stand folder_is name_is entry_is = record {
     bytes = bytes;
     stored = stored_at name folder_is name_is;
-    letters = λ place letter. word_text_means (custom_of ledger) tree bytes stands (subst (λ (e : Entry). HasText (custom_of ledger) e bytes) entry_is text) place letter;
+    letters = λ place letter. word_text_means (custom_of ledger) tree bytes may_stand (subst (λ (e : Entry). HasText (custom_of ledger) e bytes) entry_is text) place letter;
   }
 
   promoted : (promote_checks limit ledger command).answers (Ok success) → IsPromoted ledger files command new

@@ -59,7 +59,7 @@ pub record AnswersTruly (script : List ℕ) (files : Files) (held now : SinkView
   pub last : Ledger
   pub verdicts : EachBy IsTrueBy (ledger_of files) answers last
 
--- In a run over a script each verdict on a sentence without names says truth of its command's text, and stands in what was printed at the place
+-- In a run over a script each verdict on a sentence without names says truth of its command's text, and is in what was printed at the place
 -- of that command. The script is what the source gave, with what it has left.
 abbrev pub PlainRunVerdicts : Type 0
 PlainRunVerdicts = (limit : ℕ) (stop : Bool) (from to : SourceView) (old new : StoreView) (held now : SinkView) (state : Status) (script : List ℕ)

@@ -16,13 +16,13 @@ pub data Answers : Type 0 where
 -- The items of the answers are those of a text from a place on, in their order, as scripts are cut. Those of a text that was loaded are its own.
 abbrev pub AreIn : Rest → Answers → Type 0
 AreIn place none = ⊤
-AreIn place (answer first inside behind) =
-    (after : Rest) × Next place first.item after × ((loaded : List ℕ) × AreIn (start loaded) inside) × ((room : ℕ) × AreIn (record after { room = room }) behind)
+AreIn place (answer first inside following) =
+    (after : Rest) × Next place first.item after × ((loaded : List ℕ) × AreIn (start loaded) inside) × ((room : ℕ) × AreIn (record after { room = room }) following)
 
 -- what was printed of them
 abbrev pub lines_of : Answers → List ℕ
 lines_of none = []
-lines_of (answer first inside behind) = first.line ++ (lines_of inside ++ lines_of behind)
+lines_of (answer first inside following) = first.line ++ (lines_of inside ++ lines_of following)
 
 -- All was printed, or a prefix of it, after what the sink held before.
 pub record ArePrinted (answers : Answers) (held now : SinkView) : Type 0 where
@@ -34,9 +34,9 @@ pub record ArePrinted (answers : Answers) (held now : SinkView) : Type 0 where
 -- each answer has the property
 abbrev pub Each : (Answer → Type 0) → Answers → Type 0
 Each P none = ⊤
-Each P (answer first inside behind) = P first × Each P inside × Each P behind
+Each P (answer first inside following) = P first × Each P inside × Each P following
 
 -- Each answer has the property with what is known before it and after it. What is known after one is known before the next.
 abbrev pub EachBy : {L : Type 0} → (L → Answer → L → Type 0) → L → Answers → L → Type 0
 EachBy P known none last = last ≡ known
-EachBy {L} P known (answer first inside behind) last = (next : L) × (mid : L) × P known first next × EachBy P next inside mid × EachBy P mid behind last
+EachBy {L} P known (answer first inside following) last = (next : L) × (mid : L) × P known first next × EachBy P next inside mid × EachBy P mid following last

@@ -2,7 +2,7 @@
 
 ghost use Rattle.headlines.specs.RunVerdicts.{PlainRunVerdicts, RunVerdicts};
 
-/// In a run each verdict says truth of the text of its own command, and stands in what was printed at the place of that command. Names mean
+/// In a run each verdict says truth of the text of its own command, and is in what was printed at the place of that command. Names mean
 /// what commands before made of them, and else what the store's files had at the beginning.
 pub fn run_verdicts()
     ensures { RunVerdicts }
