@@ -1,6 +1,22 @@
-//! Whether a language and an adder make a numeration system: whether leading zeros keep the words of the
-//! language and it has no end, and whether the adder's relation meets the laws of zero and of the
-//! successor, by steps.
+//! Whether a language and an adder make a numeration system: whether leading zeros keep the words of the language and
+//! it has no end, and whether the adder's relation meets the laws of zero and of the successor, by steps.
+//!
+//! `admit` gives a `UserSystem`, or the first of four laws (`Law`) that does not hold. The language has the empty word,
+//! and leading zeros change nothing (`NoZero`); it has words without leading zeros longer than any bound (`Finite`).
+//! The adder's laws are the recursive definition of addition: x + 0 = z if and only if z = x (`ZeroLaw`), and
+//! x + (y + 1) = z if and only if z is one more than some w with x + y = w (`SuccessorLaw`).
+//!
+//! A relation meets these two if and only if it is addition (`laws_determine_addition`), so nothing is tried up to a
+//! bound: each is decided by the steps `product` and `project` and a comparison of canonical automata. The successor is
+//! made from the order of the language, and not from the adder (`successor_steps`). `faults_exclude` says that where a
+//! law does not hold, the two are not a system and its addition.
+//!
+//! An adder's file may list any representation of a triple: the steps `pad` and `valid` add the others. Files of the
+//! other direction are reversed by a step. A step may pass a limit before a law is decided: then `States` or `Letters`
+//! is the answer. The answer is one, with the same lines, unless memory runs out (`admission_has_one_answer`).
+//!
+//! Widths and costs are those of the steps; `check_language` takes time by the transitions. Not proved: time and
+//! memory.
 #![tactic(auto)]
 
 /// Laws of the definitions.

@@ -1,4 +1,22 @@
 //! Automaton files, read back: what a file lists, from its bytes, or the line of its first fault.
+//!
+//! There are three formats: `read_relation` reads the file of a relation, `read_word` that of an automatic word, and
+//! `read_system` the language or the adder of a user's system. Each gives a `Listed`: the header, the output of each
+//! state, and the transitions. The contracts are equations with functions on bytes: `relation_of`
+//! (`specs/Reading.antt`), `word_of` (`WordFiles`), `language_of` and `adder_of` (`SystemFiles`). `Listed::nfa` makes
+//! the nondeterministic automaton, and `Listed::table` the deterministic one of a word's file.
+//!
+//! The number of a state is only its name in the file: `Listed` has its index, and the state that is listed first is
+//! initial. In a relation's file the output 0 rejects, and every other accepts; in a word's file `-` is no letter. `*`
+//! is each digit of its track. A header has only the names of systems: `nfa` and `table` are given how many digits each
+//! has, and ignore a line with a digit outside its track. `read_word` does not ignore such lines: it refuses a line by
+//! which, with those before it, one tuple leads from its state to two states. Targets are looked up last: a target that
+//! is no state is reported only where each line has the format. A file that ends too early has its fault in the line
+//! after its last.
+//!
+//! The time is in proportion to the bytes, with a look-up by hash for each number of a state, and in a word's file also
+//! for each set of tracks on which lines of the state have `*`. That of `nfa` and `table` is in proportion to the
+//! transitions, but for sorting them. Not proved: time and memory.
 #![tactic(auto)]
 
 // why a file is not read

@@ -1,4 +1,21 @@
-//! Letters, tuples and words over tracks of digits, and tables of automata over them.
+//! Letters, tuples and words over tracks of digits, tables of automata over them, and the one exploration that every
+//! construction is made of.
+//!
+//! A letter has a digit on each track, and is the number of these digits in mixed radix: the first track changes
+//! slowest. An `Alphabet` has at most 16 tracks and 65,536 letters. A `Dfa` and an `Nfa` have fewer than 2^32 states,
+//! of which 0 is initial. A state of a `Dfa` may have no transition by a letter: then no word that goes on with it is
+//! accepted.
+//!
+//! `explore` makes a `Dfa` of a `KeyGraph`, which gives a first key and the transitions from each key; a key is a list
+//! of numbers. It goes breadth first, so states are numbered by the first words that lead to them, in shortlex order.
+//! The width is the number of classes of words, where two are alike if they lead to one key, or both to none. So it is
+//! the number of states, and one more where some word leads to no key. `States` comes if and only if the width passes
+//! the limit. `Steps` has a limit on widths, and the lines of the steps that were done under it.
+//!
+//! A `Dfa` keeps the transitions of a state as a trie of their digits, track by track (`SparseRows`), so a missing
+//! letter takes no memory. By a clause of `Dfa::cells` the tries have at most as many digits as transitions times
+//! tracks. The last rows of a table may be kept by whole letters instead. Keys are in one buffer, and are found by
+//! their hashes (open addressing, `slots.rt`). No proof needs hashes that differ. Not proved: time and memory.
 #![tactic(auto)]
 
 /// Faults of calls: out of memory, too many letters, too many states.

@@ -1,4 +1,21 @@
 //! Canonical automata combined over the tracks of both, and their parts on valid words.
+//!
+//! `product` gives the words of which a connective (`Op`) holds, by whether each of two automata accepts the word's
+//! part on its tracks. Tracks of one name are one track, and those of the result are in byte order of names. A word is
+//! valid if on each track its word is in the track's language: `complement_in` gives the valid words that are not
+//! accepted, `valid_part` those that are. These results are canonical. `explore_tuples` gives the automaton of the
+//! tuples of states that words lead to, and does not say which of them accept.
+//!
+//! Each is a product construction: automata are read side by side, the languages of tracks among them. A missing
+//! transition leads to a sink, which may be part of a tuple. `And` and `AndNot` accept words of the first automaton
+//! alone, and do not look at the languages; the other connectives are taken among valid words. The width counts the
+//! tuples of residuals that words lead to, the empty residual too, so it depends on the languages alone.
+//!
+//! Under `And` and `AndNot` only pairs of states from which a word may be accepted are explored (`LivePairs`); the
+//! others are counted for the width (`add_dead_pairs`). Time and memory follow the width and the letters by which some
+//! residual leads to one that is not empty, or all letters where they are at most 32. Where letters lead from all
+//! states is kept if that takes little memory, or if at least half of them lead on (`NextTable`). Not proved: time and
+//! memory.
 #![tactic(auto)]
 
 /// Connectives of two arguments.
