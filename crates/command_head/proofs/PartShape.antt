@@ -1,5 +1,5 @@
 -- What is known of parts of each kind.
-use Rattle.std.proofs.Common.{◌≡◌, ◌≢◌, ℕ, zero, suc, ◌<◌, ◌≤◌, Bool, true, false, ◌||◌, ◌&&◌, nat_le, List, [], ◌∷◌, ◌++◌, ◌+◌, length-append, IsAscii, length, take, drop, refl, sym, ◌∙◌, ap, subst, arith, tests, codes, bytes_eq, ◌⊎◌, inl, inr, ⊎_elim}
+use Rattle.std.proofs.Common.{◌≡◌, ◌≢◌, ℕ, zero, suc, ◌<◌, ◌≤◌, Bool, true, false, ◌||◌, ◌&&◌, nat_le, List, [], ◌∷◌, ◌++◌, IsAscii, length, take, drop, refl, sym, ◌∙◌, ap, subst, arith, tests, codes, bytes_eq, ◌⊎◌, inl, inr, ⊎_elim}
 use Rattle.std.specs.List.{AllByRecursion, list_all}
 use Rattle.std.proofs.lemmas.List.{take_all, take-append-drop}
 use Rattle.std.proofs.lemmas.Slice.Eq.{bytes_eq-Decides}
@@ -145,10 +145,6 @@ is_quoted-part part h =
       begins_with-split 34 part p.0 ∙ ap (λ (l : List ℕ). 34 ∷ l) (sym (prefix_split Unquoted (drop 1 part)) ∙ ap (λ (l : List ℕ). unquoted part ++ l) closes),
       AllByRecursion-weaker (λ b. is_in Unquoted b ≡ true) (λ b. b ≢ 34) quote_refused (unquoted part) (prefix_of-all Unquoted (drop 1 part)),
     )
-
--- what is in the quotes is shorter by them
-pub length-unquoted : (part : List ℕ) → is_quoted part ≡ true → length (unquoted part) + 2 ≤ length part
-length-unquoted part q = let e = ap length (is_quoted-part part q).0 in omega (arith, length-append (unquoted part) (34 ∷ []))
 
 and_false : (a b : Bool) → (a && (b && false)) ≡ false
 and_false true true = refl

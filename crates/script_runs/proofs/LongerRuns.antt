@@ -64,9 +64,6 @@ module _ {F : Type 0} (l : CommandLanguage F) where
     off : goes_on l first.reply inside ≡ false → after ≡ cut_off
     run : Run l 0 (place_with 0 mid later.room) later after last new
 
-  turn_run : (place : Rest) (old : State l) (first : Answered l) (inside after : Turns l) (last : Rest) (new : State l) (mid : Rest) → Turn place old first inside after last new mid → Run l 0 place old (turn first inside after) last new
-  turn_run place old first inside after last new mid t = (mid, t.store, t.later, t.next, t.replies, t.loaded, t.off, t.run)
-
   module _ (sound : IsSound l) where
     -- after an item past the limit a run does not go on
     past_off : (place : Rest) (old : State l) (first : Answered l) (inside after : Turns l) (last : Rest) (new : State l) (mid : Rest) → first.item.ended ≡ PastLimit → Turn place old first inside after last new mid → after ≡ cut_off
