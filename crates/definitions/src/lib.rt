@@ -9,6 +9,13 @@
 //! users' systems are files alone, and among words files and words that commands make. `IsListedOver` (`specs/Listings.antt`)
 //! says which words a definition lists, one for each tuple of numbers of which it holds. `IsSystemNamed`
 //! (`specs/Named.antt`) says which system a name means: one that is built in, or the one that the files of a user define.
+//!
+//! Meanings are recursive functions on definitions, down to files. They take the texts of users' systems (`Custom`),
+//! since a name of a system means what its files say. A definition has at most one text (`one_text`).
+//!
+//! Only `table_relation` does something: by the steps `read`, `pad` and `valid` it makes the relation of what a file
+//! lists. Its costs are those of the steps, and of the branching automaton of the table. All other functions are laws,
+//! calls that do nothing. Not proved: time and memory.
 #![tactic(auto)]
 
 /// Laws of definitions.

@@ -1,10 +1,22 @@
-//! The formula language: its grammar, and one exact parser. A text has a tree if and only if the grammar relates one to
-//! it, and never two; otherwise it has one fault, with its byte. The text is read once, token by token, by a machine
-//! whose states hold the trees made so far. Calls go no deeper than the nesting, which is at most 128, so long sums and
-//! chains cost no stack.
+//! The formula language: its grammar, and one exact parser.
 //!
-//! Where a step stops, it calls `drop` on the large values that it holds: so the drop of each type is proved once, and not
-//! variant by variant in each function.
+//! `parse` gives the tree of a text if and only if the grammar relates one to it (`Reads` in `specs/Grammar.antt`).
+//! Otherwise the text has one fault, with its byte: that a text has one answer, and never two trees, is a law
+//! (`one_answer`, `one_tree`). The grammar is stated as it is printed, a data type for each line
+//! (`specs/Formulas.antt`), and `specs/FormulaTrees.antt` has the tree of each derivation. `Syntax`, `Number` and
+//! `Depth` are at the first token that decides. `MixedChain` and `NotLinear` come only if there is none, at the least
+//! byte.
+//!
+//! Terms are linear, as in Presburger arithmetic: of the factors of a product at most one is not a numeral. A
+//! quantifier reaches to the next closing parenthesis of its level or to the end, so `~Ex x=1 & y=2` is one negation. A
+//! formula that names no system is in `msd_2`. Parentheses leave no mark in a tree.
+//!
+//! The text is read once, token by token, by a machine whose states hold the trees made so far. Calls go no deeper than
+//! the nesting, which is at most 128, so long sums and chains cost no stack. Where a step stops, it calls `drop` on the
+//! large values that it holds: so the drop of each type is proved once, and not variant by variant in each function.
+//!
+//! Time and memory grow with the length of the text. Not proved: this, and that tokens which begin a formula are also
+//! those of some text: the first fault is said of tokens.
 #![tactic(auto)]
 
 /// The trees of formulas.

@@ -1,7 +1,22 @@
 //! What may be quoted of the program: laws of its runs, each a call that does nothing and whose contract is the law.
 //!
-//! Each law follows from the clause of `session_cli::run` or from that of `session_cli::Session::command`, and says a part of
-//! it by few definitions. `tools/believed --law NAME` lists what one rests on.
+//! Each law but `names` follows from the clause of `session_cli::run` or from that of `session_cli::Session::command`,
+//! and says a part of it by few definitions. `tools/believed --law NAME` lists what one rests on, and docs/MODEL.md has
+//! how many these are.
+//!
+//! Of one command there are `verdicts` and `plain_verdicts`, `solutions`, `promotions`, `images`, `combinations`,
+//! `transductions`, `conversions`, `languages`, `tests`, `infinities`, `own_systems`, `refused_systems` and `refusals`.
+//! `run_verdicts`, `plain_run_verdicts`, `run_solutions`, `run_words`, `run_languages`, `run_listings` and
+//! `run_systems` say so of each command of a run, from what there was at its place. `names` says what the names of a
+//! formula mean, whatever runs.
+//!
+//! The premise of a law is the relation of the clause: `Commands`, or `HasRun` for `session_language`. Most laws
+//! suppose that the store reports its files, and those on runs that the source reports the script. The two plain ones
+//! suppose nothing of the store, and rest on truth, on the grammar and on how scripts are cut. A law says what follows
+//! if a command is accepted, and not when it is; `refusals` says why one is refused.
+//!
+//! The calls cost the program nothing, as it does not make them. Not proved: what is not promised by the theorem
+//! itself, as time, memory and what is outside (docs/MODEL.md).
 #![tactic(auto)]
 
 // what the verdict of a command says

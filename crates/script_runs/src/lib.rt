@@ -1,4 +1,22 @@
 //! Runs over a script: its commands are answered one after another as they come, whatever commands they are.
+//!
+//! What answers them implements `Answering`, and its `CommandLanguage` (`specs/Languages.antt`) says how a command may
+//! be answered, what it changes and what is printed. `run_script` has the commands of a source answered, hands over
+//! what they print or the lines of their refusals, and gives a `Status`: `Run` in `specs/Runs.antt` says which commands
+//! are answered, `HasRun` in `specs/Ends.antt` how it ends. `run_text` answers those of a text that is given whole,
+//! hands nothing over, and counts the answers of each kind. Where commands have one answer, the store reports its
+//! files, and neither store nor memory refuses a command, runs over one script end alike (`runs_end_alike` in
+//! `proofs/OneRuns.antt`). A run over a script that ends after a terminator is the beginning of each run over a longer
+//! one (`longer_runs`).
+//!
+//! A refused command does not end a run, unless its language says so (`ends_run`). The commands of a text that is
+//! loaded come right after the command that loads it, at most eight loads deep (`LOAD_LIMIT`). The bytes of the script
+//! and of loaded texts count together, so a run has at most one item more than bytes that may be read, and loads end
+//! (`items_have_bytes`). The status is the first that applies: source or sink failed, memory, the store failed, a
+//! refusal, none of these.
+//!
+//! At most 65,537 bytes of the script are held at once, and each text that is loaded while it runs. Not proved: time,
+//! and how much memory is used.
 #![tactic(auto)]
 
 // how a run ended
