@@ -1,20 +1,20 @@
 -- What is kept of an admission is right for all folders in which the name has the same files.
-use Rattle.std.proofs.Common.{◌≡◌, ℕ, ◌≤◌, Bool, true, false, List, ◌++◌, length, drop, Option, Some, Result, Ok, Err, MatchResult, if◌then◌else◌, refl, sym, ap, ◌∙◌, subst, arith}
+use Rattle.std.proofs.Common.{◌≡◌, ℕ, ◌≤◌, Bool, true, false, List, ◌++◌, length, drop, Option, Some, Ok, if◌then◌else◌, refl, sym, ap, ◌∙◌, subst, arith}
 use Rattle.std.proofs.lemmas.List.{length-append}
 use Rattle.std.proofs.Math.Seq.{drop-append_seam}
 use Rattle.digit_tuple.specs.Steps.{StepLog, with_lines}
 use Rattle.digit_tuple.specs.declared.direction.Direction.{Direction}
 use Rattle.digit_tuple.specs.declared.direction.Direction.TheVariants.{Msd, Lsd}
 use Rattle.digit_tuple.specs.declared.steps.StepLine.{StepLine}
+use Rattle.dfa_reading.specs.SystemFiles.{language_of}
 use Rattle.num_system.specs.Sealed.{SystemValue}
 use Rattle.system_names.specs.UserNames.{IsUserName, adder_name, opposite, user_name}
 use Rattle.system_names.proofs.UserSystems.{none_is_built_in, one_user_name}
 use Rattle.system_files.specs.SystemFiles.{Custom, SystemFiles, AreFilesOf, is_reversed, taken_name}
 use Rattle.system_admission.specs.Admissions.{AdmitsFiles}
 use Rattle.system_admission.specs.KeptSystems.{Pair, IsPairOf, CanBeKept}
-use Rattle.system_admission.specs.NameAdmissions.{AdmitsUnder, FailsName, IsNamedSystem, SealsFiles}
-use Rattle.system_admission.specs.declared.system_fault.SystemFault.{SystemFault}
-use Rattle.system_admission.proofs.NameAnswers.{is_named, not_admitted}
+use Rattle.system_admission.specs.NameAdmissions.{IsNamedSystem, SealsFiles}
+use Rattle.system_admission.proofs.NameAnswers.{is_named}
 use Rattle.system_admission.proofs.ShiftedSteps.{files_shift}
 
 -- the name of the language says what the system is called, and whether its words are those of the other direction
@@ -34,12 +34,15 @@ one_name_of direction part another false true same = absurd (not_opposite direct
 same_text : (there : Option (List ℕ)) (text other : List ℕ) → there ≡ Some text → there ≡ Some other → text ≡ other
 same_text there text other is also = let same : Some text ≡ Some other = sym is ∙ also in cc
 
+language_text : (custom : Custom) (part : List ℕ) (pair : Pair) (files : SystemFiles) (found : AreFilesOf custom pair.direction part files) → IsPairOf custom part pair → found.language.text ≡ pair.language
+language_text custom part pair files found is = same_text (custom (taken_name custom pair.direction part)) found.language.text pair.language found.language.there (ap custom (sym is.name) ∙ is.language)
+
 -- where a name has the files of another, it has what they list
 module _ (custom other : Custom) (part another : List ℕ) (pair : Pair) (files : SystemFiles) (found : AreFilesOf custom pair.direction part files) (is : IsPairOf custom part pair) (also : IsPairOf other another pair) where
   same_files : AreFilesOf other pair.direction another files
   same_files =
       let one = one_name_of pair.direction part another (is_reversed custom pair.direction part) (is_reversed other pair.direction another) (sym is.name ∙ also.name) in
-      let language : found.language.text ≡ pair.language = same_text (custom (taken_name custom pair.direction part)) found.language.text pair.language found.language.there (ap custom (sym is.name) ∙ is.language) in
+      let language = language_text custom part pair files found is in
       let adder : found.adder.text ≡ pair.adder = same_text (custom (adder_name (taken_name custom pair.direction part))) found.adder.text pair.adder found.adder.there (ap (λ (n : List ℕ). custom (adder_name n)) (sym is.name) ∙ is.adder) in
       record {
         reversed = found.reversed ∙ one.1;
@@ -65,24 +68,20 @@ seals_named custom name part direction files old new s named found seals =
 
 -- what was sealed of the files of a name may be kept
 pub can_be_kept : (custom : Custom) (part : List ℕ) (pair : Pair) (files : SystemFiles) (old new : StepLog) (s : SystemValue) → AreFilesOf custom pair.direction part files → IsPairOf custom part pair → SealsFiles pair.direction files old new s → CanBeKept pair (length old.lines) new s
-can_be_kept custom part pair files old new s found is seals =
-    λ later limit other name takes.
-    let shifted = files_shift pair.direction files old new seals.user seals.admits in
-    let all : new.lines ≡ old.lines ++ shifted.lines = ap (λ (log : StepLog). log.lines) shifted.new_is in
-    let lines = drop (length old.lines) new.lines in
-    let same : shifted.lines ≡ lines = sym (ap (drop (length old.lines)) all ∙ drop-append_seam old.lines shifted.lines) in
-    let limits : later.limit ≡ old.limit = limit ∙ ap (λ (log : StepLog). log.limit) shifted.new_is in
-    let admits = subst (λ (ls : List StepLine). AdmitsFiles pair.direction files later (Ok seals.user) (with_lines later ls)) same (shifted.shift later limits) in
-    seals_named other name takes.part pair.direction files later (with_lines later lines) s takes.is_name (same_files custom other part takes.part pair files found is takes.is_pair)
-    (record { user = seals.user; admits = admits; defined = seals.defined; sealed = seals.sealed; system = seals.system; read_direction = seals.read_direction })
+can_be_kept custom part pair files old new s found is seals = record {
+  language = (files.language, ap language_of (sym (language_text custom part pair files found is)) ∙ found.language.lists);
+  admits = λ later limit other name takes.
+      let shifted = files_shift pair.direction files old new seals.user seals.admits in
+      let all : new.lines ≡ old.lines ++ shifted.lines = ap (λ (log : StepLog). log.lines) shifted.new_is in
+      let lines = drop (length old.lines) new.lines in
+      let same : shifted.lines ≡ lines = sym (ap (drop (length old.lines)) all ∙ drop-append_seam old.lines shifted.lines) in
+      let limits : later.limit ≡ old.limit = limit ∙ ap (λ (log : StepLog). log.limit) shifted.new_is in
+      let admits = subst (λ (ls : List StepLine). AdmitsFiles pair.direction files later (Ok seals.user) (with_lines later ls)) same (shifted.shift later limits) in
+      seals_named other name takes.part pair.direction files later (with_lines later lines) s takes.is_name (same_files custom other part takes.part pair files found is takes.is_pair)
+      (record { user = seals.user; admits = admits; defined = seals.defined; sealed = seals.sealed; system = seals.system; read_direction = seals.read_direction });
+}
 
--- what sealing answers is said of the name
-pub sealed_named : {X : Type 0} (value : X → SystemValue) (custom : Custom) (name part : List ℕ) (direction : Direction) (files : SystemFiles) (old new : StepLog) (r : Result X SystemFault) → IsUserName direction part name → AreFilesOf custom direction part files
-    → MatchResult r (λ s. SealsFiles direction files old new (value s)) (λ fault. AdmitsUnder name direction files old new (Err fault)) → MatchResult r (λ s. IsNamedSystem custom name old new (value s)) (FailsName custom name old new)
-sealed_named value custom name part direction files old new (Ok s) named found seals = seals_named custom name part direction files old new (value s) named found seals
-sealed_named value custom name part direction files old new (Err fault) named found under = not_admitted custom name (none_is_built_in name (direction, part, named)) old new direction files (record { part = part; is_name = named; found = found }) fault under
-
--- and adds steps
+-- sealing adds steps
 pub seals_more : (direction : Direction) (files : SystemFiles) (old new : StepLog) (s : SystemValue) → SealsFiles direction files old new s → length old.lines ≤ length new.lines
 seals_more direction files old new s seals =
     let shifted = files_shift direction files old new seals.user seals.admits in

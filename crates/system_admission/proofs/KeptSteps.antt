@@ -25,4 +25,4 @@ right_at (x ∷ entries) (suc i) e all within at = right_at entries i e all.1 (o
 
 -- what is right admits the same files again
 pub admits_again : (k : KeptSystem) (pair : Pair) (old new : StepLog) (s : SystemValue) → IsRight k → k.pair ≡ pair → old.limit ≡ k.limit → new ≡ with_lines old k.lines → s ≡ k.system → AdmitsPair pair old new s
-admits_again k pair old new s right pairs limit steps system = rw (sym pairs, steps, system) (right old limit)
+admits_again k pair old new s right pairs limit steps system = rw (sym pairs, steps, system) (right.admits old limit)

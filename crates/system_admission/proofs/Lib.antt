@@ -12,4 +12,5 @@ pub mod ShiftedSteps
 pub mod NameAnswers
 pub mod KeptLemmas
 pub mod KeptSteps
+pub mod ReadPairs
 pub mod UserSteps

@@ -76,3 +76,6 @@ under_loading name read_direction files old new fault (inr (refusal, does, first
 
 pub read_before : {X Y : Type 0} (old new : StoreView) (loaded : X) (r : Result Y SystemFault) → as_loading r ≡ Ok tt → HasRead old (let good : Result X LoadFault = Ok loaded in good) new → HasRead old (as_loading r) new
 read_before old new loaded r is read = subst (λ (l : Result ⊤ LoadFault). HasRead old l new) (sym is) (record { files = read.files; later = read.later; cause = read.cause })
+
+pub read_failed : {Y : Type 0} (old new : StoreView) (fault : LoadFault) (r : Result Y SystemFault) → r ≡ Err (faults.Load fault) → HasRead {X = SystemFiles} old (Err fault) new → HasRead old (as_loading r) new
+read_failed {Y = Y} old new fault r is read = let Reads : Result Y SystemFault → Type 0 = λ x. HasRead old (as_loading x) new in subst Reads (sym is) (record { files = read.files; later = read.later; cause = read.cause })

@@ -1,7 +1,8 @@
 //! Users' systems that are kept, each beside the files from which it was admitted.
 
-ghost use Rattle.std.specs.Prelude.{◌≡◌, ◌≤◌, length, true, IfOk, IfSome, MatchOption};
-ghost use Rattle.system_admission.specs.KeptSystems.{AdmitsPair, CanBeKept, IsRight};
+ghost use Rattle.std.specs.Prelude.{◌≡◌, ◌≤◌, length, true, IfOk, IfSome, IsTrue, MatchOption};
+ghost use Rattle.std.specs.Option.{IsSomeAnd};
+ghost use Rattle.system_admission.specs.KeptSystems.{AdmitsPair, CanBeKept, IsLanguage, IsRight};
 ghost use Rattle.system_admission.specs.KeptViews.{kept_system, pair_view};
 
 use crate::pair::SystemPair;
@@ -32,7 +33,7 @@ struct Entry {
 }
 
 /// Users' systems that were admitted, 64 at most, each beside its files, the limit and the steps of its admission. A search takes time
-/// in proportion to their number, and to the bytes of files of the same names.
+/// in proportion to their number, and to the bytes of the files that are compared.
 #[derive(Drop)]
 pub struct KeptSystems {
     entries: Vec<Entry>,
@@ -65,16 +66,31 @@ impl KeptSystems {
         self.used
     }
 
-    /// The system that was kept with these files under the limit of the steps, if there is one. Its steps are added as the next ones.
-    /// Out of memory may leave some of them.
+    /// Whether the text is the language of a kept system. Then it lists a language.
+    pub(crate) fn has_language(&self, text: &[u8]) -> bool
+        ensures { IsTrue result → IsLanguage text.now }
+    {
+        for entry in &self.entries {
+            if entry.language.as_slice() == text {
+                return true;
+            }
+        }
+        false
+    }
+
+    /// The system that was kept with these files under the limit of the steps, if the files were read and there is one. Its steps are
+    /// added as the next ones. Out of memory may leave some of them.
     pub(crate) fn admit(
         &mut self,
-        pair: &SystemPair<'_>,
+        pair: Option<SystemPair<'_>>,
         steps: &mut Steps,
     ) -> Result<Option<Rc<System>>, OutOfMemory>
-        ensures { IfOk result (λ found. MatchOption found (steps.new ≡ steps.old) (λ system. AdmitsPair (pair_view pair.now) steps.old steps.new system.value)) }
+        ensures { IfOk result (λ found. MatchOption found (steps.new ≡ steps.old) (λ system. IsSomeAnd pair.entry (λ files. AdmitsPair (pair_view files) steps.old steps.new system.value))) }
     {
-        let Some(entry) = self.fitting(pair, steps.limit()) else {
+        let Some(pair) = pair else {
+            return Ok(None);
+        };
+        let Some(entry) = self.fitting(&pair, steps.limit()) else {
             return Ok(None);
         };
         add_lines(steps, &entry.lines)?;

@@ -14,7 +14,7 @@ ghost use Rattle.system_admission.specs.declared.system_fault.SystemFault.TheVar
 
 use crate::admission::admit_files;
 use crate::kept::KeptSystems;
-use crate::pair::pair_of;
+use crate::pair::{pair_of, read_pair};
 use crate::system_fault::SystemFault;
 use adder_check::admit_fault::AdmitFault;
 use adder_check::user_system::UserSystem;
@@ -35,8 +35,8 @@ use wal_outside::{Folder, Store};
 /// The system of a name that is not built in, sealed: its files are read from the store, each that was not
 /// read before, and it is admitted by the next steps. The texts grow by what was read. What was read and
 /// what was admitted before stay as they are; no text of the store is changed. The costs are those of
-/// reading the texts, and of the steps and of sealing, which are not done again where the files are those of a kept system, under the same
-/// limit and in the same direction. Otherwise the system is kept, unless 64 are, or memory runs out.
+/// reading the texts, and of parsing them, of the steps and of sealing, which are not done again where the files are those of a kept system,
+/// under the same limit and in the same direction. Otherwise the system is kept, unless 64 are, or memory runs out.
 ///
 /// # Errors
 /// `Load` with `Unknown` where no user's system may have the name, or where the language or its adder is
@@ -60,17 +60,18 @@ pub fn admit_system<T: Store>(
         let missing = name.copy(alloc)?;
         return Err(SystemFault::Load(LoadFault::Unknown(Folder::Bases, missing)));
     };
-    let files = load_system(alloc, &user, texts, store)?;
-    let Some(pair) = pair_of(alloc, &user, files.reversed(), texts) else {
-        return sealed_system(alloc, name, &files, user.direction, steps);
-    };
-    if let Some(system) = kept.admit(&pair, steps)? {
+    let reversed = read_pair(alloc, &user, kept, texts, store)?;
+    let pair = pair_of(alloc, &user, reversed, texts);
+    if let Some(system) = kept.admit(pair, steps)? {
         return Ok(system);
     }
+    let files = load_system(alloc, &user, texts, store)?;
     let first = steps.count();
     let system = sealed_system(alloc, name, &files, user.direction, steps)?;
     texts.can_stand();
-    kept.keep(alloc, &pair, first, steps, &system);
+    if let Some(pair) = pair_of(alloc, &user, reversed, texts) {
+        kept.keep(alloc, &pair, first, steps, &system);
+    }
     Ok(system)
 }
 

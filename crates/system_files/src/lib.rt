@@ -9,7 +9,9 @@ mod texts;
 mod looking;
 // the language that a name takes
 mod taking;
-// the files of a system
+// the files of a system, read
+mod reading;
+// and loaded
 mod loading;
 // a name takes one pair, and means one system
 mod laws;
@@ -17,4 +19,5 @@ mod laws;
 pub use files::SystemFiles;
 pub use laws::{names_mean_one_system, names_take_one_pair};
 pub use loading::load_system;
+pub use reading::{find_adder, find_language};
 pub use texts::{Finding, FoundText, SystemTexts};

@@ -55,7 +55,7 @@ pub(crate) fn take_language<T: Store>(
 }
 
 /// The place of the text of the language that is taken.
-fn take<T: Store>(
+pub(crate) fn take<T: Store>(
     alloc: Global,
     user: &UserName<'_>,
     texts: &mut SystemTexts,
