@@ -1,5 +1,5 @@
--- What was made is right wherever the same text stands, and is right when it is found again.
-use Rattle.std.proofs.Common.{◌≡◌, ℕ, ◌<◌, ◌≤◌, Bool, true, false, if◌then◌else◌, List, [], ◌∷◌, ◌++◌, drop, length, map, get_or, Result, Ok, Err, inr, refl, sym, ap, ◌∙◌, subst, arith}
+-- What was made is right wherever the text is the same, and is right when it is found again.
+use Rattle.std.proofs.Common.{◌≡◌, ℕ, ◌+◌, ◌<◌, ◌≤◌, Bool, true, false, if◌then◌else◌, List, [], ◌∷◌, ◌++◌, drop, length, map, get_or, Result, Ok, Err, inr, refl, sym, ap, ◌∙◌, subst, arith}
 use Rattle.std.specs.Rc.{rc_value}
 use Rattle.std.proofs.lemmas.List.{length-append}
 use Rattle.digit_tuple.specs.Steps.{StepLog, with_lines}
@@ -87,13 +87,22 @@ pub word_refused : (systems : List SystemValue) (listed : Listed) (old mid new :
 word_refused systems listed old mid new fault same refused = inr (subst (λ (o : StepLog). DoesWord systems listed o (Err fault) new) same refused)
 
 module _ (relations : List KeptRelation) (words : List KeptWord) (are : AreRight relations words) where
-  -- one more is right, if there is memory for it
-  pub word_pushed : (k : KeptWord) (more : List KeptWord) (pushed : Bool) → IsRightWord k.source k.word.value → more ≡ (if pushed then words ++ k ∷ [] else words) → AreRight relations more
-  word_pushed k more true right is = subst (λ (ws : List KeptWord). AreRight relations ws) (sym is) (record {
+  -- one more is kept, if there is room and memory for it
+  pub relation_pushed : (k : KeptRelation) (more : List KeptRelation) (pushed : Bool) → length relations + length words < 256 → IsRightRelation k.source k.relation.value → more ≡ (if pushed then relations ++ k ∷ [] else relations) → AreRight more words
+  relation_pushed k more true room right is = subst (λ (rs : List KeptRelation). AreRight rs words) (sym is) (record {
+    few = omega (arith, room, length-append relations (k ∷ []));
+    relations_are = all_push (λ (r : KeptRelation). IsRightRelation r.source r.relation.value) relations k are.relations_are right;
+    words_are = are.words_are;
+  })
+  relation_pushed k more false room right is = subst (λ (rs : List KeptRelation). AreRight rs words) (sym is) are
+
+  pub word_pushed : (k : KeptWord) (more : List KeptWord) (pushed : Bool) → length relations + length words < 256 → IsRightWord k.source k.word.value → more ≡ (if pushed then words ++ k ∷ [] else words) → AreRight relations more
+  word_pushed k more true room right is = subst (λ (ws : List KeptWord). AreRight relations ws) (sym is) (record {
+    few = omega (arith, room, length-append words (k ∷ []));
     relations_are = are.relations_are;
     words_are = all_push (λ (w : KeptWord). IsRightWord w.source w.word.value) words k are.words_are right;
   })
-  word_pushed k more false right is = subst (λ (ws : List KeptWord). AreRight relations ws) (sym is) are
+  word_pushed k more false room right is = subst (λ (ws : List KeptWord). AreRight relations ws) (sym is) are
 
   -- and each that is kept
   pub word_at : (i : ℕ) (k : KeptWord) → i < length words → k ≡ get_or words i k → IsRightWord k.source k.word.value

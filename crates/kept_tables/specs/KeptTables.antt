@@ -1,5 +1,5 @@
 -- Relations and words that the steps of tables made, and what they were made of.
-use Rattle.std.specs.Prelude.{◌≡◌, ◌⊎◌, ℕ, List, drop, map, Result, Ok, Err}
+use Rattle.std.specs.Prelude.{◌≡◌, ◌⊎◌, ℕ, ◌+◌, ◌≤◌, List, drop, length, map, Result, Ok, Err}
 use Rattle.std.specs.List.{AllByRecursion}
 use Rattle.std.specs.Rc.{rc_value}
 use Rattle.digit_tuple.specs.Steps.{StepLog, with_lines}
@@ -38,8 +38,9 @@ abbrev pub IsRightWord : Source → WordValue → Type 0
 IsRightWord source w = (listed : Listed) (old : StepLog) → word_of source.text ≡ Ok listed → old.limit ≡ source.limit
     → DoesWord (map rc_value source.systems.items) listed old (Ok w) (with_lines old source.lines.items)
 
--- all are right
+-- at most 256 are kept, and each is right
 pub record AreRight (relations : List KeptRelation) (words : List KeptWord) : Type 0 where
+  pub few : length relations + length words ≤ 256
   pub relations_are : AllByRecursion (λ (k : KeptRelation). IsRightRelation k.source k.relation.value) relations
   pub words_are : AllByRecursion (λ (k : KeptWord). IsRightWord k.source k.word.value) words
 

@@ -1,6 +1,6 @@
 //! The relations and words that are kept.
 
-ghost use Rattle.std.specs.Prelude.{◌≡◌, ◌<◌, length, map, Ok, IfOk, IfErr, IfSome, MatchOption};
+ghost use Rattle.std.specs.Prelude.{◌≡◌, ◌+◌, ◌<◌, length, map, Ok, IfOk, IfErr, IfSome, IsTrue, MatchOption};
 ghost use Rattle.std.specs.Rc.{rc_value};
 ghost use Rattle.digit_tuple.specs.declared.step_fault.StepFault.TheVariants.{Memory};
 ghost use Rattle.dfa_reading.specs.Headers.{digits_in};
@@ -43,7 +43,7 @@ struct KeptWord {
 }
 
 /// The relations and words that the tables of files made before, and how often one of them was used again. A search compares the
-/// name of the file with each name, and the text with the texts under it.
+/// name of the file with each name, and the text with the texts under it. At most 256 are kept.
 #[derive(Drop)]
 pub struct KeptTables {
     relations: Vec<KeptRelation>,
@@ -72,7 +72,7 @@ impl KeptTables {
         }
     }
 
-    /// How often a relation or a word was used again. The count stands still at its type's end.
+    /// How often a relation or a word was used again. The count stays at its type's greatest value.
     pub fn reused(&self) -> u64
         ensures { result ≡ self.now }
     {
@@ -103,9 +103,6 @@ impl KeptTables {
         let before = steps.count();
         let made = table_relation(alloc, &table.listed, systems, steps)?;
         let relation = Rc::new(alloc, made)?;
-        if self.is_full() {
-            return Ok(relation);
-        }
         if let Ok(source) = Source::of(alloc, table, systems, steps, before) {
             self.keep_relation(source, &relation);
         }
@@ -138,9 +135,6 @@ impl KeptTables {
         let before = steps.count();
         let made = read_word_steps(alloc, &table.listed, systems, steps)?;
         let word = Rc::new(alloc, made)?;
-        if self.is_full() {
-            return Ok(word);
-        }
         if let Ok(source) = Source::of(alloc, table, systems, steps, before) {
             self.keep_word(source, &word);
         }
@@ -216,26 +210,32 @@ impl KeptTables {
         None
     }
 
-    /// Keeps a relation, unless memory runs out.
+    /// Keeps a relation, unless so many are kept as may be, or memory runs out.
     fn keep_relation(&mut self, source: Source, relation: &Rc<Relation>)
         requires { IsRightRelation source relation.now.value }
     {
-        if let Ok(relation) = relation.clone() {
-            let _pushed = self.relations.push(KeptRelation { source, relation });
+        if has_room(self.relations.len(), self.words.len()) {
+            if let Ok(relation) = relation.clone() {
+                let _pushed = self.relations.push(KeptRelation { source, relation });
+            }
         }
     }
 
-    /// Keeps a word, unless memory runs out.
+    /// Keeps a word, unless so many are kept as may be, or memory runs out.
     fn keep_word(&mut self, source: Source, word: &Rc<Word>)
         requires { IsRightWord source word.now.value }
     {
-        if let Ok(word) = word.clone() {
-            let _pushed = self.words.push(KeptWord { source, word });
+        if has_room(self.words.len(), self.relations.len()) {
+            if let Ok(word) = word.clone() {
+                let _pushed = self.words.push(KeptWord { source, word });
+            }
         }
     }
+}
 
-    /// Whether so many are kept as may be.
-    fn is_full(&self) -> bool {
-        self.relations.len() >= MOST || self.words.len() >= MOST - self.relations.len()
-    }
+/// Whether one more may be kept beside so many, and so many of the other kind.
+fn has_room(kept: usize, others: usize) -> bool
+    ensures { IsTrue result → kept + others < 256 }
+{
+    kept < MOST && others < MOST - kept
 }

@@ -25,11 +25,6 @@ returns-in_err-made-clause-refused c =
     let same = rw c.in_default.is at c.in_ok-word.ensures.made in
     rw (p.1, p.2) (word_refused (map rc_value c.args.systems.now) c.args.table.now.listed c.args.steps.now c.word_again.new.steps c.read_word_steps.new.steps c.in_err-made.field-0.0 same c.in_err-made.ensures)
 
-pub returns-then-is_full-clause-made : goal.returns-then-is_full-clause-made
-returns-then-is_full-clause-made c =
-    let same = rw c.in_default.is at c.in_ok-word.ensures.made in
-    word_next (map rc_value c.args.systems.now) c.args.table.now.listed c.args.steps.now c.word_again.new.steps c.read_word_steps.new.steps c.in_ok-made.made c.in_ok-word-2.word.value same c.in_ok-word-2.ensures.ok c.in_ok-made.ensures
-
 pub returns-clause-made : goal.returns-clause-made
 returns-clause-made c =
     let same = rw c.in_default.is at c.in_ok-word.ensures.made in
