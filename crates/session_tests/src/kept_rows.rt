@@ -6,9 +6,11 @@ use crate::no_answer::NoAnswer;
 use crate::tables::{ROW_END, first_field, table};
 use crate::user_system_files::{BINARY, CARRIES};
 use crate::whole::expect;
+use digit_tuple::name::Name;
 use session_cli::{Printed, Session};
 use std::alloc::Global;
 use std::process::Abort;
+use system_admission::{KeptSystems, UserSystems};
 use wal_outside::{Folder, MemStore};
 
 /// Base 2 as a user's system, in files of either direction, and what is over it: `own` has each number, and `W` a letter for
@@ -432,4 +434,26 @@ fn no_more_than_64_systems_are_kept(rt: HostRuntime) {
 fn no_more_than_256_definitions_are_kept(rt: HostRuntime) {
     expect_used(&rt, "256", &used_of_definitions(rt.alloc(), 256), 256);
     expect_used(&rt, "257", &used_of_definitions(rt.alloc(), 257), 256);
+}
+
+/// How many kept systems were used after a system was admitted under each of these limits in turn, each after a blank.
+fn used_under(alloc: Global, limits: &[u32]) -> Result<String, NoAnswer> {
+    let mut store = store_of(alloc, files(), 0)?;
+    let names = vec![in alloc; Name::new(alloc, "msd_X")?]?;
+    let mut kept = KeptSystems::new(alloc);
+    let mut text = String::new(alloc);
+    for limit in limits {
+        let Ok(users) = UserSystems::admitted(alloc, *limit, &names, &mut kept, &mut store) else {
+            return Err(NoAnswer);
+        };
+        drop(users);
+        text.push_str(&format!(in alloc; " {}", kept.reused())?)?;
+    }
+    Ok(text)
+}
+
+#[test]
+fn a_system_is_admitted_anew_under_another_limit(rt: HostRuntime) {
+    let found = used_under(rt.alloc(), &[100, 50, 100, 50]);
+    expect_counts(&rt, "msd_X", &found, " 0 0 1 2");
 }
