@@ -10,6 +10,8 @@ pub mod InfinityLemmas
 pub mod NearLemmas
 pub mod PathLemmas
 pub mod FlagLemmas
+pub mod FewStateLemmas
+pub mod SourceLemmas
 pub mod LeastLemmas
 pub mod DistanceLemmas
 pub mod CodeLemmas

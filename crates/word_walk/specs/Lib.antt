@@ -5,6 +5,9 @@ pub mod Walks
 pub mod ListedKeys
 pub mod ListedKeyLaws
 pub mod Levels
+pub mod FewStates
+pub mod Sources
+pub mod LevelStates
 pub mod Distances
 pub mod Lengths
 pub mod Raising

@@ -8,9 +8,11 @@ ghost use Rattle.word_walk.specs.Distances.{AreDistances};
 ghost use Rattle.word_walk.specs.Lengths.{HasNoLength, IsFirstLength, IsFirstLonger};
 ghost use Rattle.word_walk.specs.Levels.{AreLevels, IsLevel, first_live, least_word, lives};
 ghost use Rattle.word_walk.specs.Raising.{path_of, raised, word_by};
+ghost use Rattle.word_walk.specs.Sources.{IsReversed};
 
 use crate::distances::Distances;
 use crate::level::Level;
+use crate::sources::Sources;
 use digit_tuple::dfa::Dfa;
 use digit_tuple::faults::OutOfMemory;
 use digit_tuple::transitions::Transition;
@@ -24,9 +26,11 @@ pub(crate) struct Listing {
     pub(crate) dfa: Dfa,
     distances: Distances,
     levels: Vec<Level>,
+    sources: Sources,
     ghost is_table: { IsTable (letters_of dfa) dfa.states },
     ghost are_distances: { AreDistances dfa distances },
     ghost are_levels: { AreLevels dfa levels.items },
+    ghost is_reversed: { IsReversed dfa sources.backwards },
 }
 
 impl Listing {
@@ -41,6 +45,7 @@ impl Listing {
             dfa,
             distances,
             levels: Vec::new(alloc),
+            sources: Sources::new(),
         })
     }
 
@@ -89,11 +94,13 @@ impl Listing {
     }
 
     // The level that comes after those that there are.
-    fn next_level(&self) -> Result<Level, OutOfMemory>
-        ensures { IfOk result (IsLevel self.now.dfa (length self.now.levels.items)) }
+    fn next_level(&mut self) -> Result<Level, OutOfMemory>
+        ensures same { self.new.dfa ≡ self.old.dfa }
+        ensures levels { self.new.levels ≡ self.old.levels }
+        ensures level { IfOk result (IsLevel self.old.dfa (length self.old.levels.items)) }
     {
         match self.levels.last() {
-            Some(level) => level.next(self.alloc, &self.dfa),
+            Some(level) => level.next(self.alloc, &self.dfa, &mut self.sources),
             None => Level::first(self.alloc, &self.dfa),
         }
     }

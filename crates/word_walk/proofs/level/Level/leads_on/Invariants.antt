@@ -1,6 +1,0 @@
-use Rattle.std.proofs.Common.{◌≡◌, false, get_or, drop}
-use Rattle.std.specs.List.{list_any}
-use Rattle.word_walk.proofs.level.Level.leads_on.Given as goal
-
-abbrev pub invariant-loop-transition : goal.invariant-loop-transition
-invariant-loop-transition l = list_any (λ e. get_or l.self e.target false) l.row ≡ list_any (λ e. get_or l.self e.target false) (drop l.transition-index l.row)
