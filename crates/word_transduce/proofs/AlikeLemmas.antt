@@ -1,12 +1,12 @@
 -- Words are alike to the step if and only if they have the same maps.
 use Rattle.std.proofs.Common.{◌≡◌, ℕ, ◌+◌, ◌*◌, ◌/◌, ◌%◌, ◌^◌, ◌<◌, List, [], ◌++◌, length, take, drop, map, get_or, Option, None, Some, refl, sym, ap, ◌∙◌, subst, arith}
-use Rattle.std.specs.Option.{option_and_then}
+use Rattle.std.specs.Option.{option_and_then, option_map}
 use Rattle.std.proofs.lemmas.List.{get_or_append_left}
 use Rattle.std.proofs.lemmas.Nat.{div-mul-add, mod-mul-add, mod_below}
 use Rattle.std.proofs.lemmas.Option.{same_Some}
 use Rattle.digit_tuple.specs.Deterministic.{Automaton, letters_of, run_of, states_of}
 use Rattle.digit_tuple.specs.Explored.{IsExplored}
-use Rattle.digit_tuple.specs.Keys.{LeadAlike}
+use Rattle.digit_tuple.specs.Keys.{LeadAlike, key_run}
 use Rattle.digit_tuple.specs.Letters.{IsWord}
 use Rattle.digit_tuple.specs.Width.{IsEquivalence}
 use Rattle.minimise.proofs.RunLemmas.{run_within}
@@ -16,12 +16,14 @@ use Rattle.word_output.specs.StateLetters.{letter_led}
 use Rattle.word_output.proofs.LsdLetterLemmas.{letter_led-explored}
 use Rattle.word_transduce.specs.Blocks.{base_of, block, place_of}
 use Rattle.word_transduce.specs.BlockLaws.{length-pairs}
-use Rattle.word_transduce.specs.BlockMaps.{at_pairs, first_maps, key_letter, maps_after, numbered_output, output_number, pairs_of, state_number}
+use Rattle.word_transduce.specs.BlockMaps.{at_pairs, first_end, first_output, key_letter, numbered_output, output_number, pairs_of, state_number}
+use Rattle.word_transduce.specs.BlockLengths.{block_key, first_block_key, key_after}
 use Rattle.word_transduce.specs.Runs.{made, output_at, run}
 use Rattle.word_transduce.specs.Transductions.{TransduceAlike}
 use Rattle.word_transduce.proofs.BlockKeys.{block_end, block_output, key_run-word, maps_of, words_positive}
 use Rattle.word_transduce.proofs.BlockLemmas.{block_from, block_led, block_lost}
 use Rattle.word_transduce.proofs.FoundLines.{numbered-number, one_output}
+use Rattle.word_transduce.proofs.KeyLemmas.{block_key-two, key_run-key, two_from_key}
 use Rattle.word_transduce.proofs.PairLemmas.{at_pairs-at, first_of_two, pair_state, pair_within, pairs_same, same_pairs, second_of_two}
 use Rattle.word_transduce.proofs.RunLemmas.{made-line, made-same, made-silent, run-same, run-silent}
 
@@ -131,31 +133,41 @@ module _ (t : Transducer) (f : LetterFunctionValue) (transducer : IsTransducer t
             ∙ end_of_pair (length v) (base_of f ^ length v) q s within)
             ∙ sym (run_led u q (length v) (base_of f ^ length v) s leads)
 
-  -- so words that lead to one key are alike, and the other way round
-  pub alike_from_lead : (w v : List ℕ) → IsWord (base_of f) w → IsWord (base_of f) v → LeadAlike (maps_after t f) (first_maps t f) w v → TransduceAlike t f w v
-  alike_from_lead w v over there lead =
-      alike_from_maps w v over there (same_Some (maps_of t f transducer is w) (maps_of t f transducer is v) (sym (key_run-word t f transducer is w over) ∙ lead ∙ key_run-word t f transducer is v there))
+  -- the key to which a word leads
+  key_run-block : (list : List (List ℕ)) (w : List ℕ) → IsWord (base_of f) w → key_run (key_after t f list) (first_block_key t f list) w ≡ Some (block_key t f list (maps_of t f transducer is w))
+  key_run-block list w over = key_run-key t f list w (first_output t f) (first_end t f) ∙ ap (option_map (block_key t f list)) (key_run-word t f transducer is w over)
 
-  pub lead_from_alike : (w v : List ℕ) → IsWord (base_of f) w → IsWord (base_of f) v → TransduceAlike t f w v → LeadAlike (maps_after t f) (first_maps t f) w v
-  lead_from_alike w v over there alike = key_run-word t f transducer is w over ∙ ap Some (maps_from_alike w v alike) ∙ sym (key_run-word t f transducer is v there)
+  -- so words that lead to one key are alike, and the other way round
+  pub alike_from_lead : (list : List (List ℕ)) (w v : List ℕ) → IsWord (base_of f) w → IsWord (base_of f) v → LeadAlike (key_after t f list) (first_block_key t f list) w v → TransduceAlike t f w v
+  alike_from_lead list w v over there lead =
+      alike_from_maps w v over there (two_from_key t f list _ _ _ _ (sym (block_key-two t f list _ _) ∙ same ∙ block_key-two t f list _ _))
+    where
+      same : block_key t f list (maps_of t f transducer is w) ≡ block_key t f list (maps_of t f transducer is v)
+      same = same_Some (block_key t f list (maps_of t f transducer is w)) (block_key t f list (maps_of t f transducer is v)) (sym (key_run-block list w over) ∙ lead ∙ key_run-block list v there)
+
+  pub lead_from_alike : (list : List (List ℕ)) (w v : List ℕ) → IsWord (base_of f) w → IsWord (base_of f) v → TransduceAlike t f w v → LeadAlike (key_after t f list) (first_block_key t f list) w v
+  lead_from_alike list w v over there alike =
+      key_run-block list w over ∙ ap (λ (maps : List ℕ). Some (block_key t f list maps)) (maps_from_alike w v alike) ∙ sym (key_run-block list v there)
 
   -- the letter of a word's key is the output at the place that it represents
-  letter_of_maps : (w : List ℕ) → key_letter t (maps_of t f transducer is w) ≡ output_at t (block f (length w) []) (place_of (base_of f) w)
-  letter_of_maps w =
+  letter_of_maps : (w rest : List ℕ) → key_letter t (at_pairs t f (block_output t f transducer is (length w) (place_of (base_of f) w)) ++ rest) ≡ output_at t (block f (length w) []) (place_of (base_of f) w)
+  letter_of_maps w rest =
       let least : 0 * t.states + 0 < pairs_of t f = pair_within t f 0 0 is.canonical.table.initial transducer.some in
       let some : 0 < pairs_of t f = omega (arith, least) in
       let outputs : List ℕ = at_pairs t f (block_output t f transducer is (length w) (place_of (base_of f) w)) in
       let zero_pair : 0 ≡ 0 * t.states + 0 = omega arith in
       ap (numbered_output t.lines) (
-      get_or_append_left outputs (at_pairs t f (block_end t f transducer is (length w) (base_of f ^ length w))) 0 0 (omega (arith, some, length-pairs t f (block_output t f transducer is (length w) (place_of (base_of f) w))))
+      get_or_append_left outputs rest 0 0 (omega (arith, some, length-pairs t f (block_output t f transducer is (length w) (place_of (base_of f) w))))
       ∙ at_pairs-at t f (block_output t f transducer is (length w) (place_of (base_of f) w)) 0 some
       ∙ ap (λ p. output_number t.lines (made t (block_from f is (length w) p) (place_of (base_of f) w) (Some (0 % t.states)))) (ap (λ n. n / t.states) zero_pair ∙ div-mul-add 0 t.states 0 transducer.some)
       ∙ ap (λ r. output_number t.lines (made t (block_from f is (length w) 0) (place_of (base_of f) w) (Some r))) (ap (λ n. n % t.states) zero_pair ∙ mod-mul-add 0 t.states 0 transducer.some))
       ∙ numbered-number t.lines (made t (block_from f is (length w) 0) (place_of (base_of f) w) (Some 0)) (made-line t (block_from f is (length w) 0) (place_of (base_of f) w) (Some 0))
 
-  pub letters-explored : (letters : ℕ) (accepts : List ℕ → _) (keys : List (List ℕ)) (e : Automaton) → letters ≡ letters_of f.automaton → IsExplored letters (first_maps t f) (maps_after t f) accepts keys e → 0 < states_of e
+  pub letters-explored : (list : List (List ℕ)) (letters : ℕ) (accepts : List ℕ → _) (keys : List (List ℕ)) (e : Automaton) → letters ≡ letters_of f.automaton
+      → IsExplored letters (first_block_key t f list) (key_after t f list) accepts keys e → 0 < states_of e
       → (w : List ℕ) → IsWord (base_of f) w → letter_led e (map (key_letter t) keys) w ≡ output_at t (block f (length w) []) (place_of (base_of f) w)
-  letters-explored letters accepts keys e all explored initial w over =
-      letter_led-explored letters (first_maps t f) (maps_after t f) accepts keys e explored initial (key_letter t) w (subst (λ n. IsWord n w) (sym all) over)
-      ∙ ap (option_and_then (key_letter t)) (key_run-word t f transducer is w over)
-      ∙ letter_of_maps w
+  letters-explored list letters accepts keys e all explored initial w over =
+      letter_led-explored letters (first_block_key t f list) (key_after t f list) accepts keys e explored initial (key_letter t) w (subst (λ n. IsWord n w) (sym all) over)
+      ∙ ap (option_and_then (key_letter t)) (key_run-block list w over)
+      ∙ ap (key_letter t) (block_key-two t f list _ _)
+      ∙ letter_of_maps w _

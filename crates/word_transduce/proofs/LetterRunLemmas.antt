@@ -14,7 +14,7 @@ use Rattle.transducer_reading.specs.Transducers.{Transducer, target_of, output_o
 use Rattle.word_output.specs.LetterFunctions.{LetterFunctionValue, letter_after}
 use Rattle.word_transduce.specs.Blocks.{base_of, block, numeral, place_of}
 use Rattle.word_transduce.specs.LetterRuns.{HasLetterAt, IgnoresZeros, TransductionsAreRuns}
-use Rattle.word_transduce.specs.Runs.{made, made_of, output_at, run}
+use Rattle.word_transduce.specs.Runs.{made_of, output_at, run}
 use Rattle.word_transduce.proofs.BlockLemmas.{place_below, value_below}
 use Rattle.word_transduce.proofs.RunLemmas.{make, next_state}
 

@@ -4,7 +4,9 @@ pub mod RunLemmas
 pub mod PairLemmas
 pub mod BlockLemmas
 pub mod BlockKeys
+pub mod KeyLemmas
 pub mod StateLemmas
+pub mod GatheredKeys
 pub mod AlikeLemmas
 pub mod TransductionOutcomes
 pub mod LetterRunLemmas

@@ -10,7 +10,7 @@ use Rattle.minimise.specs.Classes.{next_of}
 use Rattle.class_reversal.specs.BackwardClasses.{AreTargets}
 use Rattle.transducer_reading.specs.Transducers.{Transducer}
 use Rattle.word_output.specs.LetterFunctions.{LetterFunctionValue}
-use Rattle.word_transduce.specs.BlockMaps.{at_pairs, map_at, output_in, pairs_of, state_before}
+use Rattle.word_transduce.specs.BlockMaps.{at_pairs, map_at, pairs_of, state_before}
 use Rattle.word_transduce.proofs.PairLemmas.{at_pairs-at, same_pairs}
 
 -- where a digit leads
@@ -32,12 +32,6 @@ module _ (t : Transducer) (f : LetterFunctionValue) (ends old new : List ℕ) (d
       is ∙ same_pairs t f (λ pair. map_at ends t.states (next_of f.automaton (pair / t.states) digit) (slice_index old pair)) (state_before t f ends (suc digit))
       (λ pair within. ap (map_at ends t.states (next_of f.automaton (pair / t.states) digit)) (before_at pair within))
       ∙ ap (λ n. at_pairs t f (state_before t f ends n)) next
-
-  -- the outputs in that block
-  pub outputs_are : (outputs : List ℕ) → new ≡ at_pairs t f (λ pair. map_at outputs t.states (next_of f.automaton (pair / t.states) digit) (slice_index old pair)) → new ≡ at_pairs t f (output_in t f outputs ends digit)
-  outputs_are outputs is =
-      is ∙ same_pairs t f (λ pair. map_at outputs t.states (next_of f.automaton (pair / t.states) digit) (slice_index old pair)) (output_in t f outputs ends digit)
-      (λ pair within. ap (map_at outputs t.states (next_of f.automaton (pair / t.states) digit)) (before_at pair within))
 
 -- a target is a state
 pub target_below : (o : Option ℕ) (p n : ℕ) → IfSome o (λ q. q < n) → Some p ≡ o → p < n

@@ -1,20 +1,21 @@
--- Maps lead to maps.
-use Rattle.std.specs.Prelude.{◌≡◌, ℕ, ◌+◌, List, ◌++◌, length, MatchOption, ⊤}
+-- Keys lead to keys.
+use Rattle.std.specs.Prelude.{◌≡◌, ℕ, List, ◌∷◌, ◌++◌, length, MatchOption, ⊤}
 use Rattle.std.proofs.Common.{length-append, arith}
 use Rattle.std.proofs.lemmas.List.FromFn.{length-map-range_with_len}
 use Rattle.transducer_reading.specs.Transducers.{Transducer}
 use Rattle.word_output.specs.LetterFunctions.{LetterFunctionValue}
-use Rattle.word_transduce.specs.BlockMaps.{AreMaps, at_pairs, first_maps, first_output, first_end, maps_after, pairs_of}
+use Rattle.word_transduce.specs.BlockMaps.{at_pairs, first_output, pairs_of}
+use Rattle.word_transduce.specs.BlockLengths.{HasEnds, first_block_key, key_after}
 
 pub length-pairs : (t : Transducer) (f : LetterFunctionValue) (value : ℕ → ℕ) → length (at_pairs t f value) ≡ pairs_of t f
 length-pairs t f value = length-map-range_with_len value 0 (pairs_of t f)
 
--- two maps are so many numbers
-pub two_maps : (t : Transducer) (f : LetterFunctionValue) (outputs ends : ℕ → ℕ) → AreMaps t f (at_pairs t f outputs ++ at_pairs t f ends)
-two_maps t f outputs ends = omega (arith, length-append (at_pairs t f outputs) (at_pairs t f ends), length-pairs t f outputs, length-pairs t f ends)
+-- outputs with ends are longer than the outputs
+outputs_with_ends : (t : Transducer) (f : LetterFunctionValue) (outputs : ℕ → ℕ) (number : ℕ) (rest : List ℕ) → HasEnds t f (at_pairs t f outputs ++ number ∷ rest)
+outputs_with_ends t f outputs number rest = omega (arith, length-append (at_pairs t f outputs) (number ∷ rest), length-pairs t f outputs)
 
-pub first_are_maps : (t : Transducer) (f : LetterFunctionValue) → AreMaps t f (first_maps t f)
-first_are_maps t f = two_maps t f (first_output t f) (first_end t f)
+pub first_has_ends : (t : Transducer) (f : LetterFunctionValue) (list : List (List ℕ)) → HasEnds t f (first_block_key t f list)
+first_has_ends t f list = outputs_with_ends t f (first_output t f) _ _
 
-pub after_are_maps : (t : Transducer) (f : LetterFunctionValue) (key : List ℕ) (digit : ℕ) → MatchOption (maps_after t f key digit) ⊤ (AreMaps t f)
-after_are_maps t f key digit = two_maps t f _ _
+pub after_has_ends : (t : Transducer) (f : LetterFunctionValue) (list : List (List ℕ)) (key : List ℕ) (digit : ℕ) → MatchOption (key_after t f list key digit) ⊤ (HasEnds t f)
+after_has_ends t f list key digit = outputs_with_ends t f _ _ _

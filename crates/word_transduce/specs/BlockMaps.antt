@@ -1,6 +1,6 @@
 -- The maps of a block's outputs and of its ends, from each pair of a state of a letter function and a state of a transducer. Nobody has to
 -- believe this: it serves the code.
-use Rattle.std.specs.Prelude.{◌≡◌, ◌==◌, ◌&&◌, ℕ, zero, suc, ◌+◌, ◌*◌, ◌-◌, ◌/◌, ◌%◌, ◌<◌, ◌^◌, ℤ, Bool, List, ◌++◌, length, map, take, drop, slice_index, slice_get, Option, None, Some, option_map}
+use Rattle.std.specs.Prelude.{◌==◌, ◌&&◌, ℕ, zero, suc, ◌+◌, ◌*◌, ◌-◌, ◌/◌, ◌%◌, ◌<◌, ◌^◌, ℤ, Bool, List, ◌++◌, length, map, take, drop, slice_index, slice_get, Option, None, Some, option_map}
 use Rattle.std.specs.List.{position_or_len, range_with_len}
 use Rattle.std.specs.Option.{option_and_then}
 use Rattle.std.specs.Ordering.{int_eq}
@@ -47,7 +47,7 @@ first_output t f pair = output_number t.lines (made_of t (pair % t.states) (lett
 abbrev pub first_end : Transducer → LetterFunctionValue → ℕ → ℕ
 first_end t f pair = state_number (option_and_then (λ a. target_of t (pair % t.states) a) (letter_of_state f (pair / t.states)))
 
--- both maps as one key
+-- both maps
 abbrev pub first_maps : Transducer → LetterFunctionValue → List ℕ
 first_maps t f = at_pairs t f (first_output t f) ++ at_pairs t f (first_end t f)
 
@@ -71,10 +71,6 @@ maps_by t f outputs ends digit = at_pairs t f (output_in t f outputs ends digit)
 
 abbrev pub maps_after : Transducer → LetterFunctionValue → List ℕ → ℕ → Option (List ℕ)
 maps_after t f key digit = Some (maps_by t f (take (pairs_of t f) key) (drop (pairs_of t f) key) digit)
-
--- two maps
-abbrev pub AreMaps : Transducer → LetterFunctionValue → List ℕ → Type 0
-AreMaps t f key = length key ≡ pairs_of t f + pairs_of t f
 
 -- numbers of states and lines fit in 32 bits
 pub record HasFewLines (t : Transducer) : Type 0 where

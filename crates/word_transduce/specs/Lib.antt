@@ -5,4 +5,5 @@ pub mod LetterRuns
 pub mod TransducedWords
 pub mod Laws
 pub mod BlockMaps
+pub mod BlockLengths
 pub mod BlockLaws

@@ -9,6 +9,8 @@ ghost use Rattle.transducer_reading.specs.Transducers.{IsTransducer};
 ghost use Rattle.word_transduce.specs.BlockMaps.{HasFewLines};
 ghost use Rattle.word_transduce.specs.Transductions.{IsTransduction, TransduceAlike, transduce_step};
 
+use crate::block_graph::BlockGraph;
+use crate::block_lengths::BlockLengths;
 use crate::block_maps::BlockMaps;
 use crate::output_numbers::key_letters;
 use class_reversal::targets::targets;
@@ -27,8 +29,9 @@ use word_output::letter_function::LetterFunction;
 /// the next one. A run stops for good where there is no letter, or no line for it, and gives none from there on. The letters
 /// of the alphabet are the digits. The width is that of the pairs of two maps of the letters after each residual, by so many
 /// digits as a word has: from each state of the transducer, what is made at the place that the word represents, with the state in
-/// which it is made, and where the run ends. Time and memory are those of two numbers for each state of the function and each
-/// of the transducer, for each digit and each state of the result.
+/// which it is made, and where the run ends. Time and memory are those of a number for each pair of a state of the
+/// function and one of the transducer, for each digit and each state of the result; for words of more than 256 digits some
+/// five times that, unless the runs over their blocks end as those over shorter blocks do.
 ///
 /// # Errors
 /// `States` if and only if the width passes the limit. The steps are as before then, also if memory runs out. `Memory` comes
@@ -76,7 +79,12 @@ fn transduced(
         function,
         targets: &targets,
     };
-    let Stepped { result, width } = explore_keys(alloc, &maps, alphabet, limit)?;
+    let lengths = BlockLengths::new(alloc, &maps)?;
+    let graph = BlockGraph {
+        maps,
+        lengths: &lengths,
+    };
+    let Stepped { result, width } = explore_keys(alloc, &graph, alphabet, limit)?;
     let Explored { dfa, keys } = result;
     let letters = key_letters(alloc, transducer, &keys)?;
     let result = LetterFunction::of_states(alloc, &dfa, &letters)?;

@@ -3,7 +3,7 @@ use Rattle.std.proofs.lemmas.List.{take_at}
 use Rattle.word_transduce.specs.BlockLaws.{length-pairs}
 use Rattle.word_transduce.specs.BlockMaps.{state_before}
 use Rattle.word_transduce.proofs.StateLemmas.{advanced}
-use Rattle.word_transduce.proofs.block_maps.BlockMaps.last_states.Goals as goal
+use Rattle.word_transduce.proofs.block_maps.BlockMaps.ends_after.Goals as goal
 
 pub advance-requires-clause-states : goal.advance-requires-clause-states
 advance-requires-clause-states c =
