@@ -13,9 +13,10 @@ use digit_tuple::key_transitions::KeyTransitions;
 use digit_tuple::numbering::Numbering;
 use std::alloc::Global;
 
-// At most how many lengths are listed, and how many places there are at most in all.
+// At most how many lengths are listed.
 const MOST_LENGTHS: usize = 256;
 
+// At most how many places are listed in all.
 const MOST_PLACES: usize = 1 << 20;
 
 /// What blocks with the same ends lead to by a digit more: for each digit the places at which the outputs are among those
@@ -64,7 +65,7 @@ fn list_lengths(
     Ok(lengths)
 }
 
-// At most how many lengths are listed.
+// How many lengths there is room for.
 fn most_lengths(maps: &BlockMaps<'_>) -> usize
     requires { IsBlockGraph maps.now.transducer.now maps.now.function.now maps.now.targets.now }
     ensures { result < 2 ^ 32 }
