@@ -121,8 +121,8 @@ no_list_read ledger head tables admitted place (inr (none, plain, inr (one, shap
 -- so what is made is refused by no fault of the store
 pub list_own : (admitted : StepLog) (shown : Bool) (read : ListedAutomata) (custom : Custom) (r : Result Made Fault) → IsReadList read → MakesAfterListedSystems admitted shown read custom r → IsOwn r
 list_own admitted shown read custom r is makes =
-    let files : Files = with_bases is.files custom in
+    let files : Files = with_bases is.loaded.0 custom in
     let ledger : Ledger = ledger_of files in
-    let tables = read.tables.items in
+    let tables = read.mentioned.tables.items in
     own_made (custom_of ledger) (after_listed_systems ledger (head_of [] read) tables admitted) (no_list_read ledger (head_of [] read) tables admitted) shown r
-    (makes ledger files [] (files_store files) (found_custom files) (listed_elsewhere is.files custom (listed_files (automata_of read)) tables is.listed))
+    (makes ledger files [] (files_store files) (found_custom files) (listed_elsewhere is.loaded.0 custom (listed_files (automata_of read)) tables is.loaded.1.listed))

@@ -127,13 +127,13 @@ pub convert_own : (admitted : StepLog) (shown : Bool) (read : ReadConvert) (cust
 convert_own admitted shown read custom r is makes =
     let files : Files = with_bases is.0 custom in
     let ledger : Ledger = ledger_of files in
-    let tables = read.old.tables.items in
+    let tables = read.old.mentioned.tables.items in
     own_made (custom_of ledger) (after_convert_systems ledger (head_of [] read) tables admitted) (no_convert_read ledger (head_of [] read) tables admitted) shown r
-    (makes ledger files [] (files_store files) (found_custom files) (listed_elsewhere is.0 custom (first_files (old_mentions read.old.name)) tables is.1))
+    (makes ledger files [] (files_store files) (found_custom files) (listed_elsewhere is.0 custom (first_files (old_mentions read.old.name)) tables is.1.listed))
 
 -- what is made of a head whose word is loaded
 pub convert_read_made : (limit : ℕ) (shown : Bool) (ledger : Ledger) (head : ConvertHead) (old : OldWord) (found : Files) (result : Result Made Fault) → Stores ledger found → IsOldAt head.old found old
-    → Makes (custom_of ledger) (after_convert_table limit ledger (record { word = head.word; system = head.system; old = old.name }) old.tables.items) shown result → Makes (custom_of ledger) (after_convert_head limit ledger head) shown result
+    → Makes (custom_of ledger) (after_convert_table limit ledger (record { word = head.word; system = head.system; old = old.name }) old.mentioned.tables.items) shown result → Makes (custom_of ledger) (after_convert_head limit ledger head) shown result
 convert_read_made limit shown ledger head old found result stores is makes =
-    let P : List ℕ → Type 0 = λ name. Makes (custom_of ledger) (after_convert_table limit ledger (record { word = head.word; system = head.system; old = name }) old.tables.items) shown result in
-    convert_loaded limit ledger head old.tables.items shown result (found, stores, subst (λ (name : List ℕ). AreListedBy found (first_files (old_mentions name)) old.tables.items) is.name_is is.listed) (subst P is.name_is makes)
+    let P : List ℕ → Type 0 = λ name. Makes (custom_of ledger) (after_convert_table limit ledger (record { word = head.word; system = head.system; old = name }) old.mentioned.tables.items) shown result in
+    convert_loaded limit ledger head old.mentioned.tables.items shown result (found, stores, subst (λ (name : List ℕ). AreListedBy found (first_files (old_mentions name)) old.mentioned.tables.items) is.name_is is.there.listed) (subst P is.name_is makes)

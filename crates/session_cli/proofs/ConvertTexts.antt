@@ -27,10 +27,10 @@ use Rattle.session_cli.specs.ConvertMakes.{IsConverted, head_of}
 use Rattle.session_cli.specs.ConvertOutcomes.{IsChange, after_convert_systems}
 use Rattle.session_cli.specs.ConvertSteps.{DoesConvert}
 use Rattle.session_cli.specs.ImageOutcomes.{IsOldWordRead}
-use Rattle.session_cli.specs.OldWordMakes.{AreTablesOfOld, Keeps}
+use Rattle.session_cli.specs.OldWordMakes.{AreTablesOfOld}
 use Rattle.session_cli.specs.OldWordSteps.{old_word_done}
 use Rattle.session_cli.specs.FileChanges.{Makes}
-use Rattle.session_cli.specs.WordPrinting.{HaveNames, named_text}
+use Rattle.session_cli.specs.WordPrinting.{Keeps, HaveNames, named_text}
 use Rattle.session_cli.proofs.BaseTexts.{one_name}
 use Rattle.session_cli.proofs.BaseWordLemmas.{base_text}
 use Rattle.session_cli.proofs.ConvertChains.{bases_related}
@@ -40,7 +40,7 @@ use Rattle.session_cli.proofs.TableMeanings.{HasLettersAs}
 
 module _ (old : OldWord) (files : Files) (listed : AreTablesOfOld old files) (custom : Custom) (admitted : StepLog) (over : BaseSystem) (system : List ℕ) (change : Change) (change_is : IsChange over system change)
     (word : WordValue) (lines : List StepLine) (is : IsConverted admitted custom old change word lines) where
-  abbrev before : IsOldWordRead admitted custom old.tables.items old.name
+  abbrev before : IsOldWordRead admitted custom old.mentioned.tables.items old.name
   before = is.of_old.made.before
 
   new_base : systems_of word.systems ≡ base change.system.base ∷ []
@@ -57,7 +57,7 @@ module _ (old : OldWord) (files : Files) (listed : AreTablesOfOld old files) (cu
     -- what is under the old name
     pub convert_entry : HasLettersAs ledger old.name before.word
     convert_entry =
-        old_means old.name old.tables.items files listed before.systems before.sealed custom before.meant is.of_old.has before.reads admitted before.reading before.read ledger stores same before.word before.word_is
+        old_means old.name old.mentioned.tables.items files listed before.systems before.sealed custom before.meant is.of_old.has before.reads admitted before.reading before.read ledger stores same before.word before.word_is
 
     -- the text is that of its definition over the new base
     pub convert_text : All (λ letter. FitsSigned w32 letter) word.function.letters → HasTreeText (custom_of ledger) (Converted change.system.direction (named_base change.system) (tree_of convert_entry.entry)) (named_text (system ∷ []) word)
@@ -73,21 +73,21 @@ module _ (old : OldWord) (files : Files) (listed : AreTablesOfOld old files) (cu
         (converted_word_text (custom_of ledger) change.system.direction (named_base change.system) (tree_of convert_entry.entry) word named
         (λ n letter. (λ has. (convert_entry.same (n ∷ []) letter).0 ((is.letters n letter).0 has), λ has. (is.letters n letter).1 ((convert_entry.same (n ∷ []) letter).1 has))))
 
-module _ (ledger : Ledger) (read : ReadConvert) (over : BaseSystem) (over_is : IsBaseOf None (headers_of read.old.tables.items) read.old.name over) (change : Change) (change_is : IsChange over read.system change) (name : List ℕ) (admitted : StepLog) where
+module _ (ledger : Ledger) (read : ReadConvert) (over : BaseSystem) (over_is : IsBaseOf None (headers_of read.old.mentioned.tables.items) read.old.name over) (change : Change) (change_is : IsChange over read.system change) (name : List ℕ) (admitted : StepLog) where
   abbrev made_of : Tree → Tree
   made_of = λ tree. Converted change.system.direction (named_base change.system) tree
 
   -- the steps are refused
-  pub convert_unmade : (fault : Fault) → Fails (old_word_done admitted (custom_of ledger) read.old.tables.items read.old.name (DoesConvert change)) fault → Fails (after_convert_systems ledger (head_of name read) read.old.tables.items admitted) fault
+  pub convert_unmade : (fault : Fault) → Fails (old_word_done admitted (custom_of ledger) read.old.mentioned.tables.items read.old.name (DoesConvert change)) fault → Fails (after_convert_systems ledger (head_of name read) read.old.mentioned.tables.items admitted) fault
   convert_unmade fault refused =
-      bases_related ledger (head_of name read) read.old.tables.items admitted over over_is change change_is true (Err fault)
-      (old_stopped ledger name read.old.name (DoesConvert change) made_of read.old.tables.items admitted fault refused)
+      bases_related ledger (head_of name read) read.old.mentioned.tables.items admitted over over_is change change_is true (Err fault)
+      (old_stopped ledger name read.old.name (DoesConvert change) made_of read.old.mentioned.tables.items admitted fault refused)
 
   -- the text is stored, or it is too long
   pub convert_kept : (files : Files) → Stores ledger files → AreTablesOfOld read.old files → (word : WordValue) (lines : List StepLine) → IsConverted admitted (custom_of ledger) read.old change word lines → All (λ letter. FitsSigned w32 letter) word.function.letters
-      → (shown : Bool) (result : Result Made Fault) → Keeps (read.system ∷ []) word shown lines result → Makes (custom_of ledger) (after_convert_systems ledger (head_of name read) read.old.tables.items admitted) shown result
+      → (shown : Bool) (result : Result Made Fault) → Keeps (read.system ∷ []) word shown lines result → Makes (custom_of ledger) (after_convert_systems ledger (head_of name read) read.old.mentioned.tables.items admitted) shown result
   convert_kept files stores listed word lines is fits shown result keeps =
       let entry : HasLettersAs ledger read.old.name is.of_old.made.before.word = convert_entry read.old files listed (custom_of ledger) admitted over read.system change change_is word lines is ledger stores refl in
-      bases_related ledger (head_of name read) read.old.tables.items admitted over over_is change change_is shown result
-      (old_stored ledger name read.old.name (DoesConvert change) made_of read.old.tables.items admitted word lines is.of_old.made entry.entry entry.there (read.system ∷ [])
+      bases_related ledger (head_of name read) read.old.mentioned.tables.items admitted over over_is change change_is shown result
+      (old_stored ledger name read.old.name (DoesConvert change) made_of read.old.mentioned.tables.items admitted word lines is.of_old.made entry.entry entry.there (read.system ∷ [])
       (convert_text read.old files listed (custom_of ledger) admitted over read.system change change_is word lines is ledger stores refl fits) shown result keeps)

@@ -1,18 +1,16 @@
--- The files of a formula are loaded alike whatever texts of users' systems are beside them.
-use Rattle.std.proofs.Common.{List, [], ◌∷◌, Ok}
-use Rattle.std.specs.declared.alloc.Global.{Global}
-use Rattle.std.specs.declared.vec.Vec.{Vec}
+-- Files are loaded alike whatever texts of users' systems are beside them.
+use Rattle.std.proofs.Common.{List, [], ◌∷◌}
 use Rattle.wal_outside.specs.Files.{Files}
 use Rattle.dfa_loading.specs.Loading.{AreListedBy}
 use Rattle.dfa_loading.specs.Places.{IsListedBy}
 use Rattle.dfa_loading.specs.declared.loaded.Loaded.{Loaded}
-use Rattle.formula_parse.specs.Trees as trees
 use Rattle.formula_resolve.specs.FirstMentions.{first_files}
-use Rattle.formula_resolve.specs.Mentions.{mentions}
 use Rattle.formula_resolve.specs.declared.file.File.{File}
 use Rattle.formula_resolve.specs.declared.file.File.TheVariants.{Automaton, Word}
+use Rattle.formula_resolve.specs.declared.mention.Mention.{Mention}
 use Rattle.system_files.specs.SystemFiles.{Custom}
-use Rattle.session_cli.specs.FormulaLoads.{LoadsTables}
+use Rattle.session_cli.specs.declared.mentioned_tables.MentionedTables.{MentionedTables}
+use Rattle.session_cli.specs.MentionedTables.{AreMentionedIn}
 use Rattle.session_cli.proofs.TextReads.{with_bases}
 
 one_elsewhere : (files : Files) (custom : Custom) (file : File) (table : Loaded) → IsListedBy files file table → IsListedBy (with_bases files custom) file table
@@ -25,5 +23,5 @@ listed_elsewhere files custom [] (table ∷ tables) all = all
 listed_elsewhere files custom (file ∷ named) [] all = all
 listed_elsewhere files custom (file ∷ named) (table ∷ tables) all = (one_elsewhere files custom file table all.0, listed_elsewhere files custom named tables all.1)
 
-pub loads_elsewhere : (files : Files) (custom : Custom) (formula : trees.Formula) (tables : Vec Loaded Global) → LoadsTables (first_files (mentions formula)) files (Ok tables) → LoadsTables (first_files (mentions formula)) (with_bases files custom) (Ok tables)
-loads_elsewhere files custom formula tables listed = listed_elsewhere files custom (first_files (mentions formula)) tables.items listed
+pub mentioned_elsewhere : (files : Files) (custom : Custom) (mentions : List Mention) (mentioned : MentionedTables) → AreMentionedIn mentions files mentioned → AreMentionedIn mentions (with_bases files custom) mentioned
+mentioned_elsewhere files custom mentions mentioned is = record { mentions_are = is.mentions_are; listed = listed_elsewhere files custom (first_files mentions) mentioned.tables.items is.listed }

@@ -26,8 +26,8 @@ nowhere = (Results, [])
 -- so it is refused by no fault of the store
 pub made_own : (admitted : StepLog) (shown : Bool) (read : ReadFormula) (custom : Custom) (r : Result Made Fault) → IsReadFormula read → MakesAfterSystems admitted shown read custom r → IsOwn r
 made_own admitted shown read custom r is makes =
-    let files : Files = with_bases is.files custom in
+    let files : Files = with_bases is.loaded.0 custom in
     let ledger : Ledger = ledger_of files in
-    let tables = read.tables.items in
+    let tables = read.mentioned.tables.items in
     own_made (custom_of ledger) (after_systems ledger nowhere tables (tree_of read) admitted) (no_file_read admitted ledger nowhere (tree_of read) tables) shown r
-    (makes ledger files nowhere (files_store files) (found_custom files) (listed_elsewhere is.files custom (first_files (mentions (tree_of read))) tables is.listed))
+    (makes ledger files nowhere (files_store files) (found_custom files) (listed_elsewhere is.loaded.0 custom (first_files (mentions (tree_of read))) tables is.loaded.1.listed))

@@ -1,10 +1,9 @@
 -- What resolving and building a formula asks for, of the systems that a session keeps.
-use Rattle.std.proofs.Common.{◌≡◌, ◌⊎◌, List, None, Result, Ok, inl, inr, refl, sym, ap, ◌∙◌, subst}
+use Rattle.std.proofs.Common.{◌≡◌, List, None, Result, Ok, inl, inr, refl, sym, ap, ◌∙◌, subst}
 use Rattle.dfa_loading.specs.Headers.{headers_of}
 use Rattle.dfa_loading.specs.declared.loaded.Loaded.{Loaded}
 use Rattle.digit_tuple.specs.Steps.{StepLog}
 use Rattle.digit_tuple.specs.declared.step_fault.StepFault.{StepFault}
-use Rattle.digit_tuple.specs.declared.step_fault.StepFault.TheVariants as step_faults
 use Rattle.formula_parse.specs.Trees as trees
 use Rattle.formula_parse.specs.Views.{formula_view}
 use Rattle.formula_parse.specs.declared.tree.Formula as declared
@@ -26,7 +25,7 @@ use Rattle.formula_build.specs.declared.resolving.Resolved.{Resolved}
 use Rattle.number_relations.specs.Relations.{RelationValue}
 use Rattle.system_files.specs.SystemFiles.{Custom}
 use Rattle.session_cli.specs.FormulaOutcomes.{ResolvedAnswers}
-use Rattle.session_cli.specs.FormulaSteps.{AreMeant, IsReadingStopped, AreFormulaSteps}
+use Rattle.session_cli.specs.FormulaSteps.{AreMeant, IsUnread, AreFormulaSteps}
 use Rattle.session_cli.specs.TableReads.{TableRead, AreTablesRead, read_of, library_with}
 use Rattle.session_cli.specs.TableReading.{IsReadingFault}
 
@@ -85,10 +84,6 @@ module _ (r : Resolved) (read : ReadValue) (reads : List TableRead) (formula : t
         builds = subst (λ (f : trees.Formula). BuildsFormula (library_with reads systems) (formula_plan (headers_of tables) f) reading result new) up.formula_is three;
         lines_are = refl;
       }
-
--- why tables are not read: memory ran out, or a step passes a limit
-abbrev pub IsUnread : StepLog → Custom → List Loaded → StepFault → Type 0
-IsUnread admitted custom tables fault = (fault ≡ step_faults.Memory) ⊎ IsReadingStopped admitted custom tables fault
 
 -- tables that were not read
 pub stopped_here : (systems : List NamedSystem) (admitted : StepLog) (custom : Custom) (tables : List Loaded) (fault : StepFault) → AreSealed systems → AreMeant custom systems → IsReadingFault systems admitted tables fault → IsUnread admitted custom tables fault

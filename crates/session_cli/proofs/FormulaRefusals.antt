@@ -18,8 +18,7 @@ use Rattle.dfa_loading.specs.Headers.{headers_of}
 use Rattle.dfa_loading.specs.declared.loaded.Loaded.{Loaded}
 use Rattle.session_cli.specs.FormulaFaults.{fault_of_formula, fault_of_resolution}
 use Rattle.session_cli.specs.FormulaOutcomes.{FormulaAnswers, ResolvedAnswers, BuiltAnswers}
-use Rattle.session_cli.specs.FormulaSteps.{AreStepsRefused}
-use Rattle.session_cli.proofs.FormulaReady.{IsUnread}
+use Rattle.session_cli.specs.FormulaSteps.{AreStepsRefused, IsUnread}
 use Rattle.session_cli.specs.TrackSystems as track_systems
 
 -- the text breaks the grammar

@@ -31,10 +31,11 @@ use Rattle.session_cli.specs.Accepting.{Success, stored}
 use Rattle.session_cli.specs.Checks.{Pure, Fails}
 use Rattle.session_cli.specs.FileChecks.{FilesAnswers, files_loaded}
 use Rattle.session_cli.specs.HeadAnswers.{HeadAnswers, fault_of_head}
-use Rattle.session_cli.specs.ImageMakes.{IsReadImage, MakesAfterOldSystems, head_of}
+use Rattle.session_cli.specs.ImageMakes.{MakesAfterOldSystems, head_of}
 use Rattle.session_cli.specs.ImageOutcomes.{WordTrack, OneTrackAnswers, LengthsAnswers, ImagedAnswers, old_mentions, after_old_systems, after_old_table, after_image_head, image_checks}
 use Rattle.session_cli.specs.MorphismChecks.{MorphismAnswers, morphism_loaded}
 use Rattle.session_cli.specs.FileChanges.{Makes, ChangesFile}
+use Rattle.session_cli.specs.OldWordMakes.{IsLoadedOld}
 use Rattle.session_cli.specs.SystemChecks.{SystemsAnswers, systems_known}
 use Rattle.session_cli.proofs.CheckNames.{TrackAnswers, OldAnswers, image_success, after_image_steps, after_track, after_lengths, after_one_track, after_image_morphism}
 use Rattle.session_cli.proofs.CheckSteps.{fails_first, fails_after, makes_after, changes_after}
@@ -138,10 +139,10 @@ module _ (ledger : Ledger) (head : ImageHead) (rules : Rules) (tables : List Loa
   no_image_read place (inr (one, has, inr (uniform, is, inr (track, over, inr (lines, imaged, inr (entry, there, read)))))) = read
 
 -- so what is made is refused by no fault of the store
-pub image_own : (admitted : StepLog) (shown : Bool) (read : ReadImage) (custom : Custom) (r : Result Made Fault) → IsReadImage read → MakesAfterOldSystems admitted shown read custom r → IsOwn r
+pub image_own : (admitted : StepLog) (shown : Bool) (read : ReadImage) (custom : Custom) (r : Result Made Fault) → IsLoadedOld read.old → MakesAfterOldSystems admitted shown read custom r → IsOwn r
 image_own admitted shown read custom r is makes =
-    let files : Files = with_bases is.files custom in
+    let files : Files = with_bases is.0 custom in
     let ledger : Ledger = ledger_of files in
-    let tables = read.tables.items in
+    let tables = read.old.mentioned.tables.items in
     own_made (custom_of ledger) (after_old_systems ledger (head_of [] [] read) read.morphism tables admitted) (no_image_read ledger (head_of [] [] read) read.morphism tables admitted) shown r
-    (makes ledger files [] [] (files_store files) (found_custom files) (listed_elsewhere is.files custom (first_files (old_mentions read.old)) tables is.listed))
+    (makes ledger files [] [] (files_store files) (found_custom files) (listed_elsewhere is.0 custom (first_files (old_mentions read.old.name)) tables is.1.listed))

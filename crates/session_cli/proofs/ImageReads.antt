@@ -1,7 +1,5 @@
 -- A morphism or a transducer and then tables, each read by files that are found: they are found together, since they are in other folders.
-use Rattle.std.proofs.Common.{◌≡◌, ℕ, List, [], ◌∷◌, Option, None, Some, IfSome, Result, Ok, Err, inl, inr, sym, ◌∙◌, subst}
-use Rattle.std.specs.declared.alloc.Global.{Global}
-use Rattle.std.specs.declared.vec.Vec.{Vec}
+use Rattle.std.proofs.Common.{◌≡◌, ℕ, List, [], ◌∷◌, Option, None, Some, IfSome, Result, Ok, inl, inr, sym, ◌∙◌, subst}
 use Rattle.wal_outside.specs.Files.{Files}
 use Rattle.wal_outside.specs.Views.{StoreView}
 use Rattle.wal_outside.specs.declared.folder.Folder.{Folder}
@@ -14,21 +12,14 @@ use Rattle.dfa_loading.specs.declared.loaded.Loaded.{Loaded}
 use Rattle.formula_resolve.specs.declared.file.File.{File}
 use Rattle.formula_resolve.specs.declared.file.File.TheVariants.{Automaton, Word}
 use Rattle.morph_words.specs.Rules.{Rules}
-use Rattle.morphism_loading.specs.MorphismFiles.{IsLoadedMorphism, IsMorphismIn}
+use Rattle.morphism_loading.specs.MorphismFiles.{IsMorphismIn}
 use Rattle.transducer_loading.specs.TransducerFiles.{IsTransducerIn}
 use Rattle.transducer_reading.specs.Transducers.{Transducer}
-use Rattle.definitions.specs.Texts.{Stores}
-use Rattle.definitions.specs.Trees.{Ledger}
 use Rattle.session_cli.specs.declared.fault.Fault.{Fault}
 use Rattle.session_cli.specs.declared.fault.Fault.TheVariants as faults
-use Rattle.session_cli.specs.Checks.{Fails}
-use Rattle.session_cli.specs.FormulaFaults.{fault_of_loading}
-use Rattle.session_cli.specs.FormulaLoads.{AreUnloaded, LoadsTables}
-use Rattle.session_cli.specs.MorphismChecks.{morphism_loaded}
+use Rattle.session_cli.specs.FormulaLoads.{AreUnloaded}
 use Rattle.session_cli.specs.StoreReads.{FromFiles}
 use Rattle.session_cli.proofs.TextReads.{reads_both}
-use Rattle.session_cli.proofs.LoadedFiles.{caused_so}
-use Rattle.session_cli.proofs.LoadedMorphisms.{GivesMorphism, morphism_there, morphism_unloaded}
 
 -- the files with the morphisms and the transducers of others
 abbrev pub with_maps : Files → Files → Files
@@ -43,7 +34,7 @@ with_maps files others Commands = files Commands
 
 module _ (files others : Files) where
   -- the morphism is the same there
-  morphism_with : (name : List ℕ) (rules : Rules) → IsMorphismIn others name rules → IsMorphismIn (with_maps files others) name rules
+  pub morphism_with : (name : List ℕ) (rules : Rules) → IsMorphismIn others name rules → IsMorphismIn (with_maps files others) name rules
   morphism_with name rules is = record { text = is.text; there = is.there; short = is.short; derives = is.derives }
 
   -- and so is a transducer
@@ -114,10 +105,6 @@ module _ (files others : Files) where
   unloaded_with named (faults.BaseNeeded of systems) first = absurd first
   unloaded_with named (faults.NotRelated one two) first = absurd first
 
-  loads_with : (named : List File) (r : Result (Vec Loaded Global) Fault) → LoadsTables named files r → LoadsTables named (with_maps files others) r
-  loads_with named (Ok tables) listed = listed_with named tables.items listed
-  loads_with named (Err fault) refused = unloaded_with named fault refused
-
 -- files that are the store's where it reports them, of which both properties are known
 record AreBoth (P Q : Files → Type 0) (reported : Option Files) : Type 0 where
   found : Files
@@ -137,21 +124,3 @@ then_files First Second old mid new x r first_with second_with first second =
     let c = both (λ (files : Files). First files (Ok x)) (λ (files : Files). Second files r) old.files first.found second.found first.reported there first.gives second.gives
     (first_with second.found first.found first.gives) (second_with second.found first.found second.gives) in
     record { found = c.found; reported = c.reported_so; gives = (c.first, c.second); has_read = reads_both old mid new x r first.has_read second.has_read }
-
--- what was read of a morphism and of tables after it
-abbrev pub LoadsBoth : List ℕ → Rules → List File → Files → Result (Vec Loaded Global) Fault → Type 0
-LoadsBoth name rules named files r = IsMorphismIn files name rules × LoadsTables named files r
-
-pub then_tables : (name : List ℕ) (rules : Rules) (named : List File) (old mid new : StoreView) (r : Result (Vec Loaded Global) Fault) → IsLoadedMorphism name old (Ok rules) mid → FromFiles (LoadsTables named) mid r new → FromFiles (LoadsBoth name rules named) old r new
-then_tables name rules named old mid new r first second =
-    then_files (GivesMorphism name) (LoadsTables named) old mid new rules r (λ files others is. morphism_with files others name rules is) (λ files others loads. loads_with files others named r loads)
-    (morphism_there name old mid rules first) second
-
-pub from_no_morphism : {X : Type 0} (Gives : Files → Result X Fault → Type 0) (name : List ℕ) (old new : StoreView) (f : LoadFault) → IsLoadedMorphism name old (Err f) new
-    → ((found : Files) → ((ledger : Ledger) → Stores ledger found → Fails (morphism_loaded ledger name) (fault_of_loading f)) → Gives found (Err (fault_of_loading f))) → FromFiles Gives old (Err (fault_of_loading f)) new
-from_no_morphism Gives name old new f l so = record {
-  found = l.found;
-  reported = l.reported;
-  gives = so l.found (λ ledger stores. morphism_unloaded ledger l.found name f stores l.gives);
-  has_read = record { files = l.has_read.files; later = l.has_read.later; cause = caused_so f old new l.has_read.cause };
-}

@@ -1,37 +1,30 @@
 -- The image of a word has the letters of the image of its definition, so its text is that of the definition that is stored.
-use Rattle.std.proofs.Common.{◌≡◌, ℕ, Bool, List, [], ◌∷◌, length, map, get_or, Ok, refl, sym, ap, ◌∙◌, subst, arith, append-nil}
+use Rattle.std.proofs.Common.{◌≡◌, ℕ, List, [], ◌∷◌, length, map, get_or, Ok, refl, sym, ap, ◌∙◌, subst, arith}
 use Rattle.std.specs.Int.{w32}
 use Rattle.std.specs.List.{All}
 use Rattle.std.specs.Prelude.{FitsSigned}
 use Rattle.wal_outside.specs.Files.{Files}
-use Rattle.command_head.specs.Heads.{ImageHead}
 use Rattle.digit_tuple.specs.Steps.{StepLog}
 use Rattle.digit_tuple.specs.declared.steps.StepLine.{StepLine}
 use Rattle.dfa_loading.specs.Headers.{headers_of}
 use Rattle.formula_build.specs.TrackSystems.{IsWordOverSystems}
-use Rattle.morph_words.specs.Rules.{Rules}
 use Rattle.num_system.specs.Sealed.{SystemValue, system_of}
 use Rattle.num_system.specs.Tracks.{absent_system, direction_of}
 use Rattle.word_output.specs.Words.{HasLetter, WordValue}
 use Rattle.definitions.specs.Named.{IsSystemNamed}
 use Rattle.definitions.specs.Texts.{HasTreeText, Stores}
 use Rattle.definitions.specs.TreeMeanings.{tree_letter}
-use Rattle.definitions.specs.Trees.{Entry, Image, Ledger, custom_of, tree_of}
+use Rattle.definitions.specs.Trees.{Image, Ledger, custom_of, tree_of}
 use Rattle.definitions.proofs.WordValueTexts.{IsWordNamed, image_word_text, same_image, text_of_word}
 use Rattle.system_files.specs.SystemFiles.{Custom}
-use Rattle.session_cli.specs.declared.fault.Fault.{Fault}
 use Rattle.session_cli.specs.declared.fault.Fault.TheVariants as faults
 use Rattle.session_cli.specs.declared.image.ReadImage.{ReadImage}
-use Rattle.session_cli.specs.declared.file_change.Made.{Made}
-use Rattle.session_cli.specs.Accepting.{stored}
-use Rattle.session_cli.specs.Checks.{Fails}
-use Rattle.session_cli.specs.ImageMakes.{AreTablesOf, IsImaged, old_system_of, old_tracks_of}
+use Rattle.session_cli.specs.ImageMakes.{IsImaged, old_system_of, old_tracks_of}
 use Rattle.session_cli.specs.ImageOutcomes.{WordTrack}
-use Rattle.session_cli.specs.Lines.{shown_steps}
-use Rattle.session_cli.specs.FileChanges.{Makes}
+use Rattle.session_cli.specs.OldWordMakes.{AreTablesOfOld}
 use Rattle.session_cli.specs.TableReads.{library_with}
-use Rattle.session_cli.specs.WordPrinting.{HaveNames, IsWordTextOf, HasNoWordText, named_text}
-use Rattle.session_cli.proofs.CheckNames.{TrackAnswers, image_success}
+use Rattle.session_cli.specs.WordPrinting.{HaveNames, named_text}
+use Rattle.session_cli.proofs.CheckNames.{TrackAnswers}
 use Rattle.session_cli.proofs.MeantNames.{found_meant, named_digits}
 use Rattle.session_cli.proofs.OldWords.{old_means, old_over}
 use Rattle.session_cli.proofs.TableMeanings.{HasLettersAs}
@@ -55,7 +48,7 @@ module _ (name : List ℕ) (s : SystemValue) (names : List (List ℕ)) (v : Word
   text_named : named_text names v ≡ text_of_word s.direction ((track_over name s).system ∷ []) v
   text_named = λ i. named_text (names_are i) (record { systems = systems_are i; function = v.function })
 
-module _ (read : ReadImage) (files : Files) (listed : AreTablesOf read files) (one_track : length (old_tracks_of read) ≡ 1) (custom : Custom) (admitted : StepLog) (word : WordValue) (lines : List StepLine) (is : IsImaged admitted custom read word lines) where
+module _ (read : ReadImage) (files : Files) (listed : AreTablesOfOld read.old files) (one_track : length (old_tracks_of read) ≡ 1) (custom : Custom) (admitted : StepLog) (word : WordValue) (lines : List StepLine) (is : IsImaged admitted custom read word lines) where
   abbrev pub name : List ℕ
   name = old_system_of read
 
@@ -64,7 +57,7 @@ module _ (read : ReadImage) (files : Files) (listed : AreTablesOf read files) (o
 
   over : IsWordOverSystems (library_with is.steps.before.reads is.steps.before.systems) (old_tracks_of read) old_word
   over =
-      old_over read.old read.tables.items files listed is.steps.before.systems is.steps.before.sealed custom is.steps.before.meant is.has is.steps.before.reads admitted is.steps.before.reading is.steps.before.read old_word is.steps.before.word_is
+      old_over read.old.name read.old.mentioned.tables.items files listed is.steps.before.systems is.steps.before.sealed custom is.steps.before.meant is.has is.steps.before.reads admitted is.steps.before.reading is.steps.before.read old_word is.steps.before.word_is
 
   abbrev pub system : SystemValue
   system = get_or old_word.systems 0 absent_system
@@ -85,14 +78,14 @@ module _ (read : ReadImage) (files : Files) (listed : AreTablesOf read files) (o
       (subst (HaveNames (name ∷ [])) (sym systems_are) (record { count = refl; digits = (named_digits custom name system.direction (system_of system) meant, tt) }))
 
   -- and mean the system of its track
-  pub image_track : TrackAnswers custom (headers_of read.tables.items) read.old (Ok (track_over name system))
+  pub image_track : TrackAnswers custom (headers_of read.old.mentioned.tables.items) read.old.name (Ok (track_over name system))
   image_track = (names_are, meant)
 
   module _ (ledger : Ledger) (stores : Stores ledger files) (same : custom_of ledger ≡ custom) where
     -- what is under the old name
-    pub old_entry : HasLettersAs ledger read.old old_word
+    pub old_entry : HasLettersAs ledger read.old.name old_word
     old_entry =
-        old_means read.old read.tables.items files listed is.steps.before.systems is.steps.before.sealed custom is.steps.before.meant is.has is.steps.before.reads admitted is.steps.before.reading is.steps.before.read ledger stores same old_word is.steps.before.word_is
+        old_means read.old.name read.old.mentioned.tables.items files listed is.steps.before.systems is.steps.before.sealed custom is.steps.before.meant is.has is.steps.before.reads admitted is.steps.before.reading is.steps.before.read ledger stores same old_word is.steps.before.word_is
 
     -- the text is that of the image of its definition
     pub image_text : All (λ letter. FitsSigned w32 letter) word.function.letters → HasTreeText (custom_of ledger) (Image system.direction (track_over name system).system read.morphism (tree_of old_entry.entry)) (named_text (old_tracks_of read) word)
@@ -111,53 +104,3 @@ module _ (read : ReadImage) (files : Files) (listed : AreTablesOf read files) (o
           λ has. same_image read.morphism (λ m c. HasLetter old_word (m ∷ []) c) (λ m c. tree_letter (custom_of ledger) tree (m ∷ []) c) (λ m c. (old_entry.same (m ∷ []) c).0) n letter ((is.image.letters n letter).0 has),
           λ lettered. (is.image.letters n letter).1 (same_image read.morphism (λ m c. tree_letter (custom_of ledger) tree (m ∷ []) c) (λ m c. HasLetter old_word (m ∷ []) c) (λ m c. (old_entry.same (m ∷ []) c).1) n letter lettered),
         )))
-
-module _ (ledger : Ledger) (head : ImageHead) (track : WordTrack) (rules : Rules) (entry : Entry) (names : List (List ℕ)) (word : WordValue) (lines : List StepLine)
-    (has : HasTreeText (custom_of ledger) (Image track.direction track.system rules (tree_of entry)) (named_text names word)) where
-  -- the text is stored
-  pub image_stored : (shown : Bool) (made : Made) → IsWordTextOf names word made.stored.items → made.printed ≡ shown_steps shown lines → Makes (custom_of ledger) (stored (custom_of ledger) (image_success head track rules entry lines)) shown (Ok made)
-  image_stored shown made (is, short) printed = record {
-    success = image_success head track rules entry lines;
-    answers = (refl, (made.stored.items, own, short));
-    has_text = own;
-    printed_is = printed ∙ sym (append-nil (shown_steps shown lines));
-  }
-    where
-      own : HasTreeText (custom_of ledger) (Image track.direction track.system rules (tree_of entry)) made.stored.items
-      own = subst (HasTreeText (custom_of ledger) (Image track.direction track.system rules (tree_of entry))) (sym is) has
-
-  -- or it is too long
-  pub image_unstored : (fault : Fault) → HasNoWordText names word fault → Fails (stored (custom_of ledger) (image_success head track rules entry lines)) fault
-  image_unstored (faults.Long bytes) (is, long) = (is, (named_text names word, has, long))
-  image_unstored faults.Memory refused = tt
-  image_unstored faults.Command refused = absurd refused
-  image_unstored (faults.Syntax grammar at) refused = absurd refused
-  image_unstored (faults.MixedChain at) refused = absurd refused
-  image_unstored (faults.Number grammar at) refused = absurd refused
-  image_unstored (faults.NotLinear at) refused = absurd refused
-  image_unstored (faults.LoadDepth of) refused = absurd refused
-  image_unstored (faults.Depth grammar at) refused = absurd refused
-  image_unstored (faults.Unknown folder under) refused = absurd refused
-  image_unstored (faults.File folder under flaw) refused = absurd refused
-  image_unstored (faults.Arity of tracks given) refused = absurd refused
-  image_unstored (faults.SystemUnknown of) refused = absurd refused
-  image_unstored (faults.NotAdmitted of law) refused = absurd refused
-  image_unstored (faults.Clash of one two) refused = absurd refused
-  image_unstored (faults.Direction one other) refused = absurd refused
-  image_unstored (faults.Letters step) refused = absurd refused
-  image_unstored (faults.States step) refused = absurd refused
-  image_unstored (faults.Plain of) refused = absurd refused
-  image_unstored (faults.Store folder under) refused = absurd refused
-  image_unstored faults.ScriptLimit refused = absurd refused
-  image_unstored (faults.MacroArgs of at given) refused = absurd refused
-  image_unstored (faults.MacroDepth of) refused = absurd refused
-  image_unstored faults.MacroLong refused = absurd refused
-  image_unstored (faults.Morphism kind) refused = absurd refused
-  image_unstored (faults.LetterMissing letter) refused = absurd refused
-  image_unstored (faults.CombineShape one two) refused = absurd refused
-  image_unstored (faults.NotPlain of) refused = absurd refused
-  image_unstored (faults.LangShape one two) refused = absurd refused
-  image_unstored faults.TestLong refused = absurd refused
-  image_unstored (faults.Place of) refused = absurd refused
-  image_unstored (faults.BaseNeeded of systems) refused = absurd refused
-  image_unstored (faults.NotRelated one two) refused = absurd refused

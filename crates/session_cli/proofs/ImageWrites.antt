@@ -24,17 +24,19 @@ use Rattle.session_cli.specs.declared.fault.Fault.{Fault}
 use Rattle.session_cli.specs.declared.image.ReadImage.{ReadImage}
 use Rattle.session_cli.specs.declared.file_change.Made.{Made}
 use Rattle.session_cli.specs.declared.step_options.StepOptions.{StepOptions}
+use Rattle.session_cli.specs.Accepting.{stored}
 use Rattle.session_cli.specs.Checks.{Pure, Fails}
 use Rattle.session_cli.specs.FormulaLoads.{HasSystems}
 use Rattle.session_cli.specs.FormulaSteps.{AreMeant}
-use Rattle.session_cli.specs.ImageMakes.{AreTablesOf, IsImaged, IsReadBy, MakesAfterOld, head_of, old_system_of, old_systems_of, old_tracks_of}
+use Rattle.session_cli.specs.ImageMakes.{IsImaged, IsReadBy, MakesAfterOld, head_of, old_system_of, old_tracks_of}
 use Rattle.session_cli.specs.ImageOutcomes.{WordTrack, ImagedAnswers, old_mentions, after_image_head, after_old_systems, after_old_table}
-use Rattle.session_cli.specs.Lines.{shown_steps}
 use Rattle.session_cli.specs.FileChanges.{Makes}
-use Rattle.session_cli.specs.WordPrinting.{IsWordTextOf, HasNoWordText, named_text}
-use Rattle.session_cli.proofs.CheckNames.{TrackAnswers}
+use Rattle.session_cli.specs.OldWordMakes.{AreTablesOfOld, systems_of_old}
+use Rattle.session_cli.specs.WordPrinting.{Keeps, named_text}
+use Rattle.session_cli.proofs.CheckNames.{TrackAnswers, image_success}
 use Rattle.session_cli.proofs.ImageChains.{image_loaded, image_tracked, image_stopped, image_done}
-use Rattle.session_cli.proofs.ImageTexts.{image_stored, image_text, image_track, image_unstored, old_entry, old_word, only_name, system, track_over}
+use Rattle.session_cli.proofs.StoringTexts.{kept_text}
+use Rattle.session_cli.proofs.ImageTexts.{image_text, image_track, old_entry, old_word, only_name, system, track_over}
 use Rattle.session_cli.proofs.MeantNames.{found_meant}
 use Rattle.session_cli.proofs.MentionedTables.{all_once, all_parts}
 use Rattle.session_cli.proofs.TableMeanings.{HasLettersAs}
@@ -43,10 +45,10 @@ use Rattle.session_cli.proofs.TableMeanings.{HasLettersAs}
 pub image_read_made : (options : StepOptions) (ledger : Ledger) (head : ImageHead) (read : ReadImage) (found : Files) (result : Result Made Fault) → Stores ledger found → IsReadBy head found read → MakesAfterOld options read (found Bases) result
     → Makes (custom_of ledger) (after_image_head options.limit ledger head) options.shown result
 image_read_made options ledger head read found result stores is makes =
-    let there = makes ledger found head.word head.mapping stores (stored_custom ledger found stores) is.listed in
-    let P : List ℕ → Type 0 = λ old. Makes (custom_of ledger) (after_old_table options.limit ledger (record { word = head.word; mapping = head.mapping; old = old }) read.morphism read.tables.items) options.shown result in
-    image_loaded options.limit ledger head read.morphism read.tables.items options.shown result (found, stores, is.rules)
-    (found, stores, subst (λ (old : List ℕ). AreListedBy found (first_files (old_mentions old)) read.tables.items) is.old is.listed) (subst P is.old there)
+    let there = makes ledger found head.word head.mapping stores (stored_custom ledger found stores) is.old.there.listed in
+    let P : List ℕ → Type 0 = λ old. Makes (custom_of ledger) (after_old_table options.limit ledger (record { word = head.word; mapping = head.mapping; old = old }) read.morphism read.old.mentioned.tables.items) options.shown result in
+    image_loaded options.limit ledger head read.morphism read.old.mentioned.tables.items options.shown result (found, stores, is.rules)
+    (found, stores, subst (λ (old : List ℕ). AreListedBy found (first_files (old_mentions old)) read.old.mentioned.tables.items) is.old.name_is is.old.there.listed) (subst P is.old.name_is there)
 
 -- a system is under the name of the one track
 tracked : (custom : Custom) (systems : List NamedSystem) (names : List (List ℕ)) → AreMeant custom systems → AllByRecursion (HasSystemIn systems) names → length names ≡ 1 → (h : Headers) (old : List ℕ) → word_tracks h old ≡ names
@@ -60,40 +62,36 @@ old_tracked custom systems h old meant has one =
     let every : AllByRecursion (HasSystemIn systems) (flat_map (mentioned_systems h) (old_mentions old)) = (all_once (HasSystemIn systems) [] (flat_map (mentioned_systems h) (old_mentions old)) has.mentioned).1 in
     tracked custom systems (word_tracks h old) meant (all_parts (HasSystemIn systems) (word_tracks h old) [] every).0 one h old refl
 
-module _ (ledger : Ledger) (files : Files) (stores : Stores ledger files) (read : ReadImage) (listed : AreTablesOf read files) (one_track : length (old_tracks_of read) ≡ 1) (uniform : (k : ℕ) × HasLength IsImageLength read.morphism k)
+module _ (ledger : Ledger) (files : Files) (stores : Stores ledger files) (read : ReadImage) (listed : AreTablesOfOld read.old files) (one_track : length (old_tracks_of read) ≡ 1) (uniform : (k : ℕ) × HasLength IsImageLength read.morphism k)
     (name morphism : List ℕ) (admitted : StepLog) where
   -- the steps are refused, or a letter has no rule
-  pub image_unmade : (systems : List NamedSystem) → AreMeant (custom_of ledger) systems → HasSystems (old_systems_of read) systems → (fault : Fault)
-      → Fails (Pure (ImagedAnswers admitted (custom_of ledger) read.tables.items read.old (old_system_of read) read.morphism)) fault → Fails (after_old_systems ledger (head_of name morphism read) read.morphism read.tables.items admitted) fault
+  pub image_unmade : (systems : List NamedSystem) → AreMeant (custom_of ledger) systems → HasSystems (systems_of_old read.old) systems → (fault : Fault)
+      → Fails (Pure (ImagedAnswers admitted (custom_of ledger) read.old.mentioned.tables.items read.old.name (old_system_of read) read.morphism)) fault → Fails (after_old_systems ledger (head_of name morphism read) read.morphism read.old.mentioned.tables.items admitted) fault
   image_unmade systems meant has fault refused =
-      let t = old_tracked (custom_of ledger) systems (headers_of read.tables.items) read.old meant has one_track in
+      let t = old_tracked (custom_of ledger) systems (headers_of read.old.mentioned.tables.items) read.old.name meant has one_track in
       let track : WordTrack = track_over (old_system_of read) t.0 in
-      image_tracked ledger (head_of name morphism read) read.morphism read.tables.items admitted one_track uniform track t.1 true (Err fault)
-      (image_stopped ledger (head_of name morphism read) read.morphism read.tables.items admitted one_track uniform track t.1 fault refused)
+      image_tracked ledger (head_of name morphism read) read.morphism read.old.mentioned.tables.items admitted one_track uniform track t.1 true (Err fault)
+      (image_stopped ledger (head_of name morphism read) read.morphism read.old.mentioned.tables.items admitted one_track uniform track t.1 fault refused)
 
   module _ (word : WordValue) (lines : List StepLine) (is : IsImaged admitted (custom_of ledger) read word lines) (fits : All (λ letter. FitsSigned w32 letter) word.function.letters) where
     abbrev track : WordTrack
     track = track_over (old_system_of read) (system read files listed one_track (custom_of ledger) admitted word lines is)
 
-    over : TrackAnswers (custom_of ledger) (headers_of read.tables.items) read.old (Ok track)
+    over : TrackAnswers (custom_of ledger) (headers_of read.old.mentioned.tables.items) read.old.name (Ok track)
     over = image_track read files listed one_track (custom_of ledger) admitted word lines is
 
-    abbrev entry : HasLettersAs ledger read.old (old_word read files listed one_track (custom_of ledger) admitted word lines is)
+    abbrev entry : HasLettersAs ledger read.old.name (old_word read files listed one_track (custom_of ledger) admitted word lines is)
     entry = old_entry read files listed one_track (custom_of ledger) admitted word lines is ledger stores refl
 
     has : HasTreeText (custom_of ledger) (Image track.direction track.system read.morphism (tree_of entry.entry)) (named_text (old_tracks_of read) word)
     has = image_text read files listed one_track (custom_of ledger) admitted word lines is ledger stores refl fits
 
-    -- the text is stored
-    pub image_kept : (shown : Bool) (made : Made) → IsWordTextOf (old_tracks_of read) word made.stored.items → made.printed ≡ shown_steps shown lines → Makes (custom_of ledger) (after_old_systems ledger (head_of name morphism read) read.morphism read.tables.items admitted) shown (Ok made)
-    image_kept shown made text printed =
-        image_tracked ledger (head_of name morphism read) read.morphism read.tables.items admitted one_track uniform track over shown (Ok made)
-        (image_done ledger (head_of name morphism read) read.morphism read.tables.items admitted one_track uniform track over lines entry.entry shown (Ok made) (word, is.steps) entry.there
-        (image_stored ledger (head_of name morphism read) track read.morphism entry.entry (old_tracks_of read) word lines has shown made text printed))
+    by_text : (shown : Bool) (result : Result Made Fault) → Keeps (old_tracks_of read) word shown lines result
+        → Makes (custom_of ledger) (stored (custom_of ledger) (image_success (head_of name morphism read) track read.morphism entry.entry lines)) shown result
+    by_text shown result keeps = kept_text (custom_of ledger) (image_success (head_of name morphism read) track read.morphism entry.entry lines) (old_tracks_of read) word shown result refl has keeps
 
-    -- or it is too long
-    pub image_unkept : (fault : Fault) → HasNoWordText (old_tracks_of read) word fault → Fails (after_old_systems ledger (head_of name morphism read) read.morphism read.tables.items admitted) fault
-    image_unkept fault refused =
-        image_tracked ledger (head_of name morphism read) read.morphism read.tables.items admitted one_track uniform track over true (Err fault)
-        (image_done ledger (head_of name morphism read) read.morphism read.tables.items admitted one_track uniform track over lines entry.entry true (Err fault) (word, is.steps) entry.there
-        (image_unstored ledger (head_of name morphism read) track read.morphism entry.entry (old_tracks_of read) word lines has fault refused))
+    -- the text is stored, or it is too long
+    pub image_kept : (shown : Bool) (result : Result Made Fault) → Keeps (old_tracks_of read) word shown lines result → Makes (custom_of ledger) (after_old_systems ledger (head_of name morphism read) read.morphism read.old.mentioned.tables.items admitted) shown result
+    image_kept shown result keeps =
+        image_tracked ledger (head_of name morphism read) read.morphism read.old.mentioned.tables.items admitted one_track uniform track over shown result
+        (image_done ledger (head_of name morphism read) read.morphism read.old.mentioned.tables.items admitted one_track uniform track over lines entry.entry shown result (word, is.steps) entry.there (by_text shown result keeps))

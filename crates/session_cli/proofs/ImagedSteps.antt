@@ -1,11 +1,9 @@
 -- The steps by which the image of a word is made, and why they are refused, from what the code of each part answers.
-use Rattle.std.proofs.Common.{◌≡◌, ℕ, List, Some, Ok, Err, inl, inr, refl, sym, subst}
+use Rattle.std.proofs.Common.{ℕ, List, Ok, Err, inl, inr, refl, sym, subst}
 use Rattle.digit_tuple.specs.Steps.{StepLog}
 use Rattle.digit_tuple.specs.declared.step_fault.StepFault.{StepFault}
 use Rattle.digit_tuple.specs.declared.step_fault.StepFault.TheVariants as step_faults
 use Rattle.dfa_loading.specs.declared.loaded.Loaded.{Loaded}
-use Rattle.formula_build.specs.Libraries.{word_named}
-use Rattle.named_systems.specs.NamedSystems.{NamedSystem, AreSealed}
 use Rattle.morph_words.specs.Rules.{Rules}
 use Rattle.morph_words.specs.Uniform.{HasLength, IsImageLength, IsLengthRefused}
 use Rattle.morph_words.specs.declared.morphism_kind.MorphismKind.{MorphismKind}
@@ -18,15 +16,13 @@ use Rattle.session_cli.specs.declared.image_fault.ImageFault.TheVariants as imag
 use Rattle.word_output.specs.Words.{WordValue}
 use Rattle.system_files.specs.SystemFiles.{Custom}
 use Rattle.session_cli.specs.Checks.{Pure, Fails}
-use Rattle.session_cli.specs.FormulaSteps.{AreMeant}
+use Rattle.session_cli.specs.FormulaSteps.{IsUnread}
 use Rattle.session_cli.specs.ImageFaults.{fault_of_imaging}
-use Rattle.session_cli.specs.FormulaLoads.{HasSystems}
-use Rattle.session_cli.specs.ImageMakes.{IsImaged, old_system_of, old_systems_of}
-use Rattle.session_cli.specs.ImageOutcomes.{IsOldWordRead, AreImageStepsRefused, ImagedAnswers}
+use Rattle.session_cli.specs.ImageMakes.{IsImaged, old_system_of}
+use Rattle.session_cli.specs.ImageOutcomes.{AreImageStepsRefused, ImagedAnswers}
 use Rattle.session_cli.specs.declared.image.ReadImage.{ReadImage}
-use Rattle.session_cli.specs.TableReads.{TableRead, AreTablesRead, words_in}
+use Rattle.session_cli.specs.OldWordMakes.{IsOldRead, before_of}
 use Rattle.session_cli.specs.TrackSystems.{fault_of}
-use Rattle.session_cli.proofs.FormulaReady.{IsUnread}
 
 -- images of one length that is allowed are of no other kind
 pub of_one_kind : (rules : Rules) (k : ℕ) (kind : MorphismKind) → HasLength IsImageLength rules k → IsLengthRefused IsImageLength rules kind → ⊥
@@ -47,29 +43,17 @@ module _ (admitted : StepLog) (custom : Custom) (tables : List Loaded) (old name
   unread_old fault (inl memory) = subst (λ (f : StepFault). Fails (Pure (ImagedAnswers admitted custom tables old name rules)) (fault_of f)) (sym memory) tt
   unread_old fault (inr stopped) = unimaged fault (inl stopped)
 
-  module _ (systems : List NamedSystem) (sealed : AreSealed systems) (reads : List TableRead) (reading : StepLog) (made : AreTablesRead systems admitted tables reads reading) (word : WordValue) (word_is : word_named (words_in reads) old ≡ Some word)
-      (meant : AreMeant custom systems) where
-    abbrev before : IsOldWordRead admitted custom tables old
-    before = record { systems = systems; sealed = sealed; meant = meant; reads = reads; reading = reading; read = made; word = word; word_is = word_is }
+module _ {admitted reading : StepLog} {custom : Custom} {read : ReadImage} {word : WordValue} (is : IsOldRead admitted custom read.old word reading) where
+  -- the steps are refused
+  pub steps_unimaged : (k : ℕ) → HasLength IsImageLength read.morphism k → (fault : ImageFault) (log : StepLog) → DoesImage read.morphism word (old_system_of read) reading (Err fault) log
+      → Fails (Pure (ImagedAnswers admitted custom read.old.mentioned.tables.items read.old.name (old_system_of read) read.morphism)) (fault_of_imaging fault)
+  steps_unimaged k has (images.Morphism kind) log (refused, same) = absurd (of_one_kind read.morphism k kind has refused)
+  steps_unimaged k has (images.Missing letter) log refused = record { before = before_of is; log = log; refused = refused }
+  steps_unimaged k has (images.Step fault) log (inl memory) =
+      subst (λ (f : StepFault). Fails (Pure (ImagedAnswers admitted custom read.old.mentioned.tables.items read.old.name (old_system_of read) read.morphism)) (fault_of f)) (sym memory) tt
+  steps_unimaged k has (images.Step fault) log (inr stopped) =
+      unimaged admitted custom read.old.mentioned.tables.items read.old.name (old_system_of read) read.morphism fault (inr (record { before = before_of is; log = log; refused = inr stopped }))
 
-    -- the steps are refused
-    pub steps_unimaged : (k : ℕ) → HasLength IsImageLength rules k → (fault : ImageFault) (log : StepLog) → DoesImage rules word name reading (Err fault) log → Fails (Pure (ImagedAnswers admitted custom tables old name rules)) (fault_of_imaging fault)
-    steps_unimaged k has (images.Morphism kind) log (refused, same) = absurd (of_one_kind rules k kind has refused)
-    steps_unimaged k has (images.Missing letter) log refused = record { before = before; log = log; refused = refused }
-    steps_unimaged k has (images.Step fault) log (inl memory) = subst (λ (f : StepFault). Fails (Pure (ImagedAnswers admitted custom tables old name rules)) (fault_of f)) (sym memory) tt
-    steps_unimaged k has (images.Step fault) log (inr stopped) = unimaged fault (inr (record { before = before; log = log; refused = inr stopped }))
-
--- the image is made over systems that the names that the old word mentions mean
-pub imaged_here : (admitted : StepLog) (custom : Custom) (read : ReadImage) (systems : List NamedSystem) → AreSealed systems → (reads : List TableRead) (reading : StepLog) → AreTablesRead systems admitted read.tables.items reads reading
-    → (word : WordValue) → word_named (words_in reads) read.old ≡ Some word → AreMeant custom systems → HasSystems (old_systems_of read) systems → (v : WordValue) (log : StepLog) → DoesImage read.morphism word (old_system_of read) reading (Ok v) log
-    → IsImageWord read.morphism word v → IsImaged admitted custom read v log.lines
-imaged_here admitted custom read systems sealed reads reading made word word_is meant has v log done image = record {
-  steps = record {
-    before = record { systems = systems; sealed = sealed; meant = meant; reads = reads; reading = reading; read = made; word = word; word_is = word_is };
-    log = log;
-    done = done;
-    lines_are = refl;
-  };
-  image = image;
-  has = has;
-}
+  -- the image is made over systems that the names that the old word mentions mean
+  pub imaged_here : (v : WordValue) (log : StepLog) → DoesImage read.morphism word (old_system_of read) reading (Ok v) log → IsImageWord read.morphism word v → IsImaged admitted custom read v log.lines
+  imaged_here v log done image = record { steps = record { before = before_of is; log = log; done = done; lines_are = refl }; image = image; has = is.has }

@@ -37,12 +37,12 @@ pub mod HeadSteps
 pub mod LoadedTexts
 pub mod AnsweringSteps
 pub mod StoringTexts
+pub mod SameMentions
 pub mod TextSteps
 pub mod LoadedMorphisms
 pub mod BaseTexts
 pub mod PromoteSteps
 pub mod UserFaults
-pub mod TrackLists
 pub mod NamedTracks
 pub mod FormulaSolutions
 pub mod FormulaReady
@@ -57,7 +57,6 @@ pub mod ListedChecks
 pub mod ListedSteps
 pub mod CombineChains
 pub mod CombineTexts
-pub mod CombineMaking
 pub mod NamedWords
 pub mod LetterResolution
 pub mod LetterPlaces

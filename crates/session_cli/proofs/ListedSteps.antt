@@ -17,10 +17,9 @@ use Rattle.session_cli.specs.Checks.{Pure, Fails}
 use Rattle.session_cli.specs.CombineMakes.{AreStepsOver, automata_of}
 use Rattle.session_cli.specs.CombineOutcomes.{CombinedAnswers}
 use Rattle.session_cli.specs.CombineSteps.{ArePartsFrom, AreListedParts, AreCombineStepsRefused}
-use Rattle.session_cli.specs.FormulaSteps.{AreMeant}
+use Rattle.session_cli.specs.FormulaSteps.{AreMeant, IsUnread}
 use Rattle.session_cli.specs.TableReads.{TableRead, AreTablesRead, relations_in}
 use Rattle.session_cli.specs.TrackSystems.{fault_of}
-use Rattle.session_cli.proofs.FormulaReady.{IsUnread}
 
 -- a step passes a limit
 uncombined : (admitted : StepLog) (custom : Custom) (tables : List Loaded) (automata : List ValuedName) (fault : StepFault) → AreCombineStepsRefused admitted custom tables automata fault → Fails (Pure (CombinedAnswers admitted custom tables automata)) (fault_of fault)
@@ -34,14 +33,14 @@ pub unread_list : (admitted : StepLog) (custom : Custom) (tables : List Loaded) 
 unread_list admitted custom tables automata fault (inl memory) = subst (λ (f : StepFault). Fails (Pure (CombinedAnswers admitted custom tables automata)) (fault_of f)) (sym memory) tt
 unread_list admitted custom tables automata fault (inr stopped) = uncombined admitted custom tables automata fault (inl stopped)
 
-module _ (admitted : StepLog) (read : ListedAutomata) (systems : List NamedSystem) (sealed : AreSealed systems) (reads : List TableRead) (reading : StepLog) (made : AreTablesRead systems admitted read.tables.items reads reading)
+module _ (admitted : StepLog) (read : ListedAutomata) (systems : List NamedSystem) (sealed : AreSealed systems) (reads : List TableRead) (reading : StepLog) (made : AreTablesRead systems admitted read.mentioned.tables.items reads reading)
     (parts : List PartValue) (are : ArePartsFrom (relations_in reads) 0 (automata_of read) parts) (some : automata_of read ≢ []) where
   tracks_of : (vs : List ValuedName) (ps : List PartValue) → ArePartsFrom (relations_in reads) 0 vs ps → vs ≢ [] → AreSystemsFor ps (systems_at ps 0)
   tracks_of [] ps are none = absurd (none refl)
   tracks_of (v ∷ vs) [] are none = absurd are
   tracks_of (v ∷ vs) (p ∷ ps) are none = refl
 
-  before : (custom : Custom) → AreMeant custom systems → AreListedParts admitted custom read.tables.items (automata_of read)
+  before : (custom : Custom) → AreMeant custom systems → AreListedParts admitted custom read.mentioned.tables.items (automata_of read)
   before custom meant = record {
     systems = systems;
     sealed = sealed;
@@ -61,6 +60,6 @@ module _ (admitted : StepLog) (read : ListedAutomata) (systems : List NamedSyste
   list_done custom meant word log done = record { steps = record { before = before custom meant; log = log; done = done.1; lines_are = refl }; systems_are = refl }
 
   -- or it is refused
-  pub list_refused : (custom : Custom) → AreMeant custom systems → (fault : StepFault) (log : StepLog) → DoesCombine (Some (pos 0)) parts (systems_at parts 0) reading (Err (combines.Step fault)) log → Fails (Pure (CombinedAnswers admitted custom read.tables.items (automata_of read))) (fault_of fault)
+  pub list_refused : (custom : Custom) → AreMeant custom systems → (fault : StepFault) (log : StepLog) → DoesCombine (Some (pos 0)) parts (systems_at parts 0) reading (Err (combines.Step fault)) log → Fails (Pure (CombinedAnswers admitted custom read.mentioned.tables.items (automata_of read))) (fault_of fault)
   unfolding before
-  list_refused custom meant fault log refused = uncombined admitted custom read.tables.items (automata_of read) fault (inr (record { before = before custom meant; log = log; refused = refused.1 }))
+  list_refused custom meant fault log refused = uncombined admitted custom read.mentioned.tables.items (automata_of read) fault (inr (record { before = before custom meant; log = log; refused = refused.1 }))

@@ -28,10 +28,10 @@ use Rattle.session_cli.proofs.TextReads.{with_bases}
 
 pub own_over : (admitted : StepLog) (shown : Bool) (read : ReadListing) (custom : Custom) (r : Result (List ℕ) Fault) → IsReadListing read → TellsAfterSystems admitted shown read custom r → IsOwn r
 own_over admitted shown read custom r is tells =
-    let files : Files = with_bases is.files custom in
+    let files : Files = with_bases is.0 custom in
     let ledger : Ledger = ledger_of files in
-    own_said ledger read.asked.name read.asked.question read.tables.items admitted shown r
-    (tells ledger files (files_store files) (found_custom files) (listed_elsewhere is.files custom (listing_files read.asked.name) read.tables.items is.listed))
+    own_said ledger read.asked.name read.asked.question read.mentioned.tables.items admitted shown r
+    (tells ledger files (files_store files) (found_custom files) (listed_elsewhere is.0 custom (listing_files read.asked.name) read.mentioned.tables.items is.1.listed))
 
 -- there is one table
 pub sole : (files : Files) (name : List ℕ) (tables : List Loaded) (table : Loaded) → AreListedBy files (listing_files name) tables → table ≡ slice_index_or tables 0 table → tables ≡ table ∷ []
@@ -47,9 +47,9 @@ listing_laws : ListingLaws
 listing_laws = record { texts = texts_list; relations = relations_list; languages = automata_list; tables = table_holds }
 
 -- what is answered about it is what the checks after the systems give
-pub said_here : (read : ReadListing) (table : Loaded) (systems : List NamedSystem) (admitted log : StepLog) (shown : Bool) (result : Result Answer ListingFault) → read.tables.items ≡ table ∷ [] → CanBeListed systems table
+pub said_here : (read : ReadListing) (table : Loaded) (systems : List NamedSystem) (admitted log : StepLog) (shown : Bool) (result : Result Answer ListingFault) → read.mentioned.tables.items ≡ table ∷ [] → CanBeListed systems table
     → AnswersBelow table.listed.header systems admitted table read.asked.name read.asked.question result log → (custom : Custom) → AreMeant custom systems → (ledger : Ledger) (files : Files) → Stores ledger files → custom_of ledger ≡ custom
-    → AreListedBy files (listing_files read.asked.name) read.tables.items → TellsAnswer (after_listing_systems ledger read.asked.name read.asked.question read.tables.items admitted) shown log.lines result
+    → AreListedBy files (listing_files read.asked.name) read.mentioned.tables.items → TellsAnswer (after_listing_systems ledger read.asked.name read.asked.question read.mentioned.tables.items admitted) shown log.lines result
 said_here read table systems admitted log shown result same can answers custom meant ledger files stores own listed =
     let name = read.asked.name in
     let question = read.asked.question in

@@ -2,6 +2,7 @@
 use Rattle.std.proofs.Common.{List}
 use Rattle.wal_outside.specs.Files.{Files}
 use Rattle.wal_outside.specs.Views.{StoreView}
+use Rattle.dfa_loading.specs.Loading.{FirstFails}
 use Rattle.dfa_loading.specs.Places.{IsCausedBy}
 use Rattle.dfa_loading.specs.declared.fault.LoadFault.{LoadFault}
 use Rattle.dfa_loading.specs.declared.fault.LoadFault.TheVariants as loads
@@ -21,6 +22,13 @@ caused_so (loads.Unknown folder name) old new is = is
 caused_so (loads.File folder name flaw) old new is = is
 caused_so (loads.Store folder name) old new is = is
 caused_so loads.Memory old new is = is
+
+-- why files are not loaded, as a fault
+pub unloaded_so : (f : LoadFault) (files : Files) (named : List File) → FirstFails files named f → AreUnloaded files named (fault_of_loading f)
+unloaded_so (loads.Unknown folder name) files named is = is
+unloaded_so (loads.File folder name flaw) files named is = is
+unloaded_so (loads.Store folder name) files named is = is
+unloaded_so loads.Memory files named is = is
 
 -- files that are not loaded refuse a command
 pub unloaded : (ledger : Ledger) (files : Files) (named : List File) (fault : Fault) → Stores ledger files → AreUnloaded files named fault → Fails (files_loaded ledger named) fault

@@ -1,7 +1,8 @@
 -- The tracks of names over systems, one after another.
-use Rattle.std.proofs.Common.{◌≡◌, ℕ, zero, suc, ◌<◌, List, [], ◌∷◌, ◌++◌, length, take, get_or, refl, sym, ap, ◌∙◌, arith}
+use Rattle.std.proofs.Common.{◌≡◌, ℕ, zero, suc, ◌<◌, List, [], ◌∷◌, ◌++◌, length, take, get_or, refl, sym, ap, ◌∙◌, subst, arith}
+use Rattle.std.specs.List.{AllByRecursion}
 use Rattle.digit_tuple.specs.Sets.{sizes_of}
-use Rattle.digit_tuple.specs.Systems.{digit_sets}
+use Rattle.digit_tuple.specs.Systems.{IsDigitCount, digit_sets}
 use Rattle.digit_tuple.specs.declared.systems.SystemTrack.{SystemTrack}
 use Rattle.num_system.specs.Sealed.{SystemValue}
 use Rattle.num_system.specs.Tracks.{systems_of}
@@ -27,3 +28,9 @@ sizes_named [] (s ∷ systems) count = absurd (omega (arith, count))
 sizes_named (name ∷ names) [] count = absurd (omega (arith, count))
 sizes_named (name ∷ names) (s ∷ systems) count =
     ap (λ (n : ℕ). n ∷ sizes_of (digit_sets (tracks_named names systems))) (length-digit_set s.digits) ∙ ap (λ (ns : List ℕ). s.digits ∷ ns) (sizes_named names systems (omega (arith, count)))
+
+-- each system has as many digits as a track may have
+pub digits_at : (systems : List SystemValue) (i : ℕ) (s : SystemValue) → AllByRecursion (λ (x : SystemValue). IsDigitCount x.digits) systems → i < length systems → s ≡ get_or systems i s → IsDigitCount s.digits
+digits_at [] i s all within is = absurd (omega (arith, within))
+digits_at (y ∷ systems) zero s all within is = subst (λ (x : SystemValue). IsDigitCount x.digits) (sym is) all.0
+digits_at (y ∷ systems) (suc i) s all within is = digits_at systems i s all.1 (omega (arith, within)) is

@@ -1,5 +1,5 @@
 -- From the steps that make a word of an old one, and the text of what they make, to what the checks of a command make of it.
-use Rattle.std.proofs.Common.{◌≡◌, ℕ, Bool, List, Some, Result, Ok, Err, inl, inr, refl, sym, ◌∙◌, subst, append-nil}
+use Rattle.std.proofs.Common.{◌≡◌, ℕ, Bool, List, Some, Result, Ok, Err, inl, inr, refl, sym, subst}
 use Rattle.wal_outside.specs.Places.{Place}
 use Rattle.wal_outside.specs.declared.folder.Folder.TheVariants.{Words}
 use Rattle.digit_tuple.specs.Steps.{StepLog}
@@ -13,21 +13,21 @@ use Rattle.definitions.specs.Trees.{Entry, Ledger, Tree, custom_of, tree_of}
 use Rattle.system_files.specs.SystemFiles.{Custom}
 use Rattle.session_cli.specs.declared.fault.Fault.{Fault}
 use Rattle.session_cli.specs.declared.file_change.Made.{Made}
+use Rattle.session_cli.specs.declared.old_word.OldWord.{OldWord}
 use Rattle.session_cli.specs.Accepting.{stored}
 use Rattle.session_cli.specs.Checks.{Fails, Passing}
-use Rattle.session_cli.specs.Lines.{shown_steps}
-use Rattle.session_cli.specs.OldWordMakes.{Keeps}
+use Rattle.session_cli.specs.OldWordMakes.{IsMadeOfOld, IsOldRead, before_of}
 use Rattle.session_cli.specs.OldWordSteps.{AreOldWordSteps, AreOldWordStepsRefused, after_old_steps, made_of_old, old_word_done, old_word_success}
 use Rattle.session_cli.specs.FileChanges.{Makes}
 use Rattle.session_cli.specs.TrackSystems.{fault_of}
-use Rattle.session_cli.specs.WordPrinting.{named_text}
+use Rattle.session_cli.specs.WordPrinting.{Keeps, named_text}
+use Rattle.session_cli.specs.FormulaSteps.{IsUnread}
 use Rattle.session_cli.proofs.CheckSteps.{fails_first, makes_after}
-use Rattle.session_cli.proofs.FormulaReady.{IsUnread}
-use Rattle.session_cli.proofs.StoringTexts.{unstored, word_refused}
+use Rattle.session_cli.proofs.StoringTexts.{kept_text}
 
 module _ (admitted : StepLog) (custom : Custom) (tables : List Loaded) (old : List ℕ) (does : WordValue → StepLog → Result WordValue StepFault → StepLog → Type 0) where
   -- a step passes a limit
-  pub unmade : (fault : StepFault) → AreOldWordStepsRefused admitted custom tables old does fault → Fails (old_word_done admitted custom tables old does) (fault_of fault)
+  unmade : (fault : StepFault) → AreOldWordStepsRefused admitted custom tables old does fault → Fails (old_word_done admitted custom tables old does) (fault_of fault)
   unmade (step_faults.Letters step) refused = (step_faults.Letters step, refl, refused)
   unmade (step_faults.States step) refused = (step_faults.States step, refl, refused)
   unmade step_faults.Memory refused = tt
@@ -36,6 +36,15 @@ module _ (admitted : StepLog) (custom : Custom) (tables : List Loaded) (old : Li
   pub unread : (fault : StepFault) → IsUnread admitted custom tables fault → Fails (old_word_done admitted custom tables old does) (fault_of fault)
   unread fault (inl memory) = subst (λ (f : StepFault). Fails (old_word_done admitted custom tables old does) (fault_of f)) (sym memory) tt
   unread fault (inr stopped) = unmade fault (inl stopped)
+
+-- the table of the old word is read, and the steps after it make a word of what it makes
+module _ {admitted reading : StepLog} {custom : Custom} {old : OldWord} {word : WordValue} (is : IsOldRead admitted custom old word reading) (does : WordValue → StepLog → Result WordValue StepFault → StepLog → Type 0) (log : StepLog) where
+  abbrev pub made_of_read : (made : WordValue) → does word reading (Ok made) log → IsMadeOfOld admitted custom old does made log.lines
+  made_of_read made done = record { made = record { before = before_of is; log = log; done = done; lines_are = refl }; has = is.has }
+
+  -- or are refused
+  pub unmade_of_read : (fault : StepFault) → does word reading (Err fault) log → Fails (old_word_done admitted custom old.mentioned.tables.items old.name does) (fault_of fault)
+  unmade_of_read fault done = unmade admitted custom old.mentioned.tables.items old.name does fault (inr (log.lines, record { before = before_of is; log = log; done = done; lines_are = refl }))
 
 module _ (ledger : Ledger) (name old : List ℕ) (does : WordValue → StepLog → Result WordValue StepFault → StepLog → Type 0) (made_of : Tree → Tree) (tables : List Loaded) (admitted : StepLog) where
   -- the steps are refused
@@ -46,15 +55,7 @@ module _ (ledger : Ledger) (name old : List ℕ) (does : WordValue → StepLog �
   module _ (word : WordValue) (lines : List StepLine) (done : AreOldWordSteps admitted (custom_of ledger) tables old does (Ok word) lines) (entry : Entry) (there : ledger Words old ≡ Some entry)
       (names : List (List ℕ)) (has : HasTreeText (custom_of ledger) (made_of (tree_of entry)) (named_text names word)) where
     by_text : (shown : Bool) (result : Result Made Fault) → Keeps names word shown lines result → Makes (custom_of ledger) (stored (custom_of ledger) (old_word_success name made_of entry lines)) shown result
-    by_text shown (Ok made) k =
-        let own : HasTreeText (custom_of ledger) (made_of (tree_of entry)) made.stored.items = subst (HasTreeText (custom_of ledger) (made_of (tree_of entry))) (sym k.text.0) has in
-        record {
-          success = old_word_success name made_of entry lines;
-          answers = (refl, (made.stored.items, own, k.text.1));
-          has_text = own;
-          printed_is = k.printed ∙ sym (append-nil (shown_steps shown lines));
-        }
-    by_text shown (Err fault) refused = unstored (custom_of ledger) (old_word_success name made_of entry lines) (named_text names word) fault has (word_refused names word fault refused)
+    by_text shown result keeps = kept_text (custom_of ledger) (old_word_success name made_of entry lines) names word shown result refl has keeps
 
     pub old_stored : (shown : Bool) (result : Result Made Fault) → Keeps names word shown lines result → Makes (custom_of ledger) (made_of_old ledger name old does made_of tables admitted) shown result
     old_stored shown result keeps =

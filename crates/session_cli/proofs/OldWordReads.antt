@@ -9,5 +9,8 @@ use Rattle.session_cli.specs.OldWordMakes.{LoadsOld}
 use Rattle.session_cli.proofs.ImageReads.{listed_with, unloaded_with, with_maps}
 
 pub old_with : (files others : Files) (name : List ℕ) (r : Result OldWord Fault) → LoadsOld name files r → LoadsOld name (with_maps files others) r
-old_with files others name (Ok old) is = record { name_is = is.name_is; listed = listed_with files others (first_files (old_mentions old.name)) old.tables.items is.listed }
+old_with files others name (Ok old) is = record {
+  name_is = is.name_is;
+  there = record { mentions_are = is.there.mentions_are; listed = listed_with files others (first_files (old_mentions old.name)) old.mentioned.tables.items is.there.listed };
+}
 old_with files others name (Err fault) refused = unloaded_with files others (first_files (old_mentions name)) fault refused

@@ -11,7 +11,6 @@ use Rattle.formula_resolve.specs.FirstMentions.{first_files, first_systems}
 use Rattle.formula_resolve.specs.Headers.{word_tracks}
 use Rattle.formula_resolve.specs.declared.file.File.TheVariants.{Automaton, Word}
 use Rattle.formula_resolve.proofs.FirstLemmas.{first_once}
-use Rattle.formula_build.specs.KnownNames.{IsFileIn}
 use Rattle.formula_build.specs.Libraries.{word_named}
 use Rattle.named_systems.specs.NamedSystems.{NamedSystem, AreSealed}
 use Rattle.formula_build.specs.Resolved.{plan_headers}
@@ -29,7 +28,6 @@ use Rattle.definitions.specs.Trees.{Ledger, custom_of}
 use Rattle.system_files.specs.SystemFiles.{Custom}
 use Rattle.session_cli.specs.FormulaLoads.{HasSystems}
 use Rattle.session_cli.specs.FormulaSteps.{AreMeant}
-use Rattle.session_cli.specs.ImageMakes.{HasOldWord}
 use Rattle.session_cli.specs.ImageOutcomes.{old_mentions}
 use Rattle.session_cli.specs.TableReads.{TableRead, ARelation, AWord, AreTablesRead, words_in, library_with}
 use Rattle.session_cli.specs.TableReading.{AreReadable}
@@ -66,25 +64,22 @@ module _ (old : List ℕ) (tables : List Loaded) (files : Files) (listed : AreLi
     fits : Fits (library_with reads systems) (plan_headers (headers_of tables)) direction_named
     fits = tables_fit table_holds systems sealed custom tables reads before new meant (files_apart files (first_files (old_mentions old)) tables (first_once (old_mentions old)) listed) old_readable made
 
-    known : IsFileIn (library_with reads systems) (Word old)
-    known = (files_known systems files (first_files (old_mentions old)) tables reads before new listed made).0
+    -- a word is under the name
+    pub old_there : (v : WordValue) × (word_named (words_in reads) old ≡ Some v)
+    old_there = (files_known systems files (first_files (old_mentions old)) tables reads before new listed made).0
 
-    -- a word under the name is over the systems of the header
+    -- it is over the systems of the header
     pub old_over : (v : WordValue) → word_named (words_in reads) old ≡ Some v → IsWordOverSystems (library_with reads systems) (word_tracks (headers_of tables) old) v
     old_over v is = fits.words old v is
 
-    -- one is there
-    pub old_there : length (word_tracks (headers_of tables) old) ≡ 1 → HasOldWord (words_in reads) old (get_or (word_tracks (headers_of tables) old) 0 [])
-    old_there one =
-        let v : WordValue = known.0 in
-        let over : IsWordOverSystems (library_with reads systems) (word_tracks (headers_of tables) old) v = old_over v known.1 in
-        let count : length v.systems ≡ 1 = over.count ∙ one in
-        record {
-          word = v;
-          word_is = known.1;
-          track = count;
-          direction = direction_of_first v.systems count ∙ fits.directions (get_or (word_tracks (headers_of tables) old) 0 []) (get_or v.systems 0 absent_system) (over.each 0 (omega (arith, one)));
-        }
+    -- so it has one where that has one, in the direction that its name decides
+    module _ (v : WordValue) (is : word_named (words_in reads) old ≡ Some v) (one : length (word_tracks (headers_of tables) old) ≡ 1) where
+      pub old_single : length v.systems ≡ 1
+      old_single = (old_over v is).count ∙ one
+
+      pub old_direction : direction_of v.systems ≡ direction_named (get_or (word_tracks (headers_of tables) old) 0 [])
+      old_direction =
+          direction_of_first v.systems old_single ∙ fits.directions (get_or (word_tracks (headers_of tables) old) 0 []) (get_or v.systems 0 absent_system) ((old_over v is).each 0 (omega (arith, one)))
 
     -- it has the letters of what the ledger has under its name
     pub old_means : (ledger : Ledger) → Stores ledger files → custom_of ledger ≡ custom → (v : WordValue) → word_named (words_in reads) old ≡ Some v → HasLettersAs ledger old v

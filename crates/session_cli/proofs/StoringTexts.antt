@@ -1,5 +1,5 @@
 -- A text of an entry is stored, or is too long.
-use Rattle.std.proofs.Common.{◌≡◌, ℕ, Bool, true, false, List, [], ◌++◌, Result, Ok, Err, refl, ◌∙◌}
+use Rattle.std.proofs.Common.{◌≡◌, ℕ, Bool, true, false, List, [], ◌++◌, Option, None, Result, Ok, Err, refl, sym, ap, ◌∙◌, subst, append-nil}
 use Rattle.wal_outside.specs.declared.folder.Folder.{Folder}
 use Rattle.definitions.specs.Texts.{HasText}
 use Rattle.system_files.specs.SystemFiles.{Custom}
@@ -9,10 +9,10 @@ use Rattle.session_cli.specs.declared.fault.Fault.TheVariants as faults
 use Rattle.session_cli.specs.declared.file_change.Made.{Made}
 use Rattle.session_cli.specs.Accepting.{Success, stored}
 use Rattle.session_cli.specs.Checks.{Fails}
-use Rattle.session_cli.specs.Lines.{shown_steps}
+use Rattle.session_cli.specs.Lines.{shown_steps, verdict_line}
 use Rattle.session_cli.specs.FileChanges.{Makes}
 use Rattle.session_cli.specs.TextChanges.{IsTextRefused, StoresText}
-use Rattle.session_cli.specs.WordPrinting.{HasNoWordText, named_text}
+use Rattle.session_cli.specs.WordPrinting.{HasNoWordText, Keeps, named_text}
 use Rattle.session_cli.proofs.CheckNames.{text_success}
 
 nothing_shown : (shown : Bool) → [] ≡ shown_steps shown [] ++ []
@@ -66,7 +66,7 @@ text_stored custom folder name bytes shown (Ok made) is = record {
 text_stored custom folder name bytes shown (Err fault) refused = unstored custom (text_success folder name bytes) bytes fault refl refused
 
 -- a word whose text is too long
-pub word_refused : (names : List (List ℕ)) (v : WordValue) (fault : Fault) → HasNoWordText names v fault → IsTextRefused (named_text names v) fault
+word_refused : (names : List (List ℕ)) (v : WordValue) (fault : Fault) → HasNoWordText names v fault → IsTextRefused (named_text names v) fault
 word_refused names v (faults.Long bytes) refused = refused
 word_refused names v faults.Memory refused = tt
 word_refused names v faults.Command refused = absurd refused
@@ -100,3 +100,17 @@ word_refused names v (faults.BaseNeeded of systems) refused = absurd refused
 word_refused names v (faults.NotRelated one two) refused = absurd refused
 word_refused names v (faults.Store folder of) refused = absurd refused
 word_refused names v faults.ScriptLimit refused = absurd refused
+
+-- the text of a word that is the text of the entry is stored, or it is too long
+pub kept_text : (custom : Custom) (success : Success) (names : List (List ℕ)) (word : WordValue) (shown : Bool) (result : Result Made Fault) → success.verdict ≡ None → HasText custom success.entry (named_text names word) → Keeps names word shown success.lines result
+    → Makes custom (stored custom success) shown result
+kept_text custom success names word shown (Ok made) none has k = record {
+  success = success;
+  answers = (refl, (made.stored.items, own, k.text.1));
+  has_text = own;
+  printed_is = k.printed ∙ (sym (append-nil (shown_steps shown success.lines)) ∙ ap (λ (verdict : Option Bool). shown_steps shown success.lines ++ verdict_line verdict) (sym none));
+}
+  where
+    own : HasText custom success.entry made.stored.items
+    own = subst (HasText custom success.entry) (sym k.text.0) has
+kept_text custom success names word shown (Err fault) none has refused = unstored custom success (named_text names word) fault has (word_refused names word fault refused)

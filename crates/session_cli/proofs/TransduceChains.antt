@@ -124,15 +124,15 @@ pub transduce_own : (admitted : StepLog) (shown : Bool) (read : ReadTransducer) 
 transduce_own admitted shown read custom r is makes =
     let files : Files = with_bases is.0 custom in
     let ledger : Ledger = ledger_of files in
-    let tables = read.old.tables.items in
+    let tables = read.old.mentioned.tables.items in
     own_made (custom_of ledger) (after_transduced_systems ledger (head_of [] [] read) read.transducer tables admitted) (no_more_read ledger (head_of [] [] read) read.transducer tables admitted) shown r
-    (makes ledger files [] [] (files_store files) (found_custom files) (listed_elsewhere is.0 custom (first_files (old_mentions read.old.name)) tables is.1))
+    (makes ledger files [] [] (files_store files) (found_custom files) (listed_elsewhere is.0 custom (first_files (old_mentions read.old.name)) tables is.1.listed))
 
 -- what is made of a head whose transducer and word are read
 pub transduce_read_made : (options : StepOptions) (ledger : Ledger) (head : ImageHead) (read : ReadTransducer) (found : Files) (result : Result Made Fault) → Stores ledger found → IsReadBy head found read → MakesAfterTable options read (found Bases) result
     → Makes (custom_of ledger) (after_transduce_head options.limit ledger head) options.shown result
 transduce_read_made options ledger head read found result stores is makes =
-    let there = makes ledger found head.word head.mapping stores (stored_custom ledger found stores) is.listed in
-    let P : List ℕ → Type 0 = λ old. Makes (custom_of ledger) (after_transduced_table options.limit ledger (record { word = head.word; mapping = head.mapping; old = old }) read.transducer read.old.tables.items) options.shown result in
-    transduce_loaded options.limit ledger head read.transducer (found, stores, is.transducer) read.old.tables.items options.shown result
-    (found, stores, subst (λ (old : List ℕ). AreListedBy found (first_files (old_mentions old)) read.old.tables.items) is.old is.listed) (subst P is.old there)
+    let there = makes ledger found head.word head.mapping stores (stored_custom ledger found stores) is.old.there.listed in
+    let P : List ℕ → Type 0 = λ old. Makes (custom_of ledger) (after_transduced_table options.limit ledger (record { word = head.word; mapping = head.mapping; old = old }) read.transducer read.old.mentioned.tables.items) options.shown result in
+    transduce_loaded options.limit ledger head read.transducer (found, stores, is.transducer) read.old.mentioned.tables.items options.shown result
+    (found, stores, subst (λ (old : List ℕ). AreListedBy found (first_files (old_mentions old)) read.old.mentioned.tables.items) is.old.name_is is.old.there.listed) (subst P is.old.name_is there)

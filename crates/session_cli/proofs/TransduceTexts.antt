@@ -40,15 +40,15 @@ base_is_named : (custom : Custom) (read_direction : Direction) (s : BaseSystem) 
 base_is_named custom read_direction s h old is = subst (λ (d : Direction). IsSystemNamed custom (name_of_base s) d (base s.base)) is.direction_is (inl (Base s.base, (is.base_is, refl), refl))
 
 module _ (read : ReadTransducer) (files : Files) (listed : AreTablesOfOld read.old files) (over : HasMsdBase read) (custom : Custom) (admitted : StepLog) (word : WordValue) (lines : List StepLine) (is : IsTransducedOld admitted custom read word lines) where
-  abbrev before : IsOldWordRead admitted custom read.old.tables.items read.old.name
+  abbrev before : IsOldWordRead admitted custom read.old.mentioned.tables.items read.old.name
   before = is.of_old.made.before
 
-  over_systems : IsWordOverSystems (library_with before.reads before.systems) (word_tracks (headers_of read.old.tables.items) read.old.name) before.word
+  over_systems : IsWordOverSystems (library_with before.reads before.systems) (word_tracks (headers_of read.old.mentioned.tables.items) read.old.name) before.word
   over_systems =
-      old_over read.old.name read.old.tables.items files listed before.systems before.sealed custom before.meant is.of_old.has before.reads admitted before.reading before.read before.word before.word_is
+      old_over read.old.name read.old.mentioned.tables.items files listed before.systems before.sealed custom before.meant is.of_old.has before.reads admitted before.reading before.read before.word before.word_is
 
   old_base : IsOverBaseSystem before.word.systems over.0
-  old_base = word_base custom before.systems before.reads (Some Msd) (headers_of read.old.tables.items) read.old.name over.0 before.word before.meant over.1 over_systems
+  old_base = word_base custom before.systems before.reads (Some Msd) (headers_of read.old.mentioned.tables.items) read.old.name over.0 before.word before.meant over.1 over_systems
 
   new_base : systems_of word.systems ≡ base over.0.base ∷ []
   new_base = ap systems_of is.transduced.systems ∙ old_base.base_is
@@ -64,7 +64,7 @@ module _ (read : ReadTransducer) (files : Files) (listed : AreTablesOfOld read.o
     -- what is under the old name
     pub transduced_entry : HasLettersAs ledger read.old.name before.word
     transduced_entry =
-        old_means read.old.name read.old.tables.items files listed before.systems before.sealed custom before.meant is.of_old.has before.reads admitted before.reading before.read ledger stores same before.word before.word_is
+        old_means read.old.name read.old.mentioned.tables.items files listed before.systems before.sealed custom before.meant is.of_old.has before.reads admitted before.reading before.read ledger stores same before.word before.word_is
 
     -- the text is that of its definition under the transducer
     pub transduced_text : All (λ letter. FitsSigned w32 letter) word.function.letters → HasTreeText (custom_of ledger) (Transduced (named_base over.0) read.transducer (tree_of transduced_entry.entry)) (named_text (name_of_base over.0 ∷ []) word)
@@ -75,7 +75,7 @@ module _ (read : ReadTransducer) (files : Files) (listed : AreTablesOfOld read.o
         let named : IsWordNamed (custom_of ledger) Msd (system ∷ []) word = record {
           word = is.transduced.word_is;
           fits = fits;
-          are = (base_is_named (custom_of ledger) Msd over.0 (headers_of read.old.tables.items) read.old.name over.1, tt);
+          are = (base_is_named (custom_of ledger) Msd over.0 (headers_of read.old.mentioned.tables.items) read.old.name over.1, tt);
           direction = new_direction;
           systems_are = sym new_base;
         } in

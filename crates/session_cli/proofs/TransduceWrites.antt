@@ -14,12 +14,13 @@ use Rattle.session_cli.specs.declared.file_change.Made.{Made}
 use Rattle.session_cli.specs.declared.transduce.ReadTransducer.{ReadTransducer}
 use Rattle.session_cli.specs.BaseWords.{name_of_base, named_base}
 use Rattle.session_cli.specs.Checks.{Fails}
-use Rattle.session_cli.specs.OldWordMakes.{AreTablesOfOld, Keeps}
+use Rattle.session_cli.specs.OldWordMakes.{AreTablesOfOld}
 use Rattle.session_cli.specs.OldWordSteps.{old_word_done}
 use Rattle.session_cli.specs.FileChanges.{Makes}
 use Rattle.session_cli.specs.TransduceMakes.{HasMsdBase, IsTransducedOld, head_of}
 use Rattle.session_cli.specs.TransduceOutcomes.{after_transduced_systems}
 use Rattle.session_cli.specs.TransduceSteps.{DoesTransduce}
+use Rattle.session_cli.specs.WordPrinting.{Keeps}
 use Rattle.session_cli.proofs.OldWordChains.{old_stopped, old_stored}
 use Rattle.session_cli.proofs.TableMeanings.{HasLettersAs}
 use Rattle.session_cli.proofs.TransduceChains.{base_passed}
@@ -30,17 +31,17 @@ module _ (ledger : Ledger) (read : ReadTransducer) (over : HasMsdBase read) (wor
   made_of = λ tree. Transduced (named_base over.0) read.transducer tree
 
   -- the steps are refused
-  pub transduced_unmade : (fault : Fault) → Fails (old_word_done admitted (custom_of ledger) read.old.tables.items read.old.name (DoesTransduce read.transducer)) fault
-      → Fails (after_transduced_systems ledger (head_of word mapping read) read.transducer read.old.tables.items admitted) fault
+  pub transduced_unmade : (fault : Fault) → Fails (old_word_done admitted (custom_of ledger) read.old.mentioned.tables.items read.old.name (DoesTransduce read.transducer)) fault
+      → Fails (after_transduced_systems ledger (head_of word mapping read) read.transducer read.old.mentioned.tables.items admitted) fault
   transduced_unmade fault refused =
-      base_passed ledger (head_of word mapping read) read.transducer read.old.tables.items admitted over.0 true (Err fault) over.1
-      (old_stopped ledger word read.old.name (DoesTransduce read.transducer) made_of read.old.tables.items admitted fault refused)
+      base_passed ledger (head_of word mapping read) read.transducer read.old.mentioned.tables.items admitted over.0 true (Err fault) over.1
+      (old_stopped ledger word read.old.name (DoesTransduce read.transducer) made_of read.old.mentioned.tables.items admitted fault refused)
 
   -- the text is stored, or it is too long
   pub transduced_kept : (files : Files) → Stores ledger files → AreTablesOfOld read.old files → (made : WordValue) (lines : List StepLine) → IsTransducedOld admitted (custom_of ledger) read made lines → All (λ letter. FitsSigned w32 letter) made.function.letters
-      → (shown : Bool) (result : Result Made Fault) → Keeps (name_of_base over.0 ∷ []) made shown lines result → Makes (custom_of ledger) (after_transduced_systems ledger (head_of word mapping read) read.transducer read.old.tables.items admitted) shown result
+      → (shown : Bool) (result : Result Made Fault) → Keeps (name_of_base over.0 ∷ []) made shown lines result → Makes (custom_of ledger) (after_transduced_systems ledger (head_of word mapping read) read.transducer read.old.mentioned.tables.items admitted) shown result
   transduced_kept files stores listed made lines is fits shown result keeps =
       let entry : HasLettersAs ledger read.old.name is.of_old.made.before.word = transduced_entry read files listed over (custom_of ledger) admitted made lines is ledger stores refl in
-      base_passed ledger (head_of word mapping read) read.transducer read.old.tables.items admitted over.0 shown result over.1
-      (old_stored ledger word read.old.name (DoesTransduce read.transducer) made_of read.old.tables.items admitted made lines is.of_old.made entry.entry entry.there (name_of_base over.0 ∷ [])
+      base_passed ledger (head_of word mapping read) read.transducer read.old.mentioned.tables.items admitted over.0 shown result over.1
+      (old_stored ledger word read.old.name (DoesTransduce read.transducer) made_of read.old.mentioned.tables.items admitted made lines is.of_old.made entry.entry entry.there (name_of_base over.0 ∷ [])
       (transduced_text read files listed over (custom_of ledger) admitted made lines is ledger stores refl fits) shown result keeps)

@@ -23,11 +23,10 @@ use Rattle.session_cli.specs.declared.fault.Fault.{Fault}
 use Rattle.session_cli.specs.declared.file_change.Made.{Made}
 use Rattle.session_cli.specs.declared.step_options.StepOptions.{StepOptions}
 use Rattle.session_cli.specs.Checks.{Fails, Pure}
-use Rattle.session_cli.specs.CombineOutcomes.{listed_names, listed_files, listed_systems, first_plain, HaveSystemsOfFirst, CombinedAnswers, after_listed_tables, after_listed_systems}
+use Rattle.session_cli.specs.CombineOutcomes.{listed_names, listed_files, listed_mentions, first_plain, HaveSystemsOfFirst, CombinedAnswers, after_listed_tables, after_listed_systems}
 use Rattle.session_cli.specs.CombineSteps.{AreCombineSteps}
-use Rattle.session_cli.specs.FormulaLoads.{HasSystems}
-use Rattle.session_cli.specs.FormulaSteps.{AreMeant}
 use Rattle.session_cli.specs.FileChanges.{Makes}
+use Rattle.session_cli.specs.MentionedTables.{AreLoaded, AreNames}
 
 -- the automata in their order
 abbrev pub automata_in : List valued.ValuedName → List ValuedName
@@ -42,18 +41,17 @@ head_of word read = record { word = word; automata = automata_of read }
 
 -- the files list the tables
 abbrev pub AreTablesOf : ListedAutomata → Files → Type 0
-AreTablesOf read files = AreListedBy files (listed_files (automata_of read)) read.tables.items
+AreTablesOf read files = AreListedBy files (listed_files (automata_of read)) read.mentioned.tables.items
 
--- there are some automata, whose places are numbers of 32 bits, signed, and some files list the tables
+-- there are some automata, whose places are numbers of 32 bits, signed, and what they mention is loaded
 pub record IsReadList (read : ListedAutomata) : Type 0 where
   pub some : read.automata.items ≢ []
   pub few : length read.automata.items < 2 ^ 31
-  pub files : Files
-  pub listed : AreTablesOf read files
+  pub loaded : AreLoaded (listed_mentions (automata_of read)) read.mentioned
 
--- the systems of their tracks
-abbrev pub listed_systems_of : ListedAutomata → List (List ℕ)
-listed_systems_of read = listed_systems read.tables.items (automata_of read)
+-- the names of the systems of their tracks mean these
+abbrev pub AreListedNames : ListedAutomata → Custom → Names → Type 0
+AreListedNames read custom names = AreNames (listed_mentions (automata_of read)) read.mentioned.tables.items custom names
 
 -- the systems of the tracks of the first of some automata
 abbrev pub first_names : Headers → List (List ℕ) → List (List ℕ)
@@ -63,11 +61,9 @@ first_names h (name ∷ names) = automaton_tracks h name
 -- their systems are sealed, each under its name, none is over sets, and all have the systems of the first
 pub record IsPossible (read : ListedAutomata) (names : Names) : Type 0 where
   pub read_list : IsReadList read
-  pub headers : names.headers ≡ headers_of read.tables.items
-  pub systems : HasSystems (listed_systems_of read) names.systems
-  pub meant : (custom : Custom) × AreMeant custom names.systems
-  pub plain : first_plain (headers_of read.tables.items) (listed_names (automata_of read)) ≡ None
-  pub shape : HaveSystemsOfFirst (headers_of read.tables.items) (listed_names (automata_of read))
+  pub named : (custom : Custom) × AreListedNames read custom names
+  pub plain : first_plain (headers_of read.mentioned.tables.items) (listed_names (automata_of read)) ≡ None
+  pub shape : HaveSystemsOfFirst (headers_of read.mentioned.tables.items) (listed_names (automata_of read))
 
 -- a relation is under each of their names
 abbrev pub HasRelations : List NamedRelation → List ValuedName → Type 0
@@ -75,20 +71,20 @@ HasRelations relations automata = AllByRecursion (λ (v : ValuedName). (r : Rela
 
 -- over these systems the steps make the word
 pub record AreStepsOver (admitted : StepLog) (custom : Custom) (systems : List NamedSystem) (read : ListedAutomata) (word : WordValue) (lines : List StepLine) : Type 0 where
-  pub steps : AreCombineSteps admitted custom read.tables.items (automata_of read) word lines
+  pub steps : AreCombineSteps admitted custom read.mentioned.tables.items (automata_of read) word lines
   pub systems_are : steps.before.systems ≡ systems
 
 -- they do, or why they do not
 abbrev pub MakesWord : StepLog → Custom → List NamedSystem → ListedAutomata → Result WordValue Fault → StepLog → Type 0
 MakesWord admitted custom systems read result new =
-    MatchResult result (λ word. AreStepsOver admitted custom systems read word new.lines) (Fails (Pure (CombinedAnswers admitted custom read.tables.items (automata_of read))))
+    MatchResult result (λ word. AreStepsOver admitted custom systems read word new.lines) (Fails (Pure (CombinedAnswers admitted custom read.mentioned.tables.items (automata_of read))))
 
 -- by these texts of users' systems this is what the checks after the tables make
 abbrev pub MakesAfterListed : StepOptions → ListedAutomata → Custom → Result Made Fault → Type 0
 MakesAfterListed options read custom result = (ledger : Ledger) (files : Files) (word : List ℕ) → Stores ledger files → custom_of ledger ≡ custom → AreTablesOf read files
-    → Makes (custom_of ledger) (after_listed_tables options.limit ledger (head_of word read) read.tables.items) options.shown result
+    → Makes (custom_of ledger) (after_listed_tables options.limit ledger (head_of word read) read.mentioned.tables.items) options.shown result
 
 -- and those after the systems
 abbrev pub MakesAfterListedSystems : StepLog → Bool → ListedAutomata → Custom → Result Made Fault → Type 0
 MakesAfterListedSystems admitted shown read custom result = (ledger : Ledger) (files : Files) (word : List ℕ) → Stores ledger files → custom_of ledger ≡ custom → AreTablesOf read files
-    → Makes (custom_of ledger) (after_listed_systems ledger (head_of word read) read.tables.items admitted) shown result
+    → Makes (custom_of ledger) (after_listed_systems ledger (head_of word read) read.mentioned.tables.items admitted) shown result

@@ -1,10 +1,9 @@
 -- What the code makes of a word that is wanted over another base, part by part.
-use Rattle.std.specs.Prelude.{◌≡◌, ◌↔◌, ℕ, ℤ, Bool, List, [], ◌∷◌, None, Result, MatchResult}
+use Rattle.std.specs.Prelude.{◌≡◌, ◌↔◌, ℕ, ℤ, Bool, List, [], ◌∷◌, None, Result}
 use Rattle.std.specs.Rc.{rc_value}
 use Rattle.command_head.specs.Heads.{ConvertHead}
 use Rattle.dfa_loading.specs.Headers.{headers_of}
 use Rattle.digit_tuple.specs.Steps.{StepLog}
-use Rattle.digit_tuple.specs.declared.step_fault.StepFault.{StepFault}
 use Rattle.digit_tuple.specs.declared.steps.StepLine.{StepLine}
 use Rattle.wal_outside.specs.Files.{Files}
 use Rattle.word_output.specs.Words.{HasLetter, IsWordValue, WordValue}
@@ -20,13 +19,10 @@ use Rattle.session_cli.specs.declared.old_word.OldWord.{OldWord}
 use Rattle.session_cli.specs.declared.file_change.Made.{Made}
 use Rattle.session_cli.specs.declared.step_options.StepOptions.{StepOptions}
 use Rattle.session_cli.specs.BaseWords.{IsBaseOf}
-use Rattle.session_cli.specs.Checks.{Fails}
 use Rattle.session_cli.specs.ConvertOutcomes.{IsChange, after_convert_systems, after_convert_table}
 use Rattle.session_cli.specs.ConvertSteps.{DoesConvert, IsSealedBase}
 use Rattle.session_cli.specs.OldWordMakes.{AreTablesOfOld, IsMadeOfOld}
-use Rattle.session_cli.specs.OldWordSteps.{old_word_done}
 use Rattle.session_cli.specs.FileChanges.{Makes}
-use Rattle.session_cli.specs.TrackSystems.{fault_of}
 
 -- a head of this new name, the system and the old word
 abbrev pub head_of : List ℕ → ReadConvert → ConvertHead
@@ -35,7 +31,7 @@ head_of word read = record { word = word; system = read.system; old = read.old.n
 -- the old word has one track over a base, which is changed so to the system of a name, and the target is that
 pub record IsConvertible (old : OldWord) (change : Change) (target : Target) : Type 0 where
   pub over : BaseSystem
-  pub over_is : IsBaseOf None (headers_of old.tables.items) old.name over
+  pub over_is : IsBaseOf None (headers_of old.mentioned.tables.items) old.name over
   pub name : List ℕ
   pub change_is : IsChange over name change
   pub system_is : IsSealedBase change.system (rc_value target.system)
@@ -51,17 +47,12 @@ pub record IsConverted (admitted : StepLog) (custom : Custom) (old : OldWord) (c
   pub word_is : IsWordValue word
   pub letters : HasSameLetters of_old.made.before.word word
 
--- the steps make the word, or why they do not
-abbrev pub MakesConverted : StepLog → Custom → OldWord → Change → Result WordValue StepFault → StepLog → Type 0
-MakesConverted admitted custom old change result new =
-    MatchResult result (λ word. IsConverted admitted custom old change word new.lines) (λ fault. Fails (old_word_done admitted custom old.tables.items old.name (DoesConvert change)) (fault_of fault))
-
 -- by these texts of users' systems this is what the checks after the table make
 abbrev pub MakesAfterConvertTable : StepOptions → ReadConvert → Custom → Result Made Fault → Type 0
 MakesAfterConvertTable options read custom result = (ledger : Ledger) (files : Files) (word : List ℕ) → Stores ledger files → custom_of ledger ≡ custom → AreTablesOfOld read.old files
-    → Makes (custom_of ledger) (after_convert_table options.limit ledger (head_of word read) read.old.tables.items) options.shown result
+    → Makes (custom_of ledger) (after_convert_table options.limit ledger (head_of word read) read.old.mentioned.tables.items) options.shown result
 
 -- and those after the systems
 abbrev pub MakesAfterConvertSystems : StepLog → Bool → ReadConvert → Custom → Result Made Fault → Type 0
 MakesAfterConvertSystems admitted shown read custom result = (ledger : Ledger) (files : Files) (word : List ℕ) → Stores ledger files → custom_of ledger ≡ custom → AreTablesOfOld read.old files
-    → Makes (custom_of ledger) (after_convert_systems ledger (head_of word read) read.old.tables.items admitted) shown result
+    → Makes (custom_of ledger) (after_convert_systems ledger (head_of word read) read.old.mentioned.tables.items admitted) shown result

@@ -1,13 +1,9 @@
 -- What the code does for a formula, part by part.
-use Rattle.std.specs.Prelude.{◌≡◌, ◌≢◌, ◌↔◌, ◌⊎◌, ℕ, ◌<◌, ◌≤◌, List, [], ◌∷◌, length, Bool, IsTrue, Result, MatchResult, ⊤}
+use Rattle.std.specs.Prelude.{◌≡◌, ◌≢◌, ◌↔◌, ◌⊎◌, ℕ, ◌<◌, ◌≤◌, List, [], length, Bool, IsTrue, ⊤, map}
 use Rattle.std.specs.List.{AllByRecursion}
-use Rattle.std.specs.declared.alloc.Global.{Global}
-use Rattle.std.specs.declared.vec.Vec.{Vec}
 use Rattle.wal_outside.specs.Files.{Files}
-use Rattle.dfa_loading.specs.Loading.{AreListedBy, FirstRefuses, ReadsAt}
+use Rattle.dfa_loading.specs.Loading.{FirstRefuses, ReadsAt}
 use Rattle.dfa_loading.specs.declared.fault.LoadFault.TheVariants as loads
-use Rattle.dfa_loading.specs.declared.loaded.Loaded.{Loaded}
-use Rattle.digit_tuple.specs.Systems.{IsDigitCount}
 use Rattle.digit_tuple.specs.declared.header.Header.TheVariants as headers
 use Rattle.digit_tuple.specs.declared.systems.SystemTrack.{SystemTrack}
 use Rattle.dfa_text.specs.RelationText.{relation_text}
@@ -20,6 +16,7 @@ use Rattle.number_relations.specs.Relations.{RelationValue, RelationHolds}
 use Rattle.session_cli.specs.declared.fault.Fault.{Fault}
 use Rattle.session_cli.specs.declared.fault.Fault.TheVariants as faults
 use Rattle.definitions.specs.FormulaTexts.{truth_text}
+use Rattle.session_cli.specs.WordPrinting.{HaveNames, tracks_named}
 
 -- why the tables of some files are not there
 abbrev pub AreUnloaded : Files → List File → Fault → Type 0
@@ -29,25 +26,22 @@ AreUnloaded files named (faults.Store folder name) = ReadsAt files named folder 
 AreUnloaded files named faults.Memory = ⊤
 AreUnloaded files named fault = ⊥
 
--- the tables of the files, or why they are not there
-abbrev pub LoadsTables : List File → Files → Result (Vec Loaded Global) Fault → Type 0
-LoadsTables named files result = MatchResult result (λ tables. AreListedBy files named tables.items) (AreUnloaded files named)
-
 -- each of these names and the default means a system
 pub record HasSystems (names : List (List ℕ)) (systems : List NamedSystem) : Type 0 where
   pub mentioned : AllByRecursion (HasSystemIn systems) names
   pub default : HasSystemIn systems default_system
 
+-- the names of the systems of variables
+abbrev pub variable_systems : List Variable → List (List ℕ)
+variable_systems variables = map (λ (v : Variable). v.system) variables
+
 -- the tracks of variables over these systems, as long as there are both
 abbrev pub tracks_over : List Variable → List SystemValue → List SystemTrack
-tracks_over [] systems = []
-tracks_over (v ∷ variables) [] = []
-tracks_over (v ∷ variables) (s ∷ systems) = record { name = v.system; digits = s.digits } ∷ tracks_over variables systems
+tracks_over variables systems = tracks_named (variable_systems variables) systems
 
 -- there is a variable for each of the systems, and each has as many digits as a track may have
-pub record HaveTracks (variables : List Variable) (systems : List SystemValue) : Type 0 where
-  pub count : length variables ≡ length systems
-  pub digits : AllByRecursion (λ (s : SystemValue). IsDigitCount s.digits) systems
+abbrev pub HaveTracks : List Variable → List SystemValue → Type 0
+HaveTracks variables systems = HaveNames (variable_systems variables) systems
 
 -- the text of the automaton under the names of these systems
 abbrev pub automaton_text : List Variable → RelationValue → List ℕ

@@ -4,6 +4,7 @@ use Rattle.std.specs.Prelude.{◌≡◌, ◌⊎◌, List, [], Result, Err}
 use Rattle.std.specs.List.{AllByRecursion}
 use Rattle.digit_tuple.specs.Steps.{StepLog}
 use Rattle.digit_tuple.specs.declared.step_fault.StepFault.{StepFault}
+use Rattle.digit_tuple.specs.declared.step_fault.StepFault.TheVariants.{Memory}
 use Rattle.digit_tuple.specs.declared.steps.StepLine.{StepLine}
 use Rattle.dfa_loading.specs.Headers.{headers_of}
 use Rattle.dfa_loading.specs.declared.loaded.Loaded.{Loaded}
@@ -44,6 +45,10 @@ pub record IsReadingStopped (admitted : StepLog) (custom : Custom) (tables : Lis
   pub sealed : AreSealed systems
   pub meant : AreMeant custom systems
   pub refused : IsReadingRefused systems admitted tables fault
+
+-- or memory runs out there
+abbrev pub IsUnread : StepLog → Custom → List Loaded → StepFault → Type 0
+IsUnread admitted custom tables fault = (fault ≡ Memory) ⊎ IsReadingStopped admitted custom tables fault
 
 -- a step that reads a table, or one of the change, is the first to pass a limit
 abbrev pub AreStepsRefused : StepLog → Custom → List Loaded → trees.Formula → StepFault → Type 0

@@ -48,12 +48,13 @@ pub mod UserSystems
 pub mod TrackSystems
 pub mod VariablesOver
 pub mod FormulaLoads
+pub mod MentionedTables
 pub mod FormulaMakes
 pub mod MacroMakes
 pub mod CombineMakes
+pub mod OldWordMakes
 pub mod ImageMakes
 pub mod LanguageMakes
-pub mod OldWordMakes
 pub mod TransduceMakes
 pub mod ListingFaults
 pub mod WordPrinting

@@ -14,6 +14,7 @@ use Rattle.dfa_loading.specs.declared.loaded.Loaded.{Loaded}
 use Rattle.dfa_reading.specs.Headers.{Header, Truth, Systems, Sets}
 use Rattle.dfa_reading.specs.Listed.{Listed}
 use Rattle.dfa_reading.specs.Reading.{relation_of}
+use Rattle.formula_build.specs.declared.names.Names.{Names}
 use Rattle.named_systems.specs.NamedSystems.{NamedSystem, AreSealed}
 use Rattle.num_system.specs.Sealed.{SystemValue, IsSealed}
 use Rattle.num_system.specs.Tracks.{direction_of}
@@ -36,9 +37,10 @@ use Rattle.session_cli.specs.declared.listing_fault.ListingFault.{ListingFault}
 use Rattle.session_cli.specs.declared.listing_fault.ListingFault.TheVariants as own
 use Rattle.session_cli.specs.declared.step_options.StepOptions.{StepOptions}
 use Rattle.session_cli.specs.FormulaSteps.{AreMeant}
-use Rattle.session_cli.specs.ListingOutcomes.{Reply, Lines, Verdict, reply_text, after_listing_systems, after_listing_tables, listing_files, listing_systems}
+use Rattle.session_cli.specs.ListingOutcomes.{Reply, Lines, Verdict, reply_text, after_listing_systems, after_listing_tables, listing_files, listing_mentions}
 use Rattle.session_cli.specs.Lines.{shown_steps}
 use Rattle.session_cli.specs.FileChanges.{Tells}
+use Rattle.session_cli.specs.MentionedTables.{AreLoaded, AreNames}
 use Rattle.session_cli.specs.TableReading.{IsReadable}
 use Rattle.session_cli.specs.TableReads.{AreSystemsUnder}
 use Rattle.session_cli.specs.WordPrinting.{HaveNames, tracks_named}
@@ -126,14 +128,13 @@ pub record CanBeListed (systems : List NamedSystem) (table : Loaded) : Type 0 wh
   pub readable : is_over_sets table.listed.header ≡ false → IsReadable systems table
   pub meant : (custom : Custom) × AreMeant custom systems
 
--- some files list the table
-pub record IsReadListing (read : ReadListing) : Type 0 where
-  pub files : Files
-  pub listed : AreListedBy files (listing_files read.asked.name) read.tables.items
+-- the automaton is mentioned, and loaded
+abbrev pub IsReadListing : ReadListing → Type 0
+IsReadListing read = AreLoaded (listing_mentions read.asked.name) read.mentioned
 
--- the systems of its tracks
-abbrev pub listing_systems_of : ReadListing → List (List ℕ)
-listing_systems_of read = listing_systems read.tables.items read.asked.name
+-- the names of the systems of its tracks mean these
+abbrev pub AreListingNames : ReadListing → Custom → Names → Type 0
+AreListingNames read custom names = AreNames (listing_mentions read.asked.name) read.mentioned.tables.items custom names
 
 -- an answer as what is said, and what is printed of it and of the steps
 abbrev pub reply_of : Answer → Reply
@@ -145,10 +146,10 @@ answer_text shown lines answer = shown_steps shown lines ++ reply_text (reply_of
 
 -- by these texts of users' systems this is what the checks after the table make
 abbrev pub TellsAfterTables : StepOptions → ReadListing → Custom → Result (List ℕ) Fault → Type 0
-TellsAfterTables options read custom result = (ledger : Ledger) (files : Files) → Stores ledger files → custom_of ledger ≡ custom → AreListedBy files (listing_files read.asked.name) read.tables.items
-    → Tells (after_listing_tables options.limit ledger read.asked.name read.asked.question read.tables.items) options.shown result
+TellsAfterTables options read custom result = (ledger : Ledger) (files : Files) → Stores ledger files → custom_of ledger ≡ custom → AreListedBy files (listing_files read.asked.name) read.mentioned.tables.items
+    → Tells (after_listing_tables options.limit ledger read.asked.name read.asked.question read.mentioned.tables.items) options.shown result
 
 -- and those after the systems
 abbrev pub TellsAfterSystems : StepLog → Bool → ReadListing → Custom → Result (List ℕ) Fault → Type 0
-TellsAfterSystems admitted shown read custom result = (ledger : Ledger) (files : Files) → Stores ledger files → custom_of ledger ≡ custom → AreListedBy files (listing_files read.asked.name) read.tables.items
-    → Tells (after_listing_systems ledger read.asked.name read.asked.question read.tables.items admitted) shown result
+TellsAfterSystems admitted shown read custom result = (ledger : Ledger) (files : Files) → Stores ledger files → custom_of ledger ≡ custom → AreListedBy files (listing_files read.asked.name) read.mentioned.tables.items
+    → Tells (after_listing_systems ledger read.asked.name read.asked.question read.mentioned.tables.items admitted) shown result

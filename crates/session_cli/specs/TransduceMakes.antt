@@ -20,8 +20,7 @@ use Rattle.session_cli.specs.declared.step_options.StepOptions.{StepOptions}
 use Rattle.session_cli.specs.declared.transduce.ReadTransducer.{ReadTransducer}
 use Rattle.session_cli.specs.BaseWords.{IsBaseOf, IsOverBase}
 use Rattle.session_cli.specs.Checks.{Fails}
-use Rattle.session_cli.specs.OldWordMakes.{AreTablesOfOld, IsMadeOfOld}
-use Rattle.session_cli.specs.OldWordSteps.{old_word_done}
+use Rattle.session_cli.specs.OldWordMakes.{AreTablesOfOld, IsMadeOfOld, IsOldAt}
 use Rattle.session_cli.specs.FileChanges.{Makes}
 use Rattle.session_cli.specs.TransduceOutcomes.{after_transduce_head, after_transduced_systems, after_transduced_table}
 use Rattle.session_cli.specs.TransduceSteps.{DoesTransduce}
@@ -32,9 +31,8 @@ head_of word mapping read = record { word = word; mapping = mapping; old = read.
 
 -- the transducer and the table are those that the files have under the names of a head
 pub record IsReadBy (head : ImageHead) (files : Files) (read : ReadTransducer) : Type 0 where
-  pub old : read.old.name ≡ head.old
   pub transducer : IsTransducerIn files head.mapping read.transducer
-  pub listed : AreTablesOfOld read.old files
+  pub old : IsOldAt head.old files read.old
 
 -- a command of this head is refused by the files
 abbrev pub IsUnread : ImageHead → Files → Fault → Type 0
@@ -55,21 +53,16 @@ pub record IsTransducedOld (admitted : StepLog) (custom : Custom) (read : ReadTr
   pub of_old : IsMadeOfOld admitted custom read.old (DoesTransduce read.transducer) word lines
   pub transduced : IsTransduced read.transducer of_old.made.before.word word
 
--- the steps make the word, or why they do not
-abbrev pub MakesTransduced : StepLog → Custom → ReadTransducer → Result WordValue Fault → StepLog → Type 0
-MakesTransduced admitted custom read result new =
-    MatchResult result (λ word. IsTransducedOld admitted custom read word new.lines) (Fails (old_word_done admitted custom read.old.tables.items read.old.name (DoesTransduce read.transducer)))
-
 -- the old word is over some base, the most significant digit first
 abbrev pub HasMsdBase : ReadTransducer → Type 0
-HasMsdBase read = (over : BaseSystem) × IsBaseOf (Some Msd) (headers_of read.old.tables.items) read.old.name over
+HasMsdBase read = (over : BaseSystem) × IsBaseOf (Some Msd) (headers_of read.old.mentioned.tables.items) read.old.name over
 
 -- by these texts of users' systems this is what the checks after the table make
 abbrev pub MakesAfterTable : StepOptions → ReadTransducer → Custom → Result Made Fault → Type 0
 MakesAfterTable options read custom result = (ledger : Ledger) (files : Files) (word mapping : List ℕ) → Stores ledger files → custom_of ledger ≡ custom → AreTablesOfOld read.old files
-    → Makes (custom_of ledger) (after_transduced_table options.limit ledger (head_of word mapping read) read.transducer read.old.tables.items) options.shown result
+    → Makes (custom_of ledger) (after_transduced_table options.limit ledger (head_of word mapping read) read.transducer read.old.mentioned.tables.items) options.shown result
 
 -- and those after the systems
 abbrev pub MakesAfterSystems : StepLog → Bool → ReadTransducer → Custom → Result Made Fault → Type 0
 MakesAfterSystems admitted shown read custom result = (ledger : Ledger) (files : Files) (word mapping : List ℕ) → Stores ledger files → custom_of ledger ≡ custom → AreTablesOfOld read.old files
-    → Makes (custom_of ledger) (after_transduced_systems ledger (head_of word mapping read) read.transducer read.old.tables.items admitted) shown result
+    → Makes (custom_of ledger) (after_transduced_systems ledger (head_of word mapping read) read.transducer read.old.mentioned.tables.items admitted) shown result

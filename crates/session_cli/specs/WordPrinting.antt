@@ -1,5 +1,5 @@
 -- The texts of words under the names of systems.
-use Rattle.std.specs.Prelude.{◌≡◌, ℕ, ◌<◌, ◌≤◌, List, [], ◌∷◌, length, ⊤}
+use Rattle.std.specs.Prelude.{◌≡◌, ℕ, ◌<◌, ◌≤◌, List, [], ◌∷◌, length, ⊤, Bool, Result, MatchResult}
 use Rattle.std.specs.List.{AllByRecursion}
 use Rattle.digit_tuple.specs.Systems.{IsDigitCount}
 use Rattle.digit_tuple.specs.declared.header.Header.TheVariants as headers
@@ -9,6 +9,9 @@ use Rattle.num_system.specs.Sealed.{SystemValue}
 use Rattle.word_output.specs.Words.{WordValue}
 use Rattle.word_output.specs.LetterFunctions.{outputs_of}
 use Rattle.session_cli.specs.declared.fault.Fault.{Fault}
+use Rattle.session_cli.specs.declared.file_change.Made.{Made}
+use Rattle.session_cli.specs.Lines.{shown_steps}
+use Rattle.digit_tuple.specs.declared.steps.StepLine.{StepLine}
 use Rattle.session_cli.specs.declared.fault.Fault.TheVariants as faults
 
 -- the tracks of these names over these systems, as long as there are both
@@ -35,3 +38,11 @@ abbrev pub HasNoWordText : List (List ℕ) → WordValue → Fault → Type 0
 HasNoWordText names v (faults.Long bytes) = (bytes ≡ 16777216) × (16777216 < length (named_text names v))
 HasNoWordText names v faults.Memory = ⊤
 HasNoWordText names v _ = ⊥
+
+-- the text of a word under these names, and the lines of the steps; or why there is no text
+pub record IsKept (names : List (List ℕ)) (word : WordValue) (shown : Bool) (lines : List StepLine) (made : Made) : Type 0 where
+  pub text : IsWordTextOf names word made.stored.items
+  pub printed : made.printed ≡ shown_steps shown lines
+
+abbrev pub Keeps : List (List ℕ) → WordValue → Bool → List StepLine → Result Made Fault → Type 0
+Keeps names word shown lines result = MatchResult result (IsKept names word shown lines) (HasNoWordText names word)

@@ -6,43 +6,36 @@ ghost use Rattle.combinations.specs.CombineSteps.{DoesCombine};
 ghost use Rattle.combinations.specs.Parts.{systems_at};
 ghost use Rattle.combinations.specs.Shapes.{HaveOneShape as HaveOneTracks};
 ghost use Rattle.combinations.specs.declared.combine_fault.CombineFault.TheVariants.{Step};
-ghost use Rattle.dfa_loading.specs.Headers.{headers_of as headers_in};
 ghost use Rattle.formula_resolve.specs.Headers.{automaton_tracks as tracks_in};
 ghost use Rattle.definitions.specs.Texts.{Stores};
 ghost use Rattle.definitions.specs.Trees.{Ledger, custom_of};
 ghost use Rattle.system_files.specs.SystemFiles.{Custom};
 ghost use Rattle.session_cli.specs.Checks.{Fails, Pure};
-ghost use Rattle.session_cli.specs.CombineMakes.{IsReadList, IsPossible, HasRelations, MakesAfterListed, MakesAfterListedSystems, MakesWord, automata_in, first_names, listed_systems_of};
+ghost use Rattle.session_cli.specs.CombineMakes.{IsReadList, IsPossible, HasRelations, MakesAfterListed, AreListedNames, MakesAfterListedSystems, MakesWord, automata_in, first_names};
 ghost use Rattle.session_cli.specs.CombineOutcomes.{listed_names, listed_mentions, first_plain, PlainAnswers, HaveSystemsOfFirst, ShapeAnswers, IsFirstOver, after_combine_head, combine_checks};
 ghost use Rattle.session_cli.specs.CombineSteps.{ArePartsFrom};
-ghost use Rattle.session_cli.specs.FormulaLoads.{HasSystems};
-ghost use Rattle.session_cli.specs.FormulaSteps.{AreMeant};
 ghost use Rattle.session_cli.specs.FileChanges.{Makes, ChangesFile};
 ghost use Rattle.session_cli.specs.StoreReads.{FromFiles, FromTexts};
 
 use crate::fault::Fault;
 use crate::file_change::{FileChange, Made};
 use crate::kept::Kept;
-use crate::printed::Printed;
+use crate::mentioned_tables::{MentionedTables, SealedNames, load_mentioned, names_of};
 use crate::step_options::StepOptions;
-use crate::table_loading::load_mentioned;
 use crate::table_reading::read_tables;
-use crate::user_systems::admitted;
-use crate::word_text::{letters_fit, word_text};
+use crate::word_text::{letters_fit, word_made};
 use combinations::combine::combine;
 use combinations::combine_fault::CombineFault;
 use combinations::part::Part;
 use command_head::{CombineParts, ValuedName, combine_parts};
-use dfa_loading::{Loaded, headers_of};
 use digit_tuple::faults::OutOfMemory;
 use digit_tuple::name::Name;
 use digit_tuple::step_fault::StepFault;
 use digit_tuple::steps::Steps;
 use formula_build::{Library, Names};
-use formula_resolve::{Headers, Mention, first_systems};
+use formula_resolve::{Headers, Mention};
 use kept_tables::KeptTables;
 use std::alloc::Global;
-use system_admission::UserSystems;
 use wal_outside::{Folder, Store};
 use word_output::word::Word;
 
@@ -84,12 +77,15 @@ fn combine_made<T: Store>(
     requires few { length automata.items < 2 ^ 31 }
     ensures { FromFiles (λ found made. (ledger : Ledger) (word : List ℕ) → Stores ledger found → Makes (custom_of ledger) (after_combine_head options.limit ledger (record { word = word; automata = automata_in automata.items })) options.shown made) (T.view store.old) result (T.view store.new) }
 {
-    let mentioned = mentions_of(alloc, &automata)?;
-    let tables = load_mentioned(alloc, &mentioned, store)?;
+    let mentions = mentions_of(alloc, &automata)?;
+    let mentioned = load_mentioned(alloc, mentions, store)?;
     made_of(
         alloc,
         options,
-        &ListedAutomata { automata, tables },
+        &ListedAutomata {
+            automata,
+            mentioned,
+        },
         kept,
         store,
     )
@@ -111,8 +107,8 @@ fn mentions_of(alloc: Global, automata: &[ValuedName]) -> Result<Vec<Mention>, O
 struct ListedAutomata {
     /// The automata, in their order.
     automata: Vec<ValuedName>,
-    /// The tables, each once, in the order in which the files are listed first.
-    tables: Vec<Loaded>,
+    /// What they mention.
+    mentioned: MentionedTables,
 }
 
 /// What is made of automata whose files are loaded. Users' systems of their tracks are read and admitted first.
@@ -126,21 +122,8 @@ fn made_of<T: Store>(
     requires { IsReadList read.now }
     ensures { FromTexts (MakesAfterListed options read.now) (T.view store.old) result (T.view store.new) }
 {
-    let headers = headers_of(alloc, &read.tables)?;
-    let mentions = mentions_of(alloc, &read.automata)?;
-    let mentioned = first_systems(alloc, &mentions, &headers)?;
-    let users = admitted(alloc, options.limit, &mentioned, kept, store)?;
-    let UserSystems {
-        mut named,
-        steps,
-        ..
-    } = users;
-    kept.built_in.add_all(alloc, &mentioned, &mut named)?;
-    let names = Names {
-        headers,
-        systems: named,
-    };
-    combined(alloc, options.shown, read, &names, &mut kept.tables, steps)
+    let named = names_of(alloc, options.limit, &read.mentioned, kept, store)?;
+    combined(alloc, options.shown, read, named, &mut kept.tables)
 }
 
 /// What is made of automata whose systems are sealed, each under its name, by the next steps.
@@ -148,25 +131,20 @@ fn combined(
     alloc: Global,
     shown: bool,
     read: &ListedAutomata,
-    names: &Names,
+    named: SealedNames,
     kept: &mut KeptTables,
-    steps: Steps,
 ) -> Result<Made, Fault>
     requires read { IsReadList read.now }
-    requires headers { names.now.headers ≡ headers_in read.now.tables.items }
-    requires systems { HasSystems (listed_systems_of read.now) names.now.systems }
-    requires meant { (custom : Custom) × AreMeant custom names.now.systems }
-    ensures { (custom : Custom) → AreMeant custom names.now.systems → MakesAfterListedSystems steps shown read.now custom result }
+    requires named { (custom : Custom) × AreListedNames read.now custom named.names }
+    ensures { (custom : Custom) → AreListedNames read.now custom named.names → MakesAfterListedSystems named.steps shown read.now custom result }
 {
-    let mut steps = steps;
+    let SealedNames { names, mut steps } = named;
     none_plain(alloc, &names.headers, &read.automata)?;
     have_one_shape(alloc, &names.headers, &read.automata)?;
-    let word = combined_word(alloc, read, names, kept, &mut steps)?;
+    let word = combined_word(alloc, read, &names, kept, &mut steps)?;
     letters_fit(&word);
     let tracks = first_tracks(&names.headers, &read.automata);
-    let stored = word_text(alloc, tracks, &word)?;
-    let printed = Printed::of_steps(alloc, &steps, shown)?;
-    Ok(Made { stored, printed })
+    word_made(alloc, tracks, &word, &steps, shown)
 }
 
 /// Refuses the first listed automaton that is over sets.
@@ -256,10 +234,11 @@ fn combined_word(
     steps: &mut Steps,
 ) -> Result<Word, Fault>
     requires { IsPossible read.now names.now }
-    ensures { (custom : Custom) → AreMeant custom names.now.systems → MakesWord steps.old custom names.now.systems read.now result steps.new }
+    ensures { (custom : Custom) → AreListedNames read.now custom names.now → MakesWord steps.old custom names.now.systems read.now result steps.new }
 {
     names.systems.are_sealed();
-    let library = read_tables(alloc, &read.tables, &names.systems, kept, steps)?;
+    let tables = &read.mentioned.tables;
+    let library = read_tables(alloc, tables, &names.systems, kept, steps)?;
     let parts = parts_of(alloc, &library, &read.automata)?;
     let word = word_of(alloc, &parts, steps)?;
     Ok(word)

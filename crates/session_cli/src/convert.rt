@@ -11,10 +11,9 @@ ghost use Rattle.definitions.specs.Texts.{Stores};
 ghost use Rattle.definitions.specs.Trees.{Ledger, custom_of};
 ghost use Rattle.system_files.specs.SystemFiles.{Custom};
 ghost use Rattle.session_cli.specs.declared.base_system.BaseSystem.{BaseSystem};
-ghost use Rattle.session_cli.specs.declared.convert.Change.{Change};
 ghost use Rattle.session_cli.specs.BaseWords.{IsNameOfBase};
 ghost use Rattle.session_cli.specs.Checks.{Fails};
-ghost use Rattle.session_cli.specs.ConvertMakes.{HasSameLetters, IsConvertible, MakesAfterConvertSystems, MakesAfterConvertTable, MakesConverted};
+ghost use Rattle.session_cli.specs.ConvertMakes.{HasSameLetters, MakesAfterConvertSystems, MakesAfterConvertTable};
 ghost use Rattle.session_cli.specs.ConvertOutcomes.{IsChange, UnknownBaseAnswers, after_convert_head, convert_checks, is_numbered as is_numbered_name, no_unknown_base, related_base};
 ghost use Rattle.session_cli.specs.ConvertSteps.{IsSealedBase};
 ghost use Rattle.session_cli.specs.OldWordMakes.{AreOldNames, IsLoadedOld};
@@ -25,10 +24,10 @@ use crate::base_system::{BaseSystem, base_named, base_of};
 use crate::fault::Fault;
 use crate::file_change::{FileChange, Made};
 use crate::kept::Kept;
-use crate::old_word::{OldNames, OldWord, load_old, names_of, word_in, word_made};
+use crate::mentioned_tables::{SealedNames, names_of};
+use crate::old_word::{OldWord, load_old, read_old};
 use crate::step_options::StepOptions;
-use crate::table_reading::read_tables;
-use crate::word_text::letters_fit;
+use crate::word_text::{letters_fit, word_made};
 use base_change::conversion::convert;
 use base_change::laws::conversions_keep_letters;
 use base_change::related::{CommonRoot, related};
@@ -37,8 +36,6 @@ use digit_tuple::faults::OutOfMemory;
 use digit_tuple::name::Name;
 use digit_tuple::step_fault::StepFault;
 use digit_tuple::steps::Steps;
-use formula_build::Names;
-use kept_tables::KeptTables;
 use named_systems::NamedSystems;
 use num_system::system::System;
 use std::alloc::Global;
@@ -108,7 +105,7 @@ fn made_of<T: Store>(
     ensures { FromTexts (MakesAfterConvertTable options read.now) (T.view store.old) result (T.view store.new) }
 {
     is_no_unknown_base(alloc, &read.system)?;
-    let named = names_of(alloc, options.limit, &read.old, kept, store)?;
+    let named = names_of(alloc, options.limit, &read.old.mentioned, kept, store)?;
     made_over(alloc, options.shown, read, named, kept)
 }
 
@@ -137,7 +134,7 @@ fn made_over(
     alloc: Global,
     shown: bool,
     read: &ReadConvert,
-    named: OldNames,
+    named: SealedNames,
     kept: &mut Kept,
 ) -> Result<Made, Fault>
     requires old { IsLoadedOld read.now.old }
@@ -145,7 +142,7 @@ fn made_over(
     requires named { (custom : Custom) × AreOldNames read.now.old custom named.names }
     ensures { (custom : Custom) → AreOldNames read.now.old custom named.names → MakesAfterConvertSystems named.steps shown read.now custom result }
 {
-    let OldNames { names, mut steps } = named;
+    let SealedNames { names, mut steps } = named;
     let over = base_of(alloc, &names.headers, &read.old.name, None)?;
     let change = change_of(alloc, over, &read.system)?;
     let system = sealed_base(alloc, &read.system, kept)?;
@@ -153,8 +150,8 @@ fn made_over(
         system,
         common: change.common,
     };
-    let tables = &mut kept.tables;
-    let word = converted_word(alloc, &read.old, &names, &target, tables, &mut steps)?;
+    let old = read_old(alloc, &read.old, &names, &mut kept.tables, &mut steps)?;
+    let word = word_over(alloc, old.as_ref(), &target, &mut steps)?;
     letters_fit(&word);
     let tracks = [read.system.copy(alloc)?];
     word_made(alloc, &tracks, &word, &steps, shown)
@@ -216,26 +213,6 @@ fn sealed_base(alloc: Global, name: &Name, kept: &mut Kept) -> Result<Rc<System>
         Some(system) => Ok(system.clone()?),
         None => unreachable!(),
     }
-}
-
-/// The word over the new system, of a word that has one track over a base. The word's table is read first.
-fn converted_word(
-    alloc: Global,
-    old: &OldWord,
-    names: &Names,
-    target: &Target,
-    kept: &mut KeptTables,
-    steps: &mut Steps,
-) -> Result<Word, StepFault>
-    requires old { IsLoadedOld old.now }
-    requires named { (custom : Custom) × AreOldNames old.now custom names.now }
-    requires possible { (change : Change) × IsConvertible old.now change target.now }
-    ensures { (custom : Custom) (change : Change) → AreOldNames old.now custom names.now → IsConvertible old.now change target.now → MakesConverted steps.old custom old.now change result steps.new }
-{
-    names.systems.are_sealed();
-    let library = read_tables(alloc, &old.tables, &names.systems, kept, steps)?;
-    let word = word_in(&library, &old.name);
-    word_over(alloc, word, target, steps)
 }
 
 /// A word over another system, which has the same letters.

@@ -2,18 +2,15 @@
 
 ghost use Rattle.std.specs.Prelude.{◌≡◌, ℕ, List, true};
 ghost use Rattle.command_head.specs.Parts.{is_name};
-ghost use Rattle.dfa_loading.specs.Headers.{headers_of as headers_in};
 ghost use Rattle.formula_parse.specs.Views.{formula_view};
-ghost use Rattle.formula_resolve.specs.FirstMentions.{first_files as first_files_of};
 ghost use Rattle.formula_resolve.specs.Mentions.{mentions as mentions_of};
 ghost use Rattle.system_files.specs.SystemFiles.{Custom};
 ghost use Rattle.wal_outside.specs.declared.folder.Folder.{Folder as FolderOf};
 ghost use Rattle.definitions.specs.Texts.{Stores};
 ghost use Rattle.definitions.specs.Trees.{Ledger, custom_of};
-ghost use Rattle.session_cli.specs.FormulaMakes.{IsReadFormula, MakesAfterTables, MakesAfterSystems, systems_of};
+ghost use Rattle.session_cli.specs.FormulaMakes.{AreFormulaNames, IsReadFormula, MakesAfterTables, MakesAfterSystems};
 ghost use Rattle.session_cli.specs.FormulaOutcomes.{after_named_head, formula_checks};
-ghost use Rattle.session_cli.specs.FormulaLoads.{LoadsTables, HasSystems};
-ghost use Rattle.session_cli.specs.FormulaSteps.{AreMeant};
+ghost use Rattle.session_cli.specs.MentionedTables.{LoadsMentioned};
 ghost use Rattle.session_cli.specs.MacroMakes.{ExpandsTo, MakesOfText};
 ghost use Rattle.session_cli.specs.FileChanges.{Makes, ChangesFile};
 ghost use Rattle.session_cli.specs.StoreReads.{FromFiles, FromTexts};
@@ -22,22 +19,18 @@ use crate::fault::{Fault, Grammar};
 use crate::file_change::{FileChange, Made};
 use crate::formula_text::formula_text;
 use crate::kept::Kept;
+use crate::mentioned_tables::{MentionedTables, SealedNames, load_mentioned, names_of};
 use crate::printed::Printed;
 use crate::step_options::StepOptions;
-use crate::table_loading::load_mentioned;
 use crate::table_reading::read_tables;
-use crate::user_systems::admitted;
 use command_head::{HeadFault, NamedParts, named_parts};
-use dfa_loading::{Loaded, headers_of};
-use digit_tuple::steps::Steps;
-use formula_build::{Names, build, resolve};
+use formula_build::{build, resolve};
 use formula_parse::parse;
 use formula_parse::tree::Formula;
-use formula_resolve::{first_systems, mentions};
+use formula_resolve::mentions;
 use kept_tables::KeptTables;
 use macro_loading::expanded;
 use std::alloc::Global;
-use system_admission::UserSystems;
 use wal_outside::{Folder, Store};
 
 /// A command that keeps a formula: its word, the folder of its texts, and how its steps are made.
@@ -113,11 +106,11 @@ fn text_made<T: Store>(
     ensures { FromFiles (MakesOfText options text.now) (T.view store.old) result (T.view store.new) }
 {
     let formula = parse(alloc, text)?;
-    let tables = load_tables(alloc, &formula, store)?;
+    let mentioned = load_tables(alloc, &formula, store)?;
     made_of(
         alloc,
         options,
-        &ReadFormula { formula, tables },
+        &ReadFormula { formula, mentioned },
         kept,
         store,
     )
@@ -128,11 +121,11 @@ fn load_tables<T: Store>(
     alloc: Global,
     formula: &Formula,
     store: &mut T,
-) -> Result<Vec<Loaded>, Fault>
-    ensures { FromFiles (LoadsTables (first_files_of (mentions_of (formula_view formula.now)))) (T.view store.old) result (T.view store.new) }
+) -> Result<MentionedTables, Fault>
+    ensures { FromFiles (LoadsMentioned (mentions_of (formula_view formula.now))) (T.view store.old) result (T.view store.new) }
 {
-    let mentioned = mentions(alloc, formula)?;
-    load_mentioned(alloc, &mentioned, store)
+    let mentions = mentions(alloc, formula)?;
+    load_mentioned(alloc, mentions, store)
 }
 
 /// A formula, and the tables of the files that it names.
@@ -140,8 +133,8 @@ fn load_tables<T: Store>(
 struct ReadFormula {
     /// The formula.
     formula: Formula,
-    /// The tables, each once, in the order in which the formula names their files first.
-    tables: Vec<Loaded>,
+    /// What it mentions.
+    mentioned: MentionedTables,
 }
 
 /// What is made of a formula whose files are loaded. Users' systems that it mentions are read and admitted first.
@@ -155,20 +148,8 @@ fn made_of<T: Store>(
     requires { IsReadFormula read.now }
     ensures { FromTexts (MakesAfterTables options read.now) (T.view store.old) result (T.view store.new) }
 {
-    let headers = headers_of(alloc, &read.tables)?;
-    let mentioned = first_systems(alloc, &mentions(alloc, &read.formula)?, &headers)?;
-    let users = admitted(alloc, options.limit, &mentioned, kept, store)?;
-    let UserSystems {
-        mut named,
-        steps,
-        ..
-    } = users;
-    kept.built_in.add_all(alloc, &mentioned, &mut named)?;
-    let names = Names {
-        headers,
-        systems: named,
-    };
-    built(alloc, options.shown, read, &names, &mut kept.tables, steps)
+    let named = names_of(alloc, options.limit, &read.mentioned, kept, store)?;
+    built(alloc, options.shown, read, named, &mut kept.tables)
 }
 
 /// What is made of a formula whose systems are sealed, each under its name, by the next steps.
@@ -176,20 +157,18 @@ fn built(
     alloc: Global,
     shown: bool,
     read: &ReadFormula,
-    names: &Names,
+    named: SealedNames,
     kept: &mut KeptTables,
-    steps: Steps,
 ) -> Result<Made, Fault>
     requires read { IsReadFormula read.now }
-    requires headers { names.now.headers ≡ headers_in read.now.tables.items }
-    requires systems { HasSystems (systems_of read.now) names.now.systems }
-    requires meant { (custom : Custom) × AreMeant custom names.now.systems }
-    ensures { (custom : Custom) → AreMeant custom names.now.systems → MakesAfterSystems steps shown read.now custom result }
+    requires named { (custom : Custom) × AreFormulaNames read.now custom named.names }
+    ensures { (custom : Custom) → AreFormulaNames read.now custom named.names → MakesAfterSystems named.steps shown read.now custom result }
 {
-    let mut steps = steps;
+    let SealedNames { names, mut steps } = named;
     names.systems.are_sealed();
-    let resolved = resolve(alloc, &read.formula, names)?;
-    let library = read_tables(alloc, &read.tables, &names.systems, kept, &mut steps)?;
+    let resolved = resolve(alloc, &read.formula, &names)?;
+    let tables = &read.mentioned.tables;
+    let library = read_tables(alloc, tables, &names.systems, kept, &mut steps)?;
     let relation = build(alloc, &resolved, &library, &mut steps)?;
     let stored = formula_text(alloc, &resolved.variables, &relation)?;
     let mut printed = Printed::of_steps(alloc, &steps, shown)?;

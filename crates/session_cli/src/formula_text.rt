@@ -1,20 +1,18 @@
 //! The text of what a formula makes.
 
-ghost use Rattle.std.specs.Prelude.{◌≡◌, map, IfOk, MatchResult};
-ghost use Rattle.std.specs.Rc.{rc_value};
+ghost use Rattle.std.specs.Prelude.{◌≡◌, IfOk, MatchResult};
 ghost use Rattle.definitions.specs.FormulaTexts.{truth_text as text_of_truth};
-ghost use Rattle.session_cli.specs.FormulaLoads.{HaveTracks, IsTextOf, HasNoTextOf, tracks_over};
+ghost use Rattle.session_cli.specs.FormulaLoads.{HaveTracks, IsTextOf, HasNoTextOf, variable_systems};
 
 use crate::fault::Fault;
+use crate::named_tracks::tracks_of;
 use dfa_text::print_within;
 use digit_tuple::faults::OutOfMemory;
 use digit_tuple::header::Header;
-use digit_tuple::systems::Systems;
+use digit_tuple::name::Name;
 use formula_resolve::Variable;
-use num_system::system::System;
 use number_relations::relation::Relation;
 use std::alloc::Global;
-use std::rc::Rc;
 use wal_outside::TEXT_LIMIT;
 
 /// The text of a relation on the numbers of these variables: its truth where there is none, and else its automaton under
@@ -33,7 +31,8 @@ pub(crate) fn formula_text(
     if let Some(truth) = relation.verdict() {
         return Ok(Vec::from_slice(alloc, truth_text(truth))?);
     }
-    let header = Header::Systems(tracks_of(alloc, variables, relation.systems())?);
+    let names = system_names(alloc, variables)?;
+    let header = Header::Systems(tracks_of(alloc, &names, relation.systems())?);
     match print_within(alloc, &header, relation.dfa(), TEXT_LIMIT)? {
         Some(text) => Ok(text),
         None => Err(Fault::Long(TEXT_LIMIT)),
@@ -47,18 +46,13 @@ fn truth_text(truth: bool) -> &'static [u8]
     if truth { b"true\n" } else { b"false\n" }
 }
 
-/// The tracks of variables over these systems, one for each.
-fn tracks_of(
-    alloc: Global,
-    variables: &[Variable],
-    systems: &[Rc<System>],
-) -> Result<Systems, OutOfMemory>
-    requires { HaveTracks variables.now (map rc_value systems.now) }
-    ensures { IfOk result (λ tracks. tracks ≡ tracks_over variables.now (map rc_value systems.now)) }
+/// The names of the systems of variables.
+fn system_names(alloc: Global, variables: &[Variable]) -> Result<Vec<Name>, OutOfMemory>
+    ensures { IfOk result (λ names. names.items ≡ variable_systems variables.now) }
 {
-    let mut tracks = Systems::new(alloc);
-    for (place, variable) in variables.iter().enumerate() {
-        tracks.push(variable.system.copy(alloc)?, systems[place].digits())?;
+    let mut names = Vec::new(alloc);
+    for variable in variables {
+        names.push(variable.system.copy(alloc)?)?;
     }
-    Ok(tracks)
+    Ok(names)
 }

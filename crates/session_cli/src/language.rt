@@ -15,9 +15,9 @@ ghost use Rattle.session_cli.specs.StoreReads.{FromFiles};
 
 use crate::fault::Fault;
 use crate::file_change::{FileChange, Made};
+use crate::mentioned_tables::load_mentioned;
 use crate::reg::made_of;
 use crate::step_options::StepOptions;
-use crate::table_loading::load_mentioned;
 use command_head::{HeadFault, LanguagesParts, language_parts, languages_parts};
 use dfa_loading::Loaded;
 use digit_tuple::faults::OutOfMemory;
@@ -79,9 +79,9 @@ fn language_made<T: Store>(
     requires { HasCount op names.now }
     ensures { FromFiles (λ found made. (ledger : Ledger) (name : List ℕ) → Stores ledger found → Makes (custom_of ledger) (after_language_head options.limit ledger op (record { name = name; languages = names.now })) options.shown made) (T.view store.old) result (T.view store.new) }
 {
-    let mentioned = mentions_of(alloc, names)?;
-    let tables = load_mentioned(alloc, &mentioned, store)?;
-    made_of_tables(alloc, options, op, names, &tables)
+    let mentions = mentions_of(alloc, names)?;
+    let mentioned = load_mentioned(alloc, mentions, store)?;
+    made_of_tables(alloc, options, op, names, &mentioned.tables)
 }
 
 /// Automata are mentioned as those are that are called.

@@ -23,10 +23,12 @@ mod command_word;
 mod step_options;
 // the command `reg`
 mod reg;
-// the tables of files that a command mentions
-mod table_loading;
+// the tables of the files that a command mentions, and what the names of their systems mean
+mod mentioned_tables;
 // the relations and the words of loaded tables
 mod table_reading;
+// the tracks of systems under names
+mod named_tracks;
 // the text of what a formula makes
 mod formula_text;
 // the commands `eval` and `def`

@@ -10,32 +10,28 @@ ghost use Rattle.language_steps.specs.LanguageSteps.{DoesPlainTable};
 ghost use Rattle.language_steps.specs.Operands.{IsPlainTable};
 ghost use Rattle.system_files.specs.SystemFiles.{Custom};
 ghost use Rattle.table_listings.specs.Questions.{IsAskedOn};
-ghost use Rattle.session_cli.specs.FormulaLoads.{HasSystems};
-ghost use Rattle.session_cli.specs.FormulaSteps.{AreMeant};
-ghost use Rattle.session_cli.specs.ListingMakes.{AnswersBelow, AnswersBy, AnswersOver, AnswersUnder, CanBeListed, HasTracks, HaveHeader, TellsAfterSystems, TellsAfterTables, IsPlaceFault, IsReadListing, answer_text, listing_systems_of, reply_of, sets_below};
+ghost use Rattle.session_cli.specs.ListingMakes.{AnswersBelow, AnswersBy, AnswersOver, AnswersUnder, AreListingNames, CanBeListed, HasTracks, HaveHeader, TellsAfterSystems, TellsAfterTables, IsPlaceFault, IsReadListing, answer_text, reply_of, sets_below};
 ghost use Rattle.session_cli.specs.ListingOutcomes.{after_listing_head, inf_checks, listing_mentions, reply_text, test_checks};
 ghost use Rattle.session_cli.specs.FileChanges.{Tells};
 ghost use Rattle.session_cli.specs.StoreReads.{FromFiles, FromTexts};
 ghost use Rattle.session_cli.specs.TableReading.{IsReadable};
-ghost use Rattle.session_cli.specs.WordPrinting.{HaveNames, tracks_named};
 
 use crate::fault::Fault;
 use crate::kept::Kept;
 use crate::listing_fault::ListingFault;
+use crate::mentioned_tables::{MentionedTables, SealedNames, load_mentioned, names_of};
+use crate::named_tracks::tracks_of;
 use crate::printed::Printed;
 use crate::step_options::StepOptions;
-use crate::table_loading::load_mentioned;
 use crate::table_reading::tracks_under;
-use crate::user_systems::admitted;
 use command_head::{TestParts, name_after, test_parts};
-use dfa_loading::{Loaded, headers_of};
+use dfa_loading::Loaded;
 use dfa_reading::{FileHeader, SystemName};
 use digit_tuple::faults::OutOfMemory;
 use digit_tuple::name::Name;
 use digit_tuple::sets::Sets;
 use digit_tuple::steps::Steps;
-use digit_tuple::systems::Systems;
-use formula_resolve::{Mention, first_systems};
+use formula_resolve::Mention;
 use kept_tables::KeptTables;
 use language_steps::read_language;
 use named_systems::NamedSystems;
@@ -43,7 +39,6 @@ use num_system::system::System;
 use num_system::tracks::direction_of;
 use std::alloc::Global;
 use std::rc::Rc;
-use system_admission::UserSystems;
 use table_listings::{Answer, Question, WordsAfter, answer, is_asked_on};
 use wal_outside::Store;
 
@@ -61,8 +56,17 @@ struct Asked {
 struct ReadListing {
     /// The question.
     asked: Asked,
-    /// The tables that were loaded: one.
-    tables: Vec<Loaded>,
+    /// The table alone.
+    mentioned: MentionedTables,
+}
+
+/// A question, and the table about whose words it asks.
+#[derive(Clone, Copy)]
+struct AskedTable<'a> {
+    /// The question.
+    asked: &'a Asked,
+    /// The table.
+    table: &'a Loaded,
 }
 
 /// What a `test` prints, or the first of its checks that refuses it: the shape of its head, and the checks of its question. Nothing is
@@ -109,9 +113,15 @@ fn said<T: Store>(
 ) -> Result<Printed, Fault>
     ensures { FromFiles (λ found printed. (ledger : Ledger) → Stores ledger found → Tells (after_listing_head options.limit ledger asked.name asked.question) options.shown printed) (T.view store.old) result (T.view store.new) }
 {
-    let mentioned = mentions_of(alloc, &asked.name)?;
-    let tables = load_mentioned(alloc, &mentioned, store)?;
-    said_of_tables(alloc, options, &ReadListing { asked, tables }, kept, store)
+    let mentions = mentions_of(alloc, &asked.name)?;
+    let mentioned = load_mentioned(alloc, mentions, store)?;
+    said_of_tables(
+        alloc,
+        options,
+        &ReadListing { asked, mentioned },
+        kept,
+        store,
+    )
 }
 
 /// The automaton is mentioned as one that is called.
@@ -134,17 +144,8 @@ fn said_of_tables<T: Store>(
     requires { IsReadListing read.now }
     ensures { FromTexts (TellsAfterTables options read.now) (T.view store.old) result (T.view store.new) }
 {
-    let headers = headers_of(alloc, &read.tables)?;
-    let mentions = mentions_of(alloc, &read.asked.name)?;
-    let mentioned = first_systems(alloc, &mentions, &headers)?;
-    let users = admitted(alloc, options.limit, &mentioned, kept, store)?;
-    let UserSystems {
-        mut named,
-        steps,
-        ..
-    } = users;
-    kept.built_in.add_all(alloc, &mentioned, &mut named)?;
-    said_over(alloc, options.shown, read, &named, &mut kept.tables, steps)
+    let named = names_of(alloc, options.limit, &read.mentioned, kept, store)?;
+    said_over(alloc, options.shown, read, named, &mut kept.tables)
 }
 
 /// What is printed where the systems are sealed, each under its name.
@@ -152,25 +153,20 @@ fn said_over(
     alloc: Global,
     shown: bool,
     read: &ReadListing,
-    systems: &NamedSystems,
+    named: SealedNames,
     kept: &mut KeptTables,
-    steps: Steps,
 ) -> Result<Printed, Fault>
     requires read { IsReadListing read.now }
-    requires systems { HasSystems (listing_systems_of read.now) systems.now }
-    requires meant { (custom : Custom) × AreMeant custom systems.now }
-    ensures { (custom : Custom) → AreMeant custom systems.now → TellsAfterSystems steps shown read.now custom result }
+    requires named { (custom : Custom) × AreListingNames read.now custom named.names }
+    ensures { (custom : Custom) → AreListingNames read.now custom named.names → TellsAfterSystems named.steps shown read.now custom result }
 {
-    let mut steps = steps;
-    systems.are_sealed();
-    let answer = answered(
-        alloc,
-        &read.asked,
-        &read.tables[0],
-        systems,
-        kept,
-        &mut steps,
-    )?;
+    let SealedNames { names, mut steps } = named;
+    names.systems.are_sealed();
+    let about = AskedTable {
+        asked: &read.asked,
+        table: &read.mentioned.tables[0],
+    };
+    let answer = answered(alloc, about, &names.systems, kept, &mut steps)?;
     Ok(printed_answer(alloc, &steps, shown, &answer)?)
 }
 
@@ -201,51 +197,49 @@ fn push_answer(printed: &mut Printed, answer: &Answer) -> Result<(), OutOfMemory
 /// The answer about the words of a table, which is read by the next steps.
 fn answered(
     alloc: Global,
-    asked: &Asked,
-    table: &Loaded,
+    about: AskedTable<'_>,
     systems: &NamedSystems,
     kept: &mut KeptTables,
     steps: &mut Steps,
 ) -> Result<Answer, ListingFault>
-    requires { CanBeListed systems.now table.now }
-    ensures { AnswersBelow table.now.listed.header systems.now steps.old table.now asked.now.name asked.now.question result steps.new }
+    requires { CanBeListed systems.now about.table.now }
+    ensures { AnswersBelow about.entry.table.now.listed.header systems.now steps.old about.entry.table.now about.entry.asked.now.name about.entry.asked.now.question result steps.new }
 {
-    match table.listed.header() {
-        FileHeader::Sets(sets) => answered_over_sets(alloc, asked, table, sets, steps),
-        FileHeader::Systems(_) => answered_under(alloc, asked, table, systems, kept, steps),
-        FileHeader::Truth(_) => answered_under(alloc, asked, table, systems, kept, steps),
+    match about.table.listed.header() {
+        FileHeader::Sets(sets) => answered_over_sets(alloc, about, sets, steps),
+        FileHeader::Systems(_) => answered_under(alloc, about, systems, kept, steps),
+        FileHeader::Truth(_) => answered_under(alloc, about, systems, kept, steps),
     }
 }
 
 /// The answer about the words of a table over the systems that are under the names of its header.
 fn answered_under(
     alloc: Global,
-    asked: &Asked,
-    table: &Loaded,
+    about: AskedTable<'_>,
     systems: &NamedSystems,
     kept: &mut KeptTables,
     steps: &mut Steps,
 ) -> Result<Answer, ListingFault>
-    requires table { CanBeListed systems.now table.now }
-    requires readable { IsReadable systems.now table.now }
-    ensures { AnswersUnder systems.now steps.old table.now asked.now.name asked.now.question result steps.new }
+    requires table { CanBeListed systems.now about.table.now }
+    requires readable { IsReadable systems.now about.table.now }
+    ensures { AnswersUnder systems.now steps.old about.entry.table.now about.entry.asked.now.name about.entry.asked.now.question result steps.new }
 {
-    let tracks = tracks_under(alloc, table.listed.header(), systems)?;
-    answered_over(alloc, asked, table, &tracks, kept, steps)
+    let tracks = tracks_under(alloc, about.table.listed.header(), systems)?;
+    answered_over(alloc, about, &tracks, kept, steps)
 }
 
 /// The answer about the words of a table over sets.
 fn answered_over_sets(
     alloc: Global,
-    asked: &Asked,
-    table: &Loaded,
+    about: AskedTable<'_>,
     sets: &Sets,
     steps: &mut Steps,
 ) -> Result<Answer, ListingFault>
-    requires header { table.now.listed.header ≡ SetsOf sets.now }
-    requires table { IsPlainTable table.now }
-    ensures { AnswersBy (λ read. DoesPlainTable table.now.listed steps.old read steps.new) None sets.now asked.now.name asked.now.question result }
+    requires header { about.table.now.listed.header ≡ SetsOf sets.now }
+    requires table { IsPlainTable about.table.now }
+    ensures { AnswersBy (λ read. DoesPlainTable about.entry.table.now.listed steps.old read steps.new) None sets.now about.entry.asked.now.name about.entry.asked.now.question result }
 {
+    let AskedTable { asked, table } = about;
     refuse_place(alloc, asked, sets)?;
     let language = read_language(alloc, &table.listed, steps)?;
     Ok(answer(alloc, &language, sets, None, &asked.question)?)
@@ -254,15 +248,15 @@ fn answered_over_sets(
 /// The answer about the words of a table over these systems.
 fn answered_over(
     alloc: Global,
-    asked: &Asked,
-    table: &Loaded,
+    about: AskedTable<'_>,
     tracks: &[Rc<System>],
     kept: &mut KeptTables,
     steps: &mut Steps,
 ) -> Result<Answer, ListingFault>
-    requires { HasTracks table.now (map rc_value tracks.now) }
-    ensures { AnswersOver steps.old table.now (map rc_value tracks.now) asked.now.name asked.now.question result steps.new }
+    requires { HasTracks about.table.now (map rc_value tracks.now) }
+    ensures { AnswersOver steps.old about.entry.table.now (map rc_value tracks.now) about.entry.asked.now.name about.entry.asked.now.question result steps.new }
 {
+    let AskedTable { asked, table } = about;
     let sets = track_sets(alloc, table.listed.header(), tracks)?;
     refuse_place(alloc, asked, &sets)?;
     let relation = kept.relation(alloc, table, tracks, steps)?;
@@ -298,7 +292,8 @@ fn track_sets(
 {
     match header {
         FileHeader::Systems(names) => {
-            let tracks = tracks_of(alloc, names, systems)?;
+            let names = names_in(alloc, names)?;
+            let tracks = tracks_of(alloc, &names, systems)?;
             tracks.digit_sets(alloc)
         }
         FileHeader::Truth(_) => Ok(Sets::new(alloc)),
@@ -306,18 +301,13 @@ fn track_sets(
     }
 }
 
-/// The tracks of these names over these systems, one for each.
-fn tracks_of(
-    alloc: Global,
-    names: &[SystemName],
-    systems: &[Rc<System>],
-) -> Result<Systems, OutOfMemory>
-    requires { HaveNames names.now (map rc_value systems.now) }
-    ensures { IfOk result (λ tracks. tracks ≡ tracks_named names.now (map rc_value systems.now)) }
+/// The names of systems, in memory of their own.
+fn names_in(alloc: Global, names: &[SystemName]) -> Result<Vec<Name>, OutOfMemory>
+    ensures { IfOk result (λ copies. copies.items ≡ names.now) }
 {
-    let mut tracks = Systems::new(alloc);
-    for (place, name) in names.iter().enumerate() {
-        tracks.push(name.name().copy(alloc)?, systems[place].digits())?;
+    let mut copies = Vec::new(alloc);
+    for name in names {
+        copies.push(name.name().copy(alloc)?)?;
     }
-    Ok(tracks)
+    Ok(copies)
 }

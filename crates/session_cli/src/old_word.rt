@@ -1,27 +1,25 @@
 //! A word that a command names, of which it makes another word.
 
-ghost use Rattle.std.specs.Prelude.{◌≡◌, Some, IfOk};
-ghost use Rattle.formula_build.specs.Libraries.{word_named};
+ghost use Rattle.std.specs.Prelude.{◌≡◌, IfOk, MatchResult};
+ghost use Rattle.std.specs.Rc.{rc_value};
+ghost use Rattle.system_files.specs.SystemFiles.{Custom};
+ghost use Rattle.session_cli.specs.FormulaSteps.{IsUnread};
 ghost use Rattle.session_cli.specs.ImageOutcomes.{old_mentions};
-ghost use Rattle.session_cli.specs.OldWordMakes.{GivesNames, HasWord, Keeps, LoadsOld};
-ghost use Rattle.session_cli.specs.StoreReads.{FromFiles, FromTexts};
-ghost use Rattle.session_cli.specs.WordPrinting.{HaveNames};
+ghost use Rattle.session_cli.specs.OldWordMakes.{AreOldNames, IsLoadedOld, IsOldRead, LoadsOld};
+ghost use Rattle.session_cli.specs.StoreReads.{FromFiles};
 
 use crate::fault::Fault;
-use crate::file_change::Made;
-use crate::kept::Kept;
-use crate::printed::Printed;
-use crate::table_loading::load_mentioned;
-use crate::user_systems::admitted;
-use crate::word_text::word_text;
-use dfa_loading::{Loaded, headers_of};
+use crate::mentioned_tables::{MentionedTables, load_mentioned};
+use crate::table_reading::read_tables;
 use digit_tuple::faults::OutOfMemory;
 use digit_tuple::name::Name;
+use digit_tuple::step_fault::StepFault;
 use digit_tuple::steps::Steps;
-use formula_build::{Library, Names};
-use formula_resolve::{Mention, first_systems};
+use formula_build::Names;
+use formula_resolve::Mention;
+use kept_tables::KeptTables;
 use std::alloc::Global;
-use system_admission::UserSystems;
+use std::rc::Rc;
 use wal_outside::Store;
 use word_output::word::Word;
 
@@ -31,7 +29,7 @@ pub(crate) struct OldWord {
     /// The name of the word.
     pub(crate) name: Name,
     /// The table of the word alone.
-    pub(crate) tables: Vec<Loaded>,
+    pub(crate) mentioned: MentionedTables,
 }
 
 /// The word of this name, read from the store.
@@ -46,9 +44,12 @@ pub(crate) fn load_old<T: Store>(
     ensures { FromFiles (LoadsOld name.now) (T.view store.old) result (T.view store.new) }
 {
     let copy = name.copy(alloc)?;
-    let mentioned = mentions_of(alloc, name)?;
-    let tables = load_mentioned(alloc, &mentioned, store)?;
-    Ok(OldWord { name: copy, tables })
+    let mentions = mentions_of(alloc, name)?;
+    let mentioned = load_mentioned(alloc, mentions, store)?;
+    Ok(OldWord {
+        name: copy,
+        mentioned,
+    })
 }
 
 /// The word is mentioned as one that is indexed at one place.
@@ -60,71 +61,26 @@ fn mentions_of(alloc: Global, name: &Name) -> Result<Vec<Mention>, OutOfMemory>
     Ok(mentioned)
 }
 
-/// What the names of a word's systems mean, and the steps so far.
-#[derive(Drop)]
-pub(crate) struct OldNames {
-    /// The header of the word, and the systems.
-    pub(crate) names: Names,
-    /// The steps.
-    pub(crate) steps: Steps,
-}
-
-/// The systems of a word, sealed, each under its name. Those of users are read and admitted by the first steps of the command;
-/// built-in ones are kept.
+/// The word that the table of a loaded word makes, by the next steps.
 ///
 /// # Errors
-/// Why the first one is not known or not admitted. No text is changed.
-pub(crate) fn names_of<T: Store>(
+/// `Letters` and `States` exactly at the first step that passes a limit, with its number, or `Memory`.
+pub(crate) fn read_old(
     alloc: Global,
-    limit: u32,
     old: &OldWord,
-    kept: &mut Kept,
-    store: &mut T,
-) -> Result<OldNames, Fault>
-    ensures { FromTexts (GivesNames limit old.now) (T.view store.old) result (T.view store.new) }
+    names: &Names,
+    kept: &mut KeptTables,
+    steps: &mut Steps,
+) -> Result<Rc<Word>, StepFault>
+    requires old { IsLoadedOld old.now }
+    requires named { (custom : Custom) × AreOldNames old.now custom names.now }
+    ensures { (custom : Custom) → AreOldNames old.now custom names.now → MatchResult result (λ word. IsOldRead steps.old custom old.now (rc_value word) steps.new) (IsUnread steps.old custom old.now.mentioned.tables.items) }
 {
-    let headers = headers_of(alloc, &old.tables)?;
-    let mentioned = first_systems(alloc, &mentions_of(alloc, &old.name)?, &headers)?;
-    let users = admitted(alloc, limit, &mentioned, kept, store)?;
-    let UserSystems {
-        mut named,
-        steps,
-        ..
-    } = users;
-    kept.built_in.add_all(alloc, &mentioned, &mut named)?;
-    let names = Names {
-        headers,
-        systems: named,
-    };
-    Ok(OldNames { names, steps })
-}
-
-/// The word that is under a name in a library.
-pub(crate) fn word_in<'a>(library: &'a Library, name: &Name) -> &'a Word
-    requires { HasWord library.now.words name.now }
-    ensures { word_named library.now.words name.now ≡ Some result.now }
-{
-    match library.word(name) {
-        Some(word) => word.as_ref(),
+    names.systems.are_sealed();
+    let tables = &old.mentioned.tables;
+    let library = read_tables(alloc, tables, &names.systems, kept, steps)?;
+    match library.word(&old.name) {
+        Some(word) => Ok(word.clone()?),
         None => unreachable!(),
     }
-}
-
-/// The text of a word under the names of its systems, and the lines of the steps, where they are shown.
-///
-/// # Errors
-/// `Long` if and only if the text has more bytes than a text may have, or `Memory`.
-pub(crate) fn word_made(
-    alloc: Global,
-    names: &[Name],
-    word: &Word,
-    steps: &Steps,
-    shown: bool,
-) -> Result<Made, Fault>
-    requires { HaveNames names.now word.now.systems }
-    ensures { Keeps names.now word.now shown steps.now.lines result }
-{
-    let stored = word_text(alloc, names, word)?;
-    let printed = Printed::of_steps(alloc, steps, shown)?;
-    Ok(Made { stored, printed })
 }

@@ -41,30 +41,39 @@ pub(crate) fn read_tables(
 {
     let mut library = Library::new(alloc);
     for table in tables {
-        add_table(alloc, table, systems, kept, steps, &mut library)?;
+        let over = TableOver { table, systems };
+        add_table(alloc, over, kept, steps, &mut library)?;
     }
     Ok(library)
+}
+
+/// A table, and systems, those under the names of its header among them.
+#[derive(Clone, Copy)]
+struct TableOver<'a> {
+    /// The table.
+    table: &'a Loaded,
+    /// The systems.
+    systems: &'a NamedSystems,
 }
 
 /// Adds what a table makes.
 fn add_table(
     alloc: Global,
-    table: &Loaded,
-    systems: &NamedSystems,
+    over: TableOver<'_>,
     kept: &mut KeptTables,
     steps: &mut Steps,
     library: &mut Library,
 ) -> Result<(), StepFault>
-    requires { IsReadable systems.now table.now }
-    ensures { AddsTable systems.now steps.old table.now library.old result library.new steps.new }
+    requires { IsReadable over.systems.now over.table.now }
+    ensures { AddsTable over.entry.systems.now steps.old over.entry.table.now library.old result library.new steps.new }
 {
-    match &table.file {
+    match &over.table.file {
         File::Automaton(name) => {
-            let relation = read_relation(alloc, table, systems, kept, steps)?;
+            let relation = read_relation(alloc, over, kept, steps)?;
             library.add_relation(alloc, name, relation)?;
         }
         File::Word(name) => {
-            let word = read_word(alloc, table, systems, kept, steps)?;
+            let word = read_word(alloc, over, kept, steps)?;
             library.add_word(alloc, name, word)?;
         }
     }
@@ -74,16 +83,16 @@ fn add_table(
 /// The relation of an automaton's table.
 fn read_relation(
     alloc: Global,
-    table: &Loaded,
-    systems: &NamedSystems,
+    over: TableOver<'_>,
     kept: &mut KeptTables,
     steps: &mut Steps,
 ) -> Result<Rc<Relation>, StepFault>
-    requires table { IsReadable systems.now table.now }
-    requires automaton { (name : List ℕ) × (table.now.file ≡ files.Automaton name) }
-    ensures made { IfOk result (λ r. IsReadRelation systems.now steps.old table.now r.value steps.new) }
-    ensures refused { IfErr result (IsTableFault systems.now steps.old table.now) }
+    requires table { IsReadable over.systems.now over.table.now }
+    requires automaton { (name : List ℕ) × (over.table.now.file ≡ files.Automaton name) }
+    ensures made { IfOk result (λ r. IsReadRelation over.entry.systems.now steps.old over.entry.table.now r.value steps.new) }
+    ensures refused { IfErr result (IsTableFault over.entry.systems.now steps.old over.entry.table.now) }
 {
+    let TableOver { table, systems } = over;
     let tracks = tracks_under(alloc, table.listed.header(), systems)?;
     kept.relation(alloc, table, &tracks, steps)
 }
@@ -91,16 +100,16 @@ fn read_relation(
 /// The word of a word's table.
 fn read_word(
     alloc: Global,
-    table: &Loaded,
-    systems: &NamedSystems,
+    over: TableOver<'_>,
     kept: &mut KeptTables,
     steps: &mut Steps,
 ) -> Result<Rc<Word>, StepFault>
-    requires table { IsReadable systems.now table.now }
-    requires word { (name : List ℕ) × (table.now.file ≡ files.Word name) }
-    ensures made { IfOk result (λ w. IsReadWord systems.now steps.old table.now w.value steps.new) }
-    ensures refused { IfErr result (IsTableFault systems.now steps.old table.now) }
+    requires table { IsReadable over.systems.now over.table.now }
+    requires word { (name : List ℕ) × (over.table.now.file ≡ files.Word name) }
+    ensures made { IfOk result (λ w. IsReadWord over.entry.systems.now steps.old over.entry.table.now w.value steps.new) }
+    ensures refused { IfErr result (IsTableFault over.entry.systems.now steps.old over.entry.table.now) }
 {
+    let TableOver { table, systems } = over;
     let tracks = tracks_under(alloc, table.listed.header(), systems)?;
     kept.word(alloc, table, &tracks, steps)
 }

@@ -7,28 +7,25 @@ ghost use Rattle.system_files.specs.SystemFiles.{Custom};
 ghost use Rattle.session_cli.specs.OldWordMakes.{AreOldNames, IsLoadedOld};
 ghost use Rattle.session_cli.specs.FileChanges.{Makes, ChangesFile};
 ghost use Rattle.session_cli.specs.StoreReads.{FromFiles, FromTexts};
-ghost use Rattle.session_cli.specs.TransduceMakes.{HasMsdBase, MakesAfterSystems, MakesAfterTable, MakesTransduced, ReadsTransducer};
+ghost use Rattle.session_cli.specs.TransduceMakes.{MakesAfterSystems, MakesAfterTable, ReadsTransducer};
 ghost use Rattle.session_cli.specs.TransduceOutcomes.{after_transduce_head, transduce_checks};
 
 use crate::base_system::base_of;
 use crate::fault::Fault;
 use crate::file_change::{FileChange, Made};
 use crate::kept::Kept;
-use crate::old_word::{OldNames, OldWord, load_old, names_of, word_in, word_made};
+use crate::mentioned_tables::{SealedNames, names_of};
+use crate::old_word::{OldWord, load_old, read_old};
 use crate::step_options::StepOptions;
-use crate::table_reading::read_tables;
 use crate::transducing::transduced;
-use crate::word_text::letters_fit;
+use crate::word_text::{letters_fit, word_made};
 use command_head::{ImageParts, image_parts};
 use digit_tuple::direction::Direction;
-use digit_tuple::steps::Steps;
-use formula_build::Names;
 use kept_tables::KeptTables;
 use std::alloc::Global;
 use transducer_loading::load_transducer;
 use transducer_reading::Transducer;
 use wal_outside::{Folder, Store};
-use word_output::word::Word;
 
 /// What a `transduce` stores and prints, or the first of its checks that refuses it: the shape of its head, the file of the
 /// transducer, that of the old word, the word's systems, that it has one track, over a base whose most significant digit comes
@@ -101,7 +98,7 @@ fn made_of<T: Store>(
     requires { IsLoadedOld read.now.old }
     ensures { FromTexts (MakesAfterTable options read.now) (T.view store.old) result (T.view store.new) }
 {
-    let named = names_of(alloc, options.limit, &read.old, kept, store)?;
+    let named = names_of(alloc, options.limit, &read.old.mentioned, kept, store)?;
     made_over(alloc, options.shown, read, named, &mut kept.tables)
 }
 
@@ -110,38 +107,19 @@ fn made_over(
     alloc: Global,
     shown: bool,
     read: &ReadTransducer,
-    named: OldNames,
+    named: SealedNames,
     kept: &mut KeptTables,
 ) -> Result<Made, Fault>
     requires old { IsLoadedOld read.now.old }
     requires named { (custom : Custom) × AreOldNames read.now.old custom named.names }
     ensures { (custom : Custom) → AreOldNames read.now.old custom named.names → MakesAfterSystems named.steps shown read.now custom result }
 {
-    let OldNames { names, mut steps } = named;
+    let SealedNames { names, mut steps } = named;
     let over = base_of(alloc, &names.headers, &read.old.name, Some(Direction::Msd))?;
-    let word = transduced_word(alloc, read, &names, kept, &mut steps)?;
+    let old = read_old(alloc, &read.old, &names, kept, &mut steps)?;
+    let word = transduced(alloc, &read.transducer, old.as_ref(), &mut steps)?;
     letters_fit(&word);
     let name = over.name(alloc)?;
     let tracks = [name];
     word_made(alloc, &tracks, &word, &steps, shown)
-}
-
-/// The word of the outputs of the transducer that runs over the old word. The word's table is read first.
-fn transduced_word(
-    alloc: Global,
-    read: &ReadTransducer,
-    names: &Names,
-    kept: &mut KeptTables,
-    steps: &mut Steps,
-) -> Result<Word, Fault>
-    requires old { IsLoadedOld read.now.old }
-    requires named { (custom : Custom) × AreOldNames read.now.old custom names.now }
-    requires over { HasMsdBase read.now }
-    ensures { (custom : Custom) → AreOldNames read.now.old custom names.now → MakesTransduced steps.old custom read.now result steps.new }
-{
-    names.systems.are_sealed();
-    let library = read_tables(alloc, &read.old.tables, &names.systems, kept, steps)?;
-    let word = word_in(&library, &read.old.name);
-    let made = transduced(alloc, &read.transducer, word, steps)?;
-    Ok(made)
 }

@@ -1,20 +1,19 @@
 //! The text of a word that a command makes.
 
-ghost use Rattle.std.specs.Prelude.{◌≡◌, FitsSigned, map, IfOk, MatchResult};
+ghost use Rattle.std.specs.Prelude.{FitsSigned, MatchResult};
 ghost use Rattle.std.specs.Int.{w32};
 ghost use Rattle.std.specs.List.{All};
-ghost use Rattle.std.specs.Rc.{rc_value};
-ghost use Rattle.session_cli.specs.WordPrinting.{HaveNames, IsWordTextOf, HasNoWordText, tracks_named};
+ghost use Rattle.session_cli.specs.WordPrinting.{HaveNames, IsWordTextOf, HasNoWordText, Keeps};
 
 use crate::fault::Fault;
+use crate::file_change::Made;
+use crate::named_tracks::tracks_of;
+use crate::printed::Printed;
 use dfa_text::print_word_within;
-use digit_tuple::faults::OutOfMemory;
 use digit_tuple::header::Header;
 use digit_tuple::name::Name;
-use digit_tuple::systems::Systems;
-use num_system::system::System;
+use digit_tuple::steps::Steps;
 use std::alloc::Global;
-use std::rc::Rc;
 use wal_outside::TEXT_LIMIT;
 use word_output::word::Word;
 
@@ -35,16 +34,23 @@ pub(crate) fn word_text(alloc: Global, names: &[Name], word: &Word) -> Result<Ve
     }
 }
 
-/// The tracks of these names over these systems, one for each.
-fn tracks_of(alloc: Global, names: &[Name], systems: &[Rc<System>]) -> Result<Systems, OutOfMemory>
-    requires { HaveNames names.now (map rc_value systems.now) }
-    ensures { IfOk result (λ tracks. tracks ≡ tracks_named names.now (map rc_value systems.now)) }
+/// The text of a word under the names of its systems, and the lines of the steps, where they are shown.
+///
+/// # Errors
+/// `Long` if and only if the text has more bytes than a text may have, or `Memory`.
+pub(crate) fn word_made(
+    alloc: Global,
+    names: &[Name],
+    word: &Word,
+    steps: &Steps,
+    shown: bool,
+) -> Result<Made, Fault>
+    requires { HaveNames names.now word.now.systems }
+    ensures { Keeps names.now word.now shown steps.now.lines result }
 {
-    let mut tracks = Systems::new(alloc);
-    for (place, name) in names.iter().enumerate() {
-        tracks.push(name.copy(alloc)?, systems[place].digits())?;
-    }
-    Ok(tracks)
+    let stored = word_text(alloc, names, word)?;
+    let printed = Printed::of_steps(alloc, steps, shown)?;
+    Ok(Made { stored, printed })
 }
 
 /// The letters of a word are numbers of 32 bits, signed. It does nothing.

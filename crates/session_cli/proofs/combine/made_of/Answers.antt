@@ -1,89 +1,46 @@
-use Rattle.std.proofs.Common.{◌≡◌, ◌∙◌, List, ℕ, Ok, refl, sym, ap, subst}
-use Rattle.std.specs.List.{AllByRecursion}
+use Rattle.std.proofs.Common.{Ok, sym, subst}
 use Rattle.std.proofs.lemmas.Result.{err_from_is_err_and}
-use Rattle.dfa_loading.specs.Headers.{headers_of}
-use Rattle.formula_resolve.specs.FirstMentions.{first_systems}
 use Rattle.system_admission.specs.SystemSteps.{AdmitsNames, no_steps}
 use Rattle.system_files.specs.SystemFiles.{Custom}
 use Rattle.session_cli.specs.Checks.{Fails}
-use Rattle.session_cli.specs.CombineMakes.{automata_in, head_of, listed_systems_of}
-use Rattle.session_cli.specs.CombineOutcomes.{listed_mentions}
-use Rattle.named_systems.specs.SealedSystems.{HasBuiltIn}
+use Rattle.session_cli.specs.CombineMakes.{automata_of, head_of}
+use Rattle.session_cli.specs.CombineOutcomes.{listed_systems}
 use Rattle.session_cli.specs.SystemChecks.{systems_known}
-use Rattle.system_admission.specs.UserSystems.{AreAdmitted}
+use Rattle.session_cli.proofs.SameMentions.{same_names}
 use Rattle.session_cli.proofs.CombineChains.{list_own, list_unknown, list_known}
-use Rattle.named_systems.proofs.SealedLemmas.{all_there}
-use Rattle.session_cli.proofs.MeantNames.{extended_meant}
-use Rattle.session_cli.proofs.TextReads.{texts_none, texts_refused, texts_read}
+use Rattle.session_cli.proofs.TextReads.{texts_refused, texts_read}
 use Rattle.session_cli.proofs.combine.made_of.Goals as goal
 
-pub returns-in_err-headers : goal.returns-in_err-headers
-returns-in_err-headers g c =
+pub returns-in_err-named : goal.returns-in_err-named
+returns-in_err-named g c =
     let p = err_from_is_err_and c.from_residual.result c.from_residual.ensures.1 in
-    rw (p.1, p.2) (texts_none _ _ _ refl (λ custom ledger files word stores same listed. tt))
-
-pub returns-in_err-mentions : goal.returns-in_err-mentions
-returns-in_err-mentions g c =
-    let p = err_from_is_err_and c.from_residual-in_err-mentions.result c.from_residual-in_err-mentions.ensures.1 in
-    rw (p.1, p.2) (texts_none _ _ _ refl (λ custom ledger files word stores same listed. tt))
-
-pub returns-in_err-mentioned : goal.returns-in_err-mentioned
-returns-in_err-mentioned g c =
-    let p = err_from_is_err_and c.from_residual-in_err-mentioned.result c.from_residual-in_err-mentioned.ensures.1 in
-    rw (p.1, p.2) (texts_none _ _ _ refl (λ custom ledger files word stores same listed. tt))
-
-pub returns-in_err-users : goal.returns-in_err-users
-returns-in_err-users g c =
-    let p = err_from_is_err_and c.from_residual-in_err-users.result c.from_residual-in_err-users.ensures.1 in
-    let fault = c.in_err-users.field-0.0 in
+    let fault = c.in_err-named.field-0.0 in
     let limit = c.args.options.limit in
     let read = c.args.read.now in
-    let tables = read.tables.items in
-    let headers = c.in_ok-headers.ensures ∙ ap headers_of c.deref.ensures.value in
-    let mentioned = c.deref-3.ensures.value ∙ (c.in_ok-mentions.ensures ∙ ap (λ xs. listed_mentions (automata_in xs)) c.deref-2.ensures.value) in
-    let names : c.deref-4.result.now ≡ listed_systems_of read = c.deref-4.ensures.value ∙ (c.in_ok-mentioned.ensures ∙ (λ i. first_systems (headers i) (mentioned i))) in
-    rw (p.1, p.2) (texts_refused _ _ _ _ fault c.in_err-users.ensures
+    let tables = read.mentioned.tables.items in
+    let first = same_names limit tables c.requires.loaded.1.mentions_are c.in_err-named.ensures in
+    rw (p.1, p.2) (texts_refused _ _ _ _ fault first
     (λ custom refused ledger files word stores same listed. list_unknown limit ledger (head_of word read) tables fault
-    (subst (λ (k : Custom). Fails (systems_known limit k (listed_systems_of read)) fault) (sym same) (subst (λ (ns : List (List ℕ)). Fails (systems_known limit custom ns) fault) names refused))))
+    (subst (λ (k : Custom). Fails (systems_known limit k (listed_systems tables (automata_of read))) fault) (sym same) refused)))
 
-pub combined-requires-clause-systems : goal.combined-requires-clause-systems
-combined-requires-clause-systems g c =
-    let read = c.args.read.now in
-    let headers = c.in_ok-headers.ensures ∙ ap headers_of c.deref.ensures.value in
-    let mentioned = c.deref-3.ensures.value ∙ (c.in_ok-mentions.ensures ∙ ap (λ xs. listed_mentions (automata_in xs)) c.deref-2.ensures.value) in
-    let once = c.in_ok-mentioned.ensures ∙ (λ i. first_systems (headers i) (mentioned i)) in
-    let names : c.deref-4.result.now ≡ listed_systems_of read = c.deref-4.ensures.value ∙ once in
-    let also : c.deref-5.result.now ≡ listed_systems_of read = c.deref-5.ensures.value ∙ once in
-    let users = c.in_ok-users.users in
-    let first = c.in_ok-users.ensures in
-    let adds = c.in_ok-add_all.ensures in
-    let admitted = subst (λ (ns : List (List ℕ)). AreAdmitted c.args.options.limit ns first.stands.0 users) names (first.gives first.stands.0 first.stands.1) in
-    record {
-      mentioned = all_there users.named c.add_all.new.systems (listed_systems_of read) adds.extends admitted.there (subst (AllByRecursion (HasBuiltIn c.add_all.new.systems)) also adds.there);
-      default = adds.default;
-    }
-
-pub combined-requires-clause-meant : goal.combined-requires-clause-meant
-combined-requires-clause-meant g c =
-    let first = c.in_ok-users.ensures in
-    (first.stands.0, extended_meant first.stands.0 _ _ c.in_ok-add_all.ensures.extends (first.gives first.stands.0 first.stands.1).meant)
+pub combined-requires-clause-named : goal.combined-requires-clause-named
+combined-requires-clause-named g c =
+    let limit = c.args.options.limit in
+    let tables = c.args.read.now.mentioned.tables.items in
+    let first = same_names limit tables c.requires.loaded.1.mentions_are c.in_ok-named.ensures in
+    (first.stands.0, (first.gives first.stands.0 first.stands.1).names)
 
 pub returns : goal.returns
 returns g c =
     let limit = c.args.options.limit in
     let shown = c.args.options.shown in
     let read = c.args.read.now in
-    let tables = read.tables.items in
-    let headers = c.in_ok-headers.ensures ∙ ap headers_of c.deref.ensures.value in
-    let mentioned = c.deref-3.ensures.value ∙ (c.in_ok-mentions.ensures ∙ ap (λ xs. listed_mentions (automata_in xs)) c.deref-2.ensures.value) in
-    let names : c.deref-4.result.now ≡ listed_systems_of read = c.deref-4.ensures.value ∙ (c.in_ok-mentioned.ensures ∙ (λ i. first_systems (headers i) (mentioned i))) in
-    let users = c.in_ok-users.users in
-    let first = c.in_ok-users.ensures in
-    let custom = first.stands.0 in
-    let meant = extended_meant custom _ _ c.in_ok-add_all.ensures.extends (first.gives custom first.stands.1).meant in
-    let own = list_own users.steps shown read custom c.combined.result c.requires (c.combined.ensures custom meant) in
-    texts_read _ _ _ _ users c.combined.result own first
-    (λ k admitted ledger files word stores same listed.
-    let admits = (subst (λ (ns : List (List ℕ)). AreAdmitted limit ns k users) names admitted).admits in
-    list_known limit ledger (head_of word read) tables users.steps shown c.combined.result (subst (λ (j : Custom). AdmitsNames j (listed_systems_of read) (no_steps limit) (Ok tt) users.steps) (sym same) admits)
-    (c.combined.ensures k (extended_meant k _ _ c.in_ok-add_all.ensures.extends admitted.meant) ledger files word stores same listed))
+    let tables = read.mentioned.tables.items in
+    let named = c.in_ok-named.named in
+    let first = same_names limit tables c.requires.loaded.1.mentions_are c.in_ok-named.ensures in
+    let own = list_own named.steps shown read first.stands.0 c.combined.result c.requires (c.combined.ensures first.stands.0 (first.gives first.stands.0 first.stands.1).names) in
+    texts_read _ _ _ _ named c.combined.result own first
+    (λ k given ledger files word stores same listed.
+    list_known limit ledger (head_of word read) tables named.steps shown c.combined.result
+    (subst (λ (j : Custom). AdmitsNames j (listed_systems tables (automata_of read)) (no_steps limit) (Ok tt) named.steps) (sym same) given.admits)
+    (c.combined.ensures k given.names ledger files word stores same listed))

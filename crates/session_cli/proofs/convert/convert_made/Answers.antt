@@ -8,7 +8,7 @@ use Rattle.session_cli.specs.ConvertOutcomes.{after_convert_table}
 use Rattle.session_cli.specs.ImageOutcomes.{old_mentions}
 use Rattle.session_cli.specs.FileChanges.{Makes}
 use Rattle.session_cli.proofs.ConvertChains.{convert_read_made, convert_unloaded}
-use Rattle.session_cli.proofs.FilesElsewhere.{listed_elsewhere}
+use Rattle.session_cli.proofs.FilesElsewhere.{mentioned_elsewhere}
 use Rattle.session_cli.proofs.LoadedFiles.{unloaded}
 use Rattle.session_cli.proofs.StoreReads.{from_none, from_refused}
 use Rattle.session_cli.proofs.TextReads.{then_texts}
@@ -28,7 +28,7 @@ returns-in_err-old g c =
     (λ found refused ledger stores. convert_unloaded c.args.options.limit ledger head fault (unloaded ledger found (first_files (old_mentions head.old)) fault stores refused)))
 
 pub made_of-requires : goal.made_of-requires
-made_of-requires g c = (c.in_ok-old.ensures.found, c.in_ok-old.ensures.gives.listed)
+made_of-requires g c = (c.in_ok-old.ensures.found, c.in_ok-old.ensures.gives.there)
 
 pub returns : goal.returns
 returns g c =
@@ -36,7 +36,7 @@ returns g c =
     let head = convert_view c.args.head.now in
     let options = c.args.options in
     then_texts _ _ _ _ _ _ old c.made_of.result c.in_ok-old.ensures c.made_of.ensures
-    (λ found custom is. record { name_is = is.name_is; listed = listed_elsewhere found custom (first_files (old_mentions old.name)) old.tables.items is.listed })
+    (λ found custom is. record { name_is = is.name_is; there = mentioned_elsewhere found custom (old_mentions old.name) old.mentioned is.there })
     (λ found is makes ledger stores. convert_read_made options.limit options.shown ledger head old found c.made_of.result stores is
-    (subst (λ (s : List ℕ). Makes (custom_of ledger) (after_convert_table options.limit ledger (record { word = head.word; system = s; old = old.name }) old.tables.items) options.shown c.made_of.result) c.in_ok-system.ensures
-    (makes ledger found head.word stores (stored_custom ledger found stores) is.listed)))
+    (subst (λ (s : List ℕ). Makes (custom_of ledger) (after_convert_table options.limit ledger (record { word = head.word; system = s; old = old.name }) old.mentioned.tables.items) options.shown c.made_of.result) c.in_ok-system.ensures
+    (makes ledger found head.word stores (stored_custom ledger found stores) is.there.listed)))

@@ -1,4 +1,5 @@
 use Rattle.std.proofs.Common.{◌++◌, List, Ok, Err, refl, sym, ap, ◌∙◌, subst, inr}
+use Rattle.std.proofs.lemmas.List.{length-map}
 use Rattle.std.proofs.lemmas.Result.{err_from_is_err_and}
 use Rattle.dfa_loading.specs.declared.loaded.Loaded.{Loaded}
 use Rattle.formula_build.proofs.ReadFormulas.{read_formed}
@@ -33,101 +34,101 @@ resolve-requires-clause-formed c = read_formed c.requires.read.text (tree_of c.a
 
 pub resolve-requires-clause-directions : goal.resolve-requires-clause-directions
 resolve-requires-clause-directions c =
-    subst (λ (h : Headers). AreDirections h direction_named) (sym c.requires.headers) (ground_directions (tree_of c.args.read.now) c.args.read.now.tables.items c.requires.read.files c.requires.read.listed)
+    subst (λ (h : Headers). AreDirections h direction_named) (sym c.requires.named.1.headers) (ground_directions (tree_of c.args.read.now) c.args.read.now.mentioned.tables.items c.requires.read.loaded.0 c.requires.read.loaded.1.listed)
 
 pub returns-in_err-resolved : goal.returns-in_err-resolved
 returns-in_err-resolved c =
     let p = err_from_is_err_and c.from_residual.result c.from_residual.ensures.1 in
     let f = tree_of c.args.read.now in
-    let tables = c.args.read.now.tables.items in
+    let tables = c.args.read.now.mentioned.tables.items in
     let fault = c.in_err-resolved.field-0.0 in
-    λ custom meant ledger files place stores same listed.
-    rw (p.1, p.2) (systems_unresolved c.args.steps ledger place tables f (fault_of_resolution fault) (unresolved Resolved tables f c.args.names.now.headers fault c.requires.headers c.in_err-resolved.ensures.reported))
+    λ custom named ledger files place stores same listed.
+    rw (p.1, p.2) (systems_unresolved c.args.named.steps ledger place tables f (fault_of_resolution fault) (unresolved Resolved tables f c.args.named.names.headers fault c.requires.named.1.headers c.in_err-resolved.ensures.reported))
 
 pub read_tables-requires : goal.read_tables-requires
 read_tables-requires c =
     let f = tree_of c.args.read.now in
-    let tables = c.args.read.now.tables.items in
-    let systems = c.args.names.now.systems in
+    let tables = c.args.read.now.mentioned.tables.items in
+    let systems = c.args.named.names.systems in
     let r = c.in_ok-resolved.resolved in
-    let no_fault = resolves_here tables f c.args.names.now.headers c.requires.headers c.in_ok-resolved.ensures.reported in
-    subst (λ (ts : List Loaded). AreReadable systems ts) (sym c.deref.ensures.value) (ground_readable f tables c.requires.read.files c.requires.read.listed systems c.are_sealed.ensures c.requires.meant.0 c.requires.meant.1 no_fault c.requires.systems)
+    let no_fault = resolves_here tables f c.args.named.names.headers c.requires.named.1.headers c.in_ok-resolved.ensures.reported in
+    subst (λ (ts : List Loaded). AreReadable systems ts) (sym c.deref.ensures.value) (ground_readable f tables c.requires.read.loaded.0 c.requires.read.loaded.1.listed systems c.are_sealed.ensures c.requires.named.0 c.requires.named.1.meant no_fault c.requires.named.1.systems)
 
 pub returns-in_err-library : goal.returns-in_err-library
 returns-in_err-library c =
     let p = err_from_is_err_and c.from_residual-in_err-library.result c.from_residual-in_err-library.ensures.1 in
     let f = tree_of c.args.read.now in
-    let tables = c.args.read.now.tables.items in
-    let systems = c.args.names.now.systems in
+    let tables = c.args.read.now.mentioned.tables.items in
+    let systems = c.args.named.names.systems in
     let r = c.in_ok-resolved.resolved in
-    let no_fault = resolves_here tables f c.args.names.now.headers c.requires.headers c.in_ok-resolved.ensures.reported in
+    let no_fault = resolves_here tables f c.args.named.names.headers c.requires.named.1.headers c.in_ok-resolved.ensures.reported in
     let fault = c.in_err-library.field-0.0 in
-    λ custom meant ledger files place stores same listed.
-    let here = subst (λ (k : Custom). AreMeant k systems) (sym same) meant in
-    rw (p.1, p.2) (resolved_unbuilt c.args.steps ledger place tables f (track_systems.fault_of fault) no_fault
-    (unread c.args.steps (custom_of ledger) tables f fault (stopped_here systems c.args.steps (custom_of ledger) tables fault c.are_sealed.ensures here (rw c.deref.ensures.value at c.in_err-library.ensures))))
+    λ custom named ledger files place stores same listed.
+    let here = subst (λ (k : Custom). AreMeant k systems) (sym same) named.meant in
+    rw (p.1, p.2) (resolved_unbuilt c.args.named.steps ledger place tables f (track_systems.fault_of fault) no_fault
+    (unread c.args.named.steps (custom_of ledger) tables f fault (stopped_here systems c.args.named.steps (custom_of ledger) tables fault c.are_sealed.ensures here (rw c.deref.ensures.value at c.in_err-library.ensures))))
 
 pub build-requires-clause-fits : goal.build-requires-clause-fits
 build-requires-clause-fits c =
     let f = tree_of c.args.read.now in
-    let tables = c.args.read.now.tables.items in
-    let systems = c.args.names.now.systems in
+    let tables = c.args.read.now.mentioned.tables.items in
+    let systems = c.args.named.names.systems in
     let r = c.in_ok-resolved.resolved in
-    let no_fault = resolves_here tables f c.args.names.now.headers c.requires.headers c.in_ok-resolved.ensures.reported in
+    let no_fault = resolves_here tables f c.args.named.names.headers c.requires.named.1.headers c.in_ok-resolved.ensures.reported in
     let done = rw c.deref.ensures.value at c.in_ok-library.ensures in
     let read = c.in_ok-library.library in
     let reads = done.0 in
-    let up = set_up r read reads c.args.read.now.formula tables c.args.names.now systems c.in_ok-resolved.ensures.formula c.in_ok-resolved.ensures.names c.requires.headers refl done.2 in
-    fits_here r read reads f tables systems up (ground_fits f tables c.requires.read.files c.requires.read.listed systems c.are_sealed.ensures c.requires.meant.0 c.requires.meant.1 no_fault c.requires.systems reads c.args.steps c.read_tables.new.steps done.1)
+    let up = set_up r read reads c.args.read.now.formula tables c.args.named.names systems c.in_ok-resolved.ensures.formula c.in_ok-resolved.ensures.names c.requires.named.1.headers refl done.2 in
+    fits_here r read reads f tables systems up (ground_fits f tables c.requires.read.loaded.0 c.requires.read.loaded.1.listed systems c.are_sealed.ensures c.requires.named.0 c.requires.named.1.meant no_fault c.requires.named.1.systems reads c.args.named.steps c.read_tables.new.steps done.1)
 
 pub build-requires-clause-known : goal.build-requires-clause-known
 build-requires-clause-known c =
     let f = tree_of c.args.read.now in
-    let tables = c.args.read.now.tables.items in
-    let systems = c.args.names.now.systems in
+    let tables = c.args.read.now.mentioned.tables.items in
+    let systems = c.args.named.names.systems in
     let r = c.in_ok-resolved.resolved in
-    let no_fault = resolves_here tables f c.args.names.now.headers c.requires.headers c.in_ok-resolved.ensures.reported in
+    let no_fault = resolves_here tables f c.args.named.names.headers c.requires.named.1.headers c.in_ok-resolved.ensures.reported in
     let done = rw c.deref.ensures.value at c.in_ok-library.ensures in
     let read = c.in_ok-library.library in
     let reads = done.0 in
-    let up = set_up r read reads c.args.read.now.formula tables c.args.names.now systems c.in_ok-resolved.ensures.formula c.in_ok-resolved.ensures.names c.requires.headers refl done.2 in
+    let up = set_up r read reads c.args.read.now.formula tables c.args.named.names systems c.in_ok-resolved.ensures.formula c.in_ok-resolved.ensures.names c.requires.named.1.headers refl done.2 in
     known_here r read reads f tables systems up
-    (ground_known f tables c.requires.read.files c.requires.read.listed systems c.are_sealed.ensures c.requires.meant.0 c.requires.meant.1 no_fault c.requires.systems reads c.args.steps c.read_tables.new.steps done.1 (c.requires.read.text, c.requires.read.reads))
+    (ground_known f tables c.requires.read.loaded.0 c.requires.read.loaded.1.listed systems c.are_sealed.ensures c.requires.named.0 c.requires.named.1.meant no_fault c.requires.named.1.systems reads c.args.named.steps c.read_tables.new.steps done.1 (c.requires.read.text, c.requires.read.reads))
 
 pub returns-in_err-relation : goal.returns-in_err-relation
 returns-in_err-relation c =
     let p = err_from_is_err_and c.from_residual-in_err-relation.result c.from_residual-in_err-relation.ensures.1 in
     let f = tree_of c.args.read.now in
-    let tables = c.args.read.now.tables.items in
-    let systems = c.args.names.now.systems in
+    let tables = c.args.read.now.mentioned.tables.items in
+    let systems = c.args.named.names.systems in
     let r = c.in_ok-resolved.resolved in
-    let no_fault = resolves_here tables f c.args.names.now.headers c.requires.headers c.in_ok-resolved.ensures.reported in
+    let no_fault = resolves_here tables f c.args.named.names.headers c.requires.named.1.headers c.in_ok-resolved.ensures.reported in
     let done = rw c.deref.ensures.value at c.in_ok-library.ensures in
     let read = c.in_ok-library.library in
     let reads = done.0 in
-    let up = set_up r read reads c.args.read.now.formula tables c.args.names.now systems c.in_ok-resolved.ensures.formula c.in_ok-resolved.ensures.names c.requires.headers refl done.2 in
+    let up = set_up r read reads c.args.read.now.formula tables c.args.named.names systems c.in_ok-resolved.ensures.formula c.in_ok-resolved.ensures.names c.requires.named.1.headers refl done.2 in
     let fault = c.in_err-relation.field-0.0 in
-    λ custom meant ledger files place stores same listed.
-    let here = subst (λ (k : Custom). AreMeant k systems) (sym same) meant in
-    let steps = steps_here r read reads f tables systems up c.args.steps (custom_of ledger) c.read_tables.new.steps c.build.new.steps (Err fault) c.are_sealed.ensures here done.1 c.in_err-relation.ensures.steps in
-    rw (p.1, p.2) (resolved_unbuilt c.args.steps ledger place tables f (track_systems.fault_of fault) no_fault (unbuilt c.args.steps (custom_of ledger) tables f fault (inr (c.build.new.steps.lines, steps))))
+    λ custom named ledger files place stores same listed.
+    let here = subst (λ (k : Custom). AreMeant k systems) (sym same) named.meant in
+    let steps = steps_here r read reads f tables systems up c.args.named.steps (custom_of ledger) c.read_tables.new.steps c.build.new.steps (Err fault) c.are_sealed.ensures here done.1 c.in_err-relation.ensures.steps in
+    rw (p.1, p.2) (resolved_unbuilt c.args.named.steps ledger place tables f (track_systems.fault_of fault) no_fault (unbuilt c.args.named.steps (custom_of ledger) tables f fault (inr (c.build.new.steps.lines, steps))))
 
 pub formula_text-requires : goal.formula_text-requires
 formula_text-requires c =
     let f = tree_of c.args.read.now in
-    let tables = c.args.read.now.tables.items in
-    let systems = c.args.names.now.systems in
+    let tables = c.args.read.now.mentioned.tables.items in
+    let systems = c.args.named.names.systems in
     let r = c.in_ok-resolved.resolved in
-    let no_fault = resolves_here tables f c.args.names.now.headers c.requires.headers c.in_ok-resolved.ensures.reported in
+    let no_fault = resolves_here tables f c.args.named.names.headers c.requires.named.1.headers c.in_ok-resolved.ensures.reported in
     let done = rw c.deref.ensures.value at c.in_ok-library.ensures in
     let read = c.in_ok-library.library in
     let reads = done.0 in
-    let up = set_up r read reads c.args.read.now.formula tables c.args.names.now systems c.in_ok-resolved.ensures.formula c.in_ok-resolved.ensures.names c.requires.headers refl done.2 in
+    let up = set_up r read reads c.args.read.now.formula tables c.args.named.names systems c.in_ok-resolved.ensures.formula c.in_ok-resolved.ensures.names c.requires.named.1.headers refl done.2 in
     let a = c.in_ok-relation.relation in
     let over = tracks_here r read reads f tables systems up a c.in_ok-relation.ensures.tracks in
     let tracks : HaveTracks r.variables.items a.systems = record {
-      count = as_many (library_with reads systems) r.variables.items a.systems over.systems_are;
-      digits = over_digits c.requires.meant.0 (library_with reads systems) r.variables.items a.systems c.requires.meant.1 over.systems_are;
+      count = length-map r.variables.items (λ (v : Variable). v.system) ∙ as_many (library_with reads systems) r.variables.items a.systems over.systems_are;
+      digits = over_digits c.requires.named.0 (library_with reads systems) r.variables.items a.systems c.requires.named.1.meant over.systems_are;
     } in
     subst (λ (vs : List Variable). HaveTracks vs a.systems) (sym c.deref-2.ensures.value) tracks
 
@@ -135,39 +136,39 @@ pub returns-in_err-stored : goal.returns-in_err-stored
 returns-in_err-stored c =
     let p = err_from_is_err_and c.from_residual-in_err-stored.result c.from_residual-in_err-stored.ensures.1 in
     let f = tree_of c.args.read.now in
-    let tables = c.args.read.now.tables.items in
-    let systems = c.args.names.now.systems in
+    let tables = c.args.read.now.mentioned.tables.items in
+    let systems = c.args.named.names.systems in
     let r = c.in_ok-resolved.resolved in
-    let no_fault = resolves_here tables f c.args.names.now.headers c.requires.headers c.in_ok-resolved.ensures.reported in
+    let no_fault = resolves_here tables f c.args.named.names.headers c.requires.named.1.headers c.in_ok-resolved.ensures.reported in
     let done = rw c.deref.ensures.value at c.in_ok-library.ensures in
     let read = c.in_ok-library.library in
     let reads = done.0 in
-    let up = set_up r read reads c.args.read.now.formula tables c.args.names.now systems c.in_ok-resolved.ensures.formula c.in_ok-resolved.ensures.names c.requires.headers refl done.2 in
+    let up = set_up r read reads c.args.read.now.formula tables c.args.named.names systems c.in_ok-resolved.ensures.formula c.in_ok-resolved.ensures.names c.requires.named.1.headers refl done.2 in
     let a = c.in_ok-relation.relation in
     let over = tracks_here r read reads f tables systems up a c.in_ok-relation.ensures.tracks in
     let solution = solution_here r read reads f tables systems up a c.in_ok-relation.ensures.solution in
     let found = variables_here r read reads f tables systems up c.in_ok-resolved.ensures.planned in
     let l = library_with reads systems in
     let refused = subst (λ (vs : List Variable). HasNoTextOf vs a c.in_err-stored.field-0.0) c.deref-2.ensures.value c.in_err-stored.ensures in
-    λ custom meant ledger files place stores same listed.
-    let here = subst (λ (k : Custom). AreMeant k systems) (sym same) meant in
-    let means = ground_means f tables files listed systems c.are_sealed.ensures custom meant no_fault c.requires.systems reads c.args.steps c.read_tables.new.steps done.1 ledger stores same in
-    let steps = steps_here r read reads f tables systems up c.args.steps (custom_of ledger) c.read_tables.new.steps c.build.new.steps (Ok a) c.are_sealed.ensures here done.1 c.in_ok-relation.ensures.steps in
+    λ custom named ledger files place stores same listed.
+    let here = subst (λ (k : Custom). AreMeant k systems) (sym same) named.meant in
+    let means = ground_means f tables files listed systems c.are_sealed.ensures custom named.meant no_fault c.requires.named.1.systems reads c.args.named.steps c.read_tables.new.steps done.1 ledger stores same in
+    let steps = steps_here r read reads f tables systems up c.args.named.steps (custom_of ledger) c.read_tables.new.steps c.build.new.steps (Ok a) c.are_sealed.ensures here done.1 c.in_ok-relation.ensures.steps in
     let are = subst (λ (vs : List Variable). AreVariables (custom_of ledger) vs (variables_over r.variables.items a.systems)) found (are_variables (custom_of ledger) l r.variables.items a.systems here over.systems_are) in
-    rw (p.1, p.2) (steps_made c.args.steps ledger place tables f (variables_over r.variables.items a.systems) c.build.new.steps.lines c.args.shown (Err c.in_err-stored.field-0.0) no_fault (a, steps) are
+    rw (p.1, p.2) (steps_made c.args.named.steps ledger place tables f (variables_over r.variables.items a.systems) c.build.new.steps.lines c.args.shown (Err c.in_err-stored.field-0.0) no_fault (a, steps) are
     (text_refused (custom_of ledger) l (bindings_now ledger f) means here f r.variables.items a solution over place c.build.new.steps.lines c.in_err-stored.field-0.0 refused))
 
 pub returns : goal.returns
 returns c =
     let f = tree_of c.args.read.now in
-    let tables = c.args.read.now.tables.items in
-    let systems = c.args.names.now.systems in
+    let tables = c.args.read.now.mentioned.tables.items in
+    let systems = c.args.named.names.systems in
     let r = c.in_ok-resolved.resolved in
-    let no_fault = resolves_here tables f c.args.names.now.headers c.requires.headers c.in_ok-resolved.ensures.reported in
+    let no_fault = resolves_here tables f c.args.named.names.headers c.requires.named.1.headers c.in_ok-resolved.ensures.reported in
     let done = rw c.deref.ensures.value at c.in_ok-library.ensures in
     let read = c.in_ok-library.library in
     let reads = done.0 in
-    let up = set_up r read reads c.args.read.now.formula tables c.args.names.now systems c.in_ok-resolved.ensures.formula c.in_ok-resolved.ensures.names c.requires.headers refl done.2 in
+    let up = set_up r read reads c.args.read.now.formula tables c.args.named.names systems c.in_ok-resolved.ensures.formula c.in_ok-resolved.ensures.names c.requires.named.1.headers refl done.2 in
     let a = c.in_ok-relation.relation in
     let over = tracks_here r read reads f tables systems up a c.in_ok-relation.ensures.tracks in
     let solution = solution_here r read reads f tables systems up a c.in_ok-relation.ensures.solution in
@@ -175,11 +176,11 @@ returns c =
     let l = library_with reads systems in
     let text = subst (λ (vs : List Variable). IsTextOf vs a c.in_ok-stored.stored.items) c.deref-2.ensures.value c.in_ok-stored.ensures in
     let printed = c.in_ok-push_verdict.ensures ∙ ap (λ prefix. prefix ++ verdict_line c.verdict.result) c.in_ok-printed.ensures in
-    λ custom meant ledger files place stores same listed.
-    let here = subst (λ (k : Custom). AreMeant k systems) (sym same) meant in
-    let means = ground_means f tables files listed systems c.are_sealed.ensures custom meant no_fault c.requires.systems reads c.args.steps c.read_tables.new.steps done.1 ledger stores same in
-    let steps = steps_here r read reads f tables systems up c.args.steps (custom_of ledger) c.read_tables.new.steps c.build.new.steps (Ok a) c.are_sealed.ensures here done.1 c.in_ok-relation.ensures.steps in
+    λ custom named ledger files place stores same listed.
+    let here = subst (λ (k : Custom). AreMeant k systems) (sym same) named.meant in
+    let means = ground_means f tables files listed systems c.are_sealed.ensures custom named.meant no_fault c.requires.named.1.systems reads c.args.named.steps c.read_tables.new.steps done.1 ledger stores same in
+    let steps = steps_here r read reads f tables systems up c.args.named.steps (custom_of ledger) c.read_tables.new.steps c.build.new.steps (Ok a) c.are_sealed.ensures here done.1 c.in_ok-relation.ensures.steps in
     let are = subst (λ (vs : List Variable). AreVariables (custom_of ledger) vs (variables_over r.variables.items a.systems)) found (are_variables (custom_of ledger) l r.variables.items a.systems here over.systems_are) in
     let verdict = verdict_is (custom_of ledger) l (bindings_now ledger f) means here f r.variables.items a solution over c.verdict.result c.verdict.ensures.sentence c.verdict.ensures.truth in
-    steps_made c.args.steps ledger place tables f (variables_over r.variables.items a.systems) c.build.new.steps.lines c.args.shown (Ok _) no_fault (a, steps) are
+    steps_made c.args.named.steps ledger place tables f (variables_over r.variables.items a.systems) c.build.new.steps.lines c.args.shown (Ok _) no_fault (a, steps) are
     (text_made (custom_of ledger) l (bindings_now ledger f) means here f r.variables.items a solution over place c.build.new.steps.lines c.verdict.result c.args.shown _ verdict text printed)

@@ -5,7 +5,7 @@ use Rattle.formula_resolve.specs.FirstMentions.{first_files}
 use Rattle.formula_resolve.specs.Mentions.{mentions}
 use Rattle.definitions.proofs.CustomTexts.{stored_custom}
 use Rattle.session_cli.proofs.FilesAlike.{bases_alike, listed_alike, unloaded_alike}
-use Rattle.session_cli.proofs.FilesElsewhere.{loads_elsewhere}
+use Rattle.session_cli.proofs.FilesElsewhere.{mentioned_elsewhere}
 use Rattle.session_cli.proofs.FormulaChains.{text_unparsed, text_parsed, formula_unloaded, formula_loaded}
 use Rattle.session_cli.proofs.FormulaRefusals.{unparsed_formula}
 use Rattle.session_cli.proofs.LoadedFiles.{unloaded}
@@ -19,24 +19,25 @@ returns-in_err-formula g c =
     let fault = c.in_err-formula.field-0.0 in
     rw (p.1, p.2) (from_none _ _ _ (own_parse fault) (λ found ledger files place stores same. text_unparsed c.args.options.limit ledger place c.args.text.now _ (unparsed_formula c.args.text.now fault c.in_err-formula.ensures)))
 
-pub returns-in_err-tables : goal.returns-in_err-tables
-returns-in_err-tables g c =
-    let p = err_from_is_err_and c.from_residual-in_err-tables.result c.from_residual-in_err-tables.ensures.1 in
+pub returns-in_err-mentioned : goal.returns-in_err-mentioned
+returns-in_err-mentioned g c =
+    let p = err_from_is_err_and c.from_residual-in_err-mentioned.result c.from_residual-in_err-mentioned.ensures.1 in
     let f = formula_view c.in_ok-formula.formula in
-    let fault = c.in_err-tables.field-0.0 in
-    rw (p.1, p.2) (from_refused _ _ _ _ fault c.in_err-tables.ensures
+    let fault = c.in_err-mentioned.field-0.0 in
+    rw (p.1, p.2) (from_refused _ _ _ _ fault c.in_err-mentioned.ensures
     (λ found refused ledger files place stores same. text_parsed c.args.options.limit ledger place c.args.text.now f c.args.options.shown (Err fault) c.in_ok-formula.ensures
     (formula_unloaded c.args.options.limit ledger place f fault (unloaded ledger files (first_files (mentions f)) fault stores (unloaded_alike files found same (first_files (mentions f)) fault refused)))))
 
 pub made_of-requires : goal.made_of-requires
-made_of-requires g c = record { text = c.args.text.now; reads = c.in_ok-formula.ensures; files = c.in_ok-tables.ensures.found; listed = c.in_ok-tables.ensures.gives }
+made_of-requires g c = record { text = c.args.text.now; reads = c.in_ok-formula.ensures; loaded = (c.in_ok-mentioned.ensures.found, c.in_ok-mentioned.ensures.gives) }
 
 pub returns : goal.returns
 returns g c =
     let f = formula_view c.in_ok-formula.formula in
-    let tables = c.in_ok-tables.tables.items in
-    then_texts _ _ _ _ _ _ c.in_ok-tables.tables c.made_of.result c.in_ok-tables.ensures c.made_of.ensures (λ found custom listed. loads_elsewhere found custom f c.in_ok-tables.tables listed)
-    (λ found listed makes ledger files place stores same.
-    let here = listed_alike files found same (first_files (mentions f)) tables listed in
+    let mentioned = c.in_ok-mentioned.mentioned in
+    let tables = mentioned.tables.items in
+    then_texts _ _ _ _ _ _ mentioned c.made_of.result c.in_ok-mentioned.ensures c.made_of.ensures (λ found custom there. mentioned_elsewhere found custom (mentions f) mentioned there)
+    (λ found there makes ledger files place stores same.
+    let here = listed_alike files found same (first_files (mentions f)) tables there.listed in
     text_parsed c.args.options.limit ledger place c.args.text.now f c.args.options.shown c.made_of.result c.in_ok-formula.ensures
     (formula_loaded c.args.options.limit ledger place f tables c.args.options.shown c.made_of.result (files, stores, here) (makes ledger files place stores (stored_custom ledger files stores ∙ bases_alike files found same) here)))

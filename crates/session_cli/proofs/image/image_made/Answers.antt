@@ -1,8 +1,7 @@
 use Rattle.std.proofs.lemmas.Result.{err_from_is_err_and}
 use Rattle.command_head.specs.HeadViews.{image_view}
-use Rattle.formula_resolve.specs.FirstMentions.{first_files}
 use Rattle.session_cli.specs.ImageOutcomes.{old_mentions}
-use Rattle.session_cli.proofs.FilesElsewhere.{listed_elsewhere}
+use Rattle.session_cli.proofs.FilesElsewhere.{mentioned_elsewhere}
 use Rattle.session_cli.proofs.ImageWrites.{image_read_made}
 use Rattle.session_cli.proofs.StoreReads.{from_refused}
 use Rattle.session_cli.proofs.TextReads.{then_texts}
@@ -15,15 +14,14 @@ returns-in_err-read g c =
     rw (p.1, p.2) (from_refused _ _ _ _ fault c.in_err-read.ensures (λ found refused ledger stores. refused c.args.options.limit ledger stores))
 
 pub made_of-requires : goal.made_of-requires
-made_of-requires g c = record { files = c.in_ok-read.ensures.found; listed = c.in_ok-read.ensures.gives.listed }
+made_of-requires g c = (c.in_ok-read.ensures.found, c.in_ok-read.ensures.gives.old.there)
 
 pub returns : goal.returns
 returns g c =
     let read = c.in_ok-read.read in
     then_texts _ _ _ _ _ _ read c.made_of.result c.in_ok-read.ensures c.made_of.ensures
     (λ found custom is. record {
-      old = is.old;
       rules = record { text = is.rules.text; there = is.rules.there; short = is.rules.short; derives = is.rules.derives };
-      listed = listed_elsewhere found custom (first_files (old_mentions read.old)) read.tables.items is.listed;
+      old = record { name_is = is.old.name_is; there = mentioned_elsewhere found custom (old_mentions read.old.name) read.old.mentioned is.old.there };
     })
     (λ found is makes ledger stores. image_read_made c.args.options ledger (image_view c.args.head.now) read found c.made_of.result stores is makes)

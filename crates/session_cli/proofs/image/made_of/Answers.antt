@@ -1,88 +1,43 @@
-use Rattle.std.proofs.Common.{◌≡◌, ◌∙◌, List, ℕ, Ok, refl, sym, ap, subst}
-use Rattle.std.specs.List.{AllByRecursion}
+use Rattle.std.proofs.Common.{Ok, sym, subst}
 use Rattle.std.proofs.lemmas.Result.{err_from_is_err_and}
-use Rattle.dfa_loading.specs.Headers.{headers_of}
-use Rattle.formula_resolve.specs.FirstMentions.{first_systems}
 use Rattle.system_admission.specs.SystemSteps.{AdmitsNames, no_steps}
 use Rattle.system_files.specs.SystemFiles.{Custom}
 use Rattle.session_cli.specs.Checks.{Fails}
-use Rattle.session_cli.specs.ImageMakes.{head_of, old_systems_of}
-use Rattle.named_systems.specs.SealedSystems.{HasBuiltIn}
+use Rattle.session_cli.specs.OldWordMakes.{systems_of_old}
 use Rattle.session_cli.specs.SystemChecks.{systems_known}
-use Rattle.system_admission.specs.UserSystems.{AreAdmitted}
+use Rattle.session_cli.specs.ImageMakes.{head_of}
+use Rattle.session_cli.proofs.SameMentions.{same_names}
+use Rattle.session_cli.proofs.TextReads.{texts_refused, texts_read}
 use Rattle.session_cli.proofs.ImageChains.{image_own, old_unknown, old_known}
-use Rattle.named_systems.proofs.SealedLemmas.{all_there}
-use Rattle.session_cli.proofs.MeantNames.{extended_meant}
-use Rattle.session_cli.proofs.TextReads.{texts_none, texts_refused, texts_read}
 use Rattle.session_cli.proofs.image.made_of.Goals as goal
 
-pub returns-in_err-headers : goal.returns-in_err-headers
-returns-in_err-headers g c =
+pub returns-in_err-named : goal.returns-in_err-named
+returns-in_err-named g c =
     let p = err_from_is_err_and c.from_residual.result c.from_residual.ensures.1 in
-    rw (p.1, p.2) (texts_none _ _ _ refl (λ custom ledger files word morphism stores same listed. tt))
-
-pub returns-in_err-mentions_of : goal.returns-in_err-mentions_of
-returns-in_err-mentions_of g c =
-    let p = err_from_is_err_and c.from_residual-in_err-mentions_of.result c.from_residual-in_err-mentions_of.ensures.1 in
-    rw (p.1, p.2) (texts_none _ _ _ refl (λ custom ledger files word morphism stores same listed. tt))
-
-pub returns-in_err-mentioned : goal.returns-in_err-mentioned
-returns-in_err-mentioned g c =
-    let p = err_from_is_err_and c.from_residual-in_err-mentioned.result c.from_residual-in_err-mentioned.ensures.1 in
-    rw (p.1, p.2) (texts_none _ _ _ refl (λ custom ledger files word morphism stores same listed. tt))
-
-pub returns-in_err-users : goal.returns-in_err-users
-returns-in_err-users g c =
-    let p = err_from_is_err_and c.from_residual-in_err-users.result c.from_residual-in_err-users.ensures.1 in
-    let fault = c.in_err-users.field-0.0 in
+    let fault = c.in_err-named.field-0.0 in
     let limit = c.args.options.limit in
     let read = c.args.read.now in
-    let tables = read.tables.items in
-    let headers = c.in_ok-headers.ensures ∙ ap headers_of c.deref.ensures.value in
-    let mentioned = c.deref-2.ensures.value ∙ c.in_ok-mentions_of.ensures in
-    let names : c.deref-3.result.now ≡ old_systems_of read = c.deref-3.ensures.value ∙ (c.in_ok-mentioned.ensures ∙ (λ i. first_systems (headers i) (mentioned i))) in
-    rw (p.1, p.2) (texts_refused _ _ _ _ fault c.in_err-users.ensures
-    (λ custom refused ledger files word morphism stores same listed. old_unknown limit ledger (head_of word morphism read) read.morphism tables fault
-    (subst (λ (k : Custom). Fails (systems_known limit k (old_systems_of read)) fault) (sym same) (subst (λ (ns : List (List ℕ)). Fails (systems_known limit custom ns) fault) names refused))))
+    let first = same_names limit read.old.mentioned.tables.items c.requires.1.mentions_are c.in_err-named.ensures in
+    rw (p.1, p.2) (texts_refused _ _ _ _ fault first
+    (λ custom refused ledger files word morphism stores same listed. old_unknown limit ledger (head_of word morphism read) read.morphism read.old.mentioned.tables.items fault
+    (subst (λ (k : Custom). Fails (systems_known limit k (systems_of_old read.old)) fault) (sym same) refused)))
 
-pub mapped-requires-clause-systems : goal.mapped-requires-clause-systems
-mapped-requires-clause-systems g c =
-    let read = c.args.read.now in
-    let headers = c.in_ok-headers.ensures ∙ ap headers_of c.deref.ensures.value in
-    let mentioned = c.deref-2.ensures.value ∙ c.in_ok-mentions_of.ensures in
-    let once = c.in_ok-mentioned.ensures ∙ (λ i. first_systems (headers i) (mentioned i)) in
-    let names : c.deref-3.result.now ≡ old_systems_of read = c.deref-3.ensures.value ∙ once in
-    let also : c.deref-4.result.now ≡ old_systems_of read = c.deref-4.ensures.value ∙ once in
-    let users = c.in_ok-users.users in
-    let first = c.in_ok-users.ensures in
-    let adds = c.in_ok-add_all.ensures in
-    let admitted = subst (λ (ns : List (List ℕ)). AreAdmitted c.args.options.limit ns first.stands.0 users) names (first.gives first.stands.0 first.stands.1) in
-    record {
-      mentioned = all_there users.named c.add_all.new.systems (old_systems_of read) adds.extends admitted.there (subst (AllByRecursion (HasBuiltIn c.add_all.new.systems)) also adds.there);
-      default = adds.default;
-    }
-
-pub mapped-requires-clause-meant : goal.mapped-requires-clause-meant
-mapped-requires-clause-meant g c =
-    let first = c.in_ok-users.ensures in
-    (first.stands.0, extended_meant first.stands.0 _ _ c.in_ok-add_all.ensures.extends (first.gives first.stands.0 first.stands.1).meant)
+pub made_over-requires-clause-named : goal.made_over-requires-clause-named
+made_over-requires-clause-named g c =
+    let limit = c.args.options.limit in
+    let first = same_names limit c.args.read.now.old.mentioned.tables.items c.requires.1.mentions_are c.in_ok-named.ensures in
+    (first.stands.0, (first.gives first.stands.0 first.stands.1).names)
 
 pub returns : goal.returns
 returns g c =
     let limit = c.args.options.limit in
     let shown = c.args.options.shown in
     let read = c.args.read.now in
-    let tables = read.tables.items in
-    let headers = c.in_ok-headers.ensures ∙ ap headers_of c.deref.ensures.value in
-    let mentioned = c.deref-2.ensures.value ∙ c.in_ok-mentions_of.ensures in
-    let names : c.deref-3.result.now ≡ old_systems_of read = c.deref-3.ensures.value ∙ (c.in_ok-mentioned.ensures ∙ (λ i. first_systems (headers i) (mentioned i))) in
-    let users = c.in_ok-users.users in
-    let first = c.in_ok-users.ensures in
-    let custom = first.stands.0 in
-    let meant = extended_meant custom _ _ c.in_ok-add_all.ensures.extends (first.gives custom first.stands.1).meant in
-    let own = image_own users.steps shown read custom c.mapped.result c.requires (c.mapped.ensures custom meant) in
-    texts_read _ _ _ _ users c.mapped.result own first
-    (λ k admitted ledger files word morphism stores same listed.
-    let admits = (subst (λ (ns : List (List ℕ)). AreAdmitted limit ns k users) names admitted).admits in
-    old_known limit ledger (head_of word morphism read) read.morphism tables users.steps shown c.mapped.result (subst (λ (j : Custom). AdmitsNames j (old_systems_of read) (no_steps limit) (Ok tt) users.steps) (sym same) admits)
-    (c.mapped.ensures k (extended_meant k _ _ c.in_ok-add_all.ensures.extends admitted.meant) ledger files word morphism stores same listed))
+    let named = c.in_ok-named.named in
+    let first = same_names limit read.old.mentioned.tables.items c.requires.1.mentions_are c.in_ok-named.ensures in
+    let own = image_own named.steps shown read first.stands.0 c.made_over.result c.requires (c.made_over.ensures first.stands.0 (first.gives first.stands.0 first.stands.1).names) in
+    texts_read _ _ _ _ named c.made_over.result own first
+    (λ k given ledger files word morphism stores same listed.
+    old_known limit ledger (head_of word morphism read) read.morphism read.old.mentioned.tables.items named.steps shown c.made_over.result
+    (subst (λ (j : Custom). AdmitsNames j (systems_of_old read.old) (no_steps limit) (Ok tt) named.steps) (sym same) given.admits)
+    (c.made_over.ensures k given.names ledger files word morphism stores same listed))

@@ -10,12 +10,12 @@ pub answered_over_sets-requires-clause-header : goal.answered_over_sets-requires
 answered_over_sets-requires-clause-header c = sym c.header.ensures ∙ ap header_view c.in-Sets.is
 
 pub answered_over_sets-requires-clause-table : goal.answered_over_sets-requires-clause-table
-answered_over_sets-requires-clause-table c = plain_table c.args.table.now _ (sym c.header.ensures ∙ ap header_view c.in-Sets.is) c.requires.is_table
+answered_over_sets-requires-clause-table c = plain_table c.args.about.table.now _ (sym c.header.ensures ∙ ap header_view c.in-Sets.is) c.requires.is_table
 
 pub returns-in-Sets : goal.returns-in-Sets
 returns-in-Sets c =
     let header = sym c.header.ensures ∙ ap header_view c.in-Sets.is in
-    subst (λ (h : Header). AnswersBelow h c.args.systems.now c.args.steps.now c.args.table.now c.args.asked.now.name c.args.asked.now.question c.answered_over_sets.result c.answered_over_sets.new.steps) (sym header) c.answered_over_sets.ensures
+    subst (λ (h : Header). AnswersBelow h c.args.systems.now c.args.steps.now c.args.about.table.now c.args.about.asked.now.name c.args.about.asked.now.question c.answered_over_sets.result c.answered_over_sets.new.steps) (sym header) c.answered_over_sets.ensures
 
 pub answered_under-requires-clause-readable : goal.answered_under-requires-clause-readable
 answered_under-requires-clause-readable c =
@@ -25,7 +25,7 @@ answered_under-requires-clause-readable c =
 pub returns-in-Systems : goal.returns-in-Systems
 returns-in-Systems c =
     let header = sym c.header.ensures ∙ ap header_view c.in-Systems.is in
-    subst (λ (h : Header). AnswersBelow h c.args.systems.now c.args.steps.now c.args.table.now c.args.asked.now.name c.args.asked.now.question c.answered_under.result c.answered_under.new.steps) (sym header) c.answered_under.ensures
+    subst (λ (h : Header). AnswersBelow h c.args.systems.now c.args.steps.now c.args.about.table.now c.args.about.asked.now.name c.args.about.asked.now.question c.answered_under.result c.answered_under.new.steps) (sym header) c.answered_under.ensures
 
 pub answered_under-requires-in-Truth-clause-readable : goal.answered_under-requires-in-Truth-clause-readable
 answered_under-requires-in-Truth-clause-readable c =
@@ -35,4 +35,4 @@ answered_under-requires-in-Truth-clause-readable c =
 pub returns-in-Truth : goal.returns-in-Truth
 returns-in-Truth c =
     let header = sym c.header.ensures ∙ ap header_view c.in-Truth.is in
-    subst (λ (h : Header). AnswersBelow h c.args.systems.now c.args.steps.now c.args.table.now c.args.asked.now.name c.args.asked.now.question c.answered_under-in-Truth.result c.answered_under-in-Truth.new.steps) (sym header) c.answered_under-in-Truth.ensures
+    subst (λ (h : Header). AnswersBelow h c.args.systems.now c.args.steps.now c.args.about.table.now c.args.about.asked.now.name c.args.about.asked.now.question c.answered_under-in-Truth.result c.answered_under-in-Truth.new.steps) (sym header) c.answered_under-in-Truth.ensures

@@ -28,8 +28,8 @@ returns-in_err-sets c =
 pub returns-in_err-refuse_place : goal.returns-in_err-refuse_place
 returns-in_err-refuse_place c =
     let p = err_from_is_err_and c.from_residual-in_err-refuse_place.result c.from_residual-in_err-refuse_place.ensures.1 in
-    let table = c.args.table.now in
-    let asked = c.args.asked.now in
+    let table = c.args.about.table.now in
+    let asked = c.args.about.asked.now in
     let found : List SystemValue = map rc_value c.args.tracks.now in
     let own : c.in_ok-sets.sets ≡ sets_below table.listed.header found = c.in_ok-sets.ensures ∙ ap (λ (h : Header). sets_below h found) c.header.ensures in
     let fault = c.in_err-refuse_place.field-0.0 in
@@ -40,8 +40,8 @@ returns-in_err-refuse_place c =
 pub returns-in_err-relation : goal.returns-in_err-relation
 returns-in_err-relation c =
     let p = err_from_is_err_and c.from_residual-in_err-relation.result c.from_residual-in_err-relation.ensures.1 in
-    let table = c.args.table.now in
-    let asked = c.args.asked.now in
+    let table = c.args.about.table.now in
+    let asked = c.args.about.asked.now in
     let found : List SystemValue = map rc_value c.args.tracks.now in
     let own : c.in_ok-sets.sets ≡ sets_below table.listed.header found = c.in_ok-sets.ensures ∙ ap (λ (h : Header). sets_below h found) c.header.ensures in
     let on = subst (λ (sets : List (List ℤ)). IsAskedOn sets asked.question) own c.in_ok-refuse_place.ensures in
@@ -51,7 +51,7 @@ returns-in_err-relation c =
 
 pub answer-requires-clause-sizes : goal.answer-requires-clause-sizes
 answer-requires-clause-sizes c =
-    let table = c.args.table.now in
+    let table = c.args.about.table.now in
     let found : List SystemValue = map rc_value c.args.tracks.now in
     let own : c.in_ok-sets.sets ≡ sets_below table.listed.header found = c.in_ok-sets.ensures ∙ ap (λ (h : Header). sets_below h found) c.header.ensures in
     let automaton : c.dfa.result.now ≡ c.in_ok-relation.relation.value.automaton = c.dfa.ensures.value ∙ ap (λ (r : RelationValue). r.automaton) c.as_ref.ensures in
@@ -60,8 +60,8 @@ answer-requires-clause-sizes c =
 pub returns-in_err-reply : goal.returns-in_err-reply
 returns-in_err-reply c =
     let p = err_from_is_err_and c.from_residual-in_err-reply.result c.from_residual-in_err-reply.ensures.1 in
-    let table = c.args.table.now in
-    let asked = c.args.asked.now in
+    let table = c.args.about.table.now in
+    let asked = c.args.about.asked.now in
     let found : List SystemValue = map rc_value c.args.tracks.now in
     let own : c.in_ok-sets.sets ≡ sets_below table.listed.header found = c.in_ok-sets.ensures ∙ ap (λ (h : Header). sets_below h found) c.header.ensures in
     let on = subst (λ (sets : List (List ℤ)). IsAskedOn sets asked.question) own c.in_ok-refuse_place.ensures in
@@ -77,8 +77,8 @@ returns-in_err-reply c =
 
 pub returns : goal.returns
 returns c =
-    let table = c.args.table.now in
-    let asked = c.args.asked.now in
+    let table = c.args.about.table.now in
+    let asked = c.args.about.asked.now in
     let found : List SystemValue = map rc_value c.args.tracks.now in
     let own : c.in_ok-sets.sets ≡ sets_below table.listed.header found = c.in_ok-sets.ensures ∙ ap (λ (h : Header). sets_below h found) c.header.ensures in
     let on = subst (λ (sets : List (List ℤ)). IsAskedOn sets asked.question) own c.in_ok-refuse_place.ensures in

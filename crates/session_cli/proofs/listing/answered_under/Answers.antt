@@ -16,7 +16,7 @@ pub answered_over-requires : goal.answered_over-requires
 answered_over-requires c =
     let systems = c.args.systems.now in
     let under = subst (λ xs. AreSystemsUnder systems (header_view c.header.result.now) (map rc_value xs)) (sym c.deref.ensures.value) c.in_ok-tracks.ensures in
-    has_tracks systems c.args.table.now (map rc_value c.deref.result.now) c.requires.table c.requires.readable (subst (λ (h : Header). AreSystemsUnder systems h (map rc_value c.deref.result.now)) c.header.ensures under)
+    has_tracks systems c.args.about.table.now (map rc_value c.deref.result.now) c.requires.table c.requires.readable (subst (λ (h : Header). AreSystemsUnder systems h (map rc_value c.deref.result.now)) c.header.ensures under)
 
 pub returns : goal.returns
 returns c =

@@ -12,10 +12,12 @@ use Rattle.session_cli.proofs.listing.track_sets.Goals as goal
 pub tracks_of-requires : goal.tracks_of-requires
 tracks_of-requires c =
     let found : List SystemValue = map rc_value c.args.systems.now in
-    subst (λ (ns : List (List ℕ)). HaveNames ns found) (sym c.deref.ensures.value) (subst (λ (h : Header). HaveHeader h found) (ap header_view c.in-Systems.is) c.requires)
+    let names = c.deref-in-Systems.ensures.value ∙ (c.in_ok-names-in-Systems.ensures ∙ c.deref.ensures.value) in
+    subst (λ (ns : List (List ℕ)). HaveNames ns found) (sym names) (subst (λ (h : Header). HaveHeader h found) (ap header_view c.in-Systems.is) c.requires)
 
 pub returns-in_ok-tracks-in-Systems : goal.returns-in_ok-tracks-in-Systems
 returns-in_ok-tracks-in-Systems c =
     let found : List SystemValue = map rc_value c.args.systems.now in
-    let same = ap digit_sets (c.in_ok-tracks-in-Systems.ensures ∙ ap (λ (ns : List (List ℕ)). tracks_named ns found) c.deref.ensures.value) ∙ sym (ap (λ (h : Header). sets_below h found) (ap header_view c.in-Systems.is)) in
+    let names = c.deref-in-Systems.ensures.value ∙ (c.in_ok-names-in-Systems.ensures ∙ c.deref.ensures.value) in
+    let same = ap digit_sets (c.in_ok-tracks-in-Systems.ensures ∙ ap (λ (ns : List (List ℕ)). tracks_named ns found) names) ∙ sym (ap (λ (h : Header). sets_below h found) (ap header_view c.in-Systems.is)) in
     subst (λ (there : List (List ℤ)). IfOk c.digit_sets.result (λ sets. sets ≡ there)) same c.digit_sets.ensures

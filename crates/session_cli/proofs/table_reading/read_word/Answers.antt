@@ -11,8 +11,8 @@ use Rattle.session_cli.proofs.table_reading.read_word.Goals as goal
 
 pub word-requires : goal.word-requires
 word-requires c =
-    let systems = c.args.systems.now in
-    let table = c.args.table.now in
+    let systems = c.args.over.systems.now in
+    let table = c.args.over.table.now in
     let under = subst (λ xs. AreSystemsUnder systems (header_view c.header.result.now) (map rc_value xs)) (sym c.deref.ensures.value) c.in_ok-tracks.ensures in
     let may = may_read_word systems table c.requires.word.0 (map rc_value c.deref.result.now) c.requires.word.1 c.requires.table (subst (λ h. AreSystemsUnder systems h (map rc_value c.deref.result.now)) c.header.ensures under) in
     record {
@@ -25,10 +25,10 @@ word-requires c =
 
 pub returns : goal.returns
 returns c =
-    let systems = c.args.systems.now in
+    let systems = c.args.over.systems.now in
     let old = c.args.steps.now in
     let new = c.word.new.steps in
-    let table = c.args.table.now in
+    let table = c.args.over.table.now in
     let tracks : List SystemValue = map rc_value c.deref.result.now in
     let under = subst (λ xs. AreSystemsUnder systems (header_view c.header.result.now) (map rc_value xs)) (sym c.deref.ensures.value) c.in_ok-tracks.ensures in
     let here = subst (λ h. AreSystemsUnder systems h tracks) c.header.ensures under in

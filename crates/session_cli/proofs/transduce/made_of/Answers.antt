@@ -6,6 +6,7 @@ use Rattle.session_cli.specs.Checks.{Fails}
 use Rattle.session_cli.specs.OldWordMakes.{systems_of_old}
 use Rattle.session_cli.specs.SystemChecks.{systems_known}
 use Rattle.session_cli.specs.TransduceMakes.{head_of}
+use Rattle.session_cli.proofs.SameMentions.{same_names}
 use Rattle.session_cli.proofs.TextReads.{texts_refused, texts_read}
 use Rattle.session_cli.proofs.TransduceChains.{systems_passed, systems_refused, transduce_own}
 use Rattle.session_cli.proofs.transduce.made_of.Goals as goal
@@ -16,13 +17,15 @@ returns-in_err-named g c =
     let fault = c.in_err-named.field-0.0 in
     let limit = c.args.options.limit in
     let read = c.args.read.now in
-    rw (p.1, p.2) (texts_refused _ _ _ _ fault c.in_err-named.ensures
-    (λ custom refused ledger files word mapping stores same listed. systems_refused limit ledger (head_of word mapping read) read.transducer read.old.tables.items fault
+    let first = same_names limit read.old.mentioned.tables.items c.requires.1.mentions_are c.in_err-named.ensures in
+    rw (p.1, p.2) (texts_refused _ _ _ _ fault first
+    (λ custom refused ledger files word mapping stores same listed. systems_refused limit ledger (head_of word mapping read) read.transducer read.old.mentioned.tables.items fault
     (subst (λ (k : Custom). Fails (systems_known limit k (systems_of_old read.old)) fault) (sym same) refused)))
 
 pub made_over-requires-clause-named : goal.made_over-requires-clause-named
 made_over-requires-clause-named g c =
-    let first = c.in_ok-named.ensures in
+    let limit = c.args.options.limit in
+    let first = same_names limit c.args.read.now.old.mentioned.tables.items c.requires.1.mentions_are c.in_ok-named.ensures in
     (first.stands.0, (first.gives first.stands.0 first.stands.1).names)
 
 pub returns : goal.returns
@@ -31,10 +34,10 @@ returns g c =
     let shown = c.args.options.shown in
     let read = c.args.read.now in
     let named = c.in_ok-named.named in
-    let first = c.in_ok-named.ensures in
+    let first = same_names limit read.old.mentioned.tables.items c.requires.1.mentions_are c.in_ok-named.ensures in
     let own = transduce_own named.steps shown read first.stands.0 c.made_over.result c.requires (c.made_over.ensures first.stands.0 (first.gives first.stands.0 first.stands.1).names) in
     texts_read _ _ _ _ named c.made_over.result own first
     (λ k given ledger files word mapping stores same listed.
-    systems_passed limit ledger (head_of word mapping read) read.transducer read.old.tables.items named.steps shown c.made_over.result
+    systems_passed limit ledger (head_of word mapping read) read.transducer read.old.mentioned.tables.items named.steps shown c.made_over.result
     (subst (λ (j : Custom). AdmitsNames j (systems_of_old read.old) (no_steps limit) (Ok tt) named.steps) (sym same) given.admits)
     (c.made_over.ensures k given.names ledger files word mapping stores same listed))

@@ -44,4 +44,4 @@ returns g c =
     from_read _ _ _ _ old _ tt
     (then_files (GivesTransducer head.mapping) (LoadsOld head.old) _ _ _ t (Ok old) (λ files others is. transducer_with files others head.mapping t is) (λ files others loads. old_with files others head.old (Ok old) loads)
     (transducer_there head.mapping _ _ t c.in_ok-transducer.ensures) c.in_ok-old.ensures)
-    (λ found both. record { old = both.1.name_is; transducer = both.0; listed = both.1.listed })
+    (λ found both. record { transducer = both.0; old = both.1 })

@@ -5,9 +5,8 @@ use Rattle.digit_tuple.specs.Systems.{IsDigitCount}
 use Rattle.digit_tuple.specs.declared.systems.SystemTrack.{SystemTrack}
 use Rattle.num_system.specs.Sealed.{SystemValue}
 use Rattle.session_cli.specs.WordPrinting.{tracks_named}
-use Rattle.session_cli.proofs.TrackLists.{digits_at}
-use Rattle.session_cli.proofs.NamedTracks.{named_more}
-use Rattle.session_cli.proofs.listing.tracks_of.Goals as goal
+use Rattle.session_cli.proofs.NamedTracks.{digits_at, named_more}
+use Rattle.session_cli.proofs.named_tracks.tracks_of.Goals as goal
 
 pub push-requires : goal.push-requires
 push-requires c =
@@ -31,4 +30,4 @@ loop-place-preserved c =
     let digits : c.digits.result ≡ s.digits = c.digits.ensures.value ∙ ap (λ (x : SystemValue). x.digits) c.deref.ensures in
     let step : suc i ≡ i + 1 = omega arith in
     subst (λ (n : ℕ). c.push.new.self ≡ tracks_named (take n c.args.names.now) (map rc_value items)) step
-    (c.in_ok-push.ensures.ok ∙ (λ j. c.loop-place.invariant j ++ (let t : SystemTrack = record { name = (c.in_ok-copy.ensures ∙ c.name.ensures) j; digits = digits j } in t) ∷ []) ∙ sym more)
+    (c.in_ok-push.ensures.ok ∙ (λ j. c.loop-place.invariant j ++ (let t : SystemTrack = record { name = c.in_ok-copy.ensures j; digits = digits j } in t) ∷ []) ∙ sym more)

@@ -1,5 +1,5 @@
 use Rattle.std.proofs.lemmas.Result.{err_from_is_err_and}
-use Rattle.session_cli.proofs.old_word.word_made.Goals as goal
+use Rattle.session_cli.proofs.word_text.word_made.Goals as goal
 
 pub returns-in_err-stored : goal.returns-in_err-stored
 returns-in_err-stored c =
