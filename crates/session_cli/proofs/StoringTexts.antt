@@ -66,7 +66,7 @@ text_stored custom folder name bytes shown (Ok made) is = record {
 text_stored custom folder name bytes shown (Err fault) refused = unstored custom (text_success folder name bytes) bytes fault refl refused
 
 -- a word whose text is too long
-word_refused : (names : List (List ℕ)) (v : WordValue) (fault : Fault) → HasNoWordText names v fault → IsTextRefused (named_text names v) fault
+pub word_refused : (names : List (List ℕ)) (v : WordValue) (fault : Fault) → HasNoWordText names v fault → IsTextRefused (named_text names v) fault
 word_refused names v (faults.Long bytes) refused = refused
 word_refused names v faults.Memory refused = tt
 word_refused names v faults.Command refused = absurd refused
