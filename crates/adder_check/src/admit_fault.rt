@@ -14,7 +14,7 @@ use std::alloc::{AllocError, AllocFailed};
 pub enum Law {
     /// The empty word is in the language, and leading zeros change nothing.
     NoZero,
-    /// There are longer words than any in the language, without leading zeros.
+    /// Words without leading zeros are longer than any bound.
     Finite,
     /// With 0 the sum of a number is the number itself, and nothing else.
     ZeroLaw,

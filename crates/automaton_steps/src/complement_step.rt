@@ -22,7 +22,7 @@ use std::rc::Rc;
 /// and the cost are those of `complement_in`.
 ///
 /// # Errors
-/// `States` if and only if the width passes the limit. The steps are as before then, also where memory is wanting.
+/// `States` if and only if the width passes the limit. The steps are as before then, also if memory runs out.
 pub fn complement_step(
     alloc: Global,
     argument: &Tracked,

@@ -21,7 +21,7 @@ use std::alloc::Global;
 ///
 /// # Errors
 /// `Letters` if and only if two tracks have too many letters, looked at first; `States` if and only if the width passes
-/// the limit. The steps are as before then, also where memory is wanting.
+/// the limit. The steps are as before then, also if memory runs out.
 pub fn order_step(
     alloc: Global,
     language: &Dfa,

@@ -18,7 +18,7 @@ use std::alloc::Global;
 /// step `pad` as the next one. The width and the cost are those of `pad`.
 ///
 /// # Errors
-/// `States` if and only if the width passes the limit. The steps are as before then, also where memory is wanting.
+/// `States` if and only if the width passes the limit. The steps are as before then, also if memory runs out.
 pub fn pad_step(
     alloc: Global,
     argument: &Dfa,

@@ -21,7 +21,7 @@ use std::alloc::Global;
 ///
 /// # Errors
 /// `Letters` if and only if the tracks that stay have too many letters, looked at first; `States` if and only if the
-/// width passes the limit. The steps are as before then, also where memory is wanting.
+/// width passes the limit. The steps are as before then, also if memory runs out.
 pub fn project_step(
     alloc: Global,
     argument: &Tracked,

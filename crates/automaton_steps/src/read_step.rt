@@ -19,7 +19,7 @@ use std::alloc::Global;
 /// these sets and their transitions, as for `determinise`.
 ///
 /// # Errors
-/// `States` if and only if the width passes the limit. The steps are as before then, also where memory is wanting.
+/// `States` if and only if the width passes the limit. The steps are as before then, also if memory runs out.
 pub fn read_step(alloc: Global, listed: &Nfa, steps: &mut Steps) -> Result<Dfa, StepFault>
     ensures { DoesStep (the_step listed.now) steps.old result steps.new }
 {

@@ -18,7 +18,7 @@ use std::alloc::Global;
 /// occurs. The cost is that of `reverse`.
 ///
 /// # Errors
-/// `States` if and only if the width passes the limit. The steps are as before then, also where memory is wanting.
+/// `States` if and only if the width passes the limit. The steps are as before then, also if memory runs out.
 pub fn reverse_step(alloc: Global, argument: &Dfa, steps: &mut Steps) -> Result<Dfa, StepFault>
     ensures { DoesStep (the_step argument.now) steps.old result steps.new }
 {

@@ -29,7 +29,7 @@ use word_output::word::Word;
 /// significant digit first. The widths and the costs are those of the steps.
 ///
 /// # Errors
-/// `States` at the first step that passes the limit. The steps before it stay done, also where memory is wanting.
+/// `States` at the first step that passes the limit. The steps before it stay done, also if memory runs out.
 pub fn convert(
     alloc: Global,
     word: &Word,

@@ -26,7 +26,7 @@ use word_output::letter_function::LetterFunction;
 /// base.
 ///
 /// # Errors
-/// `States` if and only if the width passes the limit. The steps are as before then, also where memory is wanting.
+/// `States` if and only if the width passes the limit. The steps are as before then, also if memory runs out.
 pub fn join_letters(
     alloc: Global,
     function: &LetterFunction,

@@ -25,7 +25,7 @@ use word_output::letter_function::LetterFunction;
 /// whole groups of a word are, and of the digits after these. Time and memory follow the width times the root.
 ///
 /// # Errors
-/// `States` if and only if the width passes the limit. The steps are as before then, also where memory is wanting.
+/// `States` if and only if the width passes the limit. The steps are as before then, also if memory runs out.
 pub fn split_letters(
     alloc: Global,
     function: &LetterFunction,

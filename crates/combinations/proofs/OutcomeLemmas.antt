@@ -11,7 +11,7 @@ use Rattle.automaton_steps.proofs.AnswerCases.{memory_alone, one_value, raised_o
 use Rattle.automaton_steps.proofs.StepAnswers.{step_one}
 use Rattle.word_output.specs.Words.{HasLetter, WordValue}
 use Rattle.word_output.proofs.LetterEquality.{letter_functions}
-use Rattle.word_output.proofs.PlaceLaws.{letter_count, told_by_letters}
+use Rattle.word_output.proofs.PlaceLaws.{letter_count, determined_by_letters}
 use Rattle.combinations.specs.Parts.{PartValue}
 use Rattle.combinations.specs.Shapes.{HasNoTrack, HaveOneShape, IsFirstOther, IsShapeFault}
 use Rattle.combinations.specs.Combined.{IsCombination}
@@ -42,7 +42,7 @@ module _ (rest : Option ℤ) (parts : List PartValue) (systems : List SystemValu
 
   one_word : (word other : WordValue) → IsCombination rest parts systems word → IsCombination rest parts systems other → word ≡ other
   one_word word other one two =
-      told_by_letters letter_functions word other one.word_is two.word_is (one.systems_are ∙ sym two.systems_are) (λ ns letter. (carried word other one two ns letter, carried other word two one ns letter))
+      determined_by_letters letter_functions word other one.word_is two.word_is (one.systems_are ∙ sym two.systems_are) (λ ns letter. (carried word other one two ns letter, carried other word two one ns letter))
 
   -- the step has one answer
   pub step_outcome : HasOneOutcome (combine_step rest parts systems)

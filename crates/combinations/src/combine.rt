@@ -44,7 +44,7 @@ use word_output::word::Word;
 /// # Errors
 /// `Shape` if and only if the relations have not the same tracks, or have none: it is looked at first. Then `Letters`
 /// if and only if there are too many tracks or letters, and `States` if and only if the width passes the limit, each
-/// with the number of the step. The steps are as before then, also where memory is wanting.
+/// with the number of the step. The steps are as before then, also if memory runs out.
 pub fn combine(
     alloc: Global,
     parts: &[Part],

@@ -1,7 +1,7 @@
 //! Names of systems in a header.
 
 ghost use Rattle.std.specs.Prelude.{◌≡◌, ◌≤◌, ◌^◌, true, IsAscii, IfOk};
-ghost use Rattle.text_grammar.specs.Systems.{is_system as system_stands};
+ghost use Rattle.text_grammar.specs.Systems.{is_system as is_system_text};
 ghost use Rattle.dfa_reading.specs.Systems.{digit_limit as limit_of};
 
 use digit_tuple::faults::OutOfMemory;
@@ -72,7 +72,7 @@ fn limit(name: &Name) -> u64
 /// The system that a part names.
 #[tactic(auto, using(crate::proofs::SystemNames::ascii_system))]
 pub fn system(alloc: Global, part: &[u8]) -> Result<SystemName, OutOfMemory>
-    requires { system_stands part.now ≡ true }
+    requires { is_system_text part.now ≡ true }
     ensures { IfOk result (λ system. system ≡ part.now) }
 {
     Ok(SystemName::new(name_of(alloc, part)?))

@@ -9,7 +9,7 @@ use Rattle.digit_tuple.specs.KeyParts.{AreEnds, parts_from}
 use Rattle.digit_tuple.specs.Letters.{product}
 use Rattle.digit_tuple.specs.Sets.{sizes_of}
 use Rattle.digit_tuple.proofs.KeyPartLemmas.{AreEnds-push, parts_from-push}
-use Rattle.dfa_text.specs.LinePrefixes.{letter_prefix, prefixes_of, target_text, fronted_text}
+use Rattle.dfa_text.specs.LinePrefixes.{letter_prefix, prefixes_of, target_text, prefixed_text}
 use Rattle.dfa_text.specs.RelationText.{tuple_of, transition_text}
 
 -- prefixes of the first letters in one buffer, which the last one fills
@@ -40,8 +40,8 @@ prefixes_more sets bytes ends prefix more after letter end are is grown total pu
     }
 
 -- the line of a transition is its letter's prefix and its target
-fronted_same : (sets : List (List ℤ)) (e : Transition) → e.letter < product (sizes_of sets) → fronted_text (prefixes_of sets) e ≡ transition_text sets e
-fronted_same sets e below =
+prefixed_same : (sets : List (List ℤ)) (e : Transition) → e.letter < product (sizes_of sets) → prefixed_text (prefixes_of sets) e ≡ transition_text sets e
+prefixed_same sets e below =
     let tuple = join_by signed_decimal (codes " ") (tuple_of sets e.letter) in
     let arrow = codes " -> " in
     let target = decimal e.target in
@@ -52,8 +52,8 @@ fronted_same sets e below =
     ∙ sym (append_assoc tuple (arrow ++ target) end)
 
 -- the lines of transitions are their letters' prefixes and their targets
-pub fronted_lines : (sets : List (List ℤ)) (transitions : List Transition) → All (λ e. e.letter < product (sizes_of sets)) transitions → flat_map (fronted_text (prefixes_of sets)) transitions ≡ flat_map (transition_text sets) transitions
-fronted_lines sets [] below = refl
-fronted_lines sets (e ∷ es) below =
-    ap (λ t. t ++ flat_map (fronted_text (prefixes_of sets)) es) (fronted_same sets e (below 0 e (omega arith)))
-    ∙ ap (λ t. transition_text sets e ++ t) (fronted_lines sets es (λ k d lt. below (suc k) d (omega arith)))
+pub prefixed_lines : (sets : List (List ℤ)) (transitions : List Transition) → All (λ e. e.letter < product (sizes_of sets)) transitions → flat_map (prefixed_text (prefixes_of sets)) transitions ≡ flat_map (transition_text sets) transitions
+prefixed_lines sets [] below = refl
+prefixed_lines sets (e ∷ es) below =
+    ap (λ t. t ++ flat_map (prefixed_text (prefixes_of sets)) es) (prefixed_same sets e (below 0 e (omega arith)))
+    ∙ ap (λ t. transition_text sets e ++ t) (prefixed_lines sets es (λ k d lt. below (suc k) d (omega arith)))

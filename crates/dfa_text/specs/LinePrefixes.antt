@@ -24,5 +24,5 @@ abbrev pub target_text : ℕ → List ℕ
 target_text target = decimal target ++ codes "\n"
 
 -- the line of a transition whose letter has one of these prefixes, and its end
-abbrev pub fronted_text : List (List ℕ) → Transition → List ℕ
-fronted_text prefixes transition = slice_index_or prefixes transition.letter [] ++ target_text transition.target
+abbrev pub prefixed_text : List (List ℕ) → Transition → List ℕ
+prefixed_text prefixes transition = slice_index_or prefixes transition.letter [] ++ target_text transition.target

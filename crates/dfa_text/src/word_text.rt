@@ -6,7 +6,7 @@ ghost use Rattle.digit_tuple.specs.Deterministic.{states_of};
 ghost use Rattle.digit_tuple.specs.Letters.{product};
 ghost use Rattle.digit_tuple.specs.Sets.{sizes_of};
 ghost use Rattle.digit_tuple.specs.Headers.{sets_of};
-ghost use Rattle.dfa_text.specs.LinePrefixes.{prefixes_of, target_text, fronted_text};
+ghost use Rattle.dfa_text.specs.LinePrefixes.{prefixes_of, target_text, prefixed_text};
 ghost use Rattle.dfa_text.specs.Parts.{output_text, state_text, text_of_lines};
 ghost use Rattle.dfa_text.specs.RelationText.{transition_text, steps_lines, word_text};
 
@@ -166,19 +166,19 @@ fn push_lines(
 {
     d.transitions_into(state, &mut scratch.row)?;
     match &scratch.prefixes {
-        Some(prefixes) => push_fronted(out, prefixes, &scratch.row),
+        Some(prefixes) => push_prefixed(out, prefixes, &scratch.row),
         None => push_transitions(out, header, d.alphabet(), &mut scratch.places, &scratch.row),
     }
 }
 
 // The lines of transitions, of which these are the prefixes by their letters.
-fn push_fronted(
+fn push_prefixed(
     out: &mut Vec<u8>,
     prefixes: &LinePrefixes,
     transitions: &[Transition],
 ) -> Result<(), OutOfMemory>
     requires { All (λ transition. transition.letter < length prefixes.now) transitions.now }
-    ensures { OnOk result (out.new.items ≡ out.old.items ++ flat_map (fronted_text prefixes.now) transitions.now) }
+    ensures { OnOk result (out.new.items ≡ out.old.items ++ flat_map (prefixed_text prefixes.now) transitions.now) }
 {
     for transition in transitions {
         out.extend_from_slice(prefixes.prefix(transition.letter))?;

@@ -105,7 +105,7 @@ impl Dfa {
 
     /// How many digits of transitions there are, each with what it leads to: on each track one for each digit by which
     /// a transition of a state goes on, after the same digits on the tracks before. Where there is no track there is
-    /// none. So many are kept, but for the last rows, which keep one for each transition.
+    /// none. At most so many are kept, but for the last rows, which keep one for each transition.
     pub fn cells(&self) -> u64
         ensures count { result ≡ cell_count self.now }
         ensures few { cell_count self.now ≤ length self.now.sizes * transition_count self.now }

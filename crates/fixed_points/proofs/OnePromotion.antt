@@ -16,7 +16,7 @@ use Rattle.automaton_steps.proofs.AnswerCases.{memory_alone, one_value, raised_o
 use Rattle.automaton_steps.proofs.StepAnswers.{step_one}
 use Rattle.word_output.specs.Words.{HasLetter, WordValue}
 use Rattle.word_output.proofs.LetterEquality.{letter_functions}
-use Rattle.word_output.proofs.PlaceLaws.{told_by_letters}
+use Rattle.word_output.proofs.PlaceLaws.{determined_by_letters}
 use Rattle.morph_words.specs.Rules.{Rules}
 use Rattle.morph_words.specs.FixedPoint.{IsLetterAt}
 use Rattle.morph_words.specs.MorphismKinds.{HasFixedPoint}
@@ -51,7 +51,7 @@ module _ (positional : RankIsPositional) (rules : Rules) (k : ℕ) (has : HasFix
 
   pub one_word : v ≡ u
   one_word =
-      told_by_letters letter_functions v u first.word_is second.word_is (one_track k v.systems u.systems first.word_is.sealed second.word_is.sealed first.system second.system (first.direction ∙ sym second.direction))
+      determined_by_letters letter_functions v u first.word_is second.word_is (one_track k v.systems u.systems first.word_is.sealed second.word_is.sealed first.system second.system (first.direction ∙ sym second.direction))
       (λ ns letter. (carried v u first second ns letter, carried u v second first ns letter))
 
 module _ (positional : RankIsPositional) (rules : Rules) where

@@ -24,7 +24,7 @@ use word_output::word::Word;
 /// # Errors
 /// `Morphism` if and only if the images have not one length of 2 to 40, or some letter of an image has none, or that of
 /// 0 does not begin with 0; the kind is the first that applies. Else `States` if and only if the width passes the
-/// limit. The steps are as before where there is no word, also where memory is wanting.
+/// limit. The steps are as before where there is no word, also if memory runs out.
 pub fn promote(alloc: Global, morphism: &Morphism, steps: &mut Steps) -> Result<Word, PromoteFault>
     ensures { DoesPromote morphism.now steps.old result steps.new }
 {

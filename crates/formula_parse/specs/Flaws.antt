@@ -1,4 +1,4 @@
--- The faults of the second pass: chains that mix connectives, and products of two unknowns. The one at the least byte is kept.
+-- The faults that a text of the grammar may still have: chains that mix connectives, and products of two unknowns. The one at the least byte is kept.
 use Rattle.std.specs.Prelude.{ℕ, Bool, true, false, not, ◌&&◌, ◌||◌, nat_lt, Option, None, Some}
 use Rattle.formula_parse.specs.Tokens.{Connective, and, or, xor}
 

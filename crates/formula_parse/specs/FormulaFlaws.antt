@@ -1,4 +1,4 @@
--- The faults of the second pass in a formula of the grammar. The one at the least byte is kept.
+-- The faults that a formula of the grammar may still have. The one at the least byte is kept.
 use Rattle.std.specs.Prelude.{Bool, true, false, not, ◌&&◌, ◌||◌, Option}
 use Rattle.formula_parse.specs.Flaws.{Flaw, mixed_chain, not_linear, noted_if, Came, none_came, came_next, mixes}
 use Rattle.formula_parse.specs.Formulas.{Factor, variable, numeral, in_parens, Prod, factor, times, divided, Term, prod, signed, Index, word, further, Terms, term, comma, Atom, compare, words, word_letter, letter_word, call_none, call, WrittenFormula, imp, iff, Imp, chain, implies, Chain, operand, joined, Operand, marked, Core, negated, quantified, grouped, atom}

@@ -22,7 +22,7 @@ pub record Reads (ts : List Token) (tree : trees.Formula) : Type 0 where
   pub flawless : formula_flaw None text ≡ None
   pub tree_is : tree_of text ≡ tree
 
--- the second pass: tokens and their least flaw
+-- tokens of the grammar, and their least flaw
 pub record IsFlawed (ts : List Token) (flaw : Flaw) : Type 0 where
   pub text : WrittenFormula
   pub derives : Derives ts text

@@ -27,7 +27,7 @@ pub data Sign : Type 0 where
   plus : Sign
   minus : Sign
 
--- A token. Those at which a fault of the second pass may be, and the `@`, keep their byte.
+-- A token. Those at which a chain may be mixed or a product not linear, and the `@`, keep their byte.
 pub data Token : Type 0 where
   -- a variable or a word
   name : Name → Token

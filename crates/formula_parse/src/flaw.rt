@@ -1,4 +1,4 @@
-//! The faults of the second pass. The one at the least byte is kept.
+//! The faults that a text of the grammar may still have. The one at the least byte is kept.
 
 ghost use Rattle.std.specs.Prelude.{◌≡◌};
 ghost use Rattle.formula_parse.specs.Flaws as flaws;

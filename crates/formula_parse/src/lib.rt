@@ -31,7 +31,7 @@ mod token;
 /// The tokens of a text, read one after the other.
 mod lexing;
 
-/// The faults of the second pass: mixed chains, and products of two unknowns.
+/// The faults that a text of the grammar may still have: mixed chains, and products of two unknowns.
 mod flaw;
 
 /// Trees made of their parts.

@@ -13,7 +13,7 @@ pub(crate) enum ChainSign {
     Xor,
 }
 
-/// A token. Those at which a fault of the second pass may be, and the `@`, keep their byte.
+/// A token. Those at which a chain may be mixed or a product not linear, and the `@`, keep their byte.
 #[derive(Drop)]
 pub(crate) enum Token {
     /// A variable or a word.

@@ -74,7 +74,7 @@ pub enum Term {
 pub enum Factor {
     /// A term.
     Times(Term),
-    /// A numeral above 0 by which what stands before it is divided, rounded down.
+    /// A numeral above 0 by which what is before it is divided, rounded down.
     Divided(u64),
 }
 

@@ -1,8 +1,9 @@
 //! Which names, systems and directions a formula may have.
 //!
-//! `free_system` gives the system of a variable in a part of a formula. `resolve` gives the free variables of a formula in byte order with their systems, or its one fault: an automaton over
-//! sets that is called, a name with another number of tracks than it is given, a variable over two systems under one
-//! binding, or two directions in one chain or between two words. `mentions` gives what a formula mentions from left to
+//! `free_system` gives the system of a variable in a part of a formula. `resolve` gives the free variables of a formula
+//! in byte order with their systems, or its one fault: an automaton over sets that is called, a name with another number
+//! of tracks than it is given, a variable over two systems under one binding, or two directions in one chain or between
+//! two words. `mentions` gives what a formula mentions from left to
 //! right; `first_files` and `first_systems` what is to be read and known before it is resolved, in the order of its first
 //! mention.
 //!

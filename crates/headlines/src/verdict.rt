@@ -3,8 +3,8 @@
 ghost use Rattle.headlines.specs.Verdicts.{Verdicts};
 ghost use Rattle.headlines.specs.PlainVerdicts.{PlainVerdicts};
 
-/// A command that is accepted and prints `TRUE` is an `eval` or a `def` of a formula that is true whatever numbers its variables have, and
-/// one that prints `FALSE` of a formula that is false whatever they have. Names mean what they were bound to when it was answered.
+/// An `eval` or a `def` that is accepted and prints `TRUE` has a formula that is true whatever numbers its variables have, and one that
+/// prints `FALSE` a formula that is false whatever they have. Names mean what they were bound to when it was answered.
 pub fn verdicts()
     ensures { Verdicts }
 {}

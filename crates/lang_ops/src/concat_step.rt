@@ -18,7 +18,7 @@ use std::alloc::Global;
 /// automata over the same tracks, by the step `concat` as the next one. The width and the cost are those of `concat`.
 ///
 /// # Errors
-/// `States` if and only if the width passes the limit. The steps are as before then, also where memory is wanting.
+/// `States` if and only if the width passes the limit. The steps are as before then, also if memory runs out.
 pub fn concat_step(alloc: Global, a: &Dfa, b: &Dfa, steps: &mut Steps) -> Result<Dfa, StepFault>
     requires first { IsCanonical a.now }
     requires second { IsCanonical b.now }

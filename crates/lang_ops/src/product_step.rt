@@ -21,7 +21,7 @@ use std::alloc::Global;
 /// is false of two false values. The width and the cost are those of `combined`.
 ///
 /// # Errors
-/// `States` if and only if the width passes the limit. The steps are as before then, also where memory is wanting.
+/// `States` if and only if the width passes the limit. The steps are as before then, also if memory runs out.
 pub fn product_step(
     alloc: Global,
     a: &Dfa,

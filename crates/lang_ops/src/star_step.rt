@@ -17,7 +17,7 @@ use std::alloc::Global;
 /// step `star` as the next one. The width and the cost are those of `star`.
 ///
 /// # Errors
-/// `States` if and only if the width passes the limit. The steps are as before then, also where memory is wanting.
+/// `States` if and only if the width passes the limit. The steps are as before then, also if memory runs out.
 pub fn star_step(alloc: Global, argument: &Dfa, steps: &mut Steps) -> Result<Dfa, StepFault>
     requires canonical { IsCanonical argument.now }
     ensures { DoesStep (the_step argument.now) steps.old result steps.new }

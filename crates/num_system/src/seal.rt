@@ -38,8 +38,8 @@ pub fn seal<N: NumSystem>(alloc: Global, system: &N, limit: u32) -> Result<Syste
     Ok(sealed)
 }
 
-/// Seals a system that the program brings along, without a limit: three tracks over its digits have an
-/// alphabet, so that nothing but memory is wanting. Memory may also run out where 2^32 - 1 states are not
+/// Seals a system that is built in, or that a user's files were admitted as, without a limit: three tracks over its digits have an
+/// alphabet, so that only memory may run out. Memory may also run out where 2^32 - 1 states are not
 /// enough.
 pub fn seal_built_in<N: NumSystem>(alloc: Global, system: &N) -> Result<System, OutOfMemory>
     requires { let digits = (N.system system.now).digits in IsAlphabet (digits ∷ digits ∷ digits ∷ []) }

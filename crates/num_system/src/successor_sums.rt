@@ -26,7 +26,7 @@ use std::alloc::Global;
 
 // The canonical automaton of the pairs of numbers of which the second is one more than the first, for
 // each system whose order, 0 and sums the canonical automata hold of in this direction. Three tracks have
-// an alphabet, so that nothing but memory is wanting.
+// an alphabet, so that only memory may run out.
 //
 // It takes four steps: the numbers above 0 (`numbers_above`); those above one of these; the number that is
 // above 0 and not above 1 (`one_from`); and the sums of numbers with it (`sums_with_one`).

@@ -16,7 +16,7 @@ use std::alloc::Global;
 /// on automata.
 ///
 /// # Errors
-/// `States` if and only if the width passes the limit. The steps are as before then, also where memory is wanting.
+/// `States` if and only if the width passes the limit. The steps are as before then, also if memory runs out.
 pub fn complement_step(
     alloc: Global,
     argument: &Relation,

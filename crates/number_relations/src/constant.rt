@@ -21,7 +21,7 @@ use std::rc::Rc;
 /// the step `const` as the next one. The width and the cost are those of `constant`.
 ///
 /// # Errors
-/// `States` if and only if the width passes the limit. The steps are as before then, also where memory is wanting.
+/// `States` if and only if the width passes the limit. The steps are as before then, also if memory runs out.
 pub fn constant_step(
     alloc: Global,
     system: &Rc<System>,

@@ -18,7 +18,7 @@ use std::alloc::Global;
 
 /// The words that a canonical automaton accepts, with any number of zero letters more or fewer at the
 /// end of the most significant ones: those before the word where the most significant digit comes first,
-/// else those at the back. The zero letter has the digit 0 on each track. The result is canonical.
+/// else those after it. The zero letter has the digit 0 on each track. The result is canonical.
 ///
 /// The width counts kinds of words, over all words. Where the most significant digit comes first two words are alike
 /// when both or neither are all zeros, and the same set of non-empty residuals of `a` is that after zeros and the one

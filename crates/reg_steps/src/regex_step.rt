@@ -19,7 +19,7 @@ use std::alloc::Global;
 ///
 /// # Errors
 /// `Letters` if and only if the sets are too many or have too many tuples for an alphabet, looked at first; `States` if
-/// and only if the width passes the limit. The steps are as before then, also where memory is wanting.
+/// and only if the width passes the limit. The steps are as before then, also if memory runs out.
 pub fn regex_step(alloc: Global, regex: &Regex, steps: &mut Steps) -> Result<Dfa, StepFault>
     ensures { DoesStep (the_step regex.now.sets regex.now.tree) steps.old result steps.new }
 {

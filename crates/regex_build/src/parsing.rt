@@ -24,9 +24,9 @@ use std::alloc::Global;
 ///
 /// `.` is any letter, and `()` the empty word. A digit is a letter of one track, and brackets have an
 /// int for each track. An int is digits, as many as there are, with or without a `-` before them.
-/// Blanks count for nothing.
+/// Blanks are skipped.
 ///
-/// `Syntax` answers the first token with which no expression goes on, or the end of a text that ends too early. A token
+/// `Syntax` is at the first token with which no expression goes on, or the end of a text that ends too early. A token
 /// with which one goes on is answered by `Number` where it is a digit or an int that is no member of its track's set,
 /// and by `Depth` where it is a `(` that is within 128 others. The first of all these decides. `Memory` answers a
 /// refused growth.

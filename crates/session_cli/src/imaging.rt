@@ -33,7 +33,7 @@ use word_output::word::Word;
 /// `Morphism` if and only if the images have not one length of 1 to 40, with the kind and its letter. Else `Missing` if
 /// and only if a letter of the word has no image, with the least such letter. Then the steps are as before. Else `Step`
 /// with `Letters` or `States` exactly at the first step that passes a limit, with its number; the steps before it are
-/// done. Where memory is wanting, some of the steps may be done.
+/// done. If memory runs out, some of the steps may be done.
 pub(crate) fn image(
     alloc: Global,
     morphism: &Morphism,

@@ -20,7 +20,7 @@ use word_transduce::transduction::transduce;
 /// base whose most significant digit comes first. The widths and the costs are those of the steps.
 ///
 /// # Errors
-/// `States` at the first step that passes the limit. A step before it stays done, also where memory is wanting.
+/// `States` at the first step that passes the limit. A step before it stays done, also if memory runs out.
 pub(crate) fn transduced(
     alloc: Global,
     transducer: &Transducer,

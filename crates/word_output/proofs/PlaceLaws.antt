@@ -14,7 +14,7 @@ use Rattle.num_system.specs.declared.comparison.Comparison.{Comparison}
 use Rattle.num_system.proofs.HoldLemmas.{represented_count}
 use Rattle.word_output.specs.LetterFunctions.{LetterFunctionsAreEqual, letter_after}
 use Rattle.word_output.specs.LetterSets.{ComparesLetters, IsLetterSet}
-use Rattle.word_output.specs.Laws.{LetterSetsHold, OneLetterSet, PlacesHaveOneLetter, WordsAreToldByTheirLetters}
+use Rattle.word_output.specs.Laws.{LetterSetsHold, OneLetterSet, PlacesHaveOneLetter, LettersDetermineWords}
 use Rattle.word_output.specs.Words.{HasLetter, IsWordValue, RepresentsPlace, WordValue}
 use Rattle.word_output.proofs.OptionLemmas.{same_option, some_there}
 
@@ -43,8 +43,8 @@ letter_kept v u w b is other tracks has over there =
     let (ns, represented, letter) = place_of_letter v w b is over there in
     letter_of_place u ns w b other (subst (λ (systems : List SystemValue). RepresentsPlace systems ns w) tracks represented) (has ns b letter)
 
-pub told_by_letters : LetterFunctionsAreEqual → WordsAreToldByTheirLetters
-told_by_letters equal v u is other tracks same = λ i. record { systems = tracks i; function = functions i }
+pub determined_by_letters : LetterFunctionsAreEqual → LettersDetermineWords
+determined_by_letters equal v u is other tracks same = λ i. record { systems = tracks i; function = functions i }
   where
     functions : v.function ≡ u.function
     functions =

@@ -29,8 +29,8 @@ abbrev pub PlacesHaveOneLetter : Type 0
 PlacesHaveOneLetter = (v : WordValue) (ns : List ℕ) (b c : ℤ) → IsWordValue v → HasLetter v ns b → HasLetter v ns c → b ≡ c
 
 -- words over the same systems with the same letters are equal
-abbrev pub WordsAreToldByTheirLetters : Type 0
-WordsAreToldByTheirLetters = (v u : WordValue) → IsWordValue v → IsWordValue u → v.systems ≡ u.systems → ((ns : List ℕ) (letter : ℤ) → HasLetter v ns letter ↔ HasLetter u ns letter) → v ≡ u
+abbrev pub LettersDetermineWords : Type 0
+LettersDetermineWords = (v u : WordValue) → IsWordValue v → IsWordValue u → v.systems ≡ u.systems → ((ns : List ℕ) (letter : ℤ) → HasLetter v ns letter ↔ HasLetter u ns letter) → v ≡ u
 
 -- the automaton of a set of letters holds of the places that have such a letter
 abbrev pub LetterSetsHold : Type 0

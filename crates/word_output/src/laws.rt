@@ -1,6 +1,6 @@
 //! Laws of automatic words, each a call that does nothing.
 
-ghost use Rattle.word_output.specs.Laws.{LetterSetsHold, OneLetterSet, PairsHaveOneOutcome, PairsHold, PlacesHaveOneLetter, WordReadingsHaveOneOutcome, WordsAreToldByTheirLetters, WordsHaveListedLetters};
+ghost use Rattle.word_output.specs.Laws.{LetterSetsHold, OneLetterSet, PairsHaveOneOutcome, PairsHold, PlacesHaveOneLetter, WordReadingsHaveOneOutcome, LettersDetermineWords, WordsHaveListedLetters};
 ghost use Rattle.word_output.specs.LetterFunctions.{LetterFunctionsAreEqual};
 
 /// Letter functions over the same tracks that give each word the same letter are equal.
@@ -19,8 +19,8 @@ pub fn places_have_one_letter()
 {}
 
 /// Words over the same systems are equal if they have the same letters at the same places.
-pub fn words_are_told_by_their_letters()
-    ensures { WordsAreToldByTheirLetters }
+pub fn letters_determine_words()
+    ensures { LettersDetermineWords }
 {}
 
 /// The automaton of a set of letters holds of the places that have such a letter, and is the only one that is

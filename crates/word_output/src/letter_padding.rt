@@ -24,7 +24,7 @@ use std::alloc::Global;
 /// follows a word without its trailing zeros and with them. Time and memory follow the width and the transitions.
 ///
 /// # Errors
-/// `States` if and only if the width passes the limit. The steps are as before then, also where memory is wanting.
+/// `States` if and only if the width passes the limit. The steps are as before then, also if memory runs out.
 pub fn pad_letters(
     alloc: Global,
     function: &LetterFunction,

@@ -34,7 +34,7 @@ use std::alloc::Global;
 ///
 /// # Errors
 /// `Letters` if and only if there are too many tracks or letters, looked at first; `States` if and only if the width
-/// passes the limit. The steps are as before then, also where memory is wanting.
+/// passes the limit. The steps are as before then, also if memory runs out.
 pub fn pair_step(
     alloc: Global,
     first: Placed<'_>,

@@ -30,7 +30,7 @@ use std::rc::Rc;
 /// the transitions.
 ///
 /// # Errors
-/// `States` if and only if the width passes the limit. The steps are as before then, also where memory is wanting.
+/// `States` if and only if the width passes the limit. The steps are as before then, also if memory runs out.
 pub fn valid_letters(
     alloc: Global,
     function: &LetterFunction,

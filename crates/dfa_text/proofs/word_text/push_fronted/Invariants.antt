@@ -1,7 +1,0 @@
-use Rattle.std.proofs.Common.{◌≡◌, ◌++◌, take}
-use Rattle.std.specs.List.{flat_map}
-use Rattle.dfa_text.specs.LinePrefixes.{fronted_text}
-use Rattle.dfa_text.proofs.word_text.push_fronted.Given as goal
-
-abbrev pub invariant-loop-transition : goal.invariant-loop-transition
-invariant-loop-transition l = l.out.items ≡ l.initial.out.items ++ flat_map (fronted_text l.prefixes) (take l.transition-index l.transitions)
