@@ -3,9 +3,11 @@ use Rattle.std.proofs.Common.{◌≡◌, ℕ, List, [], ◌∷◌, Result, Ok, E
 use Rattle.std.specs.Prelude.{⊤}
 use Rattle.digit_tuple.specs.Steps.{StepLog}
 use Rattle.digit_tuple.specs.declared.direction.Direction.{Direction}
+use Rattle.digit_tuple.specs.declared.step_fault.StepFault.TheVariants as steps
 use Rattle.adder_check.specs.declared.admit_fault.AdmitFault.{AdmitFault}
 use Rattle.adder_check.specs.declared.admit_fault.AdmitFault.TheVariants as admits
 use Rattle.adder_check.specs.declared.admit_fault.Law.{Law}
+use Rattle.dfa_loading.specs.declared.fault.LoadFault.TheVariants as loads
 use Rattle.system_files.specs.SystemFiles.{Custom, SystemFiles}
 use Rattle.system_admission.specs.Admissions.{AdmitsFiles, IsFirstFaultIn}
 use Rattle.system_admission.specs.SystemSteps.{AdmitsName, AdmitsNames, HasFiles, fault_of, no_steps}
@@ -14,7 +16,10 @@ use Rattle.system_admission.specs.declared.system_fault.SystemFault.TheVariants 
 use Rattle.system_admission.proofs.BrokenLaws.{files_have_words}
 use Rattle.definitions.specs.Trees.{Ledger, custom_of}
 use Rattle.session_cli.specs.declared.fault.Fault.{Fault}
+use Rattle.session_cli.specs.declared.system_refusal.SystemRefusal.TheVariants as system_refusals
+use Rattle.session_cli.specs.declared.refusal.Refusal.TheVariants as refusals
 use Rattle.session_cli.specs.declared.fault.Fault.TheVariants as faults
+use Rattle.session_cli.specs.SystemFaults.{fault_of_system}
 use Rattle.session_cli.specs.Accepting.{Answer}
 use Rattle.session_cli.specs.Commands.{Gives}
 use Rattle.session_cli.specs.Outcomes.{checks_of}
@@ -51,15 +56,27 @@ module _ (custom : Custom) (name : List ℕ) (law : Law) where
       let same : fault ≡ systems.NotAdmitted name law = cc in
       name_breaks named old new (subst (λ (f : SystemFault). let bad : Result ⊤ SystemFault = Err f in AdmitsName custom named old bad new) same refused)
 
+-- a fault of systems that is a command's with a law is that of the law
+the_law : (name : List ℕ) (law : Law) (fault : SystemFault) → fault_of_system fault ≡ faults.Refused (refusals.System (system_refusals.NotAdmitted name law)) → fault ≡ systems.NotAdmitted name law
+the_law name law (systems.NotAdmitted own other) is = cc
+the_law name law (systems.Load (loads.Unknown folder at)) is = absurd (cc)
+the_law name law (systems.Load (loads.File folder at flaw)) is = absurd (cc)
+the_law name law (systems.Load (loads.Store folder at)) is = absurd (cc)
+the_law name law (systems.Load loads.Memory) is = absurd (cc)
+the_law name law (systems.Step (steps.Letters step)) is = absurd (cc)
+the_law name law (systems.Step (steps.States step)) is = absurd (cc)
+the_law name law (systems.Step steps.Memory) is = absurd (cc)
+
 pub refused_systems : RefusedSystems
 refused_systems limit ledger files old new command shown printed name law reported c =
     subst (λ (known : Ledger). BreaksLaw (custom_of known) name law) (reported_ledger old.files files c.known ledger reported c.known_is) (by c.answer c.gives c.answered)
   where
-    by_systems : (names : List (List ℕ)) × SystemsAnswers limit (custom_of c.known) names (Err (faults.NotAdmitted name law)) → BreaksLaw (custom_of c.known) name law
-    by_systems (names, (log, refused)) = names_break (custom_of c.known) name law names (no_steps limit) log refused
+    by_systems : (names : List (List ℕ)) × SystemsAnswers limit (custom_of c.known) names (Err (refusals.System (system_refusals.NotAdmitted name law))) → BreaksLaw (custom_of c.known) name law
+    by_systems (names, (own, is, (log, refused))) =
+        names_break (custom_of c.known) name law names (no_steps limit) log (subst (λ (f : SystemFault). let bad : Result ⊤ SystemFault = Err f in AdmitsNames (custom_of c.known) names (no_steps limit) bad log) (the_law name law own is) refused)
 
-    by : (answer : Answer) → Gives shown (Err (faults.NotAdmitted name law)) printed answer → IsAnswer (checks_of limit c.known command) answer → BreaksLaw (custom_of c.known) name law
+    by : (answer : Answer) → Gives shown (Err (faults.Refused (refusals.System (system_refusals.NotAdmitted name law)))) printed answer → IsAnswer (checks_of limit c.known command) answer → BreaksLaw (custom_of c.known) name law
     by (Ok accepted) gives answered = absurd gives
     by (Err other) (same, silent) answered =
-        let refused : IsAnswer (checks_of limit c.known command) (Err (faults.NotAdmitted name law)) = subst (λ (f : Fault). let bad : Answer = Err f in IsAnswer (checks_of limit c.known command) bad) (sym same) answered in
+        let refused : IsAnswer (checks_of limit c.known command) (Err (faults.Refused (refusals.System (system_refusals.NotAdmitted name law)))) = subst (λ (f : Fault). let bad : Answer = Err f in IsAnswer (checks_of limit c.known command) bad) (sym same) answered in
         by_systems (refused_by_law limit c.known name law command refused)

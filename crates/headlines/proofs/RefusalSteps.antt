@@ -13,39 +13,9 @@ use Rattle.headlines.specs.Refusals.{IsCause, IsRefusal, Refusals}
 
 module _ (limit : ℕ) (known : Ledger) (command : List ℕ) (old new : StoreView) where
   cause : (fault : Fault) → IsAnswer (checks_of limit known command) (Err fault) → (IsTrue (is_refused_by_store (Err fault)) → Rose old.faults new.faults) → IsCause limit known command old new fault
-  cause faults.Command answered rose = inl answered
-  cause (faults.Syntax a b) answered rose = inl answered
-  cause (faults.MixedChain a) answered rose = inl answered
-  cause (faults.Number a b) answered rose = inl answered
-  cause (faults.NotLinear a) answered rose = inl answered
-  cause (faults.Depth a b) answered rose = inl answered
-  cause (faults.Long a) answered rose = inl answered
-  cause (faults.MacroArgs a b c) answered rose = inl answered
-  cause (faults.MacroDepth a) answered rose = inl answered
-  cause faults.MacroLong answered rose = inl answered
-  cause (faults.Unknown a b) answered rose = inl answered
-  cause (faults.File a b c) answered rose = inl answered
-  cause (faults.Arity a b c) answered rose = inl answered
-  cause (faults.SystemUnknown a) answered rose = inl answered
-  cause (faults.NotAdmitted a b) answered rose = inl answered
-  cause (faults.Clash a b c) answered rose = inl answered
-  cause (faults.Direction a b) answered rose = inl answered
-  cause (faults.Letters a) answered rose = inl answered
-  cause (faults.States a) answered rose = inl answered
-  cause (faults.Plain a) answered rose = inl answered
-  cause (faults.Morphism a) answered rose = inl answered
-  cause (faults.LetterMissing a) answered rose = inl answered
-  cause (faults.CombineShape a b) answered rose = inl answered
-  cause (faults.LoadDepth a) answered rose = inl answered
+  cause (faults.Refused refusal) answered rose = inl (refusal, refl, answered)
   cause (faults.Store folder name) answered rose = inr (inl (folder, name, refl, rose refl))
   cause faults.Memory answered rose = inr (inr refl)
-  cause faults.ScriptLimit answered rose = inl answered
-  cause (faults.NotPlain a) answered rose = inl answered
-  cause (faults.LangShape a b) answered rose = inl answered
-  cause faults.TestLong answered rose = inl answered
-  cause (faults.Place a) answered rose = inl answered
-  cause (faults.BaseNeeded a b) answered rose = inl answered
-  cause (faults.NotRelated a b) answered rose = inl answered
 
 pub refusals : Refusals
 refusals limit ledger old new command shown printed fault c = by c.answer c.gives c.answered c.stored

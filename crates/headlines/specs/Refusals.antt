@@ -5,6 +5,7 @@ use Rattle.wal_outside.specs.Files.{Files}
 use Rattle.wal_outside.specs.Views.{StoreView}
 use Rattle.wal_outside.specs.declared.folder.Folder.{Folder}
 use Rattle.definitions.specs.Trees.{Ledger}
+use Rattle.session_cli.specs.declared.refusal.Refusal.{Refusal}
 use Rattle.session_cli.specs.declared.fault.Fault.{Fault}
 use Rattle.session_cli.specs.declared.fault.Fault.TheVariants as faults
 use Rattle.session_cli.specs.Commands.{Commands}
@@ -13,7 +14,7 @@ use Rattle.session_cli.specs.Outcomes.{checks_of}
 -- why: by a check of the command, where those before it pass; or the store failed; or there was no memory
 abbrev pub IsCause : ℕ → Ledger → List ℕ → StoreView → StoreView → Fault → Type 0
 IsCause limit known command old new fault =
-    (checks_of limit known command).answers (Err fault)
+    ((refusal : Refusal) × (fault ≡ faults.Refused refusal) × (checks_of limit known command).answers (Err refusal))
     ⊎ (((folder : Folder) × (name : List ℕ) × (fault ≡ faults.Store folder name) × Rose old.faults new.faults)
     ⊎ (fault ≡ faults.Memory))
 

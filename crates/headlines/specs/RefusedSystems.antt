@@ -11,6 +11,8 @@ use Rattle.system_files.specs.SystemFiles.{Custom, SystemFiles}
 use Rattle.system_files.specs.UserSystems.{AreWordsOf, AddsInFile}
 use Rattle.system_admission.specs.SystemSteps.{HasFiles}
 use Rattle.definitions.specs.Trees.{Ledger, custom_of}
+use Rattle.session_cli.specs.declared.system_refusal.SystemRefusal.TheVariants as system_refusals
+use Rattle.session_cli.specs.declared.refusal.Refusal.TheVariants as refusals
 use Rattle.session_cli.specs.declared.fault.Fault.TheVariants as faults
 use Rattle.session_cli.specs.Commands.{Commands}
 
@@ -27,4 +29,4 @@ pub record BreaksLaw (custom : Custom) (name : List ℕ) (law : Law) : Type 0 wh
 -- a command that is refused by F15 with a law names such a system
 abbrev pub RefusedSystems : Type 0
 RefusedSystems = (limit : ℕ) (ledger : Ledger) (files : Files) (old new : StoreView) (command : List ℕ) (shown : Bool) (printed name : List ℕ) (law : Law)
-    → old.files ≡ Some files → Commands limit ledger old command shown (Err (faults.NotAdmitted name law)) printed new → BreaksLaw (custom_of ledger) name law
+    → old.files ≡ Some files → Commands limit ledger old command shown (Err (faults.Refused (refusals.System (system_refusals.NotAdmitted name law)))) printed new → BreaksLaw (custom_of ledger) name law

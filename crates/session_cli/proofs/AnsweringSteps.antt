@@ -7,6 +7,8 @@ use Rattle.command_head.specs.Grammar.{DerivesAlone}
 use Rattle.script_runs.specs.Languages.{Deed, Enters, Loads, Ends}
 use Rattle.script_runs.specs.Replies.{AnswersCommand}
 use Rattle.script_runs.specs.declared.deed.Deed.TheVariants as deeds
+use Rattle.session_cli.specs.declared.text_refusal.TextRefusal.TheVariants as text_refusals
+use Rattle.session_cli.specs.declared.refusal.Refusal.TheVariants as refusals
 use Rattle.session_cli.specs.declared.fault.Fault.{Fault}
 use Rattle.session_cli.specs.declared.fault.Fault.TheVariants as faults
 use Rattle.session_cli.specs.declared.run_word.RunWord.{RunWord}
@@ -33,37 +35,7 @@ failed_answer : (checks : Check Accepted) (f : Fault) → IsAnswer checks (Err f
 failed_answer checks (faults.Store folder name) (inl read) = inl read
 failed_answer checks (faults.Store folder name) (inr (success, made, folders, names)) = inr (success, made, λ i. faults.Store (folders i) (names i))
 failed_answer checks faults.Memory is = inl tt
-failed_answer checks faults.Command is = inl is
-failed_answer checks (faults.Syntax grammar at) is = inl is
-failed_answer checks (faults.Number grammar at) is = inl is
-failed_answer checks (faults.Depth grammar at) is = inl is
-failed_answer checks (faults.Long bytes) is = inl is
-failed_answer checks (faults.SystemUnknown name) is = inl is
-failed_answer checks (faults.NotAdmitted name law) is = inl is
-failed_answer checks (faults.Direction one other) is = inl is
-failed_answer checks (faults.Letters step) is = inl is
-failed_answer checks (faults.States step) is = inl is
-failed_answer checks faults.ScriptLimit is = inl is
-failed_answer checks (faults.MacroArgs of at given) is = inl is
-failed_answer checks (faults.MacroDepth of) is = inl is
-failed_answer checks faults.MacroLong is = inl is
-failed_answer checks (faults.Morphism kind) is = inl is
-failed_answer checks (faults.LetterMissing letter) is = inl is
-failed_answer checks (faults.CombineShape one two) is = inl is
-failed_answer checks (faults.NotPlain of) is = inl is
-failed_answer checks (faults.LangShape one two) is = inl is
-failed_answer checks faults.TestLong is = inl is
-failed_answer checks (faults.Place of) is = inl is
-failed_answer checks (faults.BaseNeeded of systems) is = inl is
-failed_answer checks (faults.NotRelated one two) is = inl is
-failed_answer checks (faults.MixedChain byte) is = inl is
-failed_answer checks (faults.NotLinear byte) is = inl is
-failed_answer checks (faults.LoadDepth of) is = inl is
-failed_answer checks (faults.Unknown of file) is = inl is
-failed_answer checks (faults.File of file flaw) is = inl is
-failed_answer checks (faults.Arity of tracks given) is = inl is
-failed_answer checks (faults.Clash of one two) is = inl is
-failed_answer checks (faults.Plain of) is = inl is
+failed_answer checks (faults.Refused refusal) is = inl is
 
 module _ (limit : ℕ) (stop : Bool) (depth : ℕ) (text : List ℕ) (short : length text ≤ 65536) where
   -- the checks of a word, behind those of the length and of the word
@@ -195,9 +167,9 @@ module _ (limit : ℕ) (stop : Bool) (depth : ℕ) (text : List ℕ) (short : le
       (λ known. fails_first (Pure (HeadAnswers (DerivesAlone (codes "quit")) text)) (λ done. Passing (λ (deed : Deed Accepted). deed ≡ Ends)) fault refused)
 
 -- a command that is too long
-pub long_refused : (limit : ℕ) (stop : Bool) (depth : ℕ) (ledger : Ledger) (store : StoreView) (text : List ℕ) (shown : Bool) → 65536 < length text → AnswersCommand (session_language limit stop) depth ledger store text shown (Err (faults.Long 65536)) store
+pub long_refused : (limit : ℕ) (stop : Bool) (depth : ℕ) (ledger : Ledger) (store : StoreView) (text : List ℕ) (shown : Bool) → 65536 < length text → AnswersCommand (session_language limit stop) depth ledger store text shown (Err (faults.Refused (refusals.Text (text_refusals.Long 65536)))) store
 long_refused limit stop depth ledger store text shown long = record {
-  reply = Err (faults.Long 65536);
+  reply = Err (faults.Refused (refusals.Text (text_refusals.Long 65536)));
   gives = refl;
   known = ledger;
   known_is = own_ledger store.files ledger;

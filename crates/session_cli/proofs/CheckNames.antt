@@ -23,6 +23,7 @@ use Rattle.definitions.specs.FormulaTexts.{HasVerdict}
 use Rattle.definitions.specs.Tracks.{Tracks}
 use Rattle.definitions.specs.Trees.{Bindings, Bytes, Combine, Defined, Entry, Fixed, Formula, Image, Ledger, Regex, Variable, custom_of, tree_of}
 use Rattle.system_files.specs.SystemFiles.{Custom}
+use Rattle.session_cli.specs.declared.refusal.Refusal.{Refusal}
 use Rattle.session_cli.specs.declared.fault.Fault.{Fault}
 use Rattle.session_cli.specs.Accepting.{Success, stored}
 use Rattle.session_cli.specs.Checks.{Check, Pure, Then}
@@ -69,10 +70,10 @@ mentioned_systems tables formula = first_systems (headers_of tables) (mentions f
 abbrev pub AreVariables : Custom → List resolved.Variable → List Variable → Type 0
 AreVariables custom found variables = AllZip (IsVariable custom) found variables
 
-abbrev pub VariablesAnswers : Custom → List Loaded → trees.Formula → Result (List Variable) Fault → Type 0
+abbrev pub VariablesAnswers : Custom → List Loaded → trees.Formula → Result (List Variable) Refusal → Type 0
 VariablesAnswers custom tables formula result = MatchResult result (AreVariables custom (free_variables (all_occurrences (headers_of tables) formula))) (λ fault. ⊥)
 
-abbrev pub VerdictAnswers : Custom → Bindings → List Variable → trees.Formula → Result (Option Bool) Fault → Type 0
+abbrev pub VerdictAnswers : Custom → Bindings → List Variable → trees.Formula → Result (Option Bool) Refusal → Type 0
 VerdictAnswers custom bindings variables formula result = MatchResult result (HasVerdict custom bindings variables formula) (λ fault. ⊥)
 
 -- the checks after the variables, after the steps, after the resolution, and after the formula
@@ -99,7 +100,7 @@ after_promote_head limit ledger head = Then (morphism_loaded ledger head.morphis
 abbrev pub combine_success : Ledger → CombineHead → WordTracks → List StepLine → Success
 combine_success ledger head tracks lines = record { folder = Words; name = head.word; entry = Defined (Combine tracks.direction tracks.named (parts_from ledger 0 head.automata)); lines = lines; verdict = None }
 
-abbrev pub WordTracksAnswers : Custom → Headers → List (List ℕ) → Result WordTracks Fault → Type 0
+abbrev pub WordTracksAnswers : Custom → Headers → List (List ℕ) → Result WordTracks Refusal → Type 0
 WordTracksAnswers custom h names result = MatchResult result (AreTracksOfFirst custom h names) (λ fault. ⊥)
 
 abbrev pub after_combined : Ledger → CombineHead → List Loaded → List StepLine → Check Success
@@ -116,10 +117,10 @@ after_plain ledger head tables admitted = Then (Pure (ShapeAnswers (headers_of t
 abbrev pub image_success : ImageHead → WordTrack → Rules → Entry → List StepLine → Success
 image_success head track rules entry lines = record { folder = Words; name = head.word; entry = Defined (Image track.direction track.system rules (tree_of entry)); lines = lines; verdict = None }
 
-abbrev pub TrackAnswers : Custom → Headers → List ℕ → Result WordTrack Fault → Type 0
+abbrev pub TrackAnswers : Custom → Headers → List ℕ → Result WordTrack Refusal → Type 0
 TrackAnswers custom h old result = MatchResult result (IsTrackOf custom h old) (λ fault. ⊥)
 
-abbrev pub OldAnswers : Ledger → List ℕ → Result Entry Fault → Type 0
+abbrev pub OldAnswers : Ledger → List ℕ → Result Entry Refusal → Type 0
 OldAnswers ledger old result = MatchResult result (λ entry. ledger Words old ≡ Some entry) (λ fault. ⊥)
 
 abbrev pub after_image_steps : Ledger → ImageHead → Rules → WordTrack → List StepLine → Check Success

@@ -10,7 +10,6 @@ use Rattle.command_head.specs.Grammar.{DerivesCombine}
 use Rattle.command_head.specs.HeadViews.{combine_view}
 use Rattle.command_head.specs.Heads.{CombineHead}
 use Rattle.command_head.specs.declared.fault.HeadFault.{HeadFault}
-use Rattle.command_head.specs.declared.fault.HeadFault.TheVariants as head_faults
 use Rattle.command_head.specs.declared.head.CombineParts.{CombineParts}
 use Rattle.dfa_loading.specs.Headers.{headers_of}
 use Rattle.dfa_loading.specs.declared.loaded.Loaded.{Loaded}
@@ -19,8 +18,6 @@ use Rattle.definitions.specs.Trees.{Ledger, ledger_of, custom_of}
 use Rattle.system_files.specs.SystemFiles.{Custom}
 use Rattle.session_cli.specs.declared.combine.ListedAutomata.{ListedAutomata}
 use Rattle.session_cli.specs.declared.fault.Fault.{Fault}
-use Rattle.session_cli.specs.declared.fault.Fault.TheVariants as faults
-use Rattle.session_cli.specs.declared.fault.Grammar.TheVariants as grammars
 use Rattle.session_cli.specs.declared.file_change.Made.{Made}
 use Rattle.session_cli.specs.declared.file_change.FileChange.{FileChange}
 use Rattle.session_cli.specs.Accepting.{Success, stored}
@@ -37,12 +34,11 @@ use Rattle.session_cli.proofs.CommandSteps.{files_store}
 use Rattle.session_cli.proofs.FilesElsewhere.{listed_elsewhere}
 use Rattle.session_cli.proofs.StoreReads.{IsOwn, own_made}
 use Rattle.session_cli.proofs.TextReads.{with_bases}
+use Rattle.session_cli.proofs.HeadSteps.{head_unread}
 
 -- where the head breaks the grammar
 pub list_broken : (limit : ℕ) (ledger : Ledger) (text : List ℕ) (fault : HeadFault) → HasHead {X = CombineParts} DerivesCombine combine_view text (Err fault) → Fails (combine_checks limit ledger text) (fault_of_head fault)
-list_broken limit ledger text (head_faults.Syntax at) breaks = fails_first (Pure (HeadAnswers DerivesCombine text)) (λ head. after_combine_head limit ledger head) (faults.Syntax grammars.Command at) breaks
-list_broken limit ledger text (head_faults.Number at) breaks = fails_first (Pure (HeadAnswers DerivesCombine text)) (λ head. after_combine_head limit ledger head) (faults.Number grammars.Command at) breaks
-list_broken limit ledger text head_faults.Memory breaks = tt
+list_broken limit ledger text fault breaks = fails_first (Pure (HeadAnswers DerivesCombine text)) (λ head. after_combine_head limit ledger head) (fault_of_head fault) (head_unread DerivesCombine combine_view text fault breaks)
 
 -- what is accepted is among words, under the name of the head
 record IsWordAt (head : CombineHead) (success : Success) : Type 0 where

@@ -48,73 +48,13 @@ answering (Some files) ledger found stores is = record { known = ledger; known_i
 pub cause_of : (old new : StoreView) (f : Fault) → IsReadFault f old new → IsTrue (is_store_fault f) → Rose old.faults new.faults
 cause_of old new (faults.Store folder name) read is = read.0
 cause_of old new faults.Memory read is = cc
-cause_of old new faults.Command read is = cc
-cause_of old new (faults.Syntax grammar at) read is = cc
-cause_of old new (faults.Number grammar at) read is = cc
-cause_of old new (faults.Depth grammar at) read is = cc
-cause_of old new (faults.Long bytes) read is = cc
-cause_of old new (faults.SystemUnknown name) read is = cc
-cause_of old new (faults.NotAdmitted name law) read is = cc
-cause_of old new (faults.Direction first other) read is = cc
-cause_of old new (faults.Letters step) read is = cc
-cause_of old new (faults.States step) read is = cc
-cause_of old new faults.ScriptLimit read is = cc
-cause_of old new (faults.MacroArgs of at given) read is = cc
-cause_of old new (faults.MacroDepth of) read is = cc
-cause_of old new faults.MacroLong read is = cc
-cause_of old new (faults.Morphism kind) read is = cc
-cause_of old new (faults.LetterMissing letter) read is = cc
-cause_of old new (faults.CombineShape one two) read is = cc
-cause_of old new (faults.NotPlain of) read is = cc
-cause_of old new (faults.LangShape one two) read is = cc
-cause_of old new faults.TestLong read is = cc
-cause_of old new (faults.Place of) read is = cc
-cause_of old new (faults.BaseNeeded of systems) read is = cc
-cause_of old new (faults.NotRelated one two) read is = cc
-cause_of old new (faults.MixedChain byte) read is = cc
-cause_of old new (faults.NotLinear byte) read is = cc
-cause_of old new (faults.LoadDepth of) read is = cc
-cause_of old new (faults.Unknown of file) read is = cc
-cause_of old new (faults.File of file flaw) read is = cc
-cause_of old new (faults.Arity of tracks given) read is = cc
-cause_of old new (faults.Clash of one two) read is = cc
-cause_of old new (faults.Plain of) read is = cc
+cause_of old new (faults.Refused refusal) read is = cc
 
 -- and is the last one then
 pub failed_of : (old new : StoreView) (f : Fault) → IsReadFault f old new → new.failed ≡ failed_by (failed_at f) old.failed
 failed_of old new (faults.Store folder name) read = read.1
 failed_of old new faults.Memory read = read
-failed_of old new faults.Command read = read
-failed_of old new (faults.Syntax grammar at) read = read
-failed_of old new (faults.Number grammar at) read = read
-failed_of old new (faults.Depth grammar at) read = read
-failed_of old new (faults.Long bytes) read = read
-failed_of old new (faults.SystemUnknown name) read = read
-failed_of old new (faults.NotAdmitted name law) read = read
-failed_of old new (faults.Direction first other) read = read
-failed_of old new (faults.Letters step) read = read
-failed_of old new (faults.States step) read = read
-failed_of old new faults.ScriptLimit read = read
-failed_of old new (faults.MacroArgs of at given) read = read
-failed_of old new (faults.MacroDepth of) read = read
-failed_of old new faults.MacroLong read = read
-failed_of old new (faults.Morphism kind) read = read
-failed_of old new (faults.LetterMissing letter) read = read
-failed_of old new (faults.CombineShape one two) read = read
-failed_of old new (faults.NotPlain of) read = read
-failed_of old new (faults.LangShape one two) read = read
-failed_of old new faults.TestLong read = read
-failed_of old new (faults.Place of) read = read
-failed_of old new (faults.BaseNeeded of systems) read = read
-failed_of old new (faults.NotRelated one two) read = read
-failed_of old new (faults.MixedChain byte) read = read
-failed_of old new (faults.NotLinear byte) read = read
-failed_of old new (faults.LoadDepth of) read = read
-failed_of old new (faults.Unknown of file) read = read
-failed_of old new (faults.File of file flaw) read = read
-failed_of old new (faults.Arity of tracks given) read = read
-failed_of old new (faults.Clash of one two) read = read
-failed_of old new (faults.Plain of) read = read
+failed_of old new (faults.Refused refusal) read = read
 
 -- a command that its checks refuse
 pub refused_command : (limit : ℕ) (ledger : Ledger) (old new : StoreView) (text : List ℕ) (shown : Bool) (fault : Fault) (found : Files) → IsAnswering old.files ledger found → ((known : Ledger) → Stores known found → Fails (checks_of limit known text) fault)
@@ -131,37 +71,7 @@ refused_command limit ledger old new text shown fault found by refused read = re
     answer_of : (f : Fault) → Fails (checks_of limit by.known text) f → IsAnswer (checks_of limit by.known text) (Err f)
     answer_of faults.Memory refused = tt
     answer_of (faults.Store folder name) refused = inl refused
-    answer_of faults.Command refused = refused
-    answer_of (faults.Syntax grammar at) refused = refused
-    answer_of (faults.Number grammar at) refused = refused
-    answer_of (faults.Depth grammar at) refused = refused
-    answer_of (faults.Long bytes) refused = refused
-    answer_of (faults.SystemUnknown name) refused = refused
-    answer_of (faults.NotAdmitted name law) refused = refused
-    answer_of (faults.Direction first other) refused = refused
-    answer_of (faults.Letters step) refused = refused
-    answer_of (faults.States step) refused = refused
-    answer_of faults.ScriptLimit refused = refused
-    answer_of (faults.MacroArgs of at given) refused = refused
-    answer_of (faults.MacroDepth of) refused = refused
-    answer_of faults.MacroLong refused = refused
-    answer_of (faults.Morphism kind) refused = refused
-    answer_of (faults.LetterMissing letter) refused = refused
-    answer_of (faults.CombineShape one two) refused = refused
-    answer_of (faults.NotPlain of) refused = refused
-    answer_of (faults.LangShape one two) refused = refused
-    answer_of faults.TestLong refused = refused
-    answer_of (faults.Place of) refused = refused
-    answer_of (faults.BaseNeeded of systems) refused = refused
-    answer_of (faults.NotRelated one two) refused = refused
-    answer_of (faults.MixedChain byte) refused = refused
-    answer_of (faults.NotLinear byte) refused = refused
-    answer_of (faults.LoadDepth of) refused = refused
-    answer_of (faults.Unknown of file) refused = refused
-    answer_of (faults.File of file flaw) refused = refused
-    answer_of (faults.Arity of tracks given) refused = refused
-    answer_of (faults.Clash of one two) refused = refused
-    answer_of (faults.Plain of) refused = refused
+    answer_of (faults.Refused refusal) refused = refused
 
 same_put : (old : Option Files) (place other : Place) (stored : List ℕ) → place.0 ≡ other.0 → place.1 ≡ other.1 → option_map (λ files. put files place.0 place.1 stored) old ≡ option_map (λ files. put files other.0 other.1 stored) old
 same_put old place other stored folders names = λ i. option_map (λ files. put files (folders i) (names i) stored) old
@@ -211,37 +121,7 @@ module _ (limit : ℕ) (ledger : Ledger) (old mid new : StoreView) (text : List 
           answered = tt;
           stored = record { files = w.files ∙ read.files; later = omega (arith, w.later, read.later); cause = λ is. cc; failed = w.cause ∙ read.cause };
         }
-        by_fault faults.Command w = absurd w.cause
-        by_fault (faults.Syntax grammar at) w = absurd w.cause
-        by_fault (faults.Number grammar at) w = absurd w.cause
-        by_fault (faults.Depth grammar at) w = absurd w.cause
-        by_fault (faults.Long bytes) w = absurd w.cause
-        by_fault (faults.SystemUnknown of) w = absurd w.cause
-        by_fault (faults.NotAdmitted of law) w = absurd w.cause
-        by_fault (faults.Direction first other) w = absurd w.cause
-        by_fault (faults.Letters step) w = absurd w.cause
-        by_fault (faults.States step) w = absurd w.cause
-        by_fault faults.ScriptLimit w = absurd w.cause
-        by_fault (faults.MacroArgs of at given) w = absurd w.cause
-        by_fault (faults.MacroDepth of) w = absurd w.cause
-        by_fault faults.MacroLong w = absurd w.cause
-        by_fault (faults.Morphism kind) w = absurd w.cause
-        by_fault (faults.LetterMissing letter) w = absurd w.cause
-        by_fault (faults.CombineShape one two) w = absurd w.cause
-        by_fault (faults.NotPlain of) w = absurd w.cause
-        by_fault (faults.LangShape one two) w = absurd w.cause
-        by_fault faults.TestLong w = absurd w.cause
-        by_fault (faults.Place of) w = absurd w.cause
-        by_fault (faults.BaseNeeded of systems) w = absurd w.cause
-        by_fault (faults.NotRelated one two) w = absurd w.cause
-        by_fault (faults.MixedChain byte) w = absurd w.cause
-        by_fault (faults.NotLinear byte) w = absurd w.cause
-        by_fault (faults.LoadDepth of) w = absurd w.cause
-        by_fault (faults.Unknown of file) w = absurd w.cause
-        by_fault (faults.File of file flaw) w = absurd w.cause
-        by_fault (faults.Arity of tracks given) w = absurd w.cause
-        by_fault (faults.Clash of one two) w = absurd w.cause
-        by_fault (faults.Plain of) w = absurd w.cause
+        by_fault (faults.Refused refusal) w = absurd w.cause
 
   -- it says something
   said_command : (printed : List ℕ) (said : Said) → (checks_of limit by.known text).answers (Ok (Saying said)) → printed ≡ said_text shown said → HasRead {X = Action} old (Ok (actions.Print printed)) mid → new ≡ mid → Commands limit ledger old text shown (Ok tt) printed new

@@ -3,7 +3,7 @@ use Rattle.std.proofs.Common.{◌≡◌, ◌≢◌, ℕ, List, [], ◌∷◌, in
 use Rattle.wal_outside.specs.Files.{Files}
 use Rattle.wal_outside.specs.declared.folder.Folder.{Folder}
 use Rattle.wal_outside.specs.declared.folder.Folder.TheVariants.{Automata, Words, Bases, Macros}
-use Rattle.dfa_loading.specs.Loading.{AreListedBy, FirstRefuses, ReadsAt}
+use Rattle.dfa_loading.specs.Loading.{AreListedBy, FirstFails, FirstRefuses, ReadsAt}
 use Rattle.dfa_loading.specs.Places.{IsListedBy, Refuses}
 use Rattle.dfa_loading.specs.declared.fault.LoadFault.{LoadFault}
 use Rattle.dfa_loading.specs.declared.fault.LoadFault.TheVariants as loads
@@ -11,7 +11,6 @@ use Rattle.dfa_loading.specs.declared.loaded.Loaded.{Loaded}
 use Rattle.formula_resolve.specs.declared.file.File.{File}
 use Rattle.formula_resolve.specs.declared.file.File.TheVariants.{Automaton, Word}
 use Rattle.session_cli.specs.declared.fault.Fault.{Fault}
-use Rattle.session_cli.specs.declared.fault.Fault.TheVariants as faults
 use Rattle.session_cli.specs.FormulaLoads.{AreUnloaded}
 use Rattle.session_cli.specs.MacroMakes.{SameButMacros}
 
@@ -59,37 +58,11 @@ module _ (files others : Files) (same : SameButMacros files others) where
   reads_alike (file ∷ named) folder name (inl here) = inl here
   reads_alike (file ∷ named) folder name (inr (table, listed, more)) = inr (table, one_alike file table listed, reads_alike named folder name more)
 
+  fails_alike : (named : List File) (load : LoadFault) → FirstFails others named load → FirstFails files named load
+  fails_alike named (loads.Unknown folder name) is = first_alike named (loads.Unknown folder name) is
+  fails_alike named (loads.File folder name flaw) is = first_alike named (loads.File folder name flaw) is
+  fails_alike named (loads.Store folder name) is = reads_alike named folder name is
+  fails_alike named loads.Memory is = tt
+
   pub unloaded_alike : (named : List File) (fault : Fault) → AreUnloaded others named fault → AreUnloaded files named fault
-  unloaded_alike named faults.Command is = absurd is
-  unloaded_alike named (faults.Syntax grammar at) is = absurd is
-  unloaded_alike named (faults.MixedChain at) is = absurd is
-  unloaded_alike named (faults.Number grammar at) is = absurd is
-  unloaded_alike named (faults.NotLinear at) is = absurd is
-  unloaded_alike named (faults.LoadDepth of) is = absurd is
-  unloaded_alike named (faults.Depth grammar at) is = absurd is
-  unloaded_alike named (faults.Long bytes) is = absurd is
-  unloaded_alike named (faults.MacroArgs of n given) is = absurd is
-  unloaded_alike named (faults.MacroDepth of) is = absurd is
-  unloaded_alike named faults.MacroLong is = absurd is
-  unloaded_alike named (faults.Unknown folder name) is = first_alike named (loads.Unknown folder name) is
-  unloaded_alike named (faults.File folder name flaw) is = first_alike named (loads.File folder name flaw) is
-  unloaded_alike named (faults.Arity of tracks given) is = absurd is
-  unloaded_alike named (faults.SystemUnknown of) is = absurd is
-  unloaded_alike named (faults.NotAdmitted of law) is = absurd is
-  unloaded_alike named (faults.Clash of one two) is = absurd is
-  unloaded_alike named (faults.Direction one two) is = absurd is
-  unloaded_alike named (faults.Letters step) is = absurd is
-  unloaded_alike named (faults.States step) is = absurd is
-  unloaded_alike named (faults.Plain of) is = absurd is
-  unloaded_alike named (faults.Morphism kind) is = absurd is
-  unloaded_alike named (faults.LetterMissing letter) is = absurd is
-  unloaded_alike named (faults.CombineShape one two) is = absurd is
-  unloaded_alike named (faults.NotPlain of) is = absurd is
-  unloaded_alike named (faults.LangShape one two) is = absurd is
-  unloaded_alike named faults.TestLong is = absurd is
-  unloaded_alike named (faults.Place of) is = absurd is
-  unloaded_alike named (faults.BaseNeeded of systems) is = absurd is
-  unloaded_alike named (faults.NotRelated one two) is = absurd is
-  unloaded_alike named (faults.Store folder name) is = reads_alike named folder name is
-  unloaded_alike named faults.Memory is = tt
-  unloaded_alike named faults.ScriptLimit is = absurd is
+  unloaded_alike named fault (own, is, fails) = (own, is, fails_alike named own fails)

@@ -1,5 +1,5 @@
 -- From what each part of the code makes of a formula to what all checks of its command make.
-use Rattle.std.proofs.Common.{◌≡◌, ℕ, Bool, List, Result, Ok, Err, sym, ap, ◌∙◌}
+use Rattle.std.proofs.Common.{◌≡◌, ℕ, Bool, List, Result, Ok, Err, sym, ap, ◌∙◌, refl}
 use Rattle.wal_outside.specs.Places.{Place}
 use Rattle.wal_outside.specs.declared.folder.Folder.{Folder}
 use Rattle.digit_tuple.specs.Steps.{StepLog}
@@ -9,7 +9,9 @@ use Rattle.command_head.specs.Grammar.{DerivesNamed}
 use Rattle.command_head.specs.Breaks.{HasHead}
 use Rattle.command_head.specs.declared.fault.HeadFault.TheVariants as head_faults
 use Rattle.formula_parse.specs.Trees as trees
-use Rattle.session_cli.specs.declared.fault.Grammar.TheVariants as grammars
+use Rattle.session_cli.specs.declared.text_refusal.Grammar.TheVariants as grammars
+use Rattle.session_cli.specs.declared.text_refusal.TextRefusal.TheVariants as text_refusals
+use Rattle.session_cli.specs.declared.refusal.Refusal.TheVariants as refusals
 use Rattle.session_cli.specs.declared.fault.Fault.{Fault}
 use Rattle.session_cli.specs.declared.fault.Fault.TheVariants as faults
 use Rattle.session_cli.specs.declared.file_change.Made.{Made}
@@ -27,11 +29,11 @@ use Rattle.session_cli.proofs.CheckNames.{loaded, mentioned_systems, VariablesAn
 use Rattle.session_cli.proofs.CheckSteps.{fails_first, fails_after, makes_after, changes_after}
 
 -- where the head breaks the grammar
-pub named_syntax : (word : List ℕ) (folder : Folder) (limit : ℕ) (ledger : Ledger) (text : List ℕ) (at : ℕ) → HasHead (DerivesNamed word) (λ (h : NamedHead). h) text (Err (head_faults.Syntax at)) → Fails (formula_checks word folder limit ledger text) (faults.Syntax grammars.Command at)
-named_syntax word folder limit ledger text at breaks = fails_first (Pure (HeadAnswers (DerivesNamed word) text)) (λ head. after_named_head limit ledger folder head) (faults.Syntax grammars.Command at) breaks
+pub named_syntax : (word : List ℕ) (folder : Folder) (limit : ℕ) (ledger : Ledger) (text : List ℕ) (at : ℕ) → HasHead (DerivesNamed word) (λ (h : NamedHead). h) text (Err (head_faults.Syntax at)) → Fails (formula_checks word folder limit ledger text) (faults.Refused (refusals.Text (text_refusals.Syntax grammars.Command at)))
+named_syntax word folder limit ledger text at breaks = fails_first (Pure (HeadAnswers (DerivesNamed word) text)) (λ head. after_named_head limit ledger folder head) (faults.Refused (refusals.Text (text_refusals.Syntax grammars.Command at))) (head_faults.Syntax at, refl, breaks)
 
-pub named_number : (word : List ℕ) (folder : Folder) (limit : ℕ) (ledger : Ledger) (text : List ℕ) (at : ℕ) → HasHead (DerivesNamed word) (λ (h : NamedHead). h) text (Err (head_faults.Number at)) → Fails (formula_checks word folder limit ledger text) (faults.Number grammars.Command at)
-named_number word folder limit ledger text at breaks = fails_first (Pure (HeadAnswers (DerivesNamed word) text)) (λ head. after_named_head limit ledger folder head) (faults.Number grammars.Command at) breaks
+pub named_number : (word : List ℕ) (folder : Folder) (limit : ℕ) (ledger : Ledger) (text : List ℕ) (at : ℕ) → HasHead (DerivesNamed word) (λ (h : NamedHead). h) text (Err (head_faults.Number at)) → Fails (formula_checks word folder limit ledger text) (faults.Refused (refusals.Text (text_refusals.Number grammars.Command at)))
+named_number word folder limit ledger text at breaks = fails_first (Pure (HeadAnswers (DerivesNamed word) text)) (λ head. after_named_head limit ledger folder head) (faults.Refused (refusals.Text (text_refusals.Number grammars.Command at))) (head_faults.Number at, refl, breaks)
 
 -- what is accepted is under the head's name
 record IsAt (folder : Folder) (head : NamedHead) (success : Success) : Type 0 where

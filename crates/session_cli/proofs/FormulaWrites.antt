@@ -92,43 +92,13 @@ module _ (custom : Custom) (l : LibraryValue) (bindings : Bindings) (means : Mea
 
   -- a text that is too long is not stored
   pub text_refused : (place : Place) (lines : List StepLine) (fault : Fault) → HasNoTextOf found r fault → Fails (after_variables custom place bindings formula lines variables) fault
-  text_refused place lines (faults.Long bytes) (some, is, long) =
+  text_refused place lines (faults.Refused refusal) (is, some, long) =
       let has : IsFormulaText custom bindings variables formula (automaton_text found r) = with_variables custom bindings variables formula (automaton_text found r) (some_variables custom l bindings means meant formula found r solution over some) (solution_text custom l bindings means meant formula found r solution over) in
       let says : HasVerdict custom bindings variables formula None = without_verdict variables (some_variables custom l bindings means meant formula found r solution over some) in
-      fails_after (Pure (VerdictAnswers custom bindings variables formula)) (λ v. stored custom (formula_success place bindings variables formula lines v)) None (faults.Long bytes) says (is, (automaton_text found r, has, long))
+      fails_after (Pure (VerdictAnswers custom bindings variables formula)) (λ v. stored custom (formula_success place bindings variables formula lines v)) None (faults.Refused refusal) says (is, (automaton_text found r, has, long))
     where
       without_verdict : (vs : List Variable) → vs ≢ [] → HasVerdict custom bindings vs formula None
       without_verdict [] named = absurd (named refl)
       without_verdict (x ∷ vs) named = tt
-  text_refused place lines faults.Memory refused = tt
-  text_refused place lines faults.Command refused = absurd refused
-  text_refused place lines (faults.Syntax grammar at) refused = absurd refused
-  text_refused place lines (faults.MixedChain at) refused = absurd refused
-  text_refused place lines (faults.Number grammar at) refused = absurd refused
-  text_refused place lines (faults.NotLinear at) refused = absurd refused
-  text_refused place lines (faults.LoadDepth of) refused = absurd refused
-  text_refused place lines (faults.Depth grammar at) refused = absurd refused
-  text_refused place lines (faults.Unknown folder name) refused = absurd refused
-  text_refused place lines (faults.File folder name flaw) refused = absurd refused
-  text_refused place lines (faults.Arity of tracks given) refused = absurd refused
-  text_refused place lines (faults.SystemUnknown name) refused = absurd refused
-  text_refused place lines (faults.NotAdmitted of law) refused = absurd refused
-  text_refused place lines (faults.Clash of one two) refused = absurd refused
-  text_refused place lines (faults.Direction one other) refused = absurd refused
-  text_refused place lines (faults.Letters step) refused = absurd refused
-  text_refused place lines (faults.States step) refused = absurd refused
-  text_refused place lines (faults.Plain of) refused = absurd refused
   text_refused place lines (faults.Store folder name) refused = absurd refused
-  text_refused place lines faults.ScriptLimit refused = absurd refused
-  text_refused place lines (faults.MacroArgs of at given) refused = absurd refused
-  text_refused place lines (faults.MacroDepth of) refused = absurd refused
-  text_refused place lines faults.MacroLong refused = absurd refused
-  text_refused place lines (faults.Morphism kind) refused = absurd refused
-  text_refused place lines (faults.LetterMissing letter) refused = absurd refused
-  text_refused place lines (faults.CombineShape one two) refused = absurd refused
-  text_refused place lines (faults.NotPlain of) refused = absurd refused
-  text_refused place lines (faults.LangShape one two) refused = absurd refused
-  text_refused place lines faults.TestLong refused = absurd refused
-  text_refused place lines (faults.Place of) refused = absurd refused
-  text_refused place lines (faults.BaseNeeded of systems) refused = absurd refused
-  text_refused place lines (faults.NotRelated one two) refused = absurd refused
+  text_refused place lines faults.Memory refused = tt

@@ -10,7 +10,6 @@ use Rattle.command_head.specs.Grammar.{DerivesImage}
 use Rattle.command_head.specs.HeadViews.{image_view}
 use Rattle.command_head.specs.Heads.{ImageHead}
 use Rattle.command_head.specs.declared.fault.HeadFault.{HeadFault}
-use Rattle.command_head.specs.declared.fault.HeadFault.TheVariants as head_faults
 use Rattle.command_head.specs.declared.head.ImageParts.{ImageParts}
 use Rattle.dfa_loading.specs.Headers.{headers_of}
 use Rattle.dfa_loading.specs.declared.loaded.Loaded.{Loaded}
@@ -23,8 +22,6 @@ use Rattle.definitions.specs.Trees.{Entry, Ledger, ledger_of, custom_of}
 use Rattle.system_files.specs.SystemFiles.{Custom}
 use Rattle.session_cli.specs.declared.image.ReadImage.{ReadImage}
 use Rattle.session_cli.specs.declared.fault.Fault.{Fault}
-use Rattle.session_cli.specs.declared.fault.Fault.TheVariants as faults
-use Rattle.session_cli.specs.declared.fault.Grammar.TheVariants as grammars
 use Rattle.session_cli.specs.declared.file_change.Made.{Made}
 use Rattle.session_cli.specs.declared.file_change.FileChange.{FileChange}
 use Rattle.session_cli.specs.Accepting.{Success, stored}
@@ -43,12 +40,11 @@ use Rattle.session_cli.proofs.CommandSteps.{files_store}
 use Rattle.session_cli.proofs.FilesElsewhere.{listed_elsewhere}
 use Rattle.session_cli.proofs.StoreReads.{IsOwn, own_made}
 use Rattle.session_cli.proofs.TextReads.{with_bases}
+use Rattle.session_cli.proofs.HeadSteps.{head_unread}
 
 -- where the head breaks the grammar
 pub image_broken : (limit : ℕ) (ledger : Ledger) (text : List ℕ) (fault : HeadFault) → HasHead {X = ImageParts} (DerivesImage (codes "image")) image_view text (Err fault) → Fails (image_checks limit ledger text) (fault_of_head fault)
-image_broken limit ledger text (head_faults.Syntax at) breaks = fails_first (Pure (HeadAnswers (DerivesImage (codes "image")) text)) (λ head. after_image_head limit ledger head) (faults.Syntax grammars.Command at) breaks
-image_broken limit ledger text (head_faults.Number at) breaks = fails_first (Pure (HeadAnswers (DerivesImage (codes "image")) text)) (λ head. after_image_head limit ledger head) (faults.Number grammars.Command at) breaks
-image_broken limit ledger text head_faults.Memory breaks = tt
+image_broken limit ledger text fault breaks = fails_first (Pure (HeadAnswers (DerivesImage (codes "image")) text)) (λ head. after_image_head limit ledger head) (fault_of_head fault) (head_unread (DerivesImage (codes "image")) image_view text fault breaks)
 
 -- what is accepted is among words, under the name of the head
 record IsImageAt (head : ImageHead) (success : Success) : Type 0 where

@@ -4,7 +4,7 @@ use Rattle.wal_outside.specs.Files.{Files}
 use Rattle.wal_outside.specs.Views.{StoreView}
 use Rattle.wal_outside.specs.declared.folder.Folder.{Folder}
 use Rattle.wal_outside.specs.declared.folder.Folder.TheVariants.{Automata, Words, Bases, Macros, Morphisms, Transducers, Results, Commands}
-use Rattle.dfa_loading.specs.Loading.{AreListedBy, FirstRefuses, ReadsAt}
+use Rattle.dfa_loading.specs.Loading.{AreListedBy, FirstFails, FirstRefuses, ReadsAt}
 use Rattle.dfa_loading.specs.Places.{IsListedBy, Refuses}
 use Rattle.dfa_loading.specs.declared.fault.LoadFault.{LoadFault}
 use Rattle.dfa_loading.specs.declared.fault.LoadFault.TheVariants as loads
@@ -16,7 +16,7 @@ use Rattle.morphism_loading.specs.MorphismFiles.{IsMorphismIn}
 use Rattle.transducer_loading.specs.TransducerFiles.{IsTransducerIn}
 use Rattle.transducer_reading.specs.Transducers.{Transducer}
 use Rattle.session_cli.specs.declared.fault.Fault.{Fault}
-use Rattle.session_cli.specs.declared.fault.Fault.TheVariants as faults
+use Rattle.session_cli.specs.FormulaLoads.{AreUnloaded}
 use Rattle.session_cli.specs.FormulaLoads.{AreUnloaded}
 use Rattle.session_cli.specs.StoreReads.{FromFiles}
 use Rattle.session_cli.proofs.TextReads.{reads_both}
@@ -70,40 +70,14 @@ module _ (files others : Files) where
   reads_with (file ∷ named) folder name (inl at) = inl at
   reads_with (file ∷ named) folder name (inr (table, listed, rest)) = inr (table, one_with file table listed, reads_with named folder name rest)
 
+  fails_with : (named : List File) (load : LoadFault) → FirstFails files named load → FirstFails (with_maps files others) named load
+  fails_with named (loads.Unknown folder name) first = first_with named (loads.Unknown folder name) first
+  fails_with named (loads.File folder name flaw) first = first_with named (loads.File folder name flaw) first
+  fails_with named (loads.Store folder name) at = reads_with named folder name at
+  fails_with named loads.Memory out = tt
+
   pub unloaded_with : (named : List File) (fault : Fault) → AreUnloaded files named fault → AreUnloaded (with_maps files others) named fault
-  unloaded_with named (faults.Unknown folder name) first = first_with named (loads.Unknown folder name) first
-  unloaded_with named (faults.File folder name flaw) first = first_with named (loads.File folder name flaw) first
-  unloaded_with named (faults.Store folder name) at = reads_with named folder name at
-  unloaded_with named faults.Memory first = tt
-  unloaded_with named faults.Command first = absurd first
-  unloaded_with named (faults.Syntax grammar at) first = absurd first
-  unloaded_with named (faults.MixedChain at) first = absurd first
-  unloaded_with named (faults.Number grammar at) first = absurd first
-  unloaded_with named (faults.NotLinear at) first = absurd first
-  unloaded_with named (faults.LoadDepth of) first = absurd first
-  unloaded_with named (faults.Depth grammar at) first = absurd first
-  unloaded_with named (faults.Long bytes) first = absurd first
-  unloaded_with named (faults.Arity of tracks given) first = absurd first
-  unloaded_with named (faults.SystemUnknown name) first = absurd first
-  unloaded_with named (faults.NotAdmitted name law) first = absurd first
-  unloaded_with named (faults.Clash of one two) first = absurd first
-  unloaded_with named (faults.Direction one other) first = absurd first
-  unloaded_with named (faults.Letters step) first = absurd first
-  unloaded_with named (faults.States step) first = absurd first
-  unloaded_with named (faults.Plain of) first = absurd first
-  unloaded_with named faults.ScriptLimit first = absurd first
-  unloaded_with named (faults.MacroArgs of at given) first = absurd first
-  unloaded_with named (faults.MacroDepth of) first = absurd first
-  unloaded_with named faults.MacroLong first = absurd first
-  unloaded_with named (faults.Morphism kind) first = absurd first
-  unloaded_with named (faults.LetterMissing letter) first = absurd first
-  unloaded_with named (faults.CombineShape one two) first = absurd first
-  unloaded_with named (faults.NotPlain of) first = absurd first
-  unloaded_with named (faults.LangShape one two) first = absurd first
-  unloaded_with named faults.TestLong first = absurd first
-  unloaded_with named (faults.Place of) first = absurd first
-  unloaded_with named (faults.BaseNeeded of systems) first = absurd first
-  unloaded_with named (faults.NotRelated one two) first = absurd first
+  unloaded_with named fault (own, is, fails) = (own, is, fails_with named own fails)
 
 -- files that are the store's where it reports them, of which both properties are known
 record AreBoth (P Q : Files → Type 0) (reported : Option Files) : Type 0 where

@@ -17,7 +17,6 @@ use Rattle.definitions.specs.TreeMeanings.{tree_letter}
 use Rattle.definitions.specs.Trees.{Image, Ledger, custom_of, tree_of}
 use Rattle.definitions.proofs.WordValueTexts.{IsWordNamed, image_word_text, same_image, text_of_word}
 use Rattle.system_files.specs.SystemFiles.{Custom}
-use Rattle.session_cli.specs.declared.fault.Fault.TheVariants as faults
 use Rattle.session_cli.specs.declared.image.ReadImage.{ReadImage}
 use Rattle.session_cli.specs.ImageMakes.{IsImaged, old_system_of, old_tracks_of}
 use Rattle.session_cli.specs.ImageOutcomes.{WordTrack}

@@ -33,9 +33,9 @@ of_one_kind rules k (kinds.NotFixed letter) has refused = refused
 
 module _ (admitted : StepLog) (custom : Custom) (tables : List Loaded) (old name : List ℕ) (rules : Rules) where
   -- a step passes a limit
-  unimaged : (fault : StepFault) → AreImageStepsRefused admitted custom tables old name rules fault → Fails (Pure (ImagedAnswers admitted custom tables old name rules)) (fault_of fault)
-  unimaged (step_faults.Letters step) refused = refused
-  unimaged (step_faults.States step) refused = refused
+  unimaged : (fault : StepFault) → AreImageStepsRefused admitted custom tables old name rules (images.Step fault) → Fails (Pure (ImagedAnswers admitted custom tables old name rules)) (fault_of fault)
+  unimaged (step_faults.Letters step) refused = (images.Step (step_faults.Letters step), refl, refused)
+  unimaged (step_faults.States step) refused = (images.Step (step_faults.States step), refl, refused)
   unimaged step_faults.Memory refused = tt
 
   -- one that reads the table does, or memory runs out there
@@ -48,7 +48,7 @@ module _ {admitted reading : StepLog} {custom : Custom} {read : ReadImage} {word
   pub steps_unimaged : (k : ℕ) → HasLength IsImageLength read.morphism k → (fault : ImageFault) (log : StepLog) → DoesImage read.morphism word (old_system_of read) reading (Err fault) log
       → Fails (Pure (ImagedAnswers admitted custom read.old.mentioned.tables.items read.old.name (old_system_of read) read.morphism)) (fault_of_imaging fault)
   steps_unimaged k has (images.Morphism kind) log (refused, same) = absurd (of_one_kind read.morphism k kind has refused)
-  steps_unimaged k has (images.Missing letter) log refused = record { before = before_of is; log = log; refused = refused }
+  steps_unimaged k has (images.Missing letter) log refused = (images.Missing letter, refl, record { before = before_of is; log = log; refused = refused })
   steps_unimaged k has (images.Step fault) log (inl memory) =
       subst (λ (f : StepFault). Fails (Pure (ImagedAnswers admitted custom read.old.mentioned.tables.items read.old.name (old_system_of read) read.morphism)) (fault_of f)) (sym memory) tt
   steps_unimaged k has (images.Step fault) log (inr stopped) =

@@ -85,39 +85,9 @@ module _ (limit : ℕ) (ledger : Ledger) (op : LanguageOp) (head : LanguagesHead
     module _ (made : Automaton) (log : StepLog) (does : DoesLanguage op head.languages tables (no_steps limit) (Ok made) log)
         (has : HasTreeText (custom_of ledger) (Language sets (tree_op op) (trees_of ledger head.languages)) (relation_text (headers.Sets sets) made)) where
       text_refused : (fault : Fault) → IsNotPrinted (headers.Sets sets) made fault → IsTextRefused (relation_text (headers.Sets sets) made) fault
-      text_refused (faults.Long bytes) refused = refused
+      text_refused (faults.Refused refusal) refused = refused
       text_refused faults.Memory refused = tt
-      text_refused faults.Command refused = absurd refused
-      text_refused (faults.Syntax grammar at) refused = absurd refused
-      text_refused (faults.MixedChain at) refused = absurd refused
-      text_refused (faults.Number grammar at) refused = absurd refused
-      text_refused (faults.NotLinear at) refused = absurd refused
-      text_refused (faults.Depth grammar at) refused = absurd refused
-      text_refused (faults.MacroArgs of at given) refused = absurd refused
-      text_refused (faults.MacroDepth of) refused = absurd refused
-      text_refused faults.MacroLong refused = absurd refused
-      text_refused (faults.Unknown folder of) refused = absurd refused
-      text_refused (faults.File folder of flaw) refused = absurd refused
-      text_refused (faults.Arity of tracks given) refused = absurd refused
-      text_refused (faults.SystemUnknown of) refused = absurd refused
-      text_refused (faults.NotAdmitted of law) refused = absurd refused
-      text_refused (faults.Clash of one two) refused = absurd refused
-      text_refused (faults.Direction one two) refused = absurd refused
-      text_refused (faults.Letters step) refused = absurd refused
-      text_refused (faults.States step) refused = absurd refused
-      text_refused (faults.Plain of) refused = absurd refused
-      text_refused (faults.Morphism kind) refused = absurd refused
-      text_refused (faults.LetterMissing letter) refused = absurd refused
-      text_refused (faults.CombineShape one two) refused = absurd refused
-      text_refused (faults.LoadDepth of) refused = absurd refused
       text_refused (faults.Store folder of) refused = absurd refused
-      text_refused faults.ScriptLimit refused = absurd refused
-      text_refused (faults.NotPlain of) refused = absurd refused
-      text_refused (faults.LangShape one two) refused = absurd refused
-      text_refused faults.TestLong refused = absurd refused
-      text_refused (faults.Place of) refused = absurd refused
-      text_refused (faults.BaseNeeded of systems) refused = absurd refused
-      text_refused (faults.NotRelated one two) refused = absurd refused
 
       by_text : (shown : Bool) (result : Result Made Fault) → Prints (headers.Sets sets) made shown log.lines result → Makes (custom_of ledger) (stored (custom_of ledger) (language_success ledger op head sets log.lines)) shown result
       by_text shown (Ok stored_made) p =

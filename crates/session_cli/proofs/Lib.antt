@@ -2,6 +2,7 @@
 pub mod StepLines
 pub mod CheckNames
 pub mod CheckSteps
+pub mod RefusingSteps
 pub mod ActionSteps
 pub mod NamesSent
 pub mod WordSteps

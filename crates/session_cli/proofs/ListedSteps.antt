@@ -23,8 +23,8 @@ use Rattle.session_cli.specs.TrackSystems.{fault_of}
 
 -- a step passes a limit
 uncombined : (admitted : StepLog) (custom : Custom) (tables : List Loaded) (automata : List ValuedName) (fault : StepFault) → AreCombineStepsRefused admitted custom tables automata fault → Fails (Pure (CombinedAnswers admitted custom tables automata)) (fault_of fault)
-uncombined admitted custom tables automata (step_faults.Letters step) refused = refused
-uncombined admitted custom tables automata (step_faults.States step) refused = refused
+uncombined admitted custom tables automata (step_faults.Letters step) refused = (step_faults.Letters step, refl, refused)
+uncombined admitted custom tables automata (step_faults.States step) refused = (step_faults.States step, refl, refused)
 uncombined admitted custom tables automata step_faults.Memory refused = tt
 
 -- one that reads a table does, or memory runs out there

@@ -18,6 +18,10 @@ use Rattle.table_listings.specs.Questions.{Answers, HasTooLongAnswer, IsAskedOn}
 use Rattle.table_listings.specs.declared.question.Answer.{Answer}
 use Rattle.table_listings.specs.declared.question.Answer.TheVariants as given
 use Rattle.table_listings.specs.declared.question.Question.{Question}
+use Rattle.session_cli.specs.declared.step_refusal.StepRefusal.TheVariants as step_refusals
+use Rattle.session_cli.specs.declared.shape_refusal.ShapeRefusal.TheVariants as shape_refusals
+use Rattle.session_cli.specs.declared.word_refusal.WordRefusal.TheVariants as word_refusals
+use Rattle.session_cli.specs.declared.refusal.Refusal.TheVariants as refusals
 use Rattle.session_cli.specs.declared.fault.Fault.{Fault}
 use Rattle.session_cli.specs.declared.fault.Fault.TheVariants as faults
 use Rattle.session_cli.specs.declared.listing_fault.ListingFault.{ListingFault}
@@ -57,24 +61,24 @@ module _ (ledger : Ledger) (name : List ℕ) (question : Question) (table : Load
   tracked shown r h = tells_after (Passing (AreTableTracks (custom_of ledger) tables)) (λ ts. after_tracks ledger name question tables admitted ts) tracks shown r are h
 
   -- the place is not on the tracks
-  off_tracks : (shown : Bool) → ¬ IsAskedOn (letter_sets tracks) question → Tells checks shown (Err (faults.Place name))
+  off_tracks : (shown : Bool) → ¬ IsAskedOn (letter_sets tracks) question → Tells checks shown (Err (faults.Refused (refusals.Shape (shape_refusals.Place name))))
   off_tracks shown off =
-      tracked shown (Err (faults.Place name)) (fails_first (Refusing faults.Place (PlaceAnswers name tracks question)) (λ on. after_place ledger name question tables admitted tracks) (faults.Place name) (name, refl, (refl, off)))
+      tracked shown (Err (faults.Refused (refusals.Shape (shape_refusals.Place name)))) (fails_first (Refusing (λ of. faults.Refused (refusals.Shape (shape_refusals.Place of))) (PlaceAnswers name tracks question)) (λ on. after_place ledger name question tables admitted tracks) (faults.Refused (refusals.Shape (shape_refusals.Place name))) (name, refl, (refl, off)))
 
   module _ (on : IsAskedOn (letter_sets tracks) question) where
     placed : (shown : Bool) (r : Result (List ℕ) Fault) → Tells (after_place ledger name question tables admitted tracks) shown r → Tells checks shown r
-    placed shown r h = tracked shown r (tells_after (Refusing faults.Place (PlaceAnswers name tracks question)) (λ here. after_place ledger name question tables admitted tracks) tt shown r on h)
+    placed shown r h = tracked shown r (tells_after (Refusing (λ of. faults.Refused (refusals.Shape (shape_refusals.Place of))) (PlaceAnswers name tracks question)) (λ here. after_place ledger name question tables admitted tracks) tt shown r on h)
 
     -- a step passes a limit
-    letters_refused : (shown : Bool) (step : ℕ) → IsReadRefused table.listed.header admitted (custom_of ledger) table (steps.Letters step) → Tells checks shown (Err (faults.Letters step))
+    letters_refused : (shown : Bool) (step : ℕ) → IsReadRefused table.listed.header admitted (custom_of ledger) table (steps.Letters step) → Tells checks shown (Err (faults.Refused (refusals.Step (step_refusals.Letters step))))
     letters_refused shown step refused =
-        placed shown (Err (faults.Letters step))
-        (fails_first (Refusing fault_of (ReadingAnswers admitted (custom_of ledger) tables)) (λ lines. after_read ledger name question tracks lines) (faults.Letters step) (steps.Letters step, refl, refused))
+        placed shown (Err (faults.Refused (refusals.Step (step_refusals.Letters step))))
+        (fails_first (Refusing fault_of (ReadingAnswers admitted (custom_of ledger) tables)) (λ lines. after_read ledger name question tracks lines) (faults.Refused (refusals.Step (step_refusals.Letters step))) (steps.Letters step, refl, refused))
 
-    states_refused : (shown : Bool) (step : ℕ) → IsReadRefused table.listed.header admitted (custom_of ledger) table (steps.States step) → Tells checks shown (Err (faults.States step))
+    states_refused : (shown : Bool) (step : ℕ) → IsReadRefused table.listed.header admitted (custom_of ledger) table (steps.States step) → Tells checks shown (Err (faults.Refused (refusals.Step (step_refusals.States step))))
     states_refused shown step refused =
-        placed shown (Err (faults.States step))
-        (fails_first (Refusing fault_of (ReadingAnswers admitted (custom_of ledger) tables)) (λ lines. after_read ledger name question tracks lines) (faults.States step) (steps.States step, refl, refused))
+        placed shown (Err (faults.Refused (refusals.Step (step_refusals.States step))))
+        (fails_first (Refusing fault_of (ReadingAnswers admitted (custom_of ledger) tables)) (λ lines. after_read ledger name question tracks lines) (faults.Refused (refusals.Step (step_refusals.States step))) (steps.States step, refl, refused))
 
     module _ (lines : List StepLine) (read : IsRead table.listed.header admitted (custom_of ledger) table lines) (listing : HasListing ledger name tracks) where
       after_lines : (shown : Bool) (r : Result (List ℕ) Fault) → Tells (after_read ledger name question tracks lines) shown r → Tells checks shown r
@@ -85,10 +89,10 @@ module _ (ledger : Ledger) (name : List ℕ) (question : Question) (table : Load
           after_lines shown (Ok (shown_steps shown lines ++ reply_text reply))
           (record { lines = lines; text = reply_text reply }, (reply, (listing, is), refl), refl)
 
-      lines_refused : (shown : Bool) → HasTooLongAnswer listing.lists (letter_sets tracks) question → Tells checks shown (Err faults.TestLong)
+      lines_refused : (shown : Bool) → HasTooLongAnswer listing.lists (letter_sets tracks) question → Tells checks shown (Err (faults.Refused (refusals.Word word_refusals.TestLong)))
       lines_refused shown long =
-          after_lines shown (Err faults.TestLong)
-          (fails_first (Refusing too_long (ReplyAnswers ledger name tracks question)) (λ reply. Passing (λ (said : Said). said ≡ record { lines = lines; text = reply_text reply })) faults.TestLong (tt, refl, (listing, long)))
+          after_lines shown (Err (faults.Refused (refusals.Word word_refusals.TestLong)))
+          (fails_first (Refusing too_long (ReplyAnswers ledger name tracks question)) (λ reply. Passing (λ (said : Said). said ≡ record { lines = lines; text = reply_text reply })) (faults.Refused (refusals.Word word_refusals.TestLong)) (tt, refl, (listing, long)))
 
   -- What is answered about an automaton that is read. It is that of the definition under the name.
   module _ (log : StepLog) (entry : Entry) (there : ledger Automata name ≡ Some entry) (Does : Result Automaton StepFault → Type 0) (skip : Option Direction)
@@ -105,7 +109,7 @@ module _ (ledger : Ledger) (name : List ℕ) (question : Question) (table : Load
     pub answered_so : (shown : Bool) (result : Result Answer ListingFault) → AnswersBy Does skip (letter_sets tracks) name question result → TellsAnswer checks shown log.lines result
     unfolding listing_of
     answered_so shown (Ok answer) is = replied is.on log.lines (reads is.read is.does) (listing_of is.read is.does) shown (reply_of answer) (is_reply is.read answer is.answers)
-    answered_so shown (Err (own.Place of)) (same, off) = subst (λ (n : List ℕ). Fails checks (faults.Place n)) (sym same) (off_tracks shown off)
+    answered_so shown (Err (own.Place of)) (same, off) = subst (λ (n : List ℕ). Fails checks (faults.Refused (refusals.Shape (shape_refusals.Place n)))) (sym same) (off_tracks shown off)
     answered_so shown (Err (own.Step (steps.Letters step))) (on, does) = letters_refused on shown step (stops (steps.Letters step) does)
     answered_so shown (Err (own.Step (steps.States step))) (on, does) = states_refused on shown step (stops (steps.States step) does)
     answered_so shown (Err (own.Step steps.Memory)) is = tt

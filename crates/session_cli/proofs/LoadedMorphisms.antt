@@ -33,7 +33,7 @@ morphism_not_there name old new f l = record {
 
 -- a morphism that is not loaded refuses a command
 pub morphism_unloaded : (ledger : Ledger) (files : Files) (name : List ℕ) (f : LoadFault) → Stores ledger files → FailsMorphism files name f → Fails (morphism_loaded ledger name) (fault_of_loading f)
-morphism_unloaded ledger files name (loads.Unknown folder at) stores fails = (files, stores, fails)
-morphism_unloaded ledger files name (loads.File folder at flaw) stores fails = (files, stores, fails)
+morphism_unloaded ledger files name (loads.Unknown folder at) stores fails = (loads.Unknown folder at, refl, (files, stores, fails))
+morphism_unloaded ledger files name (loads.File folder at flaw) stores fails = (loads.File folder at flaw, refl, (files, stores, fails))
 morphism_unloaded ledger files name (loads.Store folder at) stores fails = fails
 morphism_unloaded ledger files name loads.Memory stores fails = tt

@@ -15,6 +15,8 @@ use Rattle.definitions.specs.Texts.{Stores}
 use Rattle.definitions.specs.Trees.{Ledger}
 use Rattle.dfa_loading.proofs.PlaceSteps.{text_past, files_by, reported_by}
 use Rattle.dfa_loading.specs.declared.fault.FileFlaw.TheVariants.{TooLong}
+use Rattle.session_cli.specs.declared.file_refusal.FileRefusal.TheVariants as file_refusals
+use Rattle.session_cli.specs.declared.refusal.Refusal.TheVariants as refusals
 use Rattle.session_cli.specs.declared.fault.Fault.{Fault}
 use Rattle.session_cli.specs.declared.fault.Fault.TheVariants as faults
 use Rattle.session_cli.specs.Checks.{Check, Pure, Then, Fails}
@@ -61,20 +63,20 @@ module _ (name : List ℕ) where
 
   -- nothing is there
   pub absent_there : (old new : StoreView) (into : List ℕ) → Finds old.files Commands name answers.Absent into → new.files ≡ old.files → new.faults ≡ old.faults → new.failed ≡ old.failed
-      → FromFiles (IsLoadedText name) old (Err (faults.Unknown Commands name)) new
+      → FromFiles (IsLoadedText name) old (Err (faults.Refused (refusals.File (file_refusals.Unknown Commands name)))) new
   absent_there old new into finds files counts failed =
-      at_place old new None (Err (faults.Unknown Commands name)) finds
-      (λ found there. let P : Option (List ℕ) → Type 0 = λ t. TextIn name t (Err (faults.Unknown Commands name)) in subst P (sym there) refl)
-      (quiet old new (Err (faults.Unknown Commands name)) refl files counts failed)
+      at_place old new None (Err (faults.Refused (refusals.File (file_refusals.Unknown Commands name)))) finds
+      (λ found there. let P : Option (List ℕ) → Type 0 = λ t. TextIn name t (Err (refusals.File (file_refusals.Unknown Commands name))) in subst P (sym there) refl)
+      (quiet old new (Err (faults.Refused (refusals.File (file_refusals.Unknown Commands name)))) refl files counts failed)
 
   -- a text is there that is too long
   pub long_there : (old new : StoreView) (into : List ℕ) → Finds old.files Commands name answers.TooLong into → new.files ≡ old.files → new.faults ≡ old.faults → new.failed ≡ old.failed
-      → FromFiles (IsLoadedText name) old (Err (faults.File Commands name TooLong)) new
+      → FromFiles (IsLoadedText name) old (Err (faults.Refused (refusals.File (file_refusals.File Commands name TooLong)))) new
   long_there old new into finds files counts failed =
       let long : (text : List ℕ) × IfSome old.files (λ files. files Commands name ≡ Some text) × (TEXT_LIMIT < length text) = long_so old.files into finds in
-      at_place old new (Some long.0) (Err (faults.File Commands name TooLong)) long.1
-      (λ found there. let P : Option (List ℕ) → Type 0 = λ t. TextIn name t (Err (faults.File Commands name TooLong)) in subst P (sym there) (inr (long.2, refl)))
-      (quiet old new (Err (faults.File Commands name TooLong)) refl files counts failed)
+      at_place old new (Some long.0) (Err (faults.Refused (refusals.File (file_refusals.File Commands name TooLong)))) long.1
+      (λ found there. let P : Option (List ℕ) → Type 0 = λ t. TextIn name t (Err (refusals.File (file_refusals.File Commands name TooLong))) in subst P (sym there) (inr (long.2, refl)))
+      (quiet old new (Err (faults.Refused (refusals.File (file_refusals.File Commands name TooLong)))) refl files counts failed)
 
   -- the store failed there
   pub failed_there : (old new : StoreView) → new.files ≡ old.files → CountsFault true old.faults new.faults → FailedAt true (Commands, name) old.failed new.failed → FromFiles (IsLoadedText name) old (Err (faults.Store Commands name)) new
@@ -98,37 +100,7 @@ module _ (name : List ℕ) where
 text_unread : (ledger : Ledger) (name : List ℕ) (files : Files) → Stores ledger files → (f : Fault) → IsLoadedText name files (Err f) → Fails (text_read ledger name) f
 text_unread ledger name files stores (faults.Store folder under) is = is
 text_unread ledger name files stores faults.Memory is = tt
-text_unread ledger name files stores faults.Command is = (files, stores, is)
-text_unread ledger name files stores (faults.Syntax grammar at) is = (files, stores, is)
-text_unread ledger name files stores (faults.MixedChain byte) is = (files, stores, is)
-text_unread ledger name files stores (faults.Number grammar at) is = (files, stores, is)
-text_unread ledger name files stores (faults.NotLinear byte) is = (files, stores, is)
-text_unread ledger name files stores (faults.Depth grammar at) is = (files, stores, is)
-text_unread ledger name files stores (faults.Long bytes) is = (files, stores, is)
-text_unread ledger name files stores (faults.MacroArgs of at given) is = (files, stores, is)
-text_unread ledger name files stores (faults.MacroDepth of) is = (files, stores, is)
-text_unread ledger name files stores faults.MacroLong is = (files, stores, is)
-text_unread ledger name files stores (faults.Unknown of file) is = (files, stores, is)
-text_unread ledger name files stores (faults.File of file flaw) is = (files, stores, is)
-text_unread ledger name files stores (faults.Arity of tracks given) is = (files, stores, is)
-text_unread ledger name files stores (faults.SystemUnknown of) is = (files, stores, is)
-text_unread ledger name files stores (faults.NotAdmitted of law) is = (files, stores, is)
-text_unread ledger name files stores (faults.Clash of one two) is = (files, stores, is)
-text_unread ledger name files stores (faults.Direction one two) is = (files, stores, is)
-text_unread ledger name files stores (faults.Letters step) is = (files, stores, is)
-text_unread ledger name files stores (faults.States step) is = (files, stores, is)
-text_unread ledger name files stores (faults.Plain of) is = (files, stores, is)
-text_unread ledger name files stores (faults.Morphism kind) is = (files, stores, is)
-text_unread ledger name files stores (faults.LetterMissing letter) is = (files, stores, is)
-text_unread ledger name files stores (faults.CombineShape one two) is = (files, stores, is)
-text_unread ledger name files stores (faults.LoadDepth of) is = (files, stores, is)
-text_unread ledger name files stores faults.ScriptLimit is = (files, stores, is)
-text_unread ledger name files stores (faults.NotPlain of) is = (files, stores, is)
-text_unread ledger name files stores (faults.LangShape one two) is = (files, stores, is)
-text_unread ledger name files stores faults.TestLong is = (files, stores, is)
-text_unread ledger name files stores (faults.Place of) is = (files, stores, is)
-text_unread ledger name files stores (faults.BaseNeeded of systems) is = (files, stores, is)
-text_unread ledger name files stores (faults.NotRelated one two) is = (files, stores, is)
+text_unread ledger name files stores (faults.Refused refusal) is = (files, stores, is)
 
 module _ (depth : ℕ) (text : List ℕ) where
   -- the checks behind the head
@@ -144,10 +116,10 @@ module _ (depth : ℕ) (text : List ℕ) where
       (fails_after (Pure (DepthAnswers depth name)) (λ done. text_read ledger name) tt fault (inl (few, refl)) (text_unread ledger name files stores fault is))
 
   -- a load within eight others
-  pub load_deep : (name : List ℕ) → HeadAnswers DerivesLoad text (Ok name) → 8 ≤ depth → (ledger : Ledger) → LoadsText depth ledger text (Err (faults.LoadDepth name))
+  pub load_deep : (name : List ℕ) → HeadAnswers DerivesLoad text (Ok name) → 8 ≤ depth → (ledger : Ledger) → LoadsText depth ledger text (Err (faults.Refused (refusals.File (file_refusals.LoadDepth name))))
   load_deep name head deep ledger =
-      fails_after (Pure (HeadAnswers DerivesLoad text)) (behind_head ledger) name (faults.LoadDepth name) head
-      (fails_first (Pure (DepthAnswers depth name)) (λ done. text_read ledger name) (faults.LoadDepth name) (inr (deep, refl)))
+      fails_after (Pure (HeadAnswers DerivesLoad text)) (behind_head ledger) name (faults.Refused (refusals.File (file_refusals.LoadDepth name))) head
+      (fails_first (Pure (DepthAnswers depth name)) (λ done. text_read ledger name) (faults.Refused (refusals.File (file_refusals.LoadDepth name))) (inr (deep, refl)))
 
   -- a head that is not read
   pub load_unread : (fault : HeadFault) → HasHead DerivesLoad (λ (name : List ℕ). name) text (Err fault) → (ledger : Ledger) → LoadsText depth ledger text (Err (fault_of_head fault))

@@ -5,13 +5,16 @@ use Rattle.wal_outside.specs.Views.{StoreView}
 use Rattle.wal_outside.specs.declared.folder.Folder.TheVariants.{Automata, Words, Bases, Macros, Morphisms, Transducers, Results, Commands}
 use Rattle.macro_expand.specs.Expansion.{expansion}
 use Rattle.macro_expand.specs.Texts.{TextOf}
+use Rattle.dfa_loading.specs.declared.fault.LoadFault.TheVariants as loads
+use Rattle.macro_loading.specs.MacroFiles as macros
 use Rattle.macro_loading.specs.MacroFiles.{macros_of, short_text}
+use Rattle.macro_loading.specs.declared.fault.ExpansionFault.{ExpansionFault}
+use Rattle.macro_loading.specs.declared.fault.ExpansionFault.TheVariants as expansions
 use Rattle.definitions.specs.Trees.{Ledger}
 use Rattle.definitions.specs.Texts.{Stores}
-use Rattle.session_cli.specs.declared.fault.Grammar.TheVariants as grammars
 use Rattle.session_cli.specs.declared.fault.Fault.{Fault}
-use Rattle.session_cli.specs.declared.fault.Fault.TheVariants as faults
 use Rattle.session_cli.specs.Checks.{Fails}
+use Rattle.session_cli.specs.FormulaFaults.{fault_of_expansion}
 use Rattle.session_cli.specs.MacroChecks.{expanded}
 use Rattle.session_cli.specs.MacroMakes.{IsUnexpanded, SameButMacros}
 use Rattle.session_cli.specs.StoreReads.{FromFiles}
@@ -19,43 +22,17 @@ use Rattle.session_cli.proofs.TextReads.{reads_both}
 
 -- a text that is not expanded refuses a command
 pub unexpanded : (ledger : Ledger) (files : Files) (body : List ℕ) (fault : Fault) → Stores ledger files → IsUnexpanded files body fault → Fails (expanded ledger body) fault
-unexpanded ledger files body faults.Command stores is = absurd is
-unexpanded ledger files body (faults.Syntax grammars.Command at) stores is = absurd is
-unexpanded ledger files body (faults.Syntax grammars.Regex at) stores is = absurd is
-unexpanded ledger files body (faults.Syntax grammars.Macro at) stores is = (files, stores, is)
-unexpanded ledger files body (faults.Syntax grammars.Formula at) stores is = absurd is
-unexpanded ledger files body (faults.Syntax grammars.Rules at) stores is = absurd is
-unexpanded ledger files body (faults.MixedChain at) stores is = absurd is
-unexpanded ledger files body (faults.Number grammar at) stores is = absurd is
-unexpanded ledger files body (faults.NotLinear at) stores is = absurd is
-unexpanded ledger files body (faults.LoadDepth of) stores is = absurd is
-unexpanded ledger files body (faults.Depth grammar at) stores is = absurd is
-unexpanded ledger files body (faults.Long bytes) stores is = absurd is
-unexpanded ledger files body (faults.MacroArgs of n given) stores is = (files, stores, is)
-unexpanded ledger files body (faults.MacroDepth of) stores is = (files, stores, is)
-unexpanded ledger files body faults.MacroLong stores is = (files, stores, is)
-unexpanded ledger files body (faults.Unknown folder name) stores is = (files, stores, is)
-unexpanded ledger files body (faults.File folder name flaw) stores is = (files, stores, is)
-unexpanded ledger files body (faults.Arity of tracks given) stores is = absurd is
-unexpanded ledger files body (faults.SystemUnknown of) stores is = absurd is
-unexpanded ledger files body (faults.NotAdmitted of law) stores is = absurd is
-unexpanded ledger files body (faults.Clash of one two) stores is = absurd is
-unexpanded ledger files body (faults.Direction one two) stores is = absurd is
-unexpanded ledger files body (faults.Letters step) stores is = absurd is
-unexpanded ledger files body (faults.States step) stores is = absurd is
-unexpanded ledger files body (faults.Plain of) stores is = absurd is
-unexpanded ledger files body (faults.Morphism kind) stores is = absurd is
-unexpanded ledger files body (faults.LetterMissing letter) stores is = absurd is
-unexpanded ledger files body (faults.CombineShape one two) stores is = absurd is
-unexpanded ledger files body (faults.NotPlain of) stores is = absurd is
-unexpanded ledger files body (faults.LangShape one two) stores is = absurd is
-unexpanded ledger files body faults.TestLong stores is = absurd is
-unexpanded ledger files body (faults.Place of) stores is = absurd is
-unexpanded ledger files body (faults.BaseNeeded of systems) stores is = absurd is
-unexpanded ledger files body (faults.NotRelated one two) stores is = absurd is
-unexpanded ledger files body (faults.Store folder name) stores is = (files, stores, is)
-unexpanded ledger files body faults.Memory stores is = tt
-unexpanded ledger files body faults.ScriptLimit stores is = absurd is
+unexpanded ledger files body fault stores (own, is, fails) = subst (Fails (expanded ledger body)) is (by own fails)
+  where
+    by : (f : ExpansionFault) → macros.Fails files body f → Fails (expanded ledger body) (fault_of_expansion f)
+    by (expansions.Syntax at) is = (expansions.Syntax at, refl, (files, stores, is))
+    by (expansions.MacroArgs of n given) is = (expansions.MacroArgs of n given, refl, (files, stores, is))
+    by (expansions.MacroDepth of) is = (expansions.MacroDepth of, refl, (files, stores, is))
+    by expansions.MacroLong is = (expansions.MacroLong, refl, (files, stores, is))
+    by (expansions.Load (loads.Unknown folder name)) is = (expansions.Load (loads.Unknown folder name), refl, (files, stores, is))
+    by (expansions.Load (loads.File folder name flaw)) is = (expansions.Load (loads.File folder name flaw), refl, (files, stores, is))
+    by (expansions.Load (loads.Store folder name)) is = (files, stores, is)
+    by (expansions.Load loads.Memory) is = tt
 
 -- the expansion is that by other files where the macros are the same
 pub expanded_alike : (files others : Files) (body text : List ℕ) → ((name : List ℕ) → files Macros name ≡ others Macros name) → expansion (macros_of others) body ≡ Ok text → expansion (macros_of files) body ≡ Ok text

@@ -19,73 +19,45 @@ use Rattle.formula_build.proofs.OneBuildingLemmas.{one_building}
 use Rattle.number_relations.specs.Relations.{RelationValue}
 use Rattle.system_files.specs.SystemFiles.{Custom}
 use Rattle.definitions.proofs.TableRelations.{table_holds}
-use Rattle.session_cli.specs.declared.fault.Fault.{Fault}
-use Rattle.session_cli.specs.declared.fault.Fault.TheVariants as faults
+use Rattle.session_cli.specs.declared.refusal.Refusal.{Refusal}
 use Rattle.session_cli.specs.Checks.{Pure}
 use Rattle.session_cli.specs.FormulaOutcomes.{BuiltAnswers}
 use Rattle.session_cli.specs.FormulaSteps.{AreFormulaSteps}
 use Rattle.session_cli.specs.TableReads.{TableRead, library_with}
 use Rattle.session_cli.specs.TrackSystems.{fault_of}
-use Rattle.session_cli.proofs.CheckSteps.{IsSingle}
+use Rattle.session_cli.proofs.CheckSteps.{IsSingle, single_so}
 use Rattle.session_cli.proofs.OneMeantReadings.{IsStopped, stopped_by, same_reading, were_readable, read_stopped, both_stopped}
 use Rattle.session_cli.proofs.OneSealed.{meant_agree}
 use Rattle.session_cli.proofs.TableFits.{are_relations, are_words}
+use Rattle.session_cli.proofs.RefusingSteps.{no_memory, refusing_single}
+use Rattle.session_cli.specs.RefusingChecks.{Refusing}
 
 -- the lines of steps, or the fault that stops them
-abbrev of_steps : Result RelationValue StepFault → List StepLine → Result (List StepLine) Fault
+abbrev of_steps : Result RelationValue StepFault → List StepLine → Result (List StepLine) StepFault
 of_steps (Ok relation) lines = Ok lines
-of_steps (Err fault) lines = Err (fault_of fault)
+of_steps (Err fault) lines = Err fault
 
-record IsBuilding (admitted : StepLog) (custom : Custom) (tables : List Loaded) (formula : trees.Formula) (r : Result (List StepLine) Fault) : Type 0 where
+record IsBuilding (admitted : StepLog) (custom : Custom) (tables : List Loaded) (formula : trees.Formula) (r : Result (List StepLine) StepFault) : Type 0 where
   result : Result RelationValue StepFault
   lines : List StepLine
   done : AreFormulaSteps admitted custom tables formula result lines
   not_memory : result ≢ Err steps.Memory
   is : r ≡ of_steps result lines
 
-abbrev IsOutcome : StepLog → Custom → List Loaded → trees.Formula → Result (List StepLine) Fault → Type 0
+abbrev IsOutcome : StepLog → Custom → List Loaded → trees.Formula → Result (List StepLine) StepFault → Type 0
 IsOutcome admitted custom tables formula r = IsBuilding admitted custom tables formula r ⊎ IsStopped admitted custom tables r
 
-built_is : (admitted : StepLog) (custom : Custom) (tables : List Loaded) (formula : trees.Formula) (r : Result (List StepLine) Fault) → BuiltAnswers admitted custom tables formula r → IsOutcome admitted custom tables formula r
+failed_step : (fault : StepFault) → (let r : Result RelationValue StepFault = Err fault in r ≡ Err steps.Memory) → fault ≡ steps.Memory
+failed_step fault same = cc
+
+built_is : (admitted : StepLog) (custom : Custom) (tables : List Loaded) (formula : trees.Formula) (r : Result (List StepLine) Refusal) → BuiltAnswers admitted custom tables formula r → (Refusing fault_of (IsOutcome admitted custom tables formula)).answers r
 built_is admitted custom tables formula (Ok lines) (relation, a) = inl (record { result = Ok relation; lines = lines; done = a; not_memory = λ is. cc; is = refl })
-built_is admitted custom tables formula (Err (faults.Letters step)) (inl a) = inr (stopped_by admitted custom tables (steps.Letters step) (λ is. cc) a)
-built_is admitted custom tables formula (Err (faults.Letters step)) (inr (lines, a)) = inl (record { result = Err (steps.Letters step); lines = lines; done = a; not_memory = λ is. cc; is = refl })
-built_is admitted custom tables formula (Err (faults.States step)) (inl a) = inr (stopped_by admitted custom tables (steps.States step) (λ is. cc) a)
-built_is admitted custom tables formula (Err (faults.States step)) (inr (lines, a)) = inl (record { result = Err (steps.States step); lines = lines; done = a; not_memory = λ is. cc; is = refl })
-built_is admitted custom tables formula (Err faults.Command) a = absurd a
-built_is admitted custom tables formula (Err (faults.Syntax grammar at)) a = absurd a
-built_is admitted custom tables formula (Err (faults.MixedChain byte)) a = absurd a
-built_is admitted custom tables formula (Err (faults.Number grammar at)) a = absurd a
-built_is admitted custom tables formula (Err (faults.NotLinear byte)) a = absurd a
-built_is admitted custom tables formula (Err (faults.LoadDepth of)) a = absurd a
-built_is admitted custom tables formula (Err (faults.Depth grammar at)) a = absurd a
-built_is admitted custom tables formula (Err (faults.Long bytes)) a = absurd a
-built_is admitted custom tables formula (Err (faults.Unknown folder name)) a = absurd a
-built_is admitted custom tables formula (Err (faults.File folder name flaw)) a = absurd a
-built_is admitted custom tables formula (Err (faults.Arity name tracks given)) a = absurd a
-built_is admitted custom tables formula (Err (faults.SystemUnknown name)) a = absurd a
-built_is admitted custom tables formula (Err (faults.NotAdmitted name law)) a = absurd a
-built_is admitted custom tables formula (Err (faults.Clash name first other)) a = absurd a
-built_is admitted custom tables formula (Err (faults.Direction first other)) a = absurd a
-built_is admitted custom tables formula (Err (faults.Plain name)) a = absurd a
-built_is admitted custom tables formula (Err (faults.Store folder name)) a = absurd a
-built_is admitted custom tables formula (Err faults.Memory) a = absurd a
-built_is admitted custom tables formula (Err faults.ScriptLimit) a = absurd a
-built_is admitted custom tables formula (Err (faults.MacroArgs of at given)) a = absurd a
-built_is admitted custom tables formula (Err (faults.MacroDepth of)) a = absurd a
-built_is admitted custom tables formula (Err faults.MacroLong) a = absurd a
-built_is admitted custom tables formula (Err (faults.Morphism kind)) a = absurd a
-built_is admitted custom tables formula (Err (faults.LetterMissing letter)) a = absurd a
-built_is admitted custom tables formula (Err (faults.CombineShape one two)) a = absurd a
-built_is admitted custom tables formula (Err (faults.NotPlain of)) a = absurd a
-built_is admitted custom tables formula (Err (faults.LangShape one two)) a = absurd a
-built_is admitted custom tables formula (Err faults.TestLong) a = absurd a
-built_is admitted custom tables formula (Err (faults.Place of)) a = absurd a
-built_is admitted custom tables formula (Err (faults.BaseNeeded of systems)) a = absurd a
-built_is admitted custom tables formula (Err (faults.NotRelated one two)) a = absurd a
+built_is admitted custom tables formula (Err refusal) (fault, is, inl a) = (fault, is, inr (stopped_by admitted custom tables fault (no_memory fault_of steps.Memory refl fault refusal is) a))
+built_is admitted custom tables formula (Err refusal) (fault, is, inr (lines, a)) =
+    (fault, is, inl (record { result = Err fault; lines = lines; done = a; not_memory = λ same. no_memory fault_of steps.Memory refl fault refusal is (failed_step fault same); is = refl }))
 
 module _ (admitted : StepLog) (custom : Custom) (tables : List Loaded) (formula : trees.Formula) (files : Files) (listed : AreListedBy files (first_files (mentions formula)) tables) where
-  both_built : (r s : Result (List StepLine) Fault) → IsBuilding admitted custom tables formula r → IsBuilding admitted custom tables formula s → r ≡ s
+  both_built : (r s : Result (List StepLine) StepFault) → IsBuilding admitted custom tables formula r → IsBuilding admitted custom tables formula s → r ≡ s
   both_built r s p q =
       let a = p.done in
       let b = q.done in
@@ -106,16 +78,17 @@ module _ (admitted : StepLog) (custom : Custom) (tables : List Loaded) (formula 
       let lines : p.lines ≡ q.lines = a.lines_are ∙ (ap (λ (log : StepLog). log.lines) one.1 ∙ sym b.lines_are) in
       p.is ∙ ((λ i. of_steps (one.0 i) (lines i)) ∙ sym q.is)
 
-  not_both : (r s : Result (List StepLine) Fault) → IsBuilding admitted custom tables formula r → IsStopped admitted custom tables s → ⊥
+  not_both : (r s : Result (List StepLine) StepFault) → IsBuilding admitted custom tables formula r → IsStopped admitted custom tables s → ⊥
   not_both r s p q =
       let a = p.done in
       read_stopped admitted custom tables files (first_files (mentions formula)) listed a.systems a.reading a.reads s a.sealed a.meant a.read q
 
+  built_one : (r s : Result (List StepLine) StepFault) → IsOutcome admitted custom tables formula r → IsOutcome admitted custom tables formula s → r ≡ s
+  built_one r s (inl p) (inl q) = both_built r s p q
+  built_one r s (inl p) (inr q) = absurd (not_both r s p q)
+  built_one r s (inr p) (inl q) = absurd (not_both s r q p)
+  built_one r s (inr p) (inr q) = both_stopped admitted custom tables files (first_files (mentions formula)) listed r s p q
+
   pub built_single : IsSingle (Pure (BuiltAnswers admitted custom tables formula))
-  built_single r s a b = by (built_is admitted custom tables formula r a) (built_is admitted custom tables formula s b)
-    where
-      by : IsOutcome admitted custom tables formula r → IsOutcome admitted custom tables formula s → r ≡ s
-      by (inl p) (inl q) = both_built r s p q
-      by (inl p) (inr q) = absurd (not_both r s p q)
-      by (inr p) (inl q) = absurd (not_both s r q p)
-      by (inr p) (inr q) = both_stopped admitted custom tables files (first_files (mentions formula)) listed r s p q
+  built_single =
+      single_so (Pure (BuiltAnswers admitted custom tables formula)) (Refusing fault_of (IsOutcome admitted custom tables formula)) (built_is admitted custom tables formula) (refusing_single fault_of (IsOutcome admitted custom tables formula) built_one)

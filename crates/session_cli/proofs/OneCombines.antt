@@ -31,8 +31,9 @@ use Rattle.definitions.specs.Named.{AreNamed, IsSystemNamed}
 use Rattle.definitions.specs.Tracks as tracks
 use Rattle.definitions.specs.Tracks.{names_of}
 use Rattle.definitions.specs.Trees.{Ledger, custom_of}
-use Rattle.session_cli.specs.declared.fault.Fault.{Fault}
-use Rattle.session_cli.specs.declared.fault.Fault.TheVariants as faults
+use Rattle.session_cli.specs.declared.shape_refusal.ShapeRefusal.TheVariants as shape_refusals
+use Rattle.session_cli.specs.declared.refusal.Refusal.{Refusal}
+use Rattle.session_cli.specs.declared.refusal.Refusal.TheVariants as refusals
 use Rattle.session_cli.specs.Accepting.{stored}
 use Rattle.session_cli.specs.Checks.{Pure}
 use Rattle.session_cli.specs.CombineOutcomes.{WordTracks, PlainAnswers, ShapeAnswers, CombinedAnswers, AreTracksOfFirst, HaveSystemsOfFirst, HaveShapeFault, IsFirstOver, first_plain, listed_files, listed_names, listed_systems, after_listed_systems, after_listed_tables, after_combine_head, combine_checks}
@@ -43,52 +44,22 @@ use Rattle.session_cli.specs.SystemChecks.{systems_known}
 use Rattle.session_cli.specs.TableReads.{TableRead, relations_in}
 use Rattle.session_cli.specs.TrackSystems.{fault_of}
 use Rattle.session_cli.proofs.CheckNames.{WordTracksAnswers, combine_success, after_combined, after_shape, after_plain}
-use Rattle.session_cli.proofs.CheckSteps.{IsSingle, then_single}
+use Rattle.session_cli.proofs.CheckSteps.{IsSingle, then_single, single_so}
 use Rattle.session_cli.proofs.OneHeads.{head_single}
 use Rattle.session_cli.proofs.OneLoadings.{files_single}
 use Rattle.session_cli.proofs.OneMeantReadings.{IsStopped, stopped_by, same_reading, read_stopped, both_stopped}
 use Rattle.session_cli.proofs.OneSystems.{systems_single}
 use Rattle.session_cli.proofs.OneTexts.{stored_single}
+use Rattle.session_cli.proofs.RefusingSteps.{no_memory, refusing_single}
+use Rattle.session_cli.specs.RefusingChecks.{Refusing}
 
 -- none is over sets, or one is the first
-abbrev IsPlainAnswer : Headers → List (List ℕ) → Result (Unit {0}) Fault → Type 0
-IsPlainAnswer h names r = ((first_plain h names ≡ None) × (r ≡ Ok tt)) ⊎ ((name : List ℕ) × (first_plain h names ≡ Some name) × (r ≡ Err (faults.Plain name)))
+abbrev IsPlainAnswer : Headers → List (List ℕ) → Result (Unit {0}) Refusal → Type 0
+IsPlainAnswer h names r = ((first_plain h names ≡ None) × (r ≡ Ok tt)) ⊎ ((name : List ℕ) × (first_plain h names ≡ Some name) × (r ≡ Err (refusals.Shape (shape_refusals.Plain name))))
 
-plain_is : (h : Headers) (names : List (List ℕ)) (r : Result (Unit {0}) Fault) → PlainAnswers h names r → IsPlainAnswer h names r
+plain_is : (h : Headers) (names : List (List ℕ)) (r : Result (Unit {0}) Refusal) → PlainAnswers h names r → IsPlainAnswer h names r
 plain_is h names (Ok none) a = inl (a, refl)
-plain_is h names (Err (faults.Plain name)) a = inr (name, a, refl)
-plain_is h names (Err faults.Command) a = absurd a
-plain_is h names (Err (faults.Syntax grammar at)) a = absurd a
-plain_is h names (Err (faults.MixedChain byte)) a = absurd a
-plain_is h names (Err (faults.Number grammar at)) a = absurd a
-plain_is h names (Err (faults.NotLinear byte)) a = absurd a
-plain_is h names (Err (faults.LoadDepth of)) a = absurd a
-plain_is h names (Err (faults.Depth grammar at)) a = absurd a
-plain_is h names (Err (faults.Long bytes)) a = absurd a
-plain_is h names (Err (faults.Unknown folder name)) a = absurd a
-plain_is h names (Err (faults.File folder name flaw)) a = absurd a
-plain_is h names (Err (faults.Arity name tracks given)) a = absurd a
-plain_is h names (Err (faults.SystemUnknown name)) a = absurd a
-plain_is h names (Err (faults.NotAdmitted name law)) a = absurd a
-plain_is h names (Err (faults.Clash name first other)) a = absurd a
-plain_is h names (Err (faults.Direction first other)) a = absurd a
-plain_is h names (Err (faults.Letters step)) a = absurd a
-plain_is h names (Err (faults.States step)) a = absurd a
-plain_is h names (Err (faults.Store folder name)) a = absurd a
-plain_is h names (Err faults.Memory) a = absurd a
-plain_is h names (Err faults.ScriptLimit) a = absurd a
-plain_is h names (Err (faults.MacroArgs of at given)) a = absurd a
-plain_is h names (Err (faults.MacroDepth of)) a = absurd a
-plain_is h names (Err faults.MacroLong) a = absurd a
-plain_is h names (Err (faults.Morphism kind)) a = absurd a
-plain_is h names (Err (faults.LetterMissing letter)) a = absurd a
-plain_is h names (Err (faults.CombineShape one two)) a = absurd a
-plain_is h names (Err (faults.NotPlain of)) a = absurd a
-plain_is h names (Err (faults.LangShape one two)) a = absurd a
-plain_is h names (Err faults.TestLong) a = absurd a
-plain_is h names (Err (faults.Place of)) a = absurd a
-plain_is h names (Err (faults.BaseNeeded of systems)) a = absurd a
-plain_is h names (Err (faults.NotRelated one two)) a = absurd a
+plain_is h names (Err refusal) (name, is, some) = inr (name, some, ap (λ (why : Refusal). let x : Result (Unit {0}) Refusal = Err why in x) is)
 
 plain_single : (h : Headers) (names : List (List ℕ)) → IsSingle (Pure (PlainAnswers h names))
 plain_single h names r s a b = by (plain_is h names r a) (plain_is h names s b)
@@ -100,47 +71,15 @@ plain_single h names r s a b = by (plain_is h names r a) (plain_is h names s b)
     by (inr (name, some, is)) (inr (other, some', is')) =
         let both : Some name ≡ Some other = sym some ∙ some' in
         let same : name ≡ other = cc in
-        is ∙ (ap (λ (n : List ℕ). let x : Result (Unit {0}) Fault = Err (faults.Plain n) in x) same ∙ sym is')
+        is ∙ (ap (λ (n : List ℕ). let x : Result (Unit {0}) Refusal = Err (refusals.Shape (shape_refusals.Plain n)) in x) same ∙ sym is')
 
 -- all have one shape, or two have not
-abbrev IsShapeAnswer : Headers → List (List ℕ) → Result (Unit {0}) Fault → Type 0
-IsShapeAnswer h names r = (HaveSystemsOfFirst h names × (r ≡ Ok tt)) ⊎ ((first : List ℕ) × (other : List ℕ) × HaveShapeFault h names first other × (r ≡ Err (faults.CombineShape first other)))
+abbrev IsShapeAnswer : Headers → List (List ℕ) → Result (Unit {0}) Refusal → Type 0
+IsShapeAnswer h names r = (HaveSystemsOfFirst h names × (r ≡ Ok tt)) ⊎ ((first : List ℕ) × (other : List ℕ) × HaveShapeFault h names first other × (r ≡ Err (refusals.Shape (shape_refusals.CombineShape first other))))
 
-shape_is : (h : Headers) (names : List (List ℕ)) (r : Result (Unit {0}) Fault) → ShapeAnswers h names r → IsShapeAnswer h names r
+shape_is : (h : Headers) (names : List (List ℕ)) (r : Result (Unit {0}) Refusal) → ShapeAnswers h names r → IsShapeAnswer h names r
 shape_is h names (Ok one) a = inl (a, refl)
-shape_is h names (Err (faults.CombineShape first other)) a = inr (first, other, a, refl)
-shape_is h names (Err faults.Command) a = absurd a
-shape_is h names (Err (faults.Syntax grammar at)) a = absurd a
-shape_is h names (Err (faults.MixedChain byte)) a = absurd a
-shape_is h names (Err (faults.Number grammar at)) a = absurd a
-shape_is h names (Err (faults.NotLinear byte)) a = absurd a
-shape_is h names (Err (faults.LoadDepth of)) a = absurd a
-shape_is h names (Err (faults.Depth grammar at)) a = absurd a
-shape_is h names (Err (faults.Long bytes)) a = absurd a
-shape_is h names (Err (faults.Unknown folder name)) a = absurd a
-shape_is h names (Err (faults.File folder name flaw)) a = absurd a
-shape_is h names (Err (faults.Arity name tracks given)) a = absurd a
-shape_is h names (Err (faults.SystemUnknown name)) a = absurd a
-shape_is h names (Err (faults.NotAdmitted name law)) a = absurd a
-shape_is h names (Err (faults.Clash name first other)) a = absurd a
-shape_is h names (Err (faults.Direction first other)) a = absurd a
-shape_is h names (Err (faults.Letters step)) a = absurd a
-shape_is h names (Err (faults.States step)) a = absurd a
-shape_is h names (Err (faults.Plain name)) a = absurd a
-shape_is h names (Err (faults.Store folder name)) a = absurd a
-shape_is h names (Err faults.Memory) a = absurd a
-shape_is h names (Err faults.ScriptLimit) a = absurd a
-shape_is h names (Err (faults.MacroArgs of at given)) a = absurd a
-shape_is h names (Err (faults.MacroDepth of)) a = absurd a
-shape_is h names (Err faults.MacroLong) a = absurd a
-shape_is h names (Err (faults.Morphism kind)) a = absurd a
-shape_is h names (Err (faults.LetterMissing letter)) a = absurd a
-shape_is h names (Err (faults.NotPlain of)) a = absurd a
-shape_is h names (Err (faults.LangShape one two)) a = absurd a
-shape_is h names (Err faults.TestLong) a = absurd a
-shape_is h names (Err (faults.Place of)) a = absurd a
-shape_is h names (Err (faults.BaseNeeded of systems)) a = absurd a
-shape_is h names (Err (faults.NotRelated one two)) a = absurd a
+shape_is h names (Err refusal) (first, other, is, a) = inr (first, other, a, ap (λ (why : Refusal). let x : Result (Unit {0}) Refusal = Err why in x) is)
 
 module _ (h : Headers) (systems : List (List ℕ)) where
   one_other : (names : List (List ℕ)) (other also : List ℕ) → IsFirstOver h systems names other → IsFirstOver h systems names also → other ≡ also
@@ -176,7 +115,7 @@ shape_single h names r s a b = by (shape_is h names r a) (shape_is h names s b)
     by (inr (first, other, apart, is)) (inl (one, is')) = absurd (not_shaped h names first other one apart)
     by (inr (first, other, apart, is)) (inr (first', other', apart', is')) =
         let same = one_shape_fault h names first other first' other' apart apart' in
-        let same_faults : (let x : Result (Unit {0}) Fault = Err (faults.CombineShape first other) in x) ≡ Err (faults.CombineShape first' other') = λ i. Err (faults.CombineShape (same.0 i) (same.1 i)) in
+        let same_faults : (let x : Result (Unit {0}) Refusal = Err (refusals.Shape (shape_refusals.CombineShape first other)) in x) ≡ Err (refusals.Shape (shape_refusals.CombineShape first' other')) = λ i. Err (refusals.Shape (shape_refusals.CombineShape (same.0 i) (same.1 i))) in
         is ∙ (same_faults ∙ sym is')
 
 -- systems that names mean are determined by the names, and some determine their direction
@@ -205,7 +144,7 @@ one_tracks custom h (name ∷ names) ts us one (is, are) (is', are') =
     let direction : ts.direction ≡ us.direction = shared_direction custom ts.direction us.direction us.named some (subst (AreNamed custom ts.direction) named are) are' in
     λ i. record { direction = direction i; named = named i }
 
-tracks_is : (custom : Custom) (h : Headers) (names : List (List ℕ)) (r : Result WordTracks Fault) → WordTracksAnswers custom h names r → (ts : WordTracks) × AreTracksOfFirst custom h names ts × (r ≡ Ok ts)
+tracks_is : (custom : Custom) (h : Headers) (names : List (List ℕ)) (r : Result WordTracks Refusal) → WordTracksAnswers custom h names r → (ts : WordTracks) × AreTracksOfFirst custom h names ts × (r ≡ Ok ts)
 tracks_is custom h names (Ok ts) a = (ts, a, refl)
 tracks_is custom h names (Err fault) a = absurd a
 
@@ -213,7 +152,7 @@ tracks_single : (custom : Custom) (h : Headers) (names : List (List ℕ)) → Ha
 tracks_single custom h names shape r s a b =
     let one = tracks_is custom h names r a in
     let other = tracks_is custom h names s b in
-    one.2 ∙ (ap (λ (ts : WordTracks). let x : Result WordTracks Fault = Ok ts in x) (one_tracks custom h names one.0 other.0 shape one.1 other.1) ∙ sym other.2)
+    one.2 ∙ (ap (λ (ts : WordTracks). let x : Result WordTracks Refusal = Ok ts in x) (one_tracks custom h names one.0 other.0 shape one.1 other.1) ∙ sym other.2)
 
 -- names determine the relations of listed automata
 one_parts : (relations : List NamedRelation) (place : ℕ) (automata : List ValuedName) (ps qs : List PartValue) → ArePartsFrom relations place automata ps → ArePartsFrom relations place automata qs → ps ≡ qs
@@ -234,59 +173,26 @@ one_systems relations [] ps ss ts some are a b = absurd (some refl)
 one_systems relations (v ∷ automata) [] ss ts some are a b = absurd are
 one_systems relations (v ∷ automata) (p ∷ ps) ss ts some are a b = a ∙ sym b
 
-record IsWordMade (admitted : StepLog) (custom : Custom) (tables : List Loaded) (automata : List ValuedName) (r : Result (List StepLine) Fault) : Type 0 where
+record IsWordMade (admitted : StepLog) (custom : Custom) (tables : List Loaded) (automata : List ValuedName) (r : Result (List StepLine) StepFault) : Type 0 where
   word : WordValue
   lines : List StepLine
   done : AreCombineSteps admitted custom tables automata word lines
   is : r ≡ Ok lines
 
-record IsWordRefused (admitted : StepLog) (custom : Custom) (tables : List Loaded) (automata : List ValuedName) (r : Result (List StepLine) Fault) : Type 0 where
+record IsWordRefused (admitted : StepLog) (custom : Custom) (tables : List Loaded) (automata : List ValuedName) (r : Result (List StepLine) StepFault) : Type 0 where
   fault : StepFault
   not_memory : fault ≢ steps.Memory
   stops : IsCombiningStopped admitted custom tables automata fault
-  is : r ≡ Err (fault_of fault)
+  is : r ≡ Err fault
 
 -- a word is made, or its step is refused, or the tables are not read
-abbrev IsOutcome : StepLog → Custom → List Loaded → List ValuedName → Result (List StepLine) Fault → Type 0
+abbrev IsOutcome : StepLog → Custom → List Loaded → List ValuedName → Result (List StepLine) StepFault → Type 0
 IsOutcome admitted custom tables automata r = IsWordMade admitted custom tables automata r ⊎ (IsWordRefused admitted custom tables automata r ⊎ IsStopped admitted custom tables r)
 
-combined_is : (admitted : StepLog) (custom : Custom) (tables : List Loaded) (automata : List ValuedName) (r : Result (List StepLine) Fault) → CombinedAnswers admitted custom tables automata r → IsOutcome admitted custom tables automata r
+combined_is : (admitted : StepLog) (custom : Custom) (tables : List Loaded) (automata : List ValuedName) (r : Result (List StepLine) Refusal) → CombinedAnswers admitted custom tables automata r → (Refusing fault_of (IsOutcome admitted custom tables automata)).answers r
 combined_is admitted custom tables automata (Ok lines) (word, a) = inl (record { word = word; lines = lines; done = a; is = refl })
-combined_is admitted custom tables automata (Err (faults.Letters step)) (inl a) = inr (inr (stopped_by admitted custom tables (steps.Letters step) (λ is. cc) a))
-combined_is admitted custom tables automata (Err (faults.Letters step)) (inr a) = inr (inl (record { fault = steps.Letters step; not_memory = λ is. cc; stops = a; is = refl }))
-combined_is admitted custom tables automata (Err (faults.States step)) (inl a) = inr (inr (stopped_by admitted custom tables (steps.States step) (λ is. cc) a))
-combined_is admitted custom tables automata (Err (faults.States step)) (inr a) = inr (inl (record { fault = steps.States step; not_memory = λ is. cc; stops = a; is = refl }))
-combined_is admitted custom tables automata (Err faults.Command) a = absurd a
-combined_is admitted custom tables automata (Err (faults.Syntax grammar at)) a = absurd a
-combined_is admitted custom tables automata (Err (faults.MixedChain byte)) a = absurd a
-combined_is admitted custom tables automata (Err (faults.Number grammar at)) a = absurd a
-combined_is admitted custom tables automata (Err (faults.NotLinear byte)) a = absurd a
-combined_is admitted custom tables automata (Err (faults.LoadDepth of)) a = absurd a
-combined_is admitted custom tables automata (Err (faults.Depth grammar at)) a = absurd a
-combined_is admitted custom tables automata (Err (faults.Long bytes)) a = absurd a
-combined_is admitted custom tables automata (Err (faults.Unknown folder name)) a = absurd a
-combined_is admitted custom tables automata (Err (faults.File folder name flaw)) a = absurd a
-combined_is admitted custom tables automata (Err (faults.Arity name tracks given)) a = absurd a
-combined_is admitted custom tables automata (Err (faults.SystemUnknown name)) a = absurd a
-combined_is admitted custom tables automata (Err (faults.NotAdmitted name law)) a = absurd a
-combined_is admitted custom tables automata (Err (faults.Clash name first other)) a = absurd a
-combined_is admitted custom tables automata (Err (faults.Direction first other)) a = absurd a
-combined_is admitted custom tables automata (Err (faults.Plain name)) a = absurd a
-combined_is admitted custom tables automata (Err (faults.Store folder name)) a = absurd a
-combined_is admitted custom tables automata (Err faults.Memory) a = absurd a
-combined_is admitted custom tables automata (Err faults.ScriptLimit) a = absurd a
-combined_is admitted custom tables automata (Err (faults.MacroArgs of at given)) a = absurd a
-combined_is admitted custom tables automata (Err (faults.MacroDepth of)) a = absurd a
-combined_is admitted custom tables automata (Err faults.MacroLong) a = absurd a
-combined_is admitted custom tables automata (Err (faults.Morphism kind)) a = absurd a
-combined_is admitted custom tables automata (Err (faults.LetterMissing letter)) a = absurd a
-combined_is admitted custom tables automata (Err (faults.CombineShape one two)) a = absurd a
-combined_is admitted custom tables automata (Err (faults.NotPlain of)) a = absurd a
-combined_is admitted custom tables automata (Err (faults.LangShape one two)) a = absurd a
-combined_is admitted custom tables automata (Err faults.TestLong) a = absurd a
-combined_is admitted custom tables automata (Err (faults.Place of)) a = absurd a
-combined_is admitted custom tables automata (Err (faults.BaseNeeded of systems)) a = absurd a
-combined_is admitted custom tables automata (Err (faults.NotRelated one two)) a = absurd a
+combined_is admitted custom tables automata (Err refusal) (fault, is, inl a) = (fault, is, inr (inr (stopped_by admitted custom tables fault (no_memory fault_of steps.Memory refl fault refusal is) a)))
+combined_is admitted custom tables automata (Err refusal) (fault, is, inr a) = (fault, is, inr (inl (record { fault = fault; not_memory = no_memory fault_of steps.Memory refl fault refusal is; stops = a; is = refl })))
 
 module _ (admitted : StepLog) (custom : Custom) (tables : List Loaded) (automata : List ValuedName) (files : Files) (named : List File) (listed : AreListedBy files named tables) (some : automata ≢ []) where
   -- the relations and what is before the last step are the same
@@ -310,7 +216,7 @@ module _ (admitted : StepLog) (custom : Custom) (tables : List Loaded) (automata
       let same : AreSame a b = same_before a b in
       subst (λ (ts : List SystemValue). P a.reading a.parts ts) (sym same.tracks_same) (subst (λ (ps : List PartValue). P a.reading ps b.tracks) (sym same.parts) (subst (λ (old : StepLog). P old b.parts b.tracks) (sym same.reading) p))
 
-  both_made : (r s : Result (List StepLine) Fault) → IsWordMade admitted custom tables automata r → IsWordMade admitted custom tables automata s → r ≡ s
+  both_made : (r s : Result (List StepLine) StepFault) → IsWordMade admitted custom tables automata r → IsWordMade admitted custom tables automata s → r ≡ s
   both_made r s p q =
       let a = p.done.before in
       let b = q.done.before in
@@ -318,40 +224,41 @@ module _ (admitted : StepLog) (custom : Custom) (tables : List Loaded) (automata
       let same : p.done.log ≡ q.done.log = (one_value steps.Memory p.done.log q.done.log p.word q.word
       (step_outcome (Some (pos 0)) a.parts a.tracks a.reading p.done.log q.done.log (Ok p.word) (Ok q.word) p.done.done there)).1 in
       let lines : p.lines ≡ q.lines = p.done.lines_are ∙ (ap (λ (log : StepLog). log.lines) same ∙ sym q.done.lines_are) in
-      p.is ∙ (ap (λ (ls : List StepLine). let x : Result (List StepLine) Fault = Ok ls in x) lines ∙ sym q.is)
+      p.is ∙ (ap (λ (ls : List StepLine). let x : Result (List StepLine) StepFault = Ok ls in x) lines ∙ sym q.is)
 
-  made_refused : (r s : Result (List StepLine) Fault) → IsWordMade admitted custom tables automata r → IsWordRefused admitted custom tables automata s → ⊥
+  made_refused : (r s : Result (List StepLine) StepFault) → IsWordMade admitted custom tables automata r → IsWordRefused admitted custom tables automata s → ⊥
   made_refused r s p q =
       let a = p.done.before in
       let b = q.stops.before in
       let there = moved (λ old ps ts. DoesStep (combine_step (Some (pos 0)) ps ts) old (Err q.fault) q.stops.log) a b q.stops.refused in
       q.not_memory (memory_alone steps.Memory p.done.log q.stops.log p.word q.fault (step_outcome (Some (pos 0)) a.parts a.tracks a.reading p.done.log q.stops.log (Ok p.word) (Err q.fault) p.done.done there))
 
-  both_refused : (r s : Result (List StepLine) Fault) → IsWordRefused admitted custom tables automata r → IsWordRefused admitted custom tables automata s → r ≡ s
+  both_refused : (r s : Result (List StepLine) StepFault) → IsWordRefused admitted custom tables automata r → IsWordRefused admitted custom tables automata s → r ≡ s
   both_refused r s p q =
       let a = p.stops.before in
       let b = q.stops.before in
       let there = moved (λ old ps ts. DoesStep (combine_step (Some (pos 0)) ps ts) old (Err q.fault) q.stops.log) a b q.stops.refused in
       let same : p.fault ≡ q.fault =
       same_fault steps.Memory p.stops.log q.stops.log p.fault q.fault (step_outcome (Some (pos 0)) a.parts a.tracks a.reading p.stops.log q.stops.log (Err p.fault) (Err q.fault) p.stops.refused there) p.not_memory q.not_memory in
-      p.is ∙ (ap (λ (f : StepFault). let x : Result (List StepLine) Fault = Err (fault_of f) in x) same ∙ sym q.is)
+      p.is ∙ (ap (λ (f : StepFault). let x : Result (List StepLine) StepFault = Err f in x) same ∙ sym q.is)
 
-  not_both : (a : AreListedParts admitted custom tables automata) (s : Result (List StepLine) Fault) → IsStopped admitted custom tables s → ⊥
+  not_both : (a : AreListedParts admitted custom tables automata) (s : Result (List StepLine) StepFault) → IsStopped admitted custom tables s → ⊥
   not_both a s q = read_stopped admitted custom tables files named listed a.systems a.reading a.reads s a.sealed a.meant a.read q
 
+  combined_one : (r s : Result (List StepLine) StepFault) → IsOutcome admitted custom tables automata r → IsOutcome admitted custom tables automata s → r ≡ s
+  combined_one r s (inl p) (inl q) = both_made r s p q
+  combined_one r s (inl p) (inr (inl q)) = absurd (made_refused r s p q)
+  combined_one r s (inl p) (inr (inr q)) = absurd (not_both p.done.before s q)
+  combined_one r s (inr (inl p)) (inl q) = absurd (made_refused s r q p)
+  combined_one r s (inr (inl p)) (inr (inl q)) = both_refused r s p q
+  combined_one r s (inr (inl p)) (inr (inr q)) = absurd (not_both p.stops.before s q)
+  combined_one r s (inr (inr p)) (inl q) = absurd (not_both q.done.before r p)
+  combined_one r s (inr (inr p)) (inr (inl q)) = absurd (not_both q.stops.before r p)
+  combined_one r s (inr (inr p)) (inr (inr q)) = both_stopped admitted custom tables files named listed r s p q
+
   combined_single : IsSingle (Pure (CombinedAnswers admitted custom tables automata))
-  combined_single r s a b = by (combined_is admitted custom tables automata r a) (combined_is admitted custom tables automata s b)
-    where
-      by : IsOutcome admitted custom tables automata r → IsOutcome admitted custom tables automata s → r ≡ s
-      by (inl p) (inl q) = both_made r s p q
-      by (inl p) (inr (inl q)) = absurd (made_refused r s p q)
-      by (inl p) (inr (inr q)) = absurd (not_both p.done.before s q)
-      by (inr (inl p)) (inl q) = absurd (made_refused s r q p)
-      by (inr (inl p)) (inr (inl q)) = both_refused r s p q
-      by (inr (inl p)) (inr (inr q)) = absurd (not_both p.stops.before s q)
-      by (inr (inr p)) (inl q) = absurd (not_both q.done.before r p)
-      by (inr (inr p)) (inr (inl q)) = absurd (not_both q.stops.before r p)
-      by (inr (inr p)) (inr (inr q)) = both_stopped admitted custom tables files named listed r s p q
+  combined_single =
+      single_so (Pure (CombinedAnswers admitted custom tables automata)) (Refusing fault_of (IsOutcome admitted custom tables automata)) (combined_is admitted custom tables automata) (refusing_single fault_of (IsOutcome admitted custom tables automata) combined_one)
 
 some_listed : (h : Headers) (automata : List ValuedName) → HaveSystemsOfFirst h (listed_names automata) → automata ≢ []
 some_listed h [] one = absurd one

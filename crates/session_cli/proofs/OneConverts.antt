@@ -18,6 +18,8 @@ use Rattle.system_files.specs.SystemFiles.{Custom}
 use Rattle.definitions.specs.Trees.{Converted, Ledger, custom_of}
 use Rattle.session_cli.specs.declared.base_system.BaseSystem.{BaseSystem}
 use Rattle.session_cli.specs.declared.convert.Change.{Change}
+use Rattle.session_cli.specs.declared.system_refusal.SystemRefusal.TheVariants as system_refusals
+use Rattle.session_cli.specs.declared.refusal.Refusal.TheVariants as refusals
 use Rattle.session_cli.specs.declared.fault.Fault.TheVariants as faults
 use Rattle.session_cli.specs.BaseWords.{BaseAnswers, fault_of_base, named_base, over_base}
 use Rattle.session_cli.specs.Checks.{Pure}
@@ -30,11 +32,11 @@ use Rattle.session_cli.specs.SystemChecks.{systems_known}
 use Rattle.session_cli.proofs.BaseNames.{base_one, one_base}
 use Rattle.session_cli.proofs.CheckSteps.{IsSingle, then_single}
 use Rattle.session_cli.proofs.OneHeads.{head_single}
-use Rattle.session_cli.proofs.OneLanguages.{refusing_single}
 use Rattle.session_cli.proofs.OneLoadings.{files_single}
 use Rattle.session_cli.proofs.OneOldWords.{made_single}
 use Rattle.session_cli.proofs.OneSystems.{systems_single}
 use Rattle.session_cli.proofs.WordLaws.{one_conversion_outcome}
+use Rattle.session_cli.proofs.RefusingSteps.{refusing_single}
 
 -- the new system is named like a base that there is not, or is not
 unknown_one : (system : List ℕ) (r s : Result (Unit {0}) (List ℕ)) → UnknownBaseAnswers system r → UnknownBaseAnswers system s → r ≡ s
@@ -68,7 +70,7 @@ convert_single limit ledger text =
     let custom : Custom = custom_of ledger in
     then_single (Pure (HeadAnswers DerivesConvert text)) (λ head. after_convert_head limit ledger head) (head_single DerivesConvert (one_head DerivesConvert one_convert) text) (λ head spells.
     then_single (files_loaded ledger (first_files (old_mentions head.old))) (λ ts. after_convert_table limit ledger head ts) (files_single ledger (first_files (old_mentions head.old))) (λ ts there.
-    then_single (no_unknown_base head.system) (λ other. after_new_name limit ledger head ts) (refusing_single faults.SystemUnknown (UnknownBaseAnswers head.system) (unknown_one head.system)) (λ other named.
+    then_single (no_unknown_base head.system) (λ other. after_new_name limit ledger head ts) (refusing_single (λ name. faults.Refused (refusals.System (system_refusals.SystemUnknown name))) (UnknownBaseAnswers head.system) (unknown_one head.system)) (λ other named.
     then_single (systems_known limit custom (first_systems (headers_of ts) (old_mentions head.old))) (λ admitted. after_convert_systems ledger head ts admitted) (systems_single limit custom (first_systems (headers_of ts) (old_mentions head.old))) (λ admitted known.
     then_single (over_base None (headers_of ts) head.old) (λ over. after_old_base ledger head ts admitted over) (refusing_single fault_of_base (BaseAnswers None (headers_of ts) head.old) (base_one None (headers_of ts) head.old)) (λ over is.
     then_single (related_base over head.system) (λ change. after_change ledger head ts admitted change) (refusing_single fault_of_change (ChangeAnswers over head.system) (change_one over is.base_is head.system)) (λ change related.

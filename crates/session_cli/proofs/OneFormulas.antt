@@ -1,5 +1,5 @@
 -- An `eval` or a `def` has one outcome.
-use Rattle.std.proofs.Common.{◌≡◌, ℕ, Bool, List, [], ◌∷◌, ◌⊎◌, Option, None, Some, Result, Ok, Err, inl, inr, refl, sym, ap, ◌∙◌, subst}
+use Rattle.std.proofs.Common.{◌≡◌, ℕ, Bool, List, [], ◌∷◌, Option, None, Some, Result, Ok, Err, refl, sym, ap, ◌∙◌, subst}
 use Rattle.wal_outside.specs.declared.folder.Folder.{Folder}
 use Rattle.command_head.specs.Grammar.{DerivesNamed}
 use Rattle.command_head.proofs.NamedHeads.{one_named}
@@ -11,8 +11,7 @@ use Rattle.formula_resolve.specs.Resolving as resolving
 use Rattle.formula_resolve.specs.declared.fault.ResolveFault.{ResolveFault}
 use Rattle.formula_resolve.specs.declared.fault.ResolveFault.TheVariants as resolves
 use Rattle.formula_resolve.specs.declared.variable.Variable as resolved
-use Rattle.session_cli.specs.declared.fault.Fault.{Fault}
-use Rattle.session_cli.specs.declared.fault.Fault.TheVariants as faults
+use Rattle.session_cli.specs.declared.refusal.Refusal.{Refusal}
 use Rattle.session_cli.specs.Checks.{Pure}
 use Rattle.definitions.specs.Trees.{Variable, Bindings, Ledger, custom_of}
 use Rattle.system_files.specs.SystemFiles.{Custom}
@@ -28,7 +27,7 @@ use Rattle.session_cli.specs.Accepting.{stored}
 use Rattle.session_cli.specs.FormulaOutcomes.{FormulaAnswers, IsVariable, ResolvedAnswers, BuiltAnswers, bindings_now, after_systems, after_tables, after_text, after_named_head, formula_checks}
 use Rattle.session_cli.specs.SystemChecks.{systems_known}
 use Rattle.session_cli.proofs.CheckNames.{loaded, mentioned_systems, AreVariables, VariablesAnswers, VerdictAnswers, formula_success, after_variables, after_steps, after_resolution, after_formula}
-use Rattle.session_cli.proofs.CheckSteps.{IsSingle, then_single}
+use Rattle.session_cli.proofs.CheckSteps.{IsSingle, then_single, single_so}
 use Rattle.definitions.proofs.NameLemmas.{one_meaning}
 use Rattle.definitions.proofs.OneTexts.{one_verdict}
 use Rattle.session_cli.proofs.OneLoadings.{files_single}
@@ -38,6 +37,8 @@ use Rattle.session_cli.proofs.OneMacros.{expanded_single}
 use Rattle.session_cli.proofs.OneTexts.{stored_single}
 use Rattle.session_cli.proofs.OneReadings.{reading_single}
 use Rattle.session_cli.proofs.OneSystems.{systems_single}
+use Rattle.session_cli.proofs.RefusingSteps.{refusing_single}
+use Rattle.session_cli.specs.RefusingChecks.{Refusing}
 
 -- a variable over the system of a name is one
 one_variable : (custom : Custom) (x : resolved.Variable) (v w : Variable) → IsVariable custom x v → IsVariable custom x w → v ≡ w
@@ -60,61 +61,29 @@ one_list_of_variables custom (x ∷ found) (v ∷ vs) (w ∷ ws) a b =
     λ i. first i ∷ rest i
 
 -- a formula is resolved, or has one fault
-abbrev IsResolution : List Loaded → trees.Formula → Result (Unit {0}) Fault → Type 0
-IsResolution tables formula r =
-    ((resolving.fault_of (headers_of tables) formula ≡ None) × (r ≡ Ok tt))
-    ⊎ ((fault : ResolveFault) × (resolving.fault_of (headers_of tables) formula ≡ Some fault) × (r ≡ Err (fault_of_resolution fault)))
+abbrev IsResolution : List Loaded → trees.Formula → Result (Unit {0}) ResolveFault → Type 0
+IsResolution tables formula (Ok done) = resolving.fault_of (headers_of tables) formula ≡ None
+IsResolution tables formula (Err fault) = resolving.fault_of (headers_of tables) formula ≡ Some fault
 
-resolved_is : (tables : List Loaded) (formula : trees.Formula) (r : Result (Unit {0}) Fault) → ResolvedAnswers tables formula r → IsResolution tables formula r
-resolved_is tables formula (Ok done) none = inl (none, refl)
-resolved_is tables formula (Err (faults.Plain name)) a = inr (resolves.Plain name, a, refl)
-resolved_is tables formula (Err (faults.Arity name tracks given)) a = inr (resolves.Arity name tracks given, a, refl)
-resolved_is tables formula (Err (faults.Clash name first other)) a = inr (resolves.Clash name first other, a, refl)
-resolved_is tables formula (Err (faults.Direction first other)) a = inr (resolves.Direction first other, a, refl)
-resolved_is tables formula (Err faults.Command) a = absurd a
-resolved_is tables formula (Err (faults.Syntax grammar at)) a = absurd a
-resolved_is tables formula (Err (faults.MixedChain byte)) a = absurd a
-resolved_is tables formula (Err (faults.Number grammar at)) a = absurd a
-resolved_is tables formula (Err (faults.NotLinear byte)) a = absurd a
-resolved_is tables formula (Err (faults.LoadDepth of)) a = absurd a
-resolved_is tables formula (Err (faults.Depth grammar at)) a = absurd a
-resolved_is tables formula (Err (faults.Long bytes)) a = absurd a
-resolved_is tables formula (Err (faults.Unknown folder name)) a = absurd a
-resolved_is tables formula (Err (faults.File folder name flaw)) a = absurd a
-resolved_is tables formula (Err (faults.SystemUnknown name)) a = absurd a
-resolved_is tables formula (Err (faults.NotAdmitted name law)) a = absurd a
-resolved_is tables formula (Err (faults.Letters step)) a = absurd a
-resolved_is tables formula (Err (faults.States step)) a = absurd a
-resolved_is tables formula (Err (faults.Store folder name)) a = absurd a
-resolved_is tables formula (Err faults.Memory) a = absurd a
-resolved_is tables formula (Err faults.ScriptLimit) a = absurd a
-resolved_is tables formula (Err (faults.MacroArgs of at given)) a = absurd a
-resolved_is tables formula (Err (faults.MacroDepth of)) a = absurd a
-resolved_is tables formula (Err faults.MacroLong) a = absurd a
-resolved_is tables formula (Err (faults.Morphism kind)) a = absurd a
-resolved_is tables formula (Err (faults.LetterMissing letter)) a = absurd a
-resolved_is tables formula (Err (faults.CombineShape one two)) a = absurd a
-resolved_is tables formula (Err (faults.NotPlain of)) a = absurd a
-resolved_is tables formula (Err (faults.LangShape one two)) a = absurd a
-resolved_is tables formula (Err faults.TestLong) a = absurd a
-resolved_is tables formula (Err (faults.Place of)) a = absurd a
-resolved_is tables formula (Err (faults.BaseNeeded of systems)) a = absurd a
-resolved_is tables formula (Err (faults.NotRelated one two)) a = absurd a
+resolved_is : (tables : List Loaded) (formula : trees.Formula) (r : Result (Unit {0}) Refusal) → ResolvedAnswers tables formula r → (Refusing fault_of_resolution (IsResolution tables formula)).answers r
+resolved_is tables formula (Ok done) a = a
+resolved_is tables formula (Err refusal) a = a
+
+resolved_one : (tables : List Loaded) (formula : trees.Formula) (r s : Result (Unit {0}) ResolveFault) → IsResolution tables formula r → IsResolution tables formula s → r ≡ s
+resolved_one tables formula (Ok done) (Ok also) a b = refl
+resolved_one tables formula (Ok done) (Err fault) a b = let no : None ≡ Some fault = sym a ∙ b in absurd (cc)
+resolved_one tables formula (Err fault) (Ok done) a b = let no : None ≡ Some fault = sym b ∙ a in absurd (cc)
+resolved_one tables formula (Err fault) (Err other) a b =
+    let both : Some fault ≡ Some other = sym a ∙ b in
+    let same : fault ≡ other = cc in
+    ap (λ (f : ResolveFault). let r : Result (Unit {0}) ResolveFault = Err f in r) same
 
 resolved_single : (tables : List Loaded) (formula : trees.Formula) → IsSingle (Pure (ResolvedAnswers tables formula))
-resolved_single tables formula r s a b = by_fault (resolved_is tables formula r a) (resolved_is tables formula s b)
-  where
-    by_fault : IsResolution tables formula r → IsResolution tables formula s → r ≡ s
-    by_fault (inl (none, is)) (inl (none', is')) = is ∙ sym is'
-    by_fault (inl (none, is)) (inr (fault, some, is')) = let no : None ≡ Some fault = sym none ∙ some in absurd cc
-    by_fault (inr (fault, some, is)) (inl (none, is')) = let no : None ≡ Some fault = sym none ∙ some in absurd cc
-    by_fault (inr (fault, some, is)) (inr (other, some', is')) =
-        let both : Some fault ≡ Some other = sym some ∙ some' in
-        let same : fault ≡ other = cc in
-        is ∙ (ap (λ (f : ResolveFault). let x : Result (Unit {0}) Fault = Err (fault_of_resolution f) in x) same ∙ sym is')
+resolved_single tables formula =
+    single_so (Pure (ResolvedAnswers tables formula)) (Refusing fault_of_resolution (IsResolution tables formula)) (resolved_is tables formula) (refusing_single fault_of_resolution (IsResolution tables formula) (resolved_one tables formula))
 
 -- the free variables with their systems
-variables_is : (custom : Custom) (tables : List Loaded) (formula : trees.Formula) (r : Result (List Variable) Fault) → VariablesAnswers custom tables formula r → (variables : List Variable) × VariablesAnswers custom tables formula (Ok variables) × (r ≡ Ok variables)
+variables_is : (custom : Custom) (tables : List Loaded) (formula : trees.Formula) (r : Result (List Variable) Refusal) → VariablesAnswers custom tables formula r → (variables : List Variable) × VariablesAnswers custom tables formula (Ok variables) × (r ≡ Ok variables)
 variables_is custom tables formula (Ok variables) a = (variables, a, refl)
 variables_is custom tables formula (Err fault) a = absurd a
 
@@ -122,10 +91,10 @@ variables_single : (custom : Custom) (tables : List Loaded) (formula : trees.For
 variables_single custom tables formula r s a b =
     let one = variables_is custom tables formula r a in
     let other = variables_is custom tables formula s b in
-    one.2 ∙ (ap (λ (vs : List Variable). let x : Result (List Variable) Fault = Ok vs in x) (one_list_of_variables custom (free_variables (all_occurrences (headers_of tables) formula)) one.0 other.0 one.1 other.1) ∙ sym other.2)
+    one.2 ∙ (ap (λ (vs : List Variable). let x : Result (List Variable) Refusal = Ok vs in x) (one_list_of_variables custom (free_variables (all_occurrences (headers_of tables) formula)) one.0 other.0 one.1 other.1) ∙ sym other.2)
 
 -- the verdict
-verdict_is : (custom : Custom) (bindings : Bindings) (variables : List Variable) (formula : trees.Formula) (r : Result (Option Bool) Fault) → VerdictAnswers custom bindings variables formula r
+verdict_is : (custom : Custom) (bindings : Bindings) (variables : List Variable) (formula : trees.Formula) (r : Result (Option Bool) Refusal) → VerdictAnswers custom bindings variables formula r
     → (verdict : Option Bool) × VerdictAnswers custom bindings variables formula (Ok verdict) × (r ≡ Ok verdict)
 verdict_is custom bindings variables formula (Ok verdict) a = (verdict, a, refl)
 verdict_is custom bindings variables formula (Err fault) a = absurd a
@@ -134,7 +103,7 @@ verdict_single : (custom : Custom) (bindings : Bindings) (variables : List Varia
 verdict_single custom bindings variables formula r s a b =
     let one = verdict_is custom bindings variables formula r a in
     let other = verdict_is custom bindings variables formula s b in
-    one.2 ∙ (ap (λ (v : Option Bool). let x : Result (Option Bool) Fault = Ok v in x) (one_verdict custom bindings variables formula one.0 other.0 one.1 other.1) ∙ sym other.2)
+    one.2 ∙ (ap (λ (v : Option Bool). let x : Result (Option Bool) Refusal = Ok v in x) (one_verdict custom bindings variables formula one.0 other.0 one.1 other.1) ∙ sym other.2)
 
 pub formula_single : (word : List ℕ) (folder : Folder) (limit : ℕ) (ledger : Ledger) (text : List ℕ) → IsSingle (formula_checks word folder limit ledger text)
 formula_single word folder limit ledger text =

@@ -34,19 +34,22 @@ use Rattle.definitions.proofs.NameLemmas.{one_meaning}
 use Rattle.definitions.proofs.TableRelations.{table_holds}
 use Rattle.definitions.specs.Named.{IsSystemNamed}
 use Rattle.definitions.specs.Trees.{Entry, Ledger, custom_of}
-use Rattle.session_cli.specs.declared.fault.Fault.{Fault}
-use Rattle.session_cli.specs.declared.fault.Fault.TheVariants as faults
+use Rattle.session_cli.specs.declared.shape_refusal.ShapeRefusal.TheVariants as shape_refusals
+use Rattle.session_cli.specs.declared.word_refusal.WordRefusal.TheVariants as word_refusals
+use Rattle.session_cli.specs.declared.refusal.Refusal.{Refusal}
+use Rattle.session_cli.specs.declared.refusal.Refusal.TheVariants as refusals
 use Rattle.session_cli.specs.Accepting.{stored}
 use Rattle.session_cli.specs.Checks.{Pure}
 use Rattle.session_cli.specs.FileChecks.{files_loaded}
 use Rattle.session_cli.specs.HeadAnswers.{HeadAnswers}
 use Rattle.session_cli.specs.ImageFaults.{fault_of_imaging}
+use Rattle.session_cli.specs.TrackSystems.{fault_of}
 use Rattle.session_cli.specs.ImageOutcomes.{WordTrack, IsOldWordRead, AreImageSteps, IsImagingStopped, OneTrackAnswers, LengthsAnswers, ImagedAnswers, old_mentions, after_old_systems, after_old_table, after_image_head, image_checks}
 use Rattle.session_cli.specs.MorphismChecks.{morphism_loaded}
 use Rattle.session_cli.specs.SystemChecks.{systems_known}
 use Rattle.session_cli.specs.TableReads.{TableRead, words_in}
 use Rattle.session_cli.proofs.CheckNames.{TrackAnswers, OldAnswers, image_success, after_image_steps, after_track, after_lengths, after_one_track, after_image_morphism}
-use Rattle.session_cli.proofs.CheckSteps.{IsSingle, then_single}
+use Rattle.session_cli.proofs.CheckSteps.{IsSingle, then_single, single_so}
 use Rattle.session_cli.proofs.ImagedSteps.{of_one_kind}
 use Rattle.session_cli.proofs.OneHeads.{head_single}
 use Rattle.session_cli.proofs.OneLoadings.{files_single}
@@ -55,46 +58,17 @@ use Rattle.session_cli.proofs.OneSystems.{systems_single}
 use Rattle.session_cli.proofs.OneTexts.{stored_single}
 use Rattle.session_cli.proofs.TableFits.{are_words}
 use Rattle.session_cli.proofs.OneTextCommands.{loading_single}
+use Rattle.session_cli.proofs.RefusingSteps.{no_memory, refusing_single}
+use Rattle.session_cli.specs.RefusingChecks.{Refusing}
+use Rattle.digit_tuple.specs.declared.step_fault.StepFault.{StepFault}
 
 -- the word has one track, or another number of them
-abbrev IsTrackAnswer : Headers → List ℕ → Result (Unit {0}) Fault → Type 0
-IsTrackAnswer h old r = ((length (word_tracks h old) ≡ 1) × (r ≡ Ok tt)) ⊎ ((length (word_tracks h old) ≢ 1) × (r ≡ Err (faults.Arity old (kept_count (length (word_tracks h old))) 1)))
+abbrev IsTrackAnswer : Headers → List ℕ → Result (Unit {0}) Refusal → Type 0
+IsTrackAnswer h old r = ((length (word_tracks h old) ≡ 1) × (r ≡ Ok tt)) ⊎ ((length (word_tracks h old) ≢ 1) × (r ≡ Err (refusals.Shape (shape_refusals.Arity old (kept_count (length (word_tracks h old))) 1))))
 
-track_is : (h : Headers) (old : List ℕ) (r : Result (Unit {0}) Fault) → OneTrackAnswers h old r → IsTrackAnswer h old r
+track_is : (h : Headers) (old : List ℕ) (r : Result (Unit {0}) Refusal) → OneTrackAnswers h old r → IsTrackAnswer h old r
 track_is h old (Ok one) a = inl (a, refl)
-track_is h old (Err (faults.Arity name count given)) (name_is, other, count_is, given_is) = inr (other, λ i. Err (faults.Arity (name_is i) (count_is i) (given_is i)))
-track_is h old (Err faults.Command) a = absurd a
-track_is h old (Err (faults.Syntax grammar at)) a = absurd a
-track_is h old (Err (faults.MixedChain byte)) a = absurd a
-track_is h old (Err (faults.Number grammar at)) a = absurd a
-track_is h old (Err (faults.NotLinear byte)) a = absurd a
-track_is h old (Err (faults.LoadDepth of)) a = absurd a
-track_is h old (Err (faults.Depth grammar at)) a = absurd a
-track_is h old (Err (faults.Long bytes)) a = absurd a
-track_is h old (Err (faults.Unknown folder name)) a = absurd a
-track_is h old (Err (faults.File folder name flaw)) a = absurd a
-track_is h old (Err (faults.SystemUnknown name)) a = absurd a
-track_is h old (Err (faults.NotAdmitted name law)) a = absurd a
-track_is h old (Err (faults.Clash name first other)) a = absurd a
-track_is h old (Err (faults.Direction first other)) a = absurd a
-track_is h old (Err (faults.Letters step)) a = absurd a
-track_is h old (Err (faults.States step)) a = absurd a
-track_is h old (Err (faults.Plain name)) a = absurd a
-track_is h old (Err (faults.Store folder name)) a = absurd a
-track_is h old (Err faults.Memory) a = absurd a
-track_is h old (Err faults.ScriptLimit) a = absurd a
-track_is h old (Err (faults.MacroArgs of at given)) a = absurd a
-track_is h old (Err (faults.MacroDepth of)) a = absurd a
-track_is h old (Err faults.MacroLong) a = absurd a
-track_is h old (Err (faults.Morphism kind)) a = absurd a
-track_is h old (Err (faults.LetterMissing letter)) a = absurd a
-track_is h old (Err (faults.CombineShape one two)) a = absurd a
-track_is h old (Err (faults.NotPlain of)) a = absurd a
-track_is h old (Err (faults.LangShape one two)) a = absurd a
-track_is h old (Err faults.TestLong) a = absurd a
-track_is h old (Err (faults.Place of)) a = absurd a
-track_is h old (Err (faults.BaseNeeded of systems)) a = absurd a
-track_is h old (Err (faults.NotRelated one two)) a = absurd a
+track_is h old (Err refusal) (other, is) = inr (other, ap (λ (why : Refusal). let x : Result (Unit {0}) Refusal = Err why in x) is)
 
 one_track_single : (h : Headers) (old : List ℕ) → IsSingle (Pure (OneTrackAnswers h old))
 one_track_single h old r s a b = by (track_is h old r a) (track_is h old s b)
@@ -106,44 +80,12 @@ one_track_single h old r s a b = by (track_is h old r a) (track_is h old s b)
     by (inr (other, is)) (inr (other', is')) = is ∙ sym is'
 
 -- all images have one length, or the first kind decides
-abbrev IsLengthAnswer : Rules → Result (Unit {0}) Fault → Type 0
-IsLengthAnswer rules r = ((k : ℕ) × HasLength IsImageLength rules k × (r ≡ Ok tt)) ⊎ ((kind : MorphismKind) × IsLengthRefused IsImageLength rules kind × (r ≡ Err (faults.Morphism kind)))
+abbrev IsLengthAnswer : Rules → Result (Unit {0}) Refusal → Type 0
+IsLengthAnswer rules r = ((k : ℕ) × HasLength IsImageLength rules k × (r ≡ Ok tt)) ⊎ ((kind : MorphismKind) × IsLengthRefused IsImageLength rules kind × (r ≡ Err (refusals.Word (word_refusals.Morphism kind))))
 
-length_is : (rules : Rules) (r : Result (Unit {0}) Fault) → LengthsAnswers rules r → IsLengthAnswer rules r
+length_is : (rules : Rules) (r : Result (Unit {0}) Refusal) → LengthsAnswers rules r → IsLengthAnswer rules r
 length_is rules (Ok uniform) (k, has) = inl (k, has, refl)
-length_is rules (Err (faults.Morphism kind)) a = inr (kind, a, refl)
-length_is rules (Err faults.Command) a = absurd a
-length_is rules (Err (faults.Syntax grammar at)) a = absurd a
-length_is rules (Err (faults.MixedChain byte)) a = absurd a
-length_is rules (Err (faults.Number grammar at)) a = absurd a
-length_is rules (Err (faults.NotLinear byte)) a = absurd a
-length_is rules (Err (faults.LoadDepth of)) a = absurd a
-length_is rules (Err (faults.Depth grammar at)) a = absurd a
-length_is rules (Err (faults.Long bytes)) a = absurd a
-length_is rules (Err (faults.Unknown folder name)) a = absurd a
-length_is rules (Err (faults.File folder name flaw)) a = absurd a
-length_is rules (Err (faults.Arity name tracks given)) a = absurd a
-length_is rules (Err (faults.SystemUnknown name)) a = absurd a
-length_is rules (Err (faults.NotAdmitted name law)) a = absurd a
-length_is rules (Err (faults.Clash name first other)) a = absurd a
-length_is rules (Err (faults.Direction first other)) a = absurd a
-length_is rules (Err (faults.Letters step)) a = absurd a
-length_is rules (Err (faults.States step)) a = absurd a
-length_is rules (Err (faults.Plain name)) a = absurd a
-length_is rules (Err (faults.Store folder name)) a = absurd a
-length_is rules (Err faults.Memory) a = absurd a
-length_is rules (Err faults.ScriptLimit) a = absurd a
-length_is rules (Err (faults.MacroArgs of at given)) a = absurd a
-length_is rules (Err (faults.MacroDepth of)) a = absurd a
-length_is rules (Err faults.MacroLong) a = absurd a
-length_is rules (Err (faults.LetterMissing letter)) a = absurd a
-length_is rules (Err (faults.CombineShape one two)) a = absurd a
-length_is rules (Err (faults.NotPlain of)) a = absurd a
-length_is rules (Err (faults.LangShape one two)) a = absurd a
-length_is rules (Err faults.TestLong) a = absurd a
-length_is rules (Err (faults.Place of)) a = absurd a
-length_is rules (Err (faults.BaseNeeded of systems)) a = absurd a
-length_is rules (Err (faults.NotRelated one two)) a = absurd a
+length_is rules (Err refusal) (kind, is, a) = inr (kind, a, ap (λ (why : Refusal). let x : Result (Unit {0}) Refusal = Err why in x) is)
 
 lengths_single : (rules : Rules) → IsMorphism rules → IsSingle (Pure (LengthsAnswers rules))
 lengths_single rules morphism r s a b = by (length_is rules r a) (length_is rules s b)
@@ -153,13 +95,13 @@ lengths_single rules morphism r s a b = by (length_is rules r a) (length_is rule
     by (inl (k, has, is)) (inr (kind, refused, is')) = absurd (of_one_kind rules k kind has refused)
     by (inr (kind, refused, is)) (inl (k, has, is')) = absurd (of_one_kind rules k kind has refused)
     by (inr (kind, refused, is)) (inr (other, refused', is')) =
-        is ∙ (ap (λ (x : MorphismKind). let r : Result (Unit {0}) Fault = Err (faults.Morphism x) in r) ((one_lengths 1 40 rules morphism).one_kind kind other refused refused') ∙ sym is')
+        is ∙ (ap (λ (x : MorphismKind). let r : Result (Unit {0}) Refusal = Err (refusals.Word (word_refusals.Morphism x)) in r) ((one_lengths 1 40 rules morphism).one_kind kind other refused refused') ∙ sym is')
 
 -- the system of the track is what its name means
-abbrev IsOverTrack : Custom → Headers → List ℕ → Result WordTrack Fault → Type 0
+abbrev IsOverTrack : Custom → Headers → List ℕ → Result WordTrack Refusal → Type 0
 IsOverTrack custom h old r = (track : WordTrack) × TrackAnswers custom h old (Ok track) × (r ≡ Ok track)
 
-over_is : (custom : Custom) (h : Headers) (old : List ℕ) (r : Result WordTrack Fault) → TrackAnswers custom h old r → IsOverTrack custom h old r
+over_is : (custom : Custom) (h : Headers) (old : List ℕ) (r : Result WordTrack Refusal) → TrackAnswers custom h old r → IsOverTrack custom h old r
 over_is custom h old (Ok track) a = (track, a, refl)
 over_is custom h old (Err fault) a = absurd a
 
@@ -177,13 +119,13 @@ tracks_single : (custom : Custom) (h : Headers) (old : List ℕ) → IsSingle (P
 tracks_single custom h old r s a b =
     let p : IsOverTrack custom h old r = over_is custom h old r a in
     let q : IsOverTrack custom h old s = over_is custom h old s b in
-    p.2 ∙ (ap (λ (t : WordTrack). let x : Result WordTrack Fault = Ok t in x) (one_track_over custom h old p.0 q.0 p.1 q.1) ∙ sym q.2)
+    p.2 ∙ (ap (λ (t : WordTrack). let x : Result WordTrack Refusal = Ok t in x) (one_track_over custom h old p.0 q.0 p.1 q.1) ∙ sym q.2)
 
 -- one entry is under the name
-abbrev IsEntry : Ledger → List ℕ → Result Entry Fault → Type 0
+abbrev IsEntry : Ledger → List ℕ → Result Entry Refusal → Type 0
 IsEntry ledger old r = (entry : Entry) × (ledger Words old ≡ Some entry) × (r ≡ Ok entry)
 
-entry_is : (ledger : Ledger) (old : List ℕ) (r : Result Entry Fault) → OldAnswers ledger old r → IsEntry ledger old r
+entry_is : (ledger : Ledger) (old : List ℕ) (r : Result Entry Refusal) → OldAnswers ledger old r → IsEntry ledger old r
 entry_is ledger old (Ok entry) a = (entry, a, refl)
 entry_is ledger old (Err fault) a = absurd a
 
@@ -194,61 +136,35 @@ pub old_single : (ledger : Ledger) (old : List ℕ) → IsSingle (Pure (OldAnswe
 old_single ledger old r s a b =
     let p : IsEntry ledger old r = entry_is ledger old r a in
     let q : IsEntry ledger old s = entry_is ledger old s b in
-    p.2 ∙ (ap (λ (e : Entry). let x : Result Entry Fault = Ok e in x) (some_same p.0 q.0 (sym p.1 ∙ q.1)) ∙ sym q.2)
+    p.2 ∙ (ap (λ (e : Entry). let x : Result Entry Refusal = Ok e in x) (some_same p.0 q.0 (sym p.1 ∙ q.1)) ∙ sym q.2)
 
-record IsImageMade (admitted : StepLog) (custom : Custom) (tables : List Loaded) (old name : List ℕ) (rules : Rules) (r : Result (List StepLine) Fault) : Type 0 where
+record IsImageMade (admitted : StepLog) (custom : Custom) (tables : List Loaded) (old name : List ℕ) (rules : Rules) (r : Result (List StepLine) ImageFault) : Type 0 where
   word : WordValue
   lines : List StepLine
   done : AreImageSteps admitted custom tables old name rules word lines
   is : r ≡ Ok lines
 
-record IsImageStoppedBy (admitted : StepLog) (custom : Custom) (tables : List Loaded) (old name : List ℕ) (rules : Rules) (r : Result (List StepLine) Fault) : Type 0 where
+record IsImageStoppedBy (admitted : StepLog) (custom : Custom) (tables : List Loaded) (old name : List ℕ) (rules : Rules) (r : Result (List StepLine) ImageFault) : Type 0 where
   fault : ImageFault
   not_memory : fault ≢ images.Step steps.Memory
   stops : IsImagingStopped admitted custom tables old name rules fault
-  is : r ≡ Err (fault_of_imaging fault)
+  is : r ≡ Err fault
+
+-- the table is not read
+abbrev IsUnread : StepLog → Custom → List Loaded → Result (List StepLine) ImageFault → Type 0
+IsUnread admitted custom tables r = (fault : StepFault) × IsStopped admitted custom tables (Err fault) × (r ≡ Err (images.Step fault))
 
 -- the image is made, or refused, or the table is not read
-abbrev IsOutcome : StepLog → Custom → List Loaded → List ℕ → List ℕ → Rules → Result (List StepLine) Fault → Type 0
-IsOutcome admitted custom tables old name rules r = IsImageMade admitted custom tables old name rules r ⊎ (IsImageStoppedBy admitted custom tables old name rules r ⊎ IsStopped admitted custom tables r)
+abbrev IsOutcome : StepLog → Custom → List Loaded → List ℕ → List ℕ → Rules → Result (List StepLine) ImageFault → Type 0
+IsOutcome admitted custom tables old name rules r = IsImageMade admitted custom tables old name rules r ⊎ (IsImageStoppedBy admitted custom tables old name rules r ⊎ IsUnread admitted custom tables r)
 
-imaged_is : (admitted : StepLog) (custom : Custom) (tables : List Loaded) (old name : List ℕ) (rules : Rules) (r : Result (List StepLine) Fault) → ImagedAnswers admitted custom tables old name rules r → IsOutcome admitted custom tables old name rules r
+imaged_is : (admitted : StepLog) (custom : Custom) (tables : List Loaded) (old name : List ℕ) (rules : Rules) (r : Result (List StepLine) Refusal) → ImagedAnswers admitted custom tables old name rules r → (Refusing fault_of_imaging (IsOutcome admitted custom tables old name rules)).answers r
 imaged_is admitted custom tables old name rules (Ok lines) (word, a) = inl (record { word = word; lines = lines; done = a; is = refl })
-imaged_is admitted custom tables old name rules (Err (faults.Letters step)) (inl a) = inr (inr (stopped_by admitted custom tables (steps.Letters step) (λ is. cc) a))
-imaged_is admitted custom tables old name rules (Err (faults.Letters step)) (inr a) = inr (inl (record { fault = images.Step (steps.Letters step); not_memory = λ is. cc; stops = a; is = refl }))
-imaged_is admitted custom tables old name rules (Err (faults.States step)) (inl a) = inr (inr (stopped_by admitted custom tables (steps.States step) (λ is. cc) a))
-imaged_is admitted custom tables old name rules (Err (faults.States step)) (inr a) = inr (inl (record { fault = images.Step (steps.States step); not_memory = λ is. cc; stops = a; is = refl }))
-imaged_is admitted custom tables old name rules (Err (faults.LetterMissing letter)) a = inr (inl (record { fault = images.Missing letter; not_memory = λ is. cc; stops = a; is = refl }))
-imaged_is admitted custom tables old name rules (Err faults.Command) a = absurd a
-imaged_is admitted custom tables old name rules (Err (faults.Syntax grammar at)) a = absurd a
-imaged_is admitted custom tables old name rules (Err (faults.MixedChain byte)) a = absurd a
-imaged_is admitted custom tables old name rules (Err (faults.Number grammar at)) a = absurd a
-imaged_is admitted custom tables old name rules (Err (faults.NotLinear byte)) a = absurd a
-imaged_is admitted custom tables old name rules (Err (faults.LoadDepth of)) a = absurd a
-imaged_is admitted custom tables old name rules (Err (faults.Depth grammar at)) a = absurd a
-imaged_is admitted custom tables old name rules (Err (faults.Long bytes)) a = absurd a
-imaged_is admitted custom tables old name rules (Err (faults.Unknown folder of)) a = absurd a
-imaged_is admitted custom tables old name rules (Err (faults.File folder of flaw)) a = absurd a
-imaged_is admitted custom tables old name rules (Err (faults.Arity of count given)) a = absurd a
-imaged_is admitted custom tables old name rules (Err (faults.SystemUnknown of)) a = absurd a
-imaged_is admitted custom tables old name rules (Err (faults.NotAdmitted of law)) a = absurd a
-imaged_is admitted custom tables old name rules (Err (faults.Clash of first other)) a = absurd a
-imaged_is admitted custom tables old name rules (Err (faults.Direction first other)) a = absurd a
-imaged_is admitted custom tables old name rules (Err (faults.Plain of)) a = absurd a
-imaged_is admitted custom tables old name rules (Err (faults.Store folder of)) a = absurd a
-imaged_is admitted custom tables old name rules (Err faults.Memory) a = absurd a
-imaged_is admitted custom tables old name rules (Err faults.ScriptLimit) a = absurd a
-imaged_is admitted custom tables old name rules (Err (faults.MacroArgs of at given)) a = absurd a
-imaged_is admitted custom tables old name rules (Err (faults.MacroDepth of)) a = absurd a
-imaged_is admitted custom tables old name rules (Err faults.MacroLong) a = absurd a
-imaged_is admitted custom tables old name rules (Err (faults.Morphism kind)) a = absurd a
-imaged_is admitted custom tables old name rules (Err (faults.CombineShape one two)) a = absurd a
-imaged_is admitted custom tables old name rules (Err (faults.NotPlain of)) a = absurd a
-imaged_is admitted custom tables old name rules (Err (faults.LangShape one two)) a = absurd a
-imaged_is admitted custom tables old name rules (Err faults.TestLong) a = absurd a
-imaged_is admitted custom tables old name rules (Err (faults.Place of)) a = absurd a
-imaged_is admitted custom tables old name rules (Err (faults.BaseNeeded of systems)) a = absurd a
-imaged_is admitted custom tables old name rules (Err (faults.NotRelated one two)) a = absurd a
+imaged_is admitted custom tables old name rules (Err refusal) (images.Morphism kind, is, a) = absurd a
+imaged_is admitted custom tables old name rules (Err refusal) (images.Missing letter, is, a) = (images.Missing letter, is, inr (inl (record { fault = images.Missing letter; not_memory = λ same. cc; stops = a; is = refl })))
+imaged_is admitted custom tables old name rules (Err refusal) (images.Step fault, is, inl a) = (images.Step fault, is, inr (inr (fault, stopped_by admitted custom tables fault (no_memory fault_of steps.Memory refl fault refusal is) a, refl)))
+imaged_is admitted custom tables old name rules (Err refusal) (images.Step fault, is, inr a) =
+    (images.Step fault, is, inr (inl (record { fault = images.Step fault; not_memory = no_memory fault_of_imaging (images.Step steps.Memory) refl (images.Step fault) refusal is; stops = a; is = refl })))
 
 -- a word under a name is one
 found_word : (words : List NamedWord) (name : List ℕ) (v : WordValue) → AreWords words → word_named words name ≡ Some v → IsWordValue v
@@ -281,43 +197,53 @@ module _ (law : ImagesHaveOneOutcome) (admitted : StepLog) (custom : Custom) (ta
       let same = same_before a b in
       subst (λ (w : WordValue). P a.reading w) (sym same.1) (subst (λ (l : StepLog). P l b.word) (sym same.0) p)
 
-  both_made : (r s : Result (List StepLine) Fault) → IsImageMade admitted custom tables old name rules r → IsImageMade admitted custom tables old name rules s → r ≡ s
+  both_made : (r s : Result (List StepLine) ImageFault) → IsImageMade admitted custom tables old name rules r → IsImageMade admitted custom tables old name rules s → r ≡ s
   both_made r s p q =
       let a = p.done.before in
       let there = moved (λ l w. DoesImage rules w name l (Ok q.word) q.done.log) a q.done.before q.done.done in
       let same : p.done.log ≡ q.done.log = (one_value (images.Step steps.Memory) p.done.log q.done.log p.word q.word (one_at a a.reading p.done.log q.done.log (Ok p.word) (Ok q.word) p.done.done there)).1 in
       let lines : p.lines ≡ q.lines = p.done.lines_are ∙ (ap (λ (log : StepLog). log.lines) same ∙ sym q.done.lines_are) in
-      p.is ∙ (ap (λ (ls : List StepLine). let x : Result (List StepLine) Fault = Ok ls in x) lines ∙ sym q.is)
+      p.is ∙ (ap (λ (ls : List StepLine). let x : Result (List StepLine) ImageFault = Ok ls in x) lines ∙ sym q.is)
 
-  made_refused : (r s : Result (List StepLine) Fault) → IsImageMade admitted custom tables old name rules r → IsImageStoppedBy admitted custom tables old name rules s → ⊥
+  made_refused : (r s : Result (List StepLine) ImageFault) → IsImageMade admitted custom tables old name rules r → IsImageStoppedBy admitted custom tables old name rules s → ⊥
   made_refused r s p q =
       let a = p.done.before in
       let there = moved (λ l w. DoesImage rules w name l (Err q.fault) q.stops.log) a q.stops.before q.stops.refused in
       q.not_memory (memory_alone (images.Step steps.Memory) p.done.log q.stops.log p.word q.fault (one_at a a.reading p.done.log q.stops.log (Ok p.word) (Err q.fault) p.done.done there))
 
-  both_refused : (r s : Result (List StepLine) Fault) → IsImageStoppedBy admitted custom tables old name rules r → IsImageStoppedBy admitted custom tables old name rules s → r ≡ s
+  both_refused : (r s : Result (List StepLine) ImageFault) → IsImageStoppedBy admitted custom tables old name rules r → IsImageStoppedBy admitted custom tables old name rules s → r ≡ s
   both_refused r s p q =
       let a = p.stops.before in
       let there = moved (λ l w. DoesImage rules w name l (Err q.fault) q.stops.log) a q.stops.before q.stops.refused in
       let same : p.fault ≡ q.fault = same_fault (images.Step steps.Memory) p.stops.log q.stops.log p.fault q.fault (one_at a a.reading p.stops.log q.stops.log (Err p.fault) (Err q.fault) p.stops.refused there) p.not_memory q.not_memory in
-      p.is ∙ (ap (λ (f : ImageFault). let x : Result (List StepLine) Fault = Err (fault_of_imaging f) in x) same ∙ sym q.is)
+      p.is ∙ (ap (λ (f : ImageFault). let x : Result (List StepLine) ImageFault = Err f in x) same ∙ sym q.is)
 
-  not_both : (a : IsOldWordRead admitted custom tables old) (s : Result (List StepLine) Fault) → IsStopped admitted custom tables s → ⊥
-  not_both a s q = read_stopped admitted custom tables files named listed a.systems a.reading a.reads s a.sealed a.meant a.read q
+  not_both : (a : IsOldWordRead admitted custom tables old) (s : Result (List StepLine) ImageFault) → IsUnread admitted custom tables s → ⊥
+  not_both a s (fault, q, is) = read_stopped admitted custom tables files named listed a.systems a.reading a.reads (Err fault) a.sealed a.meant a.read q
+
+  same_step : (f g : StepFault) → (let r : Result (List StepLine) StepFault = Err f in r ≡ Err g) → f ≡ g
+  same_step f g same = cc
+
+  both_unread : (r s : Result (List StepLine) ImageFault) → IsUnread admitted custom tables r → IsUnread admitted custom tables s → r ≡ s
+  both_unread r s (f, p, is) (g, q, also) =
+      let same : f ≡ g = same_step f g (both_stopped admitted custom tables files named listed (Err f) (Err g) p q) in
+      is ∙ (ap (λ (x : StepFault). let y : Result (List StepLine) ImageFault = Err (images.Step x) in y) same ∙ sym also)
+
+  imaged_one : (r s : Result (List StepLine) ImageFault) → IsOutcome admitted custom tables old name rules r → IsOutcome admitted custom tables old name rules s → r ≡ s
+  imaged_one r s (inl p) (inl q) = both_made r s p q
+  imaged_one r s (inl p) (inr (inl q)) = absurd (made_refused r s p q)
+  imaged_one r s (inl p) (inr (inr q)) = absurd (not_both p.done.before s q)
+  imaged_one r s (inr (inl p)) (inl q) = absurd (made_refused s r q p)
+  imaged_one r s (inr (inl p)) (inr (inl q)) = both_refused r s p q
+  imaged_one r s (inr (inl p)) (inr (inr q)) = absurd (not_both p.stops.before s q)
+  imaged_one r s (inr (inr p)) (inl q) = absurd (not_both q.done.before r p)
+  imaged_one r s (inr (inr p)) (inr (inl q)) = absurd (not_both q.stops.before r p)
+  imaged_one r s (inr (inr p)) (inr (inr q)) = both_unread r s p q
 
   imaged_single : IsSingle (Pure (ImagedAnswers admitted custom tables old name rules))
-  imaged_single r s a b = by (imaged_is admitted custom tables old name rules r a) (imaged_is admitted custom tables old name rules s b)
-    where
-      by : IsOutcome admitted custom tables old name rules r → IsOutcome admitted custom tables old name rules s → r ≡ s
-      by (inl p) (inl q) = both_made r s p q
-      by (inl p) (inr (inl q)) = absurd (made_refused r s p q)
-      by (inl p) (inr (inr q)) = absurd (not_both p.done.before s q)
-      by (inr (inl p)) (inl q) = absurd (made_refused s r q p)
-      by (inr (inl p)) (inr (inl q)) = both_refused r s p q
-      by (inr (inl p)) (inr (inr q)) = absurd (not_both p.stops.before s q)
-      by (inr (inr p)) (inl q) = absurd (not_both q.done.before r p)
-      by (inr (inr p)) (inr (inl q)) = absurd (not_both q.stops.before r p)
-      by (inr (inr p)) (inr (inr q)) = both_stopped admitted custom tables files named listed r s p q
+  imaged_single =
+      single_so (Pure (ImagedAnswers admitted custom tables old name rules)) (Refusing fault_of_imaging (IsOutcome admitted custom tables old name rules)) (imaged_is admitted custom tables old name rules)
+      (refusing_single fault_of_imaging (IsOutcome admitted custom tables old name rules) imaged_one)
 
 pub image_single : ImagesHaveOneOutcome → (limit : ℕ) (ledger : Ledger) (text : List ℕ) → IsSingle (image_checks limit ledger text)
 image_single law limit ledger text =

@@ -20,36 +20,20 @@ use Rattle.language_steps.proofs.OneSteps.{language_one}
 use Rattle.language_steps.specs.declared.op.LanguageOp.{LanguageOp}
 use Rattle.language_steps.specs.declared.op.LanguageOp.TheVariants.{Pair, One}
 use Rattle.definitions.specs.Trees.{Ledger, custom_of}
-use Rattle.session_cli.specs.declared.fault.Fault.{Fault}
+use Rattle.session_cli.specs.declared.shape_refusal.ShapeRefusal.TheVariants as shape_refusals
+use Rattle.session_cli.specs.declared.refusal.Refusal.TheVariants as refusals
 use Rattle.session_cli.specs.declared.fault.Fault.TheVariants as faults
 use Rattle.session_cli.specs.Accepting.{stored}
 use Rattle.session_cli.specs.Checks.{Pure}
 use Rattle.session_cli.specs.FileChecks.{files_loaded}
 use Rattle.session_cli.specs.HeadAnswers.{HeadAnswers}
 use Rattle.session_cli.specs.LanguageOutcomes.{DerivesOperation, LangShapeAnswers, LanguageAnswers, NotPlainAnswers, after_header, after_language_head, after_language_tables, after_sets, all_plain, fault_of_shape, language_checks, language_done, language_files, language_success, one_header, op_word}
-use Rattle.session_cli.specs.RefusingChecks.{Refusing}
 use Rattle.session_cli.specs.TrackSystems.{fault_of}
 use Rattle.session_cli.proofs.CheckSteps.{IsSingle, then_single}
 use Rattle.session_cli.proofs.OneHeads.{head_single}
 use Rattle.session_cli.proofs.OneLoadings.{files_single}
 use Rattle.session_cli.proofs.OneTexts.{stored_single}
-
--- a check that refuses by faults of its own answers in one way where they are told in one way
-module _ {Y E : Type 0} (as_fault : E → Fault) (answers : Result Y E → Type 0) (one : (r s : Result Y E) → answers r → answers s → r ≡ s) where
-  same_fault : (e f : E) → answers (Err e) → answers (Err f) → e ≡ f
-  same_fault e f a b = let same : Err e ≡ Err f = one (Err e) (Err f) a b in cc
-
-  not_both : (y : Y) (e : E) → answers (Ok y) → answers (Err e) → ⊥
-  not_both y e a b = let same : Ok y ≡ Err e = one (Ok y) (Err e) a b in cc
-
-  same_value : (y z : Y) → answers (Ok y) → answers (Ok z) → y ≡ z
-  same_value y z a b = let same : Ok y ≡ Ok z = one (Ok y) (Ok z) a b in cc
-
-  pub refusing_single : IsSingle (Refusing as_fault answers)
-  refusing_single (Ok y) (Ok z) a b = ap (λ (x : Y). let r : Result Y Fault = Ok x in r) (same_value y z a b)
-  refusing_single (Ok y) (Err g) a (f, is, b) = absurd (not_both y f a b)
-  refusing_single (Err f) (Ok z) (e, is, a) b = absurd (not_both z e b a)
-  refusing_single (Err f) (Err g) (e, is, a) (e', is', b) = ap (λ (x : Fault). let r : Result Y Fault = Err x in r) (sym is ∙ (ap as_fault (same_fault e e' a b) ∙ is'))
+use Rattle.session_cli.proofs.RefusingSteps.{refusing_single}
 
 -- all are over sets, or one is the first that is not
 plain_one : (tables : List Loaded) (r s : Result (Unit {0}) (List ℕ)) → NotPlainAnswers tables r → NotPlainAnswers tables s → r ≡ s
@@ -119,7 +103,7 @@ pub language_single : (op : LanguageOp) (limit : ℕ) (ledger : Ledger) (text : 
 language_single op limit ledger text =
     then_single (Pure (HeadAnswers (DerivesOperation op) text)) (λ head. after_language_head limit ledger op head) (head_single (DerivesOperation op) (operation_head op) text) (λ head spells.
     then_single (files_loaded ledger (language_files head.languages)) (λ tables. after_language_tables limit ledger op head tables) (files_single ledger (language_files head.languages)) (λ tables there.
-    then_single (all_plain tables) (λ plain. after_sets limit ledger op head tables) (refusing_single faults.NotPlain (NotPlainAnswers tables) (plain_one tables)) (λ plain none.
+    then_single (all_plain tables) (λ plain. after_sets limit ledger op head tables) (refusing_single (λ name. faults.Refused (refusals.Shape (shape_refusals.NotPlain name))) (NotPlainAnswers tables) (plain_one tables)) (λ plain none.
     then_single (one_header tables) (λ sets. after_header limit ledger op head tables sets) (refusing_single fault_of_shape (LangShapeAnswers tables) (shape_one tables)) (λ sets over.
     then_single (language_done limit op head.languages tables) (λ lines. stored (custom_of ledger) (language_success ledger op head sets lines))
     (refusing_single fault_of (LanguageAnswers limit op head.languages tables) (steps_one limit op head.languages tables)) (λ lines done.

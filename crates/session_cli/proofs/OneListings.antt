@@ -39,7 +39,9 @@ use Rattle.table_listings.specs.Questions.{HasLines, HasTooLongAnswer, HasVerdic
 use Rattle.table_listings.specs.declared.question.Question.{Question}
 use Rattle.table_listings.specs.declared.question.Question.TheVariants.{Words, Infinity}
 use Rattle.table_listings.proofs.OneAnswer.{equal_lists}
-use Rattle.session_cli.specs.declared.fault.Fault.{Fault}
+use Rattle.session_cli.specs.declared.shape_refusal.ShapeRefusal.TheVariants as shape_refusals
+use Rattle.session_cli.specs.declared.refusal.Refusal.{Refusal}
+use Rattle.session_cli.specs.declared.refusal.Refusal.TheVariants as refusals
 use Rattle.session_cli.specs.declared.fault.Fault.TheVariants as faults
 use Rattle.session_cli.specs.Accepting.{Said}
 use Rattle.session_cli.specs.Checks.{Passing, Pure}
@@ -54,14 +56,14 @@ use Rattle.session_cli.proofs.CheckSteps.{IsSingle, passing_single, then_single}
 use Rattle.session_cli.proofs.HeaderLines.{listed_some}
 use Rattle.session_cli.proofs.MeantNames.{named_digits}
 use Rattle.session_cli.proofs.OneHeads.{head_single}
-use Rattle.session_cli.proofs.OneLanguages.{refusing_single}
 use Rattle.session_cli.proofs.OneLoadings.{files_single}
 use Rattle.session_cli.proofs.OneMeantReadings.{both_stopped, read_stopped, same_reading, stopped_by}
 use Rattle.session_cli.proofs.OneSystems.{systems_single}
+use Rattle.session_cli.proofs.RefusingSteps.{refusing_single}
 
 -- a check that refuses nothing answers in one way where there is one value
 one_passes : {Y : Type 0} (Is : Y → Type 0) → ((y z : Y) → Is y → Is z → y ≡ z) → IsSingle (Passing Is)
-one_passes {Y} Is one (Ok y) (Ok z) a b = ap (λ (x : Y). let r : Result Y Fault = Ok x in r) (one y z a b)
+one_passes {Y} Is one (Ok y) (Ok z) a b = ap (λ (x : Y). let r : Result Y Refusal = Ok x in r) (one y z a b)
 one_passes Is one (Ok y) (Err f) a b = absurd b
 one_passes Is one (Err f) s a b = absurd a
 
@@ -101,18 +103,6 @@ place_one name over question (Ok on) (Err of) a b = absurd (b.1 a)
 place_one name over question (Err of) (Ok on) a b = absurd (a.1 b)
 place_one name over question (Err of) (Err other) a b = ap (λ (n : List ℕ). let r : Result (Unit {0}) (List ℕ) = Err n in r) (a.0 ∙ sym b.0)
 
--- faults of steps differ as commands' faults
-one_step_fault : (f g : StepFault) → fault_of f ≡ fault_of g → f ≡ g
-one_step_fault (steps.Letters a) (steps.Letters b) same = let step : a ≡ b = cc in ap (λ (n : ℕ). steps.Letters n) step
-one_step_fault (steps.Letters a) (steps.States b) same = absurd (cc)
-one_step_fault (steps.Letters a) steps.Memory same = absurd (cc)
-one_step_fault (steps.States a) (steps.Letters b) same = absurd (cc)
-one_step_fault (steps.States a) (steps.States b) same = let step : a ≡ b = cc in ap (λ (n : ℕ). steps.States n) step
-one_step_fault (steps.States a) steps.Memory same = absurd (cc)
-one_step_fault steps.Memory (steps.Letters b) same = absurd (cc)
-one_step_fault steps.Memory (steps.States b) same = absurd (cc)
-one_step_fault steps.Memory steps.Memory same = refl
-
 -- the steps of a table over sets have one answer
 module _ (admitted : StepLog) (table : Loaded) where
   plain_lines : (ls ms : List StepLine) → IsPlainRead admitted table ls → IsPlainRead admitted table ms → ls ≡ ms
@@ -135,14 +125,12 @@ module _ (admitted : StepLog) (custom : Custom) (table : Loaded) (files : Files)
 
   systems_refused : (ls : List StepLine) (fault : StepFault) → fault ≢ steps.Memory → IsSystemsRead admitted custom table ls → IsReadingStopped admitted custom (table ∷ []) fault → ⊥
   systems_refused ls fault ample a stopped =
-      read_stopped admitted custom (table ∷ []) files (listing_files name) listed a.systems a.log a.reads (Err (fault_of fault)) a.sealed a.meant a.done (stopped_by admitted custom (table ∷ []) fault ample stopped)
+      read_stopped admitted custom (table ∷ []) files (listing_files name) listed a.systems a.log a.reads (Err fault) a.sealed a.meant a.done (stopped_by admitted custom (table ∷ []) fault ample stopped)
 
   systems_faults : (f g : StepFault) → f ≢ steps.Memory → g ≢ steps.Memory → IsReadingStopped admitted custom (table ∷ []) f → IsReadingStopped admitted custom (table ∷ []) g → f ≡ g
   systems_faults f g ample enough a b =
-      let both : (let x : Result (List StepLine) Fault = Err (fault_of f) in x) ≡ Err (fault_of g) =
-      both_stopped admitted custom (table ∷ []) files (listing_files name) listed (Err (fault_of f)) (Err (fault_of g)) (stopped_by admitted custom (table ∷ []) f ample a) (stopped_by admitted custom (table ∷ []) g enough b) in
-      let same : fault_of f ≡ fault_of g = cc in
-      one_step_fault f g same
+      let both : (let x : Result (List StepLine) StepFault = Err f in x) ≡ Err g =
+      both_stopped admitted custom (table ∷ []) files (listing_files name) listed (Err f) (Err g) (stopped_by admitted custom (table ∷ []) f ample a) (stopped_by admitted custom (table ∷ []) g enough b) in cc
 
 -- there are lines, or a fault that is none of memory
 module _ (Answers : Result (List StepLine) StepFault → Type 0) (Reads : List StepLine → Type 0) (Stops : StepFault → Type 0) (reads : (ls : List StepLine) → Answers (Ok ls) → Reads ls) (stops : (f : StepFault) → Answers (Err f) → (f ≢ steps.Memory) × Stops f)
@@ -223,7 +211,7 @@ module _ (ledger : Ledger) (name : List ℕ) (question : Question) (admitted : S
       let some = λ (names : List (List ℕ)) (is : table.listed.header ≡ Systems names). listed_some at.text table.listed names at.lists.lists is in
       then_single (Passing (AreTableTracks (custom_of ledger) (table ∷ []))) (λ over. after_tracks ledger name question (table ∷ []) admitted over)
       (one_passes (AreTableTracks (custom_of ledger) (table ∷ [])) (λ over other a b. one_over (custom_of ledger) table.listed.header over other some a b)) (λ over are.
-      then_single (Refusing faults.Place (PlaceAnswers name over question)) (λ on. after_place ledger name question (table ∷ []) admitted over) (refusing_single faults.Place (PlaceAnswers name over question) (place_one name over question)) (λ on here.
+      then_single (Refusing (λ of. faults.Refused (refusals.Shape (shape_refusals.Place of))) (PlaceAnswers name over question)) (λ on. after_place ledger name question (table ∷ []) admitted over) (refusing_single (λ of. faults.Refused (refusals.Shape (shape_refusals.Place of))) (PlaceAnswers name over question) (place_one name over question)) (λ on here.
       then_single (Refusing fault_of (ReadingAnswers admitted (custom_of ledger) (table ∷ []))) (λ lines. after_read ledger name question over lines)
       (refusing_single fault_of (ReadingAnswers admitted (custom_of ledger) (table ∷ [])) (reading_one admitted (custom_of ledger) table files name listed table.listed.header)) (λ lines read.
       then_single (Refusing too_long (ReplyAnswers ledger name over question)) (λ reply. Passing (λ (said : Said). said ≡ record { lines = lines; text = reply_text reply }))

@@ -1,5 +1,5 @@
 -- The files that a command names give one list of tables, or one fault.
-use Rattle.std.proofs.Common.{◌≡◌, ℕ, List, [], ◌∷◌, ◌⊎◌, Option, None, Some, Result, Ok, Err, inl, inr, refl, sym, ap, ◌∙◌, subst, arith}
+use Rattle.std.proofs.Common.{◌≡◌, ℕ, List, [], ◌∷◌, Option, None, Some, Result, Ok, Err, inl, inr, refl, sym, ap, ◌∙◌, subst, arith}
 use Rattle.wal_outside.specs.Files.{Files}
 use Rattle.wal_outside.specs.declared.folder.Folder.{Folder}
 use Rattle.dfa_loading.specs.Loading.{AreListedBy, FirstRefuses}
@@ -14,11 +14,12 @@ use Rattle.definitions.specs.Texts.{HasTextAt, Stores}
 use Rattle.definitions.specs.Trees.{Entry, Ledger, custom_of}
 use Rattle.definitions.proofs.OneTexts.{one_text_of}
 use Rattle.system_files.specs.SystemFiles.{Custom}
-use Rattle.session_cli.specs.declared.fault.Fault.{Fault}
-use Rattle.session_cli.specs.declared.fault.Fault.TheVariants as faults
+use Rattle.session_cli.specs.declared.refusal.Refusal.{Refusal}
 use Rattle.session_cli.specs.FileChecks.{FilesAnswers, files_loaded}
 use Rattle.session_cli.specs.FormulaFaults.{fault_of_loading}
-use Rattle.session_cli.proofs.CheckSteps.{IsSingle}
+use Rattle.session_cli.proofs.CheckSteps.{IsSingle, single_so}
+use Rattle.session_cli.proofs.RefusingSteps.{refusing_single}
+use Rattle.session_cli.specs.RefusingChecks.{Refusing}
 
 -- files that are the texts of one ledger have the same texts
 same_text_at : (custom : Custom) (folder : Folder) (entry : Option Entry) (text other : Option (List ℕ)) → HasTextAt custom folder entry text → HasTextAt custom folder entry other → text ≡ other
@@ -102,54 +103,19 @@ module _ (ledger : Ledger) (files others : Files) (stores : Stores ledger files)
   one_fault (file ∷ named) f g (inr (t, a, later)) (inr (u, b, after)) = one_fault named f g later after
 
 -- the tables, or the fault
-abbrev IsLoading : Ledger → List File → Result (List Loaded) Fault → Type 0
-IsLoading ledger named r =
-    ((tables : List Loaded) × (files : Files) × Stores ledger files × AreListedBy files named tables × (r ≡ Ok tables))
-    ⊎ ((fault : LoadFault) × (files : Files) × Stores ledger files × FirstRefuses files named fault × (r ≡ Err (fault_of_loading fault)))
+abbrev IsLoading : Ledger → List File → Result (List Loaded) LoadFault → Type 0
+IsLoading ledger named (Ok tables) = (files : Files) × Stores ledger files × AreListedBy files named tables
+IsLoading ledger named (Err fault) = (files : Files) × Stores ledger files × FirstRefuses files named fault
 
-files_is : (ledger : Ledger) (named : List File) (r : Result (List Loaded) Fault) → FilesAnswers ledger named r → IsLoading ledger named r
-files_is ledger named (Ok tables) (files, stores, are) = inl (tables, files, stores, are, refl)
-files_is ledger named (Err (faults.Unknown folder name)) (files, stores, first) = inr (loads.Unknown folder name, files, stores, first, refl)
-files_is ledger named (Err (faults.File folder name flaw)) (files, stores, first) = inr (loads.File folder name flaw, files, stores, first, refl)
-files_is ledger named (Err faults.Command) a = absurd a
-files_is ledger named (Err (faults.Syntax grammar at)) a = absurd a
-files_is ledger named (Err (faults.MixedChain byte)) a = absurd a
-files_is ledger named (Err (faults.Number grammar at)) a = absurd a
-files_is ledger named (Err (faults.NotLinear byte)) a = absurd a
-files_is ledger named (Err (faults.LoadDepth of)) a = absurd a
-files_is ledger named (Err (faults.Depth grammar at)) a = absurd a
-files_is ledger named (Err (faults.Long bytes)) a = absurd a
-files_is ledger named (Err (faults.Arity name tracks given)) a = absurd a
-files_is ledger named (Err (faults.SystemUnknown name)) a = absurd a
-files_is ledger named (Err (faults.NotAdmitted name law)) a = absurd a
-files_is ledger named (Err (faults.Clash name first other)) a = absurd a
-files_is ledger named (Err (faults.Direction first other)) a = absurd a
-files_is ledger named (Err (faults.Letters step)) a = absurd a
-files_is ledger named (Err (faults.States step)) a = absurd a
-files_is ledger named (Err (faults.Plain name)) a = absurd a
-files_is ledger named (Err (faults.Store folder name)) a = absurd a
-files_is ledger named (Err faults.Memory) a = absurd a
-files_is ledger named (Err faults.ScriptLimit) a = absurd a
-files_is ledger named (Err (faults.MacroArgs of at given)) a = absurd a
-files_is ledger named (Err (faults.MacroDepth of)) a = absurd a
-files_is ledger named (Err faults.MacroLong) a = absurd a
-files_is ledger named (Err (faults.Morphism kind)) a = absurd a
-files_is ledger named (Err (faults.LetterMissing letter)) a = absurd a
-files_is ledger named (Err (faults.CombineShape one two)) a = absurd a
-files_is ledger named (Err (faults.NotPlain of)) a = absurd a
-files_is ledger named (Err (faults.LangShape one two)) a = absurd a
-files_is ledger named (Err faults.TestLong) a = absurd a
-files_is ledger named (Err (faults.Place of)) a = absurd a
-files_is ledger named (Err (faults.BaseNeeded of systems)) a = absurd a
-files_is ledger named (Err (faults.NotRelated one two)) a = absurd a
+files_is : (ledger : Ledger) (named : List File) (r : Result (List Loaded) Refusal) → FilesAnswers ledger named r → (Refusing fault_of_loading (IsLoading ledger named)).answers r
+files_is ledger named (Ok tables) a = a
+files_is ledger named (Err refusal) a = a
+
+files_one : (ledger : Ledger) (named : List File) (r s : Result (List Loaded) LoadFault) → IsLoading ledger named r → IsLoading ledger named s → r ≡ s
+files_one ledger named (Ok ts) (Ok us) (files, stores, are) (others, also, are') = ap (λ (xs : List Loaded). let x : Result (List Loaded) LoadFault = Ok xs in x) (one_list ledger files others stores also named ts us are are')
+files_one ledger named (Ok ts) (Err fault) (files, stores, are) (others, also, first) = absurd (not_refused ledger files others stores also named ts fault are first)
+files_one ledger named (Err fault) (Ok us) (files, stores, first) (others, also, are) = absurd (not_refused ledger others files also stores named us fault are first)
+files_one ledger named (Err fault) (Err other) (files, stores, first) (others, also, first') = ap (λ (f : LoadFault). let x : Result (List Loaded) LoadFault = Err f in x) (one_fault ledger files others stores also named fault other first first')
 
 pub files_single : (ledger : Ledger) (named : List File) → IsSingle (files_loaded ledger named)
-files_single ledger named r s a b = by_cases (files_is ledger named r a) (files_is ledger named s b)
-  where
-    by_cases : IsLoading ledger named r → IsLoading ledger named s → r ≡ s
-    by_cases (inl (ts, files, stores, are, is)) (inl (us, others, also, are', is')) =
-        is ∙ (ap (λ (xs : List Loaded). let x : Result (List Loaded) Fault = Ok xs in x) (one_list ledger files others stores also named ts us are are') ∙ sym is')
-    by_cases (inl (ts, files, stores, are, is)) (inr (fault, others, also, first, is')) = absurd (not_refused ledger files others stores also named ts fault are first)
-    by_cases (inr (fault, files, stores, first, is)) (inl (us, others, also, are', is')) = absurd (not_refused ledger others files also stores named us fault are' first)
-    by_cases (inr (fault, files, stores, first, is)) (inr (other, others, also, first', is')) =
-        is ∙ (ap (λ (f : LoadFault). let x : Result (List Loaded) Fault = Err (fault_of_loading f) in x) (one_fault ledger files others stores also named fault other first first') ∙ sym is')
+files_single ledger named = single_so (files_loaded ledger named) (Refusing fault_of_loading (IsLoading ledger named)) (files_is ledger named) (refusing_single fault_of_loading (IsLoading ledger named) (files_one ledger named))

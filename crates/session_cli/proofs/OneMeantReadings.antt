@@ -19,11 +19,9 @@ use Rattle.num_system.specs.Tracks.{ShareDirection}
 use Rattle.system_files.specs.SystemFiles.{Custom}
 use Rattle.definitions.proofs.FileTables.{file_is_table}
 use Rattle.definitions.proofs.OneTable.{one_table}
-use Rattle.session_cli.specs.declared.fault.Fault.{Fault}
 use Rattle.session_cli.specs.FormulaSteps.{AreMeant, IsReadingStopped}
 use Rattle.session_cli.specs.TableReads.{TableRead, ARelation, AWord, AreSystemsUnder, IsTableRead, AreTablesRead}
 use Rattle.session_cli.specs.TableReading.{IsReadable, AreReadable}
-use Rattle.session_cli.specs.TrackSystems.{fault_of}
 use Rattle.session_cli.proofs.OneSealed.{meant_agree}
 use Rattle.session_cli.proofs.OneTableReadings.{StopsReading, refusal_stops, one_reading, reading_apart, one_stopping}
 use Rattle.session_cli.proofs.ReadableTables.{under_shared_direction}
@@ -61,16 +59,16 @@ read_readable systems old new (table ∷ tables) (r ∷ reads) are directions (m
     one (AWord x) read = over read.tracks read.over
 
 -- the tables are not read, over some systems that names mean
-pub record IsStopped (admitted : StepLog) (custom : Custom) (tables : List Loaded) (r : Result (List StepLine) Fault) : Type 0 where
+pub record IsStopped (admitted : StepLog) (custom : Custom) (tables : List Loaded) (r : Result (List StepLine) StepFault) : Type 0 where
   pub systems : List NamedSystem
   pub sealed : AreSealed systems
   pub meant : AreMeant custom systems
   pub fault : StepFault
   pub stops : StopsReading systems admitted tables fault
-  pub is : r ≡ Err (fault_of fault)
+  pub is : r ≡ Err fault
 
 -- reading is stopped by a step
-pub stopped_by : (admitted : StepLog) (custom : Custom) (tables : List Loaded) (fault : StepFault) → fault ≢ steps.Memory → IsReadingStopped admitted custom tables fault → IsStopped admitted custom tables (Err (fault_of fault))
+pub stopped_by : (admitted : StepLog) (custom : Custom) (tables : List Loaded) (fault : StepFault) → fault ≢ steps.Memory → IsReadingStopped admitted custom tables fault → IsStopped admitted custom tables (Err fault)
 stopped_by admitted custom tables fault not_memory a = record { systems = a.systems; sealed = a.sealed; meant = a.meant; fault = fault; stops = refusal_stops a.systems admitted tables fault not_memory a.refused; is = refl }
 
 module _ (admitted : StepLog) (custom : Custom) (tables : List Loaded) (files : Files) (named : List File) (listed : AreListedBy files named tables) where
@@ -91,12 +89,12 @@ module _ (admitted : StepLog) (custom : Custom) (tables : List Loaded) (files : 
   were_readable systems new rs meant read = read_readable systems admitted new tables rs (tables_listed file_is_table files named tables listed) (directions systems meant) read
 
   -- what is read is not stopped
-  pub read_stopped : (systems : List NamedSystem) (new : StepLog) (rs : List TableRead) (r : Result (List StepLine) Fault) → AreSealed systems → AreMeant custom systems → AreTablesRead systems admitted tables rs new → IsStopped admitted custom tables r → ⊥
+  pub read_stopped : (systems : List NamedSystem) (new : StepLog) (rs : List TableRead) (r : Result (List StepLine) StepFault) → AreSealed systems → AreMeant custom systems → AreTablesRead systems admitted tables rs new → IsStopped admitted custom tables r → ⊥
   read_stopped systems new rs r sealed meant read q =
       reading_apart one_table one_word_outcome systems q.systems (alike systems q.systems sealed meant q.sealed q.meant) admitted new tables rs q.fault read q.stops
 
   -- and two that stop have one fault
-  pub both_stopped : (r s : Result (List StepLine) Fault) → IsStopped admitted custom tables r → IsStopped admitted custom tables s → r ≡ s
+  pub both_stopped : (r s : Result (List StepLine) StepFault) → IsStopped admitted custom tables r → IsStopped admitted custom tables s → r ≡ s
   both_stopped r s p q =
       let same : p.fault ≡ q.fault = one_stopping one_table one_word_outcome p.systems q.systems (alike p.systems q.systems p.sealed p.meant q.sealed q.meant) admitted tables p.fault q.fault p.stops q.stops in
-      p.is ∙ (ap (λ (f : StepFault). let x : Result (List StepLine) Fault = Err (fault_of f) in x) same ∙ sym q.is)
+      p.is ∙ (ap (λ (f : StepFault). let x : Result (List StepLine) StepFault = Err f in x) same ∙ sym q.is)

@@ -14,7 +14,6 @@ use Rattle.formula_resolve.specs.declared.file.File.{File}
 use Rattle.word_output.specs.Words.{WordValue}
 use Rattle.definitions.specs.Trees.{Ledger, Tree, custom_of}
 use Rattle.system_files.specs.SystemFiles.{Custom}
-use Rattle.session_cli.specs.declared.fault.Fault.{Fault}
 use Rattle.session_cli.specs.Accepting.{stored}
 use Rattle.session_cli.specs.Checks.{Pure}
 use Rattle.session_cli.specs.FormulaSteps.{IsReadingStopped}
@@ -25,29 +24,14 @@ use Rattle.session_cli.specs.TrackSystems.{fault_of}
 use Rattle.session_cli.proofs.CheckNames.{OldAnswers}
 use Rattle.session_cli.proofs.CheckSteps.{IsSingle, then_single}
 use Rattle.session_cli.proofs.OneImages.{old_single}
-use Rattle.session_cli.proofs.OneLanguages.{refusing_single}
 use Rattle.session_cli.proofs.OneMeantReadings.{IsStopped, both_stopped, read_stopped, same_reading, stopped_by}
 use Rattle.session_cli.proofs.OneTexts.{stored_single}
+use Rattle.session_cli.proofs.RefusingSteps.{refusing_single}
 
 -- the lines of what is done, or its fault
 abbrev of_steps : Result WordValue StepFault → List StepLine → Result (List StepLine) StepFault
 of_steps (Ok word) lines = Ok lines
 of_steps (Err fault) lines = Err fault
-
--- two faults of steps are one where they are one as a command's
-fault_same : (f g : Fault) → ◌≡◌ {A = Result (List StepLine) Fault} (Err f) (Err g) → f ≡ g
-fault_same f g same = cc
-
-named_same : (e f : StepFault) → fault_of e ≡ fault_of f → e ≡ f
-named_same (steps.Letters a) (steps.Letters b) same = cc
-named_same (steps.Letters a) (steps.States b) same = absurd (cc)
-named_same (steps.Letters a) steps.Memory same = absurd (cc)
-named_same (steps.States a) (steps.Letters b) same = absurd (cc)
-named_same (steps.States a) (steps.States b) same = cc
-named_same (steps.States a) steps.Memory same = absurd (cc)
-named_same steps.Memory (steps.Letters b) same = absurd (cc)
-named_same steps.Memory (steps.States b) same = absurd (cc)
-named_same steps.Memory steps.Memory same = refl
 
 module _ (admitted : StepLog) (custom : Custom) (tables : List Loaded) (old : List ℕ) (does : WordValue → StepLog → Result WordValue StepFault → StepLog → Type 0) where
   -- the steps are done after the table is read
@@ -96,18 +80,17 @@ module _ (admitted : StepLog) (custom : Custom) (tables : List Loaded) (old : Li
         p.is ∙ ((λ i. of_steps (equal.0 i) (lines i)) ∙ sym q.is)
 
     -- a table that is read is not one that is not
-    stops : (s : Result (List StepLine) StepFault) (q : IsUnread s) → IsStopped admitted custom tables (Err (fault_of q.fault))
+    stops : (s : Result (List StepLine) StepFault) (q : IsUnread s) → IsStopped admitted custom tables (Err q.fault)
     stops s q = stopped_by admitted custom tables q.fault q.not_memory q.stopped
 
     not_both : (r s : Result (List StepLine) StepFault) → AreDone r → IsUnread s → ⊥
     not_both r s p q =
         let a = p.done.before in
-        read_stopped admitted custom tables files named listed a.systems a.reading a.reads (Err (fault_of q.fault)) a.sealed a.meant a.read (stops s q)
+        read_stopped admitted custom tables files named listed a.systems a.reading a.reads (Err q.fault) a.sealed a.meant a.read (stops s q)
 
     neither : (r s : Result (List StepLine) StepFault) → IsUnread r → IsUnread s → r ≡ s
     neither r s p q =
-        let same = fault_same (fault_of p.fault) (fault_of q.fault) (both_stopped admitted custom tables files named listed (Err (fault_of p.fault)) (Err (fault_of q.fault)) (stops r p) (stops s q)) in
-        p.is ∙ (ap (λ (f : StepFault). let x : Result (List StepLine) StepFault = Err f in x) (named_same p.fault q.fault same) ∙ sym q.is)
+        p.is ∙ (both_stopped admitted custom tables files named listed (Err p.fault) (Err q.fault) (stops r p) (stops s q) ∙ sym q.is)
 
     old_one : (r s : Result (List StepLine) StepFault) → OldWordAnswers admitted custom tables old does r → OldWordAnswers admitted custom tables old does s → r ≡ s
     old_one r s a b = by (old_is r a) (old_is s b)

@@ -13,15 +13,15 @@ use Rattle.command_head.specs.Parts.{first_word_of}
 use Rattle.command_head.specs.Grammar.{DerivesReg}
 use Rattle.command_head.proofs.OneFault.{one_head, one_reg}
 use Rattle.fixed_points.specs.Laws.{PromotionsHaveOneOutcome}
-use Rattle.regex_build.specs.declared.fault.RegexFault.{RegexFault}
 use Rattle.regex_build.specs.declared.fault.RegexFault.TheVariants as regexes
 use Rattle.regex_build.specs.Expression.{Expression}
 use Rattle.regex_build.specs.Patterns.{Pattern}
 use Rattle.regex_build.specs.Parsing.{Parses}
 use Rattle.regex_build.proofs.OneParse.{one_parse}
-use Rattle.session_cli.specs.declared.fault.Grammar.TheVariants as grammars
-use Rattle.session_cli.specs.declared.fault.Fault.{Fault}
-use Rattle.session_cli.specs.declared.fault.Fault.TheVariants as faults
+use Rattle.session_cli.specs.declared.text_refusal.TextRefusal.TheVariants as text_refusals
+use Rattle.session_cli.specs.declared.system_refusal.SystemRefusal.TheVariants as system_refusals
+use Rattle.session_cli.specs.declared.refusal.Refusal.{Refusal}
+use Rattle.session_cli.specs.declared.refusal.Refusal.TheVariants as refusals
 use Rattle.session_cli.specs.declared.command_word.CommandWord.{CommandWord}
 use Rattle.session_cli.specs.declared.command_word.CommandWord.TheVariants as words
 use Rattle.session_cli.specs.Checks.{Check, Pure}
@@ -31,10 +31,10 @@ use Rattle.language_steps.specs.declared.op.OneOp.TheVariants.{Star, Reversal}
 use Rattle.language_steps.specs.declared.op.PairOp.TheVariants.{Union, Intersection, Concatenation}
 use Rattle.definitions.specs.Tracks.{NamedSystem, Tracks, OverSets, OverSystems, letter_sets}
 use Rattle.system_files.specs.SystemFiles.{Custom}
-use Rattle.session_cli.specs.HeadTracks.{AreTracksOf}
+use Rattle.session_cli.specs.HeadTracks.{AreTracksOf, PartInDirection}
 use Rattle.session_cli.specs.HeadAnswers.{HeadAnswers}
-use Rattle.session_cli.specs.Accepting.{Answer, stored}
-use Rattle.session_cli.specs.RegOutcomes.{systems_named, TracksAnswers, ParsedAnswers, StepsAnswers, after_tracks, after_head, reg_checks}
+use Rattle.session_cli.specs.Accepting.{Accepted, stored}
+use Rattle.session_cli.specs.RegOutcomes.{systems_named, TracksAnswers, ParsedAnswers, StepsAnswers, after_tracks, after_head, reg_checks, fault_of_regex}
 use Rattle.session_cli.specs.SystemChecks.{systems_known}
 use Rattle.session_cli.specs.TrackSteps.{DoesExpression}
 use Rattle.session_cli.specs.TrackSystems.{fault_of}
@@ -49,7 +49,7 @@ use Rattle.session_cli.specs.LanguageOutcomes.{language_checks}
 use Rattle.session_cli.specs.ListingOutcomes.{inf_checks, test_checks}
 use Rattle.session_cli.specs.TransduceOutcomes.{transduce_checks}
 use Rattle.session_cli.specs.ConvertOutcomes.{convert_checks}
-use Rattle.session_cli.proofs.CheckSteps.{IsSingle, then_single}
+use Rattle.session_cli.proofs.CheckSteps.{IsSingle, then_single, single_so}
 use Rattle.session_cli.proofs.ActionSteps.{saying_single, storing_single}
 use Rattle.session_cli.proofs.OneExpression.{expression_one}
 use Rattle.session_cli.proofs.NameLemmas.{one_list_of_systems, not_parted, same_part}
@@ -65,227 +65,73 @@ use Rattle.session_cli.proofs.OneListings.{inf_single, test_single}
 use Rattle.session_cli.proofs.OneConverts.{convert_single}
 use Rattle.session_cli.proofs.OneSystems.{systems_single}
 use Rattle.session_cli.proofs.OneTextCommands.{macro_single, morphism_single, promote_single}
+use Rattle.session_cli.proofs.RefusingSteps.{refusing_one}
+use Rattle.session_cli.specs.RefusingChecks.{Refusing}
 
 -- an answer is that of one function of what was read
-single_by : {Y : Type 0} (c : Check Y) (value : Result Y Fault) → ((r : Result Y Fault) → c.answers r → r ≡ value) → IsSingle c
+single_by : {Y : Type 0} (c : Check Y) (value : Result Y Refusal) → ((r : Result Y Refusal) → c.answers r → r ≡ value) → IsSingle c
 single_by c value is = λ r s a b. is r a ∙ sym (is s b)
 
--- the steps, or why they are refused, as a command's
-abbrev of_steps : Result NamedAutomaton StepFault → StepLog → Result (List StepLine) Fault
+-- the lines of steps, or why they are refused
+abbrev of_steps : Result NamedAutomaton StepFault → StepLog → Result (List StepLine) StepFault
 of_steps (Ok made) log = Ok log.lines
-of_steps (Err fault) log = Err (fault_of fault)
+of_steps (Err fault) log = Err fault
 
-record AreSteps (admitted : StepLog) (tracks : Tracks) (e : Expression (List ℤ)) (r : Result (List StepLine) Fault) : Type 0 where
+record AreSteps (admitted : StepLog) (tracks : Tracks) (e : Expression (List ℤ)) (r : Result (List StepLine) StepFault) : Type 0 where
   result : Result NamedAutomaton StepFault
   log : StepLog
   does : DoesExpression tracks e admitted result log
-  not_memory : result ≢ Err steps.Memory
   is : r ≡ of_steps result log
 
-steps_is : (admitted : StepLog) (tracks : Tracks) (e : Expression (List ℤ)) (r : Result (List StepLine) Fault) → StepsAnswers admitted tracks e r → AreSteps admitted tracks e r
-steps_is admitted tracks e (Ok lines) (made, log, does, lines_are) = record { result = Ok made; log = log; does = does; not_memory = λ is. cc; is = ap Ok lines_are }
-steps_is admitted tracks e (Err (faults.Letters step)) (log, does) = record { result = Err (steps.Letters step); log = log; does = does; not_memory = λ is. cc; is = refl }
-steps_is admitted tracks e (Err (faults.States step)) (log, does) = record { result = Err (steps.States step); log = log; does = does; not_memory = λ is. cc; is = refl }
-steps_is admitted tracks e (Err faults.Command) a = absurd a
-steps_is admitted tracks e (Err (faults.Syntax grammar at)) a = absurd a
-steps_is admitted tracks e (Err (faults.Number grammar at)) a = absurd a
-steps_is admitted tracks e (Err (faults.Depth grammar at)) a = absurd a
-steps_is admitted tracks e (Err (faults.Long bytes)) a = absurd a
-steps_is admitted tracks e (Err (faults.SystemUnknown name)) a = absurd a
-steps_is admitted tracks e (Err (faults.NotAdmitted name law)) a = absurd a
-steps_is admitted tracks e (Err (faults.Direction first other)) a = absurd a
-steps_is admitted tracks e (Err (faults.Store folder name)) a = absurd a
-steps_is admitted tracks e (Err faults.Memory) a = absurd a
-steps_is admitted tracks e (Err faults.ScriptLimit) a = absurd a
-steps_is admitted tracks e (Err (faults.MacroArgs of at given)) a = absurd a
-steps_is admitted tracks e (Err (faults.MacroDepth of)) a = absurd a
-steps_is admitted tracks e (Err faults.MacroLong) a = absurd a
-steps_is admitted tracks e (Err (faults.Morphism kind)) a = absurd a
-steps_is admitted tracks e (Err (faults.LetterMissing letter)) a = absurd a
-steps_is admitted tracks e (Err (faults.CombineShape one two)) a = absurd a
-steps_is admitted tracks e (Err (faults.NotPlain of)) a = absurd a
-steps_is admitted tracks e (Err (faults.LangShape one two)) a = absurd a
-steps_is admitted tracks e (Err faults.TestLong) a = absurd a
-steps_is admitted tracks e (Err (faults.Place of)) a = absurd a
-steps_is admitted tracks e (Err (faults.BaseNeeded of systems)) a = absurd a
-steps_is admitted tracks e (Err (faults.NotRelated one two)) a = absurd a
-steps_is admitted tracks e (Err (faults.MixedChain byte)) a = absurd a
-steps_is admitted tracks e (Err (faults.NotLinear byte)) a = absurd a
-steps_is admitted tracks e (Err (faults.LoadDepth of)) a = absurd a
-steps_is admitted tracks e (Err (faults.Unknown of file)) a = absurd a
-steps_is admitted tracks e (Err (faults.File of file flaw)) a = absurd a
-steps_is admitted tracks e (Err (faults.Arity of count given)) a = absurd a
-steps_is admitted tracks e (Err (faults.Clash of one two)) a = absurd a
-steps_is admitted tracks e (Err (faults.Plain of)) a = absurd a
+steps_is : (admitted : StepLog) (tracks : Tracks) (e : Expression (List ℤ)) (r : Result (List StepLine) Refusal) → StepsAnswers admitted tracks e r → (Refusing fault_of (AreSteps admitted tracks e)).answers r
+steps_is admitted tracks e (Ok lines) (made, log, does, lines_are) = record { result = Ok made; log = log; does = does; is = ap (λ (ls : List StepLine). let x : Result (List StepLine) StepFault = Ok ls in x) lines_are }
+steps_is admitted tracks e (Err refusal) (fault, is, (log, does)) = (fault, is, record { result = Err fault; log = log; does = does; is = refl })
+
+steps_one : (admitted : StepLog) (tracks : Tracks) (e : Expression (List ℤ)) (r s : Result (List StepLine) StepFault) → AreSteps admitted tracks e r → AreSteps admitted tracks e s → r ≢ Err steps.Memory → s ≢ Err steps.Memory → r ≡ s
+steps_one admitted tracks e r s p q some other =
+    let one = one_result steps.Memory p.log q.log p.result q.result (expression_one tracks e admitted p.log q.log p.result q.result p.does q.does) (λ is. some (p.is ∙ ap (λ (x : Result NamedAutomaton StepFault). of_steps x p.log) is)) (λ is. other (q.is ∙ ap (λ (x : Result NamedAutomaton StepFault). of_steps x q.log) is)) in
+    p.is ∙ ((λ i. of_steps (one.0 i) (one.1 i)) ∙ sym q.is)
 
 steps_single : (admitted : StepLog) (tracks : Tracks) (e : Expression (List ℤ)) → IsSingle (Pure (StepsAnswers admitted tracks e))
-steps_single admitted tracks e r s a b = by (steps_is admitted tracks e r a) (steps_is admitted tracks e s b)
-  where
-    by : AreSteps admitted tracks e r → AreSteps admitted tracks e s → r ≡ s
-    by p q =
-        let one = one_result steps.Memory p.log q.log p.result q.result (expression_one tracks e admitted p.log q.log p.result q.result p.does q.does) p.not_memory q.not_memory in
-        p.is ∙ ((λ i. of_steps (one.0 i) (one.1 i)) ∙ sym q.is)
+steps_single admitted tracks e =
+    single_so (Pure (StepsAnswers admitted tracks e)) (Refusing fault_of (AreSteps admitted tracks e)) (steps_is admitted tracks e) (refusing_one fault_of (AreSteps admitted tracks e) steps.Memory refl (steps_one admitted tracks e))
 
--- the fault of an expression
-abbrev of_parse : Result Pattern RegexFault → Result Pattern Fault
-of_parse (Ok pattern) = Ok pattern
-of_parse (Err (regexes.Syntax at)) = Err (faults.Syntax grammars.Regex at)
-of_parse (Err (regexes.Number at)) = Err (faults.Number grammars.Regex at)
-of_parse (Err (regexes.Depth at)) = Err (faults.Depth grammars.Regex at)
-of_parse (Err regexes.Memory) = Err faults.Memory
-
-record IsParse (sets : List (List ℤ)) (body : List ℕ) (r : Result Pattern Fault) : Type 0 where
-  parse : Result Pattern RegexFault
-  parses : Parses sets body parse
-  some : parse ≢ Err regexes.Memory
-  is : r ≡ of_parse parse
-
-parsed_is : (sets : List (List ℤ)) (body : List ℕ) (r : Result Pattern Fault) → ParsedAnswers sets body r → IsParse sets body r
-parsed_is sets body (Ok pattern) a = record { parse = Ok pattern; parses = a; some = λ is. cc; is = refl }
-parsed_is sets body (Err (faults.Syntax grammars.Regex at)) a = record { parse = Err (regexes.Syntax at); parses = a; some = λ is. cc; is = refl }
-parsed_is sets body (Err (faults.Number grammars.Regex at)) a = record { parse = Err (regexes.Number at); parses = a; some = λ is. cc; is = refl }
-parsed_is sets body (Err (faults.Depth grammars.Regex at)) a = record { parse = Err (regexes.Depth at); parses = a; some = λ is. cc; is = refl }
-parsed_is sets body (Err (faults.Syntax grammars.Command at)) a = absurd a
-parsed_is sets body (Err (faults.Number grammars.Command at)) a = absurd a
-parsed_is sets body (Err (faults.Depth grammars.Command at)) a = absurd a
-parsed_is sets body (Err (faults.Syntax grammars.Formula at)) a = absurd a
-parsed_is sets body (Err (faults.Syntax grammars.Macro at)) a = absurd a
-parsed_is sets body (Err (faults.Syntax grammars.Rules at)) a = absurd a
-parsed_is sets body (Err (faults.Number grammars.Formula at)) a = absurd a
-parsed_is sets body (Err (faults.Number grammars.Macro at)) a = absurd a
-parsed_is sets body (Err (faults.Number grammars.Rules at)) a = absurd a
-parsed_is sets body (Err (faults.Depth grammars.Formula at)) a = absurd a
-parsed_is sets body (Err (faults.Depth grammars.Macro at)) a = absurd a
-parsed_is sets body (Err (faults.Depth grammars.Rules at)) a = absurd a
-parsed_is sets body (Err faults.Command) a = absurd a
-parsed_is sets body (Err (faults.Long bytes)) a = absurd a
-parsed_is sets body (Err (faults.SystemUnknown name)) a = absurd a
-parsed_is sets body (Err (faults.NotAdmitted name law)) a = absurd a
-parsed_is sets body (Err (faults.Direction first other)) a = absurd a
-parsed_is sets body (Err (faults.Letters step)) a = absurd a
-parsed_is sets body (Err (faults.States step)) a = absurd a
-parsed_is sets body (Err (faults.Store folder name)) a = absurd a
-parsed_is sets body (Err faults.Memory) a = absurd a
-parsed_is sets body (Err faults.ScriptLimit) a = absurd a
-parsed_is sets body (Err (faults.MacroArgs of at given)) a = absurd a
-parsed_is sets body (Err (faults.MacroDepth of)) a = absurd a
-parsed_is sets body (Err faults.MacroLong) a = absurd a
-parsed_is sets body (Err (faults.Morphism kind)) a = absurd a
-parsed_is sets body (Err (faults.LetterMissing letter)) a = absurd a
-parsed_is sets body (Err (faults.CombineShape one two)) a = absurd a
-parsed_is sets body (Err (faults.NotPlain of)) a = absurd a
-parsed_is sets body (Err (faults.LangShape one two)) a = absurd a
-parsed_is sets body (Err faults.TestLong) a = absurd a
-parsed_is sets body (Err (faults.Place of)) a = absurd a
-parsed_is sets body (Err (faults.BaseNeeded of systems)) a = absurd a
-parsed_is sets body (Err (faults.NotRelated one two)) a = absurd a
-parsed_is sets body (Err (faults.MixedChain byte)) a = absurd a
-parsed_is sets body (Err (faults.NotLinear byte)) a = absurd a
-parsed_is sets body (Err (faults.LoadDepth of)) a = absurd a
-parsed_is sets body (Err (faults.Unknown of file)) a = absurd a
-parsed_is sets body (Err (faults.File of file flaw)) a = absurd a
-parsed_is sets body (Err (faults.Arity of tracks given)) a = absurd a
-parsed_is sets body (Err (faults.Clash of one two)) a = absurd a
-parsed_is sets body (Err (faults.Plain of)) a = absurd a
+-- the expression of a quoted text
+parsed_is : (sets : List (List ℤ)) (body : List ℕ) (r : Result Pattern Refusal) → ParsedAnswers sets body r → (Refusing fault_of_regex (Parses sets body)).answers r
+parsed_is sets body (Ok pattern) a = a
+parsed_is sets body (Err refusal) a = a
 
 parsed_single : (sets : List (List ℤ)) (body : List ℕ) → IsSingle (Pure (ParsedAnswers sets body))
-parsed_single sets body r s a b =
-    let p : IsParse sets body r = parsed_is sets body r a in
-    let q : IsParse sets body s = parsed_is sets body s b in
-    p.is ∙ (ap of_parse (one_parse sets body p.parse q.parse p.parses q.parses p.some q.some) ∙ sym q.is)
+parsed_single sets body = single_so (Pure (ParsedAnswers sets body)) (Refusing fault_of_regex (Parses sets body)) (parsed_is sets body) (refusing_one fault_of_regex (Parses sets body) regexes.Memory refl (one_parse sets body))
 
 -- what names of systems give
-abbrev IsNames : Custom → List (List ℕ) → Result Tracks Fault → Type 0
+abbrev IsNames : Custom → List (List ℕ) → Result Tracks Refusal → Type 0
 IsNames custom names x = ((direction : Direction) × (named : List NamedSystem) × AreTracksOf custom (heads.Systems names) (OverSystems direction named) × (x ≡ Ok (OverSystems direction named)))
-    ⊎ ((first : List ℕ) × (other : List ℕ) × TracksAnswers custom (heads.Systems names) (Err (faults.Direction first other)) × (x ≡ Err (faults.Direction first other)))
+    ⊎ ((first : List ℕ) × (other : List ℕ) × PartInDirection custom names first other × (x ≡ Err (refusals.System (system_refusals.Direction first other))))
 
-names_is : (custom : Custom) (names : List (List ℕ)) (x : Result Tracks Fault) → TracksAnswers custom (heads.Systems names) x → IsNames custom names x
+names_is : (custom : Custom) (names : List (List ℕ)) (x : Result Tracks Refusal) → TracksAnswers custom (heads.Systems names) x → IsNames custom names x
 names_is custom names (Ok (OverSets others)) a = absurd a
 names_is custom names (Ok (OverSystems direction named)) a = inl (direction, named, a, refl)
-names_is custom names (Err (faults.Direction first other)) a = inr (first, other, a, refl)
-names_is custom names (Err faults.Command) a = absurd a
-names_is custom names (Err (faults.Syntax grammar at)) a = absurd a
-names_is custom names (Err (faults.Number grammar at)) a = absurd a
-names_is custom names (Err (faults.Depth grammar at)) a = absurd a
-names_is custom names (Err (faults.Long bytes)) a = absurd a
-names_is custom names (Err (faults.SystemUnknown name)) a = absurd a
-names_is custom names (Err (faults.NotAdmitted name law)) a = absurd a
-names_is custom names (Err (faults.Letters step)) a = absurd a
-names_is custom names (Err (faults.States step)) a = absurd a
-names_is custom names (Err (faults.Store folder name)) a = absurd a
-names_is custom names (Err faults.Memory) a = absurd a
-names_is custom names (Err faults.ScriptLimit) a = absurd a
-names_is custom names (Err (faults.MacroArgs of at given)) a = absurd a
-names_is custom names (Err (faults.MacroDepth of)) a = absurd a
-names_is custom names (Err faults.MacroLong) a = absurd a
-names_is custom names (Err (faults.Morphism kind)) a = absurd a
-names_is custom names (Err (faults.LetterMissing letter)) a = absurd a
-names_is custom names (Err (faults.CombineShape one two)) a = absurd a
-names_is custom names (Err (faults.NotPlain of)) a = absurd a
-names_is custom names (Err (faults.LangShape one two)) a = absurd a
-names_is custom names (Err faults.TestLong) a = absurd a
-names_is custom names (Err (faults.Place of)) a = absurd a
-names_is custom names (Err (faults.BaseNeeded of systems)) a = absurd a
-names_is custom names (Err (faults.NotRelated one two)) a = absurd a
-names_is custom names (Err (faults.MixedChain byte)) a = absurd a
-names_is custom names (Err (faults.NotLinear byte)) a = absurd a
-names_is custom names (Err (faults.LoadDepth of)) a = absurd a
-names_is custom names (Err (faults.Unknown of file)) a = absurd a
-names_is custom names (Err (faults.File of file flaw)) a = absurd a
-names_is custom names (Err (faults.Arity of tracks given)) a = absurd a
-names_is custom names (Err (faults.Clash of one two)) a = absurd a
-names_is custom names (Err (faults.Plain of)) a = absurd a
+names_is custom names (Err refusal) (first, other, is, part) = inr (first, other, part, ap (λ (why : Refusal). let x : Result Tracks Refusal = Err why in x) is)
 
-by_names : (custom : Custom) (names : List (List ℕ)) (r s : Result Tracks Fault) → IsNames custom names r → IsNames custom names s → r ≡ s
+by_names : (custom : Custom) (names : List (List ℕ)) (r s : Result Tracks Refusal) → IsNames custom names r → IsNames custom names s → r ≡ s
 by_names custom names r s (inl (direction, named, are, is)) (inl (direction', named', are', is')) =
     let same = one_list_of_systems custom names direction direction' named named' are are' in
-    is ∙ ((λ i. let x : Result Tracks Fault = Ok (OverSystems (same.0 i) (same.1 i)) in x) ∙ sym is')
+    is ∙ ((λ i. let x : Result Tracks Refusal = Ok (OverSystems (same.0 i) (same.1 i)) in x) ∙ sym is')
 by_names custom names r s (inl (direction, named, are, is)) (inr (first, other, part, is')) = absurd (not_parted custom names direction named first other are part)
 by_names custom names r s (inr (x, y, part, is)) (inl (direction, named, are, is')) = absurd (not_parted custom names direction named x y are part)
 by_names custom names r s (inr (x, y, part, is)) (inr (x', y', part', is')) =
     let same = same_part custom names x y x' y' part part' in
-    is ∙ ((λ i. let z : Result Tracks Fault = Err (faults.Direction (same.0 i) (same.1 i)) in z) ∙ sym is')
+    is ∙ ((λ i. let z : Result Tracks Refusal = Err (refusals.System (system_refusals.Direction (same.0 i) (same.1 i))) in z) ∙ sym is')
 
 -- the tracks that a head means, or why it means none
 tracks_single : (custom : Custom) (of_head : heads.Alphabets) → IsSingle (Pure (TracksAnswers custom of_head))
 tracks_single custom (heads.Sets sets) r s a b = single_by (Pure (TracksAnswers custom (heads.Sets sets))) (Ok (OverSets sets)) is r s a b
   where
-    is : (r : Result Tracks Fault) → TracksAnswers custom (heads.Sets sets) r → r ≡ Ok (OverSets sets)
-    is (Ok (OverSets others)) a = ap (λ (ss : List (List ℤ)). let x : Result Tracks Fault = Ok (OverSets ss) in x) a
+    is : (r : Result Tracks Refusal) → TracksAnswers custom (heads.Sets sets) r → r ≡ Ok (OverSets sets)
+    is (Ok (OverSets others)) a = ap (λ (ss : List (List ℤ)). let x : Result Tracks Refusal = Ok (OverSets ss) in x) a
     is (Ok (OverSystems direction named)) a = absurd a
-    is (Err faults.Command) a = absurd a
-    is (Err (faults.Syntax grammar at)) a = absurd a
-    is (Err (faults.Number grammar at)) a = absurd a
-    is (Err (faults.Depth grammar at)) a = absurd a
-    is (Err (faults.Long bytes)) a = absurd a
-    is (Err (faults.SystemUnknown name)) a = absurd a
-    is (Err (faults.NotAdmitted name law)) a = absurd a
-    is (Err (faults.Direction first other)) a = absurd a
-    is (Err (faults.Letters step)) a = absurd a
-    is (Err (faults.States step)) a = absurd a
-    is (Err (faults.Store folder name)) a = absurd a
-    is (Err faults.Memory) a = absurd a
-    is (Err faults.ScriptLimit) a = absurd a
-    is (Err (faults.MacroArgs of at given)) a = absurd a
-    is (Err (faults.MacroDepth of)) a = absurd a
-    is (Err faults.MacroLong) a = absurd a
-    is (Err (faults.Morphism kind)) a = absurd a
-    is (Err (faults.LetterMissing letter)) a = absurd a
-    is (Err (faults.CombineShape one two)) a = absurd a
-    is (Err (faults.NotPlain of)) a = absurd a
-    is (Err (faults.LangShape one two)) a = absurd a
-    is (Err faults.TestLong) a = absurd a
-    is (Err (faults.Place of)) a = absurd a
-    is (Err (faults.BaseNeeded of systems)) a = absurd a
-    is (Err (faults.NotRelated one two)) a = absurd a
-    is (Err (faults.MixedChain byte)) a = absurd a
-    is (Err (faults.NotLinear byte)) a = absurd a
-    is (Err (faults.LoadDepth of)) a = absurd a
-    is (Err (faults.Unknown of file)) a = absurd a
-    is (Err (faults.File of file flaw)) a = absurd a
-    is (Err (faults.Arity of tracks given)) a = absurd a
-    is (Err (faults.Clash of one two)) a = absurd a
-    is (Err (faults.Plain of)) a = absurd a
+    is (Err refusal) a = absurd a
 tracks_single custom (heads.Systems names) r s a b = by_names custom names r s (names_is custom names r a) (names_is custom names s b)
 
 -- a `reg` has one outcome
@@ -303,43 +149,11 @@ reg_single limit ledger text =
 pub length_single : (text : List ℕ) → IsSingle (Pure (LengthAnswers text))
 length_single text r s a b = by_length (length_is r a) (length_is s b)
   where
-    length_is : (x : Result (Unit {0}) Fault) → LengthAnswers text x → ((length text ≤ 65536) × (x ≡ Ok tt)) ⊎ ((65536 < length text) × (x ≡ Err (faults.Long 65536)))
+    length_is : (x : Result (Unit {0}) Refusal) → LengthAnswers text x → ((length text ≤ 65536) × (x ≡ Ok tt)) ⊎ ((65536 < length text) × (x ≡ Err (refusals.Text (text_refusals.Long 65536))))
     length_is (Ok short) a = inl (a, refl)
-    length_is (Err (faults.Long bytes)) (is, long) = inr (long, ap (λ (n : ℕ). let x : Result (Unit {0}) Fault = Err (faults.Long n) in x) is)
-    length_is (Err faults.Command) a = absurd a
-    length_is (Err (faults.Syntax grammar at)) a = absurd a
-    length_is (Err (faults.Number grammar at)) a = absurd a
-    length_is (Err (faults.Depth grammar at)) a = absurd a
-    length_is (Err (faults.SystemUnknown name)) a = absurd a
-    length_is (Err (faults.NotAdmitted name law)) a = absurd a
-    length_is (Err (faults.Direction first other)) a = absurd a
-    length_is (Err (faults.Letters step)) a = absurd a
-    length_is (Err (faults.States step)) a = absurd a
-    length_is (Err (faults.Store folder name)) a = absurd a
-    length_is (Err faults.Memory) a = absurd a
-    length_is (Err faults.ScriptLimit) a = absurd a
-    length_is (Err (faults.MacroArgs of at given)) a = absurd a
-    length_is (Err (faults.MacroDepth of)) a = absurd a
-    length_is (Err faults.MacroLong) a = absurd a
-    length_is (Err (faults.Morphism kind)) a = absurd a
-    length_is (Err (faults.LetterMissing letter)) a = absurd a
-    length_is (Err (faults.CombineShape one two)) a = absurd a
-    length_is (Err (faults.NotPlain of)) a = absurd a
-    length_is (Err (faults.LangShape one two)) a = absurd a
-    length_is (Err faults.TestLong) a = absurd a
-    length_is (Err (faults.Place of)) a = absurd a
-    length_is (Err (faults.BaseNeeded of systems)) a = absurd a
-    length_is (Err (faults.NotRelated one two)) a = absurd a
-    length_is (Err (faults.MixedChain byte)) a = absurd a
-    length_is (Err (faults.NotLinear byte)) a = absurd a
-    length_is (Err (faults.LoadDepth of)) a = absurd a
-    length_is (Err (faults.Unknown of file)) a = absurd a
-    length_is (Err (faults.File of file flaw)) a = absurd a
-    length_is (Err (faults.Arity of tracks given)) a = absurd a
-    length_is (Err (faults.Clash of one two)) a = absurd a
-    length_is (Err (faults.Plain of)) a = absurd a
+    length_is (Err refusal) (is, long) = inr (long, ap (λ (why : Refusal). let x : Result (Unit {0}) Refusal = Err why in x) is)
 
-    by_length : ((length text ≤ 65536) × (r ≡ Ok tt)) ⊎ ((65536 < length text) × (r ≡ Err (faults.Long 65536))) → ((length text ≤ 65536) × (s ≡ Ok tt)) ⊎ ((65536 < length text) × (s ≡ Err (faults.Long 65536))) → r ≡ s
+    by_length : ((length text ≤ 65536) × (r ≡ Ok tt)) ⊎ ((65536 < length text) × (r ≡ Err (refusals.Text (text_refusals.Long 65536)))) → ((length text ≤ 65536) × (s ≡ Ok tt)) ⊎ ((65536 < length text) × (s ≡ Err (refusals.Text (text_refusals.Long 65536)))) → r ≡ s
     by_length (inl (short, is)) (inl (short', is')) = is ∙ sym is'
     by_length (inl (short, is)) (inr (long, is')) = absurd (omega arith)
     by_length (inr (long, is)) (inl (short, is')) = absurd (omega arith)
@@ -396,45 +210,13 @@ one_word text v w a b = sym (word_again v) ∙ (ap (λ (xs : List ℕ). word_by_
 word_single : (text : List ℕ) → IsSingle (Pure (WordAnswers text))
 word_single text r s a b = by_word (word_is r a) (word_is s b)
   where
-    word_is : (x : Result CommandWord Fault) → WordAnswers text x → ((word : CommandWord) × (first_word_of text ≡ word_text word) × (x ≡ Ok word)) ⊎ (((word : CommandWord) → first_word_of text ≢ word_text word) × (x ≡ Err faults.Command))
+    word_is : (x : Result CommandWord Refusal) → WordAnswers text x → ((word : CommandWord) × (first_word_of text ≡ word_text word) × (x ≡ Ok word)) ⊎ (((word : CommandWord) → first_word_of text ≢ word_text word) × (x ≡ Err (refusals.Text text_refusals.Command)))
     word_is (Ok word) a = inl (word, a, refl)
-    word_is (Err faults.Command) a = inr (a, refl)
-    word_is (Err (faults.Long bytes)) a = absurd a
-    word_is (Err (faults.Syntax grammar at)) a = absurd a
-    word_is (Err (faults.Number grammar at)) a = absurd a
-    word_is (Err (faults.Depth grammar at)) a = absurd a
-    word_is (Err (faults.SystemUnknown name)) a = absurd a
-    word_is (Err (faults.NotAdmitted name law)) a = absurd a
-    word_is (Err (faults.Direction first other)) a = absurd a
-    word_is (Err (faults.Letters step)) a = absurd a
-    word_is (Err (faults.States step)) a = absurd a
-    word_is (Err (faults.Store folder name)) a = absurd a
-    word_is (Err faults.Memory) a = absurd a
-    word_is (Err faults.ScriptLimit) a = absurd a
-    word_is (Err (faults.MacroArgs of at given)) a = absurd a
-    word_is (Err (faults.MacroDepth of)) a = absurd a
-    word_is (Err faults.MacroLong) a = absurd a
-    word_is (Err (faults.Morphism kind)) a = absurd a
-    word_is (Err (faults.LetterMissing letter)) a = absurd a
-    word_is (Err (faults.CombineShape one two)) a = absurd a
-    word_is (Err (faults.NotPlain of)) a = absurd a
-    word_is (Err (faults.LangShape one two)) a = absurd a
-    word_is (Err faults.TestLong) a = absurd a
-    word_is (Err (faults.Place of)) a = absurd a
-    word_is (Err (faults.BaseNeeded of systems)) a = absurd a
-    word_is (Err (faults.NotRelated one two)) a = absurd a
-    word_is (Err (faults.MixedChain byte)) a = absurd a
-    word_is (Err (faults.NotLinear byte)) a = absurd a
-    word_is (Err (faults.LoadDepth of)) a = absurd a
-    word_is (Err (faults.Unknown of file)) a = absurd a
-    word_is (Err (faults.File of file flaw)) a = absurd a
-    word_is (Err (faults.Arity of tracks given)) a = absurd a
-    word_is (Err (faults.Clash of one two)) a = absurd a
-    word_is (Err (faults.Plain of)) a = absurd a
+    word_is (Err refusal) (is, none) = inr (none, ap (λ (why : Refusal). let x : Result CommandWord Refusal = Err why in x) is)
 
-    by_word : ((word : CommandWord) × (first_word_of text ≡ word_text word) × (r ≡ Ok word)) ⊎ (((word : CommandWord) → first_word_of text ≢ word_text word) × (r ≡ Err faults.Command))
-        → ((word : CommandWord) × (first_word_of text ≡ word_text word) × (s ≡ Ok word)) ⊎ (((word : CommandWord) → first_word_of text ≢ word_text word) × (s ≡ Err faults.Command)) → r ≡ s
-    by_word (inl (v, is, at)) (inl (w, is', at')) = at ∙ (ap (λ (x : CommandWord). let y : Result CommandWord Fault = Ok x in y) (one_word (first_word_of text) v w is is') ∙ sym at')
+    by_word : ((word : CommandWord) × (first_word_of text ≡ word_text word) × (r ≡ Ok word)) ⊎ (((word : CommandWord) → first_word_of text ≢ word_text word) × (r ≡ Err (refusals.Text text_refusals.Command)))
+        → ((word : CommandWord) × (first_word_of text ≡ word_text word) × (s ≡ Ok word)) ⊎ (((word : CommandWord) → first_word_of text ≢ word_text word) × (s ≡ Err (refusals.Text text_refusals.Command))) → r ≡ s
+    by_word (inl (v, is, at)) (inl (w, is', at')) = at ∙ (ap (λ (x : CommandWord). let y : Result CommandWord Refusal = Ok x in y) (one_word (first_word_of text) v w is is') ∙ sym at')
     by_word (inl (v, is, at)) (inr (none, at')) = absurd (none v is)
     by_word (inr (none, at)) (inl (w, is', at')) = absurd (none w is')
     by_word (inr (none, at)) (inr (none', at')) = at ∙ sym at'
@@ -463,6 +245,6 @@ pub after_length_single : PromotionsHaveOneOutcome → (limit : ℕ) (ledger : L
 after_length_single promotions limit ledger text =
     then_single (Pure (WordAnswers text)) (λ word. checks_by word limit ledger text) (word_single text) (λ word is. single_by_word promotions word limit ledger text)
 
-pub one_answer : PromotionsHaveOneOutcome → (limit : ℕ) (ledger : Ledger) (text : List ℕ) (answer other : Answer) → Outcome limit ledger text answer → Outcome limit ledger text other → answer ≡ other
+pub one_answer : PromotionsHaveOneOutcome → (limit : ℕ) (ledger : Ledger) (text : List ℕ) (answer other : Result Accepted Refusal) → Outcome limit ledger text answer → Outcome limit ledger text other → answer ≡ other
 one_answer promotions limit ledger text =
     then_single (Pure (LengthAnswers text)) (λ done. after_length limit ledger text) (length_single text) (λ done short. after_length_single promotions limit ledger text)

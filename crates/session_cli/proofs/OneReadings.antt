@@ -16,13 +16,13 @@ use Rattle.formula_parse.proofs.DerivedFlaws.{formula_flaw}
 use Rattle.formula_parse.proofs.BothGrammars.{breaks_derived, reaches_derived, WholeDerived, whole_derived}
 use Rattle.formula_parse.proofs.Cuts.{one_derivation, Stops, breaks_stop, reaches_stop, whole_stops}
 use Rattle.formula_parse.proofs.OneAnswer.{one_answer_of, one_tree_of}
-use Rattle.session_cli.specs.declared.fault.Grammar.TheVariants as grammars
-use Rattle.session_cli.specs.declared.fault.Fault.{Fault}
-use Rattle.session_cli.specs.declared.fault.Fault.TheVariants as faults
+use Rattle.session_cli.specs.declared.refusal.Refusal.{Refusal}
 use Rattle.session_cli.specs.Checks.{Pure}
 use Rattle.session_cli.specs.FormulaFaults.{fault_of_formula}
 use Rattle.session_cli.specs.FormulaOutcomes.{FormulaAnswers}
-use Rattle.session_cli.proofs.CheckSteps.{IsSingle}
+use Rattle.session_cli.proofs.CheckSteps.{IsSingle, single_so}
+use Rattle.session_cli.proofs.RefusingSteps.{refusing_single}
+use Rattle.session_cli.specs.RefusingChecks.{Refusing}
 
 -- a formula that is read, or a fault
 abbrev ReadResult : Type 0
@@ -79,65 +79,14 @@ one_result_of text (Ok formula) (Err fault) a b = absurd (not_refused text formu
 one_result_of text (Err fault) (Ok formula) a b = absurd (not_refused text formula b fault a)
 one_result_of text (Err fault) (Err other) (not_memory, a) (not_memory', b) = one_answer_of text (Err fault) (Err other) (of_text fault not_memory) (of_text other not_memory') a b
 
-abbrev of_result : ReadResult → Result trees.Formula Fault
-of_result (Ok formula) = Ok formula
-of_result (Err fault) = Err (fault_of_formula fault)
-
-record IsReading (text : List ℕ) (r : Result trees.Formula Fault) : Type 0 where
-  answer : ReadResult
-  holds : IsReadAs text answer
-  is : r ≡ of_result answer
-
-reading_is : (text : List ℕ) (r : Result trees.Formula Fault) → FormulaAnswers text r → IsReading text r
-reading_is text (Ok formula) a = record { answer = Ok formula; holds = a; is = refl }
-reading_is text (Err (faults.Syntax grammars.Formula at)) a = record { answer = Err (parses.Syntax at); holds = ((λ is. cc), a); is = refl }
-reading_is text (Err (faults.Number grammars.Formula at)) a = record { answer = Err (parses.Number at); holds = ((λ is. cc), a); is = refl }
-reading_is text (Err (faults.Depth grammars.Formula at)) a = record { answer = Err (parses.Depth at); holds = ((λ is. cc), a); is = refl }
-reading_is text (Err (faults.MixedChain at)) a = record { answer = Err (parses.MixedChain at); holds = ((λ is. cc), a); is = refl }
-reading_is text (Err (faults.NotLinear at)) a = record { answer = Err (parses.NotLinear at); holds = ((λ is. cc), a); is = refl }
-reading_is text (Err (faults.LoadDepth of)) a = absurd a
-reading_is text (Err (faults.Syntax grammars.Command at)) a = absurd a
-reading_is text (Err (faults.Syntax grammars.Regex at)) a = absurd a
-reading_is text (Err (faults.Syntax grammars.Macro at)) a = absurd a
-reading_is text (Err (faults.Syntax grammars.Rules at)) a = absurd a
-reading_is text (Err (faults.Number grammars.Command at)) a = absurd a
-reading_is text (Err (faults.Number grammars.Regex at)) a = absurd a
-reading_is text (Err (faults.Number grammars.Macro at)) a = absurd a
-reading_is text (Err (faults.Number grammars.Rules at)) a = absurd a
-reading_is text (Err (faults.Depth grammars.Command at)) a = absurd a
-reading_is text (Err (faults.Depth grammars.Regex at)) a = absurd a
-reading_is text (Err (faults.Depth grammars.Macro at)) a = absurd a
-reading_is text (Err (faults.Depth grammars.Rules at)) a = absurd a
-reading_is text (Err faults.Command) a = absurd a
-reading_is text (Err (faults.Long bytes)) a = absurd a
-reading_is text (Err (faults.Unknown folder name)) a = absurd a
-reading_is text (Err (faults.File folder name flaw)) a = absurd a
-reading_is text (Err (faults.Arity name tracks given)) a = absurd a
-reading_is text (Err (faults.SystemUnknown name)) a = absurd a
-reading_is text (Err (faults.NotAdmitted name law)) a = absurd a
-reading_is text (Err (faults.Clash name first other)) a = absurd a
-reading_is text (Err (faults.Direction first other)) a = absurd a
-reading_is text (Err (faults.Letters step)) a = absurd a
-reading_is text (Err (faults.States step)) a = absurd a
-reading_is text (Err (faults.Plain name)) a = absurd a
-reading_is text (Err (faults.Store folder name)) a = absurd a
-reading_is text (Err faults.Memory) a = absurd a
-reading_is text (Err faults.ScriptLimit) a = absurd a
-reading_is text (Err (faults.MacroArgs of at given)) a = absurd a
-reading_is text (Err (faults.MacroDepth of)) a = absurd a
-reading_is text (Err faults.MacroLong) a = absurd a
-reading_is text (Err (faults.Morphism kind)) a = absurd a
-reading_is text (Err (faults.LetterMissing letter)) a = absurd a
-reading_is text (Err (faults.CombineShape one two)) a = absurd a
-reading_is text (Err (faults.NotPlain of)) a = absurd a
-reading_is text (Err (faults.LangShape one two)) a = absurd a
-reading_is text (Err faults.TestLong) a = absurd a
-reading_is text (Err (faults.Place of)) a = absurd a
-reading_is text (Err (faults.BaseNeeded of systems)) a = absurd a
-reading_is text (Err (faults.NotRelated one two)) a = absurd a
+reading_is : (text : List ℕ) (r : Result trees.Formula Refusal) → FormulaAnswers text r → (Refusing fault_of_formula (IsReadAs text)).answers r
+reading_is text (Ok formula) a = a
+reading_is text (Err refusal) (parses.Syntax at, is, a) = (parses.Syntax at, is, ((λ same. cc), a))
+reading_is text (Err refusal) (parses.Number at, is, a) = (parses.Number at, is, ((λ same. cc), a))
+reading_is text (Err refusal) (parses.Depth at, is, a) = (parses.Depth at, is, ((λ same. cc), a))
+reading_is text (Err refusal) (parses.MixedChain at, is, a) = (parses.MixedChain at, is, ((λ same. cc), a))
+reading_is text (Err refusal) (parses.NotLinear at, is, a) = (parses.NotLinear at, is, ((λ same. cc), a))
+reading_is text (Err refusal) (parses.Memory, is, a) = absurd a
 
 pub reading_single : (text : List ℕ) → IsSingle (Pure (FormulaAnswers text))
-reading_single text r s a b =
-    let p : IsReading text r = reading_is text r a in
-    let q : IsReading text s = reading_is text s b in
-    p.is ∙ (ap of_result (one_result_of text p.answer q.answer p.holds q.holds) ∙ sym q.is)
+reading_single text = single_so (Pure (FormulaAnswers text)) (Refusing fault_of_formula (IsReadAs text)) (reading_is text) (refusing_single fault_of_formula (IsReadAs text) (one_result_of text))

@@ -7,8 +7,9 @@ use Rattle.command_head.proofs.OneFault.{one_head}
 use Rattle.command_head.proofs.RunHeads.{one_load, one_alone}
 use Rattle.script_runs.specs.Languages.{Enters, Loads, Ends}
 use Rattle.fixed_points.specs.Laws.{PromotionsHaveOneOutcome}
-use Rattle.session_cli.specs.declared.fault.Fault.{Fault}
-use Rattle.session_cli.specs.declared.fault.Fault.TheVariants as faults
+use Rattle.session_cli.specs.declared.file_refusal.FileRefusal.TheVariants as file_refusals
+use Rattle.session_cli.specs.declared.refusal.Refusal.{Refusal}
+use Rattle.session_cli.specs.declared.refusal.Refusal.TheVariants as refusals
 use Rattle.session_cli.specs.declared.run_word.RunWord.{RunWord}
 use Rattle.session_cli.specs.declared.run_word.RunWord.TheVariants as words
 use Rattle.session_cli.specs.Checks.{Pure, Passing, Then}
@@ -29,9 +30,9 @@ one_of_two P Q x y r s not_both (inr (q, is)) (inl (p, is')) = absurd (not_both 
 one_of_two P Q x y r s not_both (inr (q, is)) (inr (q', is')) = is ∙ sym is'
 
 depth_single : (depth : ℕ) (name : List ℕ) → IsSingle (Pure (DepthAnswers depth name))
-depth_single depth name r s a b = one_of_two (depth < 8) (8 ≤ depth) (Ok tt) (Err (faults.LoadDepth name)) r s (λ less more. omega arith) a b
+depth_single depth name r s a b = one_of_two (depth < 8) (8 ≤ depth) (Ok tt) (Err (refusals.File (file_refusals.LoadDepth name))) r s (λ less more. omega arith) a b
 
-text_in_single : (name : List ℕ) (there : Option (List ℕ)) (r s : Result (List ℕ) Fault) → TextIn name there r → TextIn name there s → r ≡ s
+text_in_single : (name : List ℕ) (there : Option (List ℕ)) (r s : Result (List ℕ) Refusal) → TextIn name there r → TextIn name there s → r ≡ s
 text_in_single name None r s a b = a ∙ sym b
 text_in_single name (Some text) r s a b = one_of_two _ _ _ _ r s (λ short long. omega arith) a b
 
@@ -58,7 +59,7 @@ one_word : (text : List ℕ) (v w : RunWord) → text ≡ run_word_text v → te
 one_word text v w a b = sym (word_again v) ∙ (ap (λ (xs : List ℕ). word_by_letter (get_or xs 0 0)) (sym a ∙ b) ∙ word_again w)
 
 word_single : (text : List ℕ) → IsSingle (Pure (RunWordAnswers text))
-word_single text r s (inl (v, is, at)) (inl (w, is', at')) = at ∙ (ap (λ (x : RunWord). let y : Result (Option RunWord) Fault = Ok (Some x) in y) (one_word (first_word_of text) v w is is') ∙ sym at')
+word_single text r s (inl (v, is, at)) (inl (w, is', at')) = at ∙ (ap (λ (x : RunWord). let y : Result (Option RunWord) Refusal = Ok (Some x) in y) (one_word (first_word_of text) v w is is') ∙ sym at')
 word_single text r s (inl (v, is, at)) (inr (none, at')) = absurd (none v is)
 word_single text r s (inr (none, at)) (inl (w, is', at')) = absurd (none w is')
 word_single text r s (inr (none, at)) (inr (none', at')) = at ∙ sym at'

@@ -1,5 +1,5 @@
 -- Runs over one script end alike, unless the store, the sink or memory fails.
-use Rattle.std.proofs.Common.{◌≡◌, ℕ, ◌⊎◌, Bool, true, false, List, Option, None, Some, Result, Ok, Err, sym, ap, ◌∙◌, subst, inl, inr}
+use Rattle.std.proofs.Common.{◌≡◌, ℕ, ◌⊎◌, Bool, true, false, List, Option, None, Some, Result, Ok, Err, sym, ap, ◌∙◌, subst, inl, inr, refl}
 use Rattle.std.specs.Option.{is_some, option_map}
 use Rattle.wal_outside.specs.Files.{Files, put}
 use Rattle.wal_outside.specs.Views.{SourceView, SinkView, StoreView}
@@ -19,8 +19,9 @@ use Rattle.definitions.specs.Trees.{Ledger, custom_of}
 use Rattle.definitions.proofs.OneTexts.{one_text_of}
 use Rattle.fixed_points.specs.Laws.{PromotionsHaveOneOutcome}
 use Rattle.system_files.specs.SystemFiles.{Custom}
-use Rattle.session_cli.specs.declared.fault.Fault.TheVariants as faults
+use Rattle.session_cli.specs.declared.refusal.Refusal.{Refusal}
 use Rattle.session_cli.specs.declared.fault.Fault.{Fault}
+use Rattle.session_cli.specs.declared.fault.Fault.TheVariants as faults
 use Rattle.session_cli.specs.Checks.{Check, Fails}
 use Rattle.session_cli.specs.Accepting.{Success, Accepted, Storing, Saying}
 use Rattle.session_cli.specs.RunOutcomes.{run_checks}
@@ -31,50 +32,34 @@ use Rattle.session_cli.proofs.WholeSteps.{usage_or_memory}
 use Rattle.command_line.proofs.OneOptions.{one_options}
 use Rattle.session_cli.proofs.OneReplies.{one_reply}
 
+-- what a check answers, as a reply
+abbrev as_reply : Result (Deed Accepted) Refusal → Result (Deed Accepted) Fault
+as_reply (Ok deed) = Ok deed
+as_reply (Err refusal) = Err (faults.Refused refusal)
+
+record IsAnswered (checks : Check (Deed Accepted)) (reply : Result (Deed Accepted) Fault) : Type 0 where
+  answer : Result (Deed Accepted) Refusal
+  answers : checks.answers answer
+  is : reply ≡ as_reply answer
+
 -- a check that is not refused by the store or by memory is refused by its answer
-own_answer : (checks : Check (Deed Accepted)) (f : Fault) → Fails checks f → is_some (failed_at f) ≡ false → is_memory_fault f ≡ false → checks.answers (Err f)
-own_answer checks (faults.Store folder name) fails store memory = cc
-own_answer checks faults.Memory fails store memory = cc
-own_answer checks faults.ScriptLimit fails store memory = fails
-own_answer checks (faults.MacroArgs of at given) fails store memory = fails
-own_answer checks (faults.MacroDepth of) fails store memory = fails
-own_answer checks faults.MacroLong fails store memory = fails
-own_answer checks (faults.Morphism kind) fails store memory = fails
-own_answer checks (faults.LetterMissing letter) fails store memory = fails
-own_answer checks (faults.CombineShape one two) fails store memory = fails
-own_answer checks (faults.NotPlain of) fails store memory = fails
-own_answer checks (faults.LangShape one two) fails store memory = fails
-own_answer checks faults.TestLong fails store memory = fails
-own_answer checks (faults.Place of) fails store memory = fails
-own_answer checks (faults.BaseNeeded of systems) fails store memory = fails
-own_answer checks (faults.NotRelated one two) fails store memory = fails
-own_answer checks (faults.MixedChain byte) fails store memory = fails
-own_answer checks (faults.NotLinear byte) fails store memory = fails
-own_answer checks (faults.LoadDepth of) fails store memory = fails
-own_answer checks (faults.Unknown of file) fails store memory = fails
-own_answer checks (faults.File of file flaw) fails store memory = fails
-own_answer checks (faults.Arity of tracks given) fails store memory = fails
-own_answer checks (faults.Clash of one two) fails store memory = fails
-own_answer checks (faults.Plain of) fails store memory = fails
-own_answer checks faults.Command fails store memory = fails
-own_answer checks (faults.Syntax grammar at) fails store memory = fails
-own_answer checks (faults.Number grammar at) fails store memory = fails
-own_answer checks (faults.Depth grammar at) fails store memory = fails
-own_answer checks (faults.Long bytes) fails store memory = fails
-own_answer checks (faults.SystemUnknown name) fails store memory = fails
-own_answer checks (faults.NotAdmitted name law) fails store memory = fails
-own_answer checks (faults.Direction first other) fails store memory = fails
-own_answer checks (faults.Letters step) fails store memory = fails
-own_answer checks (faults.States step) fails store memory = fails
+own_answer : (checks : Check (Deed Accepted)) (f : Fault) → Fails checks f → is_some (failed_at f) ≡ false → is_memory_fault f ≡ false → IsAnswered checks (Err f)
+own_answer checks (faults.Refused refusal) fails store memory = record { answer = Err refusal; answers = fails; is = refl }
+own_answer checks (faults.Store folder name) fails store memory = absurd (cc)
+own_answer checks faults.Memory fails store memory = absurd (cc)
 
 -- a reply that is neither the store's nor memory's is what the checks answer
-proper : (limit : ℕ) (stop : Bool) (depth : ℕ) (ledger : Ledger) (text : List ℕ) (reply : Result (Deed Accepted) Fault) → IsReply (run_checks limit depth ledger text) reply → IsProper (session_language limit stop) reply → (run_checks limit depth ledger text).answers reply
-proper limit stop depth ledger text (Ok deed) is own = is
+proper : (limit : ℕ) (stop : Bool) (depth : ℕ) (ledger : Ledger) (text : List ℕ) (reply : Result (Deed Accepted) Fault) → IsReply (run_checks limit depth ledger text) reply → IsProper (session_language limit stop) reply → IsAnswered (run_checks limit depth ledger text) reply
+proper limit stop depth ledger text (Ok deed) is own = record { answer = Ok deed; answers = is; is = refl }
 proper limit stop depth ledger text (Err fault) (inl fails) own = own_answer (run_checks limit depth ledger text) fault fails own.store own.memory
 proper limit stop depth ledger text (Err fault) (inr (success, made, is)) own = absurd (by_store (ap (λ (f : Fault). is_some (failed_at f)) (sym is) ∙ own.store))
   where
     by_store : true ≡ false → ⊥
     by_store is = cc
+
+-- two such replies are one
+one_proper : PromotionsHaveOneOutcome → (limit depth : ℕ) (ledger : Ledger) (text : List ℕ) (reply other : Result (Deed Accepted) Fault) → IsAnswered (run_checks limit depth ledger text) reply → IsAnswered (run_checks limit depth ledger text) other → reply ≡ other
+one_proper promotions limit depth ledger text reply other p q = p.is ∙ (ap as_reply (one_reply promotions limit depth ledger text p.answer q.answer p.answers q.answers) ∙ sym q.is)
 
 -- a command that stores changes the files in one way
 one_entry : (custom : Custom) (success : Success) (old new new' : Option Files) → StoresEntry custom success old new → StoresEntry custom success old new' → new ≡ new'
@@ -95,7 +80,7 @@ stays custom (Saying said) files new is = (files, is)
 module _ (promotions : PromotionsHaveOneOutcome) where
   pub session_is_determined : (limit : ℕ) (stop : Bool) → IsDetermined (session_language limit stop)
   session_is_determined limit stop = record {
-    one_reply = λ depth ledger text reply other a b own own'. one_reply promotions limit depth ledger text reply other (proper limit stop depth ledger text reply a own) (proper limit stop depth ledger text other b own');
+    one_reply = λ depth ledger text reply other a b own own'. one_proper promotions limit depth ledger text reply other (proper limit stop depth ledger text reply a own) (proper limit stop depth ledger text other b own');
     one_change = λ ledger accepted old new new' a b. one_change (custom_of ledger) accepted old new new' a b;
     stays_reported = λ ledger accepted files new changed. stays (custom_of ledger) accepted files new changed;
   }

@@ -1,5 +1,5 @@
 -- A `transduce` has one outcome.
-use Rattle.std.proofs.Common.{◌≡◌, ℕ, List, Some, Result, Ok, Err, codes, refl, sym, ap, ◌∙◌, subst}
+use Rattle.std.proofs.Common.{◌≡◌, ℕ, List, Some, Result, Ok, Err, codes, subst}
 use Rattle.wal_outside.specs.Files.{Files}
 use Rattle.digit_tuple.specs.declared.direction.Direction.TheVariants.{Msd}
 use Rattle.command_head.specs.Grammar.{DerivesImage}
@@ -13,7 +13,7 @@ use Rattle.transducer_loading.proofs.OneAnswer.{files_have_one_answer}
 use Rattle.transducer_reading.specs.Transducers.{Transducer}
 use Rattle.definitions.specs.Texts.{Stores}
 use Rattle.definitions.specs.Trees.{Ledger, Transduced, custom_of}
-use Rattle.session_cli.specs.declared.fault.Fault.{Fault}
+use Rattle.session_cli.specs.declared.refusal.Refusal.{Refusal}
 use Rattle.session_cli.specs.BaseWords.{BaseAnswers, fault_of_base, named_base, over_base}
 use Rattle.session_cli.specs.Checks.{Pure}
 use Rattle.session_cli.specs.FileChecks.{files_loaded}
@@ -25,37 +25,32 @@ use Rattle.session_cli.specs.TransduceOutcomes.{after_transduce_head, after_tran
 use Rattle.session_cli.specs.TransduceSteps.{DoesTransduce}
 use Rattle.session_cli.specs.TransducerChecks.{TransducerAnswers, transducer_loaded}
 use Rattle.session_cli.proofs.BaseNames.{base_one}
-use Rattle.session_cli.proofs.CheckSteps.{IsSingle, then_single}
+use Rattle.session_cli.proofs.CheckSteps.{IsSingle, then_single, single_so}
 use Rattle.session_cli.proofs.OneHeads.{head_single}
-use Rattle.session_cli.proofs.OneLanguages.{refusing_single}
 use Rattle.session_cli.proofs.OneLoadings.{files_single, same_there}
 use Rattle.session_cli.proofs.OneOldWords.{made_single}
 use Rattle.session_cli.proofs.OneSystems.{systems_single}
 use Rattle.session_cli.proofs.TransduceSteps.{transductions_one}
+use Rattle.session_cli.specs.RefusingChecks.{Refusing}
+use Rattle.session_cli.proofs.RefusingSteps.{refusing_single}
 
 -- what the file of a transducer gives
-abbrev of_loading : Result Transducer LoadFault → Result Transducer Fault
-of_loading (Ok t) = Ok t
-of_loading (Err fault) = Err (fault_of_loading fault)
-
-record IsLoading (ledger : Ledger) (name : List ℕ) (r : Result Transducer Fault) : Type 0 where
+record IsLoading (ledger : Ledger) (name : List ℕ) (r : Result Transducer LoadFault) : Type 0 where
   files : Files
   stores : Stores ledger files
-  loaded : Result Transducer LoadFault
-  answers : AnswersTransducer files name loaded
-  is : r ≡ of_loading loaded
+  answers : AnswersTransducer files name r
 
-loading_is : (ledger : Ledger) (name : List ℕ) (r : Result Transducer Fault) → TransducerAnswers ledger name r → IsLoading ledger name r
-loading_is ledger name (Ok t) (files, stores, there) = record { files = files; stores = stores; loaded = Ok t; answers = there; is = refl }
-loading_is ledger name (Err fault) (load, is, (files, stores, refuses)) = record { files = files; stores = stores; loaded = Err load; answers = refuses; is = ap (λ (f : Fault). let r : Result Transducer Fault = Err f in r) (sym is) }
+loading_is : (ledger : Ledger) (name : List ℕ) (r : Result Transducer Refusal) → TransducerAnswers ledger name r → (Refusing fault_of_loading (IsLoading ledger name)).answers r
+loading_is ledger name (Ok made) (files, stores, there) = record { files = files; stores = stores; answers = there }
+loading_is ledger name (Err refusal) (fault, is, (files, stores, refuses)) = (fault, is, record { files = files; stores = stores; answers = refuses })
+
+loading_one : (ledger : Ledger) (name : List ℕ) (r s : Result Transducer LoadFault) → IsLoading ledger name r → IsLoading ledger name s → r ≡ s
+loading_one ledger name r s p q =
+    let same : q.files ≡ p.files = λ i folder under. same_there ledger q.files p.files q.stores p.stores folder under i in
+    files_have_one_answer p.files name r s p.answers (subst (λ (files : Files). AnswersTransducer files name s) same q.answers)
 
 transducer_single : (ledger : Ledger) (name : List ℕ) → IsSingle (transducer_loaded ledger name)
-transducer_single ledger name r s a b =
-    let p : IsLoading ledger name r = loading_is ledger name r a in
-    let q : IsLoading ledger name s = loading_is ledger name s b in
-    let same : q.files ≡ p.files = λ i folder under. same_there ledger q.files p.files q.stores p.stores folder under i in
-    let also : AnswersTransducer p.files name q.loaded = subst (λ (files : Files). AnswersTransducer files name q.loaded) same q.answers in
-    p.is ∙ (ap of_loading (files_have_one_answer p.files name p.loaded q.loaded p.answers also) ∙ sym q.is)
+transducer_single ledger name = single_so (transducer_loaded ledger name) (Refusing fault_of_loading (IsLoading ledger name)) (loading_is ledger name) (refusing_single fault_of_loading (IsLoading ledger name) (loading_one ledger name))
 
 pub transduce_single : (limit : ℕ) (ledger : Ledger) (text : List ℕ) → IsSingle (transduce_checks limit ledger text)
 transduce_single limit ledger text =

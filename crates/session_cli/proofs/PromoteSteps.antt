@@ -40,9 +40,9 @@ use Rattle.session_cli.proofs.StoringTexts.{unstored, word_refused}
 
 -- what has no fixed point, or passes a limit
 pub not_promoted : (limit : ℕ) (rules : Rules) (fault : PromoteFault) (log : StepLog) → DoesPromote rules (no_steps limit) (Err fault) log → Fails (Pure (PromotedAnswers limit rules)) (fault_of_promotion fault)
-not_promoted limit rules (promotes.Morphism kind) log refused = (log, refused)
-not_promoted limit rules (promotes.Step (steps.Letters step)) log refused = (log, refused)
-not_promoted limit rules (promotes.Step (steps.States step)) log refused = (log, refused)
+not_promoted limit rules (promotes.Morphism kind) log refused = (promotes.Morphism kind, refl, (log, refused))
+not_promoted limit rules (promotes.Step (steps.Letters step)) log refused = (promotes.Step (steps.Letters step), refl, (log, refused))
+not_promoted limit rules (promotes.Step (steps.States step)) log refused = (promotes.Step (steps.States step), refl, (log, refused))
 not_promoted limit rules (promotes.Step steps.Memory) log refused = tt
 
 pub promotion_refused : (limit : ℕ) (custom : Custom) (name : List ℕ) (rules : Rules) (fault : Fault) → Fails (Pure (PromotedAnswers limit rules)) fault → Fails (after_morphism limit custom name rules) fault

@@ -1,5 +1,5 @@
 -- From the head of a `reg` to what it stores.
-use Rattle.std.proofs.Common.{◌≡◌, ℕ, ◌≤◌, Bool, List, length, Result, Ok, Err, sym, ◌∙◌, ap, arith}
+use Rattle.std.proofs.Common.{◌≡◌, ℕ, ◌≤◌, Bool, List, length, Result, Ok, Err, sym, ◌∙◌, ap, arith, refl}
 use Rattle.wal_outside.specs.declared.folder.Folder.TheVariants.{Automata}
 use Rattle.digit_tuple.specs.Steps.{StepLog}
 use Rattle.command_head.specs.Heads.{RegHead, AtWord, reg_at}
@@ -9,7 +9,9 @@ use Rattle.command_head.specs.declared.fault.HeadFault.TheVariants as head_fault
 use Rattle.command_head.proofs.Walks.{run_goes}
 use Rattle.command_head.proofs.ReadHeads.{reg_derived}
 use Rattle.command_head.proofs.Breaking.{syntax_breaks, number_breaks}
-use Rattle.session_cli.specs.declared.fault.Grammar.TheVariants as grammars
+use Rattle.session_cli.specs.declared.text_refusal.Grammar.TheVariants as grammars
+use Rattle.session_cli.specs.declared.text_refusal.TextRefusal.TheVariants as text_refusals
+use Rattle.session_cli.specs.declared.refusal.Refusal.TheVariants as refusals
 use Rattle.session_cli.specs.declared.fault.Fault.{Fault}
 use Rattle.session_cli.specs.declared.fault.Fault.TheVariants as faults
 use Rattle.session_cli.specs.declared.file_change.Made.{Made}
@@ -32,11 +34,11 @@ spelled : (text : List ℕ) (head : RegHead) → reg_at text ≡ Ok head → Der
 unfolding reg_at
 spelled text head read = reg_derived (texts_of (parts_of text)) head (run_goes (length text) AtWord (parts_of text) head read)
 
-pub head_syntax : (limit : ℕ) (ledger : Ledger) (text : List ℕ) (at : ℕ) → length text ≤ 65536 → reg_at text ≡ Err (head_faults.Syntax at) → Fails (reg_checks limit ledger text) (faults.Syntax grammars.Command at)
-head_syntax limit ledger text at short read = fails_first (Pure (HeadAnswers DerivesReg text)) (λ head. after_head limit (custom_of ledger) head) (faults.Syntax grammars.Command at) (syntax_breaks text at (omega (arith, short)) read)
+pub head_syntax : (limit : ℕ) (ledger : Ledger) (text : List ℕ) (at : ℕ) → length text ≤ 65536 → reg_at text ≡ Err (head_faults.Syntax at) → Fails (reg_checks limit ledger text) (faults.Refused (refusals.Text (text_refusals.Syntax grammars.Command at)))
+head_syntax limit ledger text at short read = fails_first (Pure (HeadAnswers DerivesReg text)) (λ head. after_head limit (custom_of ledger) head) (faults.Refused (refusals.Text (text_refusals.Syntax grammars.Command at))) (head_faults.Syntax at, refl, syntax_breaks text at (omega (arith, short)) read)
 
-pub head_number : (limit : ℕ) (ledger : Ledger) (text : List ℕ) (at : ℕ) → length text ≤ 65536 → reg_at text ≡ Err (head_faults.Number at) → Fails (reg_checks limit ledger text) (faults.Number grammars.Command at)
-head_number limit ledger text at short read = fails_first (Pure (HeadAnswers DerivesReg text)) (λ head. after_head limit (custom_of ledger) head) (faults.Number grammars.Command at) (number_breaks text at (omega (arith, short)) read)
+pub head_number : (limit : ℕ) (ledger : Ledger) (text : List ℕ) (at : ℕ) → length text ≤ 65536 → reg_at text ≡ Err (head_faults.Number at) → Fails (reg_checks limit ledger text) (faults.Refused (refusals.Text (text_refusals.Number grammars.Command at)))
+head_number limit ledger text at short read = fails_first (Pure (HeadAnswers DerivesReg text)) (λ head. after_head limit (custom_of ledger) head) (faults.Refused (refusals.Text (text_refusals.Number grammars.Command at))) (head_faults.Number at, refl, number_breaks text at (omega (arith, short)) read)
 
 -- a system of a head is refused
 pub head_refused : (limit : ℕ) (custom : Custom) (head : RegHead) (fault : Fault) → Fails (systems_known limit custom (systems_named head.alphabets)) fault → Fails (after_head limit custom head) fault

@@ -12,6 +12,8 @@ use Rattle.automaton_steps.specs.Numbered.{numbered}
 use Rattle.regex_build.specs.Expression.{Expression}
 use Rattle.regex_build.specs.Patterns.{Pattern}
 use Rattle.regex_build.specs.Parsing.{Parses}
+use Rattle.regex_build.specs.declared.fault.RegexFault.{RegexFault}
+use Rattle.regex_build.specs.declared.fault.RegexFault.TheVariants as regexes
 use Rattle.dfa_text.specs.Meaning.{AreTrackSets}
 use Rattle.dfa_text.specs.RelationText.{relation_text}
 use Rattle.product_op.specs.Validity.{AreLanguages}
@@ -35,7 +37,7 @@ use Rattle.session_cli.specs.declared.file_change.Made.{Made}
 use Rattle.definitions.specs.Texts.{IsTrackText}
 use Rattle.session_cli.specs.TrackSteps.{DoesExpression}
 use Rattle.session_cli.specs.Accepting.{Success, stored}
-use Rattle.session_cli.specs.RegOutcomes.{ParsedAnswers, StepsAnswers, after_tracks}
+use Rattle.session_cli.specs.RegOutcomes.{ParsedAnswers, StepsAnswers, after_tracks, fault_of_regex}
 use Rattle.session_cli.specs.FileChanges.{Prints, Makes}
 use Rattle.session_cli.proofs.CheckNames.{regex_success, after_expression}
 use Rattle.session_cli.proofs.CheckSteps.{fails_first, fails_after, makes_after}
@@ -65,39 +67,9 @@ made_by_steps custom admitted name tracks body shown pattern lines printed_lines
       has_text = subst (IsTrackText custom tracks pattern.tree) (sym p.text_is) has;
       printed_is = p.printed_is ∙ (ap (λ (ls : List StepLine). shown_steps shown ls) same ∙ sym (append-nil (shown_steps shown lines)));
     }
-    by_text (Err (faults.Long bytes)) (is, long) = (is, (relation_text (header_of tracks) automaton, has, long))
+    by_text (Err (faults.Refused refusal)) (is, long) = (is, (relation_text (header_of tracks) automaton, has, long))
     by_text (Err faults.Memory) refused = tt
-    by_text (Err faults.Command) refused = absurd refused
-    by_text (Err (faults.Syntax grammar at)) refused = absurd refused
-    by_text (Err (faults.Number grammar at)) refused = absurd refused
-    by_text (Err (faults.Depth grammar at)) refused = absurd refused
-    by_text (Err (faults.SystemUnknown unknown)) refused = absurd refused
-    by_text (Err (faults.NotAdmitted unknown law)) refused = absurd refused
-    by_text (Err (faults.Direction first other)) refused = absurd refused
-    by_text (Err (faults.Letters step)) refused = absurd refused
-    by_text (Err (faults.States step)) refused = absurd refused
     by_text (Err (faults.Store folder of)) refused = absurd refused
-    by_text (Err faults.ScriptLimit) refused = absurd refused
-    by_text (Err (faults.MacroArgs of at given)) refused = absurd refused
-    by_text (Err (faults.MacroDepth of)) refused = absurd refused
-    by_text (Err faults.MacroLong) refused = absurd refused
-    by_text (Err (faults.Morphism kind)) refused = absurd refused
-    by_text (Err (faults.LetterMissing letter)) refused = absurd refused
-    by_text (Err (faults.CombineShape one two)) refused = absurd refused
-    by_text (Err (faults.NotPlain of)) refused = absurd refused
-    by_text (Err (faults.LangShape one two)) refused = absurd refused
-    by_text (Err faults.TestLong) refused = absurd refused
-    by_text (Err (faults.Place of)) refused = absurd refused
-    by_text (Err (faults.BaseNeeded of systems)) refused = absurd refused
-    by_text (Err (faults.NotRelated one two)) refused = absurd refused
-    by_text (Err (faults.MixedChain byte)) refused = absurd refused
-    by_text (Err (faults.NotLinear byte)) refused = absurd refused
-    by_text (Err (faults.LoadDepth of)) refused = absurd refused
-    by_text (Err (faults.Unknown of file)) refused = absurd refused
-    by_text (Err (faults.File of file flaw)) refused = absurd refused
-    by_text (Err (faults.Arity of tracks given)) refused = absurd refused
-    by_text (Err (faults.Clash of one two)) refused = absurd refused
-    by_text (Err (faults.Plain of)) refused = absurd refused
 
 -- the step over sets was made
 pub made_over_sets : (custom : Custom) (admitted : StepLog) (name : List ℕ) (sets : List (List ℤ)) (body : List ℕ) (shown : Bool) (pattern : Pattern) (automaton : Automaton) (steps : StepLog) → AreTrackSets sets → Parses sets body (Ok pattern)
@@ -129,8 +101,8 @@ unstepped custom admitted name tracks body pattern f parses refused =
 
 -- its number is said, unless memory ran out
 stopped_at : (admitted : StepLog) (tracks : Tracks) (e : Expression (List ℤ)) (log : StepLog) (fault : StepFault) → DoesExpression tracks e admitted (Err fault) log → Fails (Pure (StepsAnswers admitted tracks e)) (fault_of fault)
-stopped_at admitted tracks e log (step_faults.Letters step) refused = (log, refused)
-stopped_at admitted tracks e log (step_faults.States step) refused = (log, refused)
+stopped_at admitted tracks e log (step_faults.Letters step) refused = (step_faults.Letters step, refl, (log, refused))
+stopped_at admitted tracks e log (step_faults.States step) refused = (step_faults.States step, refl, (log, refused))
 stopped_at admitted tracks e log step_faults.Memory refused = tt
 
 pub refused_over_sets : (custom : Custom) (admitted : StepLog) (name : List ℕ) (sets : List (List ℤ)) (body : List ℕ) (pattern : Pattern) (fault : StepFault) (log : StepLog) → Parses sets body (Ok pattern)
@@ -150,3 +122,10 @@ pub languages_fit : (direction : Direction) (named : List NamedSystem) (language
     → AreLanguages (sizes_of pattern.sets) languages
 languages_fit direction named languages body pattern are parses =
     subst (λ (sizes : List ℕ). AreLanguages sizes languages) (sym (ap sizes_of parses.sets_are ∙ system_sizes direction named)) (languages_of_tracks direction (systems_of named) languages are)
+
+-- a quoted text that is no expression refuses the command
+pub unparsed : (sets : List (List ℤ)) (body : List ℕ) (fault : RegexFault) → Parses sets body (Err fault) → Fails (Pure (ParsedAnswers sets body)) (fault_of_regex fault)
+unparsed sets body (regexes.Syntax at) breaks = (regexes.Syntax at, refl, breaks)
+unparsed sets body (regexes.Number at) breaks = (regexes.Number at, refl, breaks)
+unparsed sets body (regexes.Depth at) breaks = (regexes.Depth at, refl, breaks)
+unparsed sets body regexes.Memory breaks = tt

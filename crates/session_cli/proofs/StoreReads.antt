@@ -33,73 +33,13 @@ found_reported (Some files) = refl
 kept : (store : StoreView) (f : Fault) → is_store_fault f ≡ false → IsReadFault f store store
 kept store (faults.Store folder name) other = cc
 kept store faults.Memory other = refl
-kept store faults.Command other = refl
-kept store (faults.Syntax grammar at) other = refl
-kept store (faults.Number grammar at) other = refl
-kept store (faults.Depth grammar at) other = refl
-kept store (faults.Long bytes) other = refl
-kept store (faults.SystemUnknown name) other = refl
-kept store (faults.Direction first second) other = refl
-kept store (faults.Letters step) other = refl
-kept store (faults.States step) other = refl
-kept store faults.ScriptLimit other = refl
-kept store (faults.MacroArgs of at given) other = refl
-kept store (faults.MacroDepth of) other = refl
-kept store faults.MacroLong other = refl
-kept store (faults.Morphism kind) other = refl
-kept store (faults.LetterMissing letter) other = refl
-kept store (faults.CombineShape one two) other = refl
-kept store (faults.NotPlain of) other = refl
-kept store (faults.LangShape one two) other = refl
-kept store faults.TestLong other = refl
-kept store (faults.Place of) other = refl
-kept store (faults.BaseNeeded of systems) other = refl
-kept store (faults.NotRelated one two) other = refl
-kept store (faults.MixedChain byte) other = refl
-kept store (faults.NotLinear byte) other = refl
-kept store (faults.LoadDepth of) other = refl
-kept store (faults.Unknown of file) other = refl
-kept store (faults.File of file flaw) other = refl
-kept store (faults.Arity of tracks given) other = refl
-kept store (faults.Clash of one two) other = refl
-kept store (faults.Plain of) other = refl
-kept store (faults.NotAdmitted of law) other = refl
+kept store (faults.Refused refusal) other = refl
 
 -- a later fault that is not the store's keeps what was read before
 moved : (old new : StoreView) (f : Fault) → is_store_fault f ≡ false → new.failed ≡ old.failed → IsReadFault f old new
 moved old new (faults.Store folder name) other is = cc
 moved old new faults.Memory other is = is
-moved old new faults.Command other is = is
-moved old new (faults.Syntax grammar at) other is = is
-moved old new (faults.Number grammar at) other is = is
-moved old new (faults.Depth grammar at) other is = is
-moved old new (faults.Long bytes) other is = is
-moved old new (faults.SystemUnknown name) other is = is
-moved old new (faults.Direction first second) other is = is
-moved old new (faults.Letters step) other is = is
-moved old new (faults.States step) other is = is
-moved old new faults.ScriptLimit other is = is
-moved old new (faults.MacroArgs of at given) other is = is
-moved old new (faults.MacroDepth of) other is = is
-moved old new faults.MacroLong other is = is
-moved old new (faults.Morphism kind) other is = is
-moved old new (faults.LetterMissing letter) other is = is
-moved old new (faults.CombineShape one two) other is = is
-moved old new (faults.NotPlain of) other is = is
-moved old new (faults.LangShape one two) other is = is
-moved old new faults.TestLong other is = is
-moved old new (faults.Place of) other is = is
-moved old new (faults.BaseNeeded of systems) other is = is
-moved old new (faults.NotRelated one two) other is = is
-moved old new (faults.MixedChain byte) other is = is
-moved old new (faults.NotLinear byte) other is = is
-moved old new (faults.LoadDepth of) other is = is
-moved old new (faults.Unknown of file) other is = is
-moved old new (faults.File of file flaw) other is = is
-moved old new (faults.Arity of tracks given) other is = is
-moved old new (faults.Clash of one two) other is = is
-moved old new (faults.Plain of) other is = is
-moved old new (faults.NotAdmitted of law) other is = is
+moved old new (faults.Refused refusal) other is = is
 
 -- what is no store fault
 abbrev pub IsOwn : {X : Type 0} → Result X Fault → Type 0
@@ -140,37 +80,7 @@ from_part First Gives old new r first so = record { found = first.found; reporte
 pub own_fault : {Y : Type 0} (check : Check Y) → ((place : Place) → check.reads place → ⊥) → (f : Fault) → Fails check f → is_store_fault f ≡ false
 own_fault check none (faults.Store folder name) refused = absurd (none (folder, name) refused)
 own_fault check none faults.Memory refused = refl
-own_fault check none faults.Command refused = refl
-own_fault check none (faults.Syntax grammar at) refused = refl
-own_fault check none (faults.Number grammar at) refused = refl
-own_fault check none (faults.Depth grammar at) refused = refl
-own_fault check none (faults.Long bytes) refused = refl
-own_fault check none (faults.SystemUnknown name) refused = refl
-own_fault check none (faults.Direction first other) refused = refl
-own_fault check none (faults.Letters step) refused = refl
-own_fault check none (faults.States step) refused = refl
-own_fault check none faults.ScriptLimit refused = refl
-own_fault check none (faults.MacroArgs of at given) refused = refl
-own_fault check none (faults.MacroDepth of) refused = refl
-own_fault check none faults.MacroLong refused = refl
-own_fault check none (faults.Morphism kind) refused = refl
-own_fault check none (faults.LetterMissing letter) refused = refl
-own_fault check none (faults.CombineShape one two) refused = refl
-own_fault check none (faults.NotPlain of) refused = refl
-own_fault check none (faults.LangShape one two) refused = refl
-own_fault check none faults.TestLong refused = refl
-own_fault check none (faults.Place of) refused = refl
-own_fault check none (faults.BaseNeeded of systems) refused = refl
-own_fault check none (faults.NotRelated one two) refused = refl
-own_fault check none (faults.MixedChain byte) refused = refl
-own_fault check none (faults.NotLinear byte) refused = refl
-own_fault check none (faults.LoadDepth of) refused = refl
-own_fault check none (faults.Unknown of file) refused = refl
-own_fault check none (faults.File of file flaw) refused = refl
-own_fault check none (faults.Arity of tracks given) refused = refl
-own_fault check none (faults.Clash of one two) refused = refl
-own_fault check none (faults.Plain of) refused = refl
-own_fault check none (faults.NotAdmitted of law) refused = refl
+own_fault check none (faults.Refused refusal) refused = refl
 
 pub own_made : (custom : Custom) (checks : Check Success) → ((place : Place) → checks.reads place → ⊥) → (shown : Bool) (r : Result Made Fault) → Makes custom checks shown r → IsOwn r
 own_made custom checks none shown (Ok made) makes = tt

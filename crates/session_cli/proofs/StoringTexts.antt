@@ -21,39 +21,9 @@ nothing_shown false = refl
 
 -- a text of an entry that is too long refuses the command
 pub unstored : (custom : Custom) (made : Success) (text : List ℕ) (fault : Fault) → HasText custom made.entry text → IsTextRefused text fault → Fails (stored custom made) fault
-unstored custom made text (faults.Long bytes) has (is, long) = (is, (text, has, long))
+unstored custom made text (faults.Refused refusal) has (is, long) = (is, (text, has, long))
 unstored custom made text faults.Memory has refused = tt
-unstored custom made text faults.Command has refused = absurd refused
-unstored custom made text (faults.Syntax grammar at) has refused = absurd refused
-unstored custom made text (faults.MixedChain at) has refused = absurd refused
-unstored custom made text (faults.Number grammar at) has refused = absurd refused
-unstored custom made text (faults.NotLinear at) has refused = absurd refused
-unstored custom made text (faults.LoadDepth of) has refused = absurd refused
-unstored custom made text (faults.Depth grammar at) has refused = absurd refused
-unstored custom made text (faults.MacroArgs of at given) has refused = absurd refused
-unstored custom made text (faults.MacroDepth of) has refused = absurd refused
-unstored custom made text faults.MacroLong has refused = absurd refused
-unstored custom made text (faults.Unknown folder of) has refused = absurd refused
-unstored custom made text (faults.File folder of flaw) has refused = absurd refused
-unstored custom made text (faults.Arity of tracks given) has refused = absurd refused
-unstored custom made text (faults.SystemUnknown of) has refused = absurd refused
-unstored custom made text (faults.NotAdmitted of law) has refused = absurd refused
-unstored custom made text (faults.Clash of one two) has refused = absurd refused
-unstored custom made text (faults.Direction one two) has refused = absurd refused
-unstored custom made text (faults.Letters step) has refused = absurd refused
-unstored custom made text (faults.States step) has refused = absurd refused
-unstored custom made text (faults.Plain of) has refused = absurd refused
-unstored custom made text (faults.Morphism kind) has refused = absurd refused
-unstored custom made text (faults.LetterMissing letter) has refused = absurd refused
-unstored custom made text (faults.CombineShape one two) has refused = absurd refused
-unstored custom made text (faults.NotPlain of) has refused = absurd refused
-unstored custom made text (faults.LangShape one two) has refused = absurd refused
-unstored custom made text faults.TestLong has refused = absurd refused
-unstored custom made text (faults.Place of) has refused = absurd refused
-unstored custom made text (faults.BaseNeeded of systems) has refused = absurd refused
-unstored custom made text (faults.NotRelated one two) has refused = absurd refused
 unstored custom made text (faults.Store folder of) has refused = absurd refused
-unstored custom made text faults.ScriptLimit has refused = absurd refused
 
 -- bytes that are stored as they are
 pub text_stored : (custom : Custom) (folder : Folder) (name bytes : List ℕ) (shown : Bool) (result : Result Made Fault) → StoresText bytes result → Makes custom (stored custom (text_success folder name bytes)) shown result
@@ -67,39 +37,9 @@ text_stored custom folder name bytes shown (Err fault) refused = unstored custom
 
 -- a word whose text is too long
 pub word_refused : (names : List (List ℕ)) (v : WordValue) (fault : Fault) → HasNoWordText names v fault → IsTextRefused (named_text names v) fault
-word_refused names v (faults.Long bytes) refused = refused
+word_refused names v (faults.Refused refusal) refused = refused
 word_refused names v faults.Memory refused = tt
-word_refused names v faults.Command refused = absurd refused
-word_refused names v (faults.Syntax grammar at) refused = absurd refused
-word_refused names v (faults.MixedChain at) refused = absurd refused
-word_refused names v (faults.Number grammar at) refused = absurd refused
-word_refused names v (faults.NotLinear at) refused = absurd refused
-word_refused names v (faults.LoadDepth of) refused = absurd refused
-word_refused names v (faults.Depth grammar at) refused = absurd refused
-word_refused names v (faults.MacroArgs of at given) refused = absurd refused
-word_refused names v (faults.MacroDepth of) refused = absurd refused
-word_refused names v faults.MacroLong refused = absurd refused
-word_refused names v (faults.Unknown folder of) refused = absurd refused
-word_refused names v (faults.File folder of flaw) refused = absurd refused
-word_refused names v (faults.Arity of tracks given) refused = absurd refused
-word_refused names v (faults.SystemUnknown of) refused = absurd refused
-word_refused names v (faults.NotAdmitted of law) refused = absurd refused
-word_refused names v (faults.Clash of one two) refused = absurd refused
-word_refused names v (faults.Direction one two) refused = absurd refused
-word_refused names v (faults.Letters step) refused = absurd refused
-word_refused names v (faults.States step) refused = absurd refused
-word_refused names v (faults.Plain of) refused = absurd refused
-word_refused names v (faults.Morphism kind) refused = absurd refused
-word_refused names v (faults.LetterMissing letter) refused = absurd refused
-word_refused names v (faults.CombineShape one two) refused = absurd refused
-word_refused names v (faults.NotPlain of) refused = absurd refused
-word_refused names v (faults.LangShape one two) refused = absurd refused
-word_refused names v faults.TestLong refused = absurd refused
-word_refused names v (faults.Place of) refused = absurd refused
-word_refused names v (faults.BaseNeeded of systems) refused = absurd refused
-word_refused names v (faults.NotRelated one two) refused = absurd refused
 word_refused names v (faults.Store folder of) refused = absurd refused
-word_refused names v faults.ScriptLimit refused = absurd refused
 
 -- the text of a word that is the text of the entry is stored, or it is too long
 pub kept_text : (custom : Custom) (success : Success) (names : List (List ℕ)) (word : WordValue) (shown : Bool) (result : Result Made Fault) → success.verdict ≡ None → HasText custom success.entry (named_text names word) → Keeps names word shown success.lines result

@@ -60,37 +60,7 @@ chosen P (Some t) texts files custom are here elsewhere stands there = record { 
 fault_later : (f : Fault) (old mid new : StoreView) → old.faults ≤ mid.faults → mid.failed ≡ old.failed → IsReadFault f mid new → IsReadFault f old new
 fault_later (faults.Store folder name) old mid new later same (rose, failed) = (rises old.faults mid.faults new.faults later rose, failed ∙ ap (λ (o : Option (Option Place)). option_map (λ _. Some (folder, name)) o) same)
 fault_later faults.Memory old mid new later same is = is ∙ same
-fault_later faults.Command old mid new later same is = is ∙ same
-fault_later (faults.Syntax grammar at) old mid new later same is = is ∙ same
-fault_later (faults.Number grammar at) old mid new later same is = is ∙ same
-fault_later (faults.Depth grammar at) old mid new later same is = is ∙ same
-fault_later (faults.Long bytes) old mid new later same is = is ∙ same
-fault_later (faults.SystemUnknown name) old mid new later same is = is ∙ same
-fault_later (faults.NotAdmitted name law) old mid new later same is = is ∙ same
-fault_later (faults.Direction one other) old mid new later same is = is ∙ same
-fault_later (faults.Letters step) old mid new later same is = is ∙ same
-fault_later (faults.States step) old mid new later same is = is ∙ same
-fault_later faults.ScriptLimit old mid new later same is = is ∙ same
-fault_later (faults.MacroArgs of at given) old mid new later same is = is ∙ same
-fault_later (faults.MacroDepth of) old mid new later same is = is ∙ same
-fault_later faults.MacroLong old mid new later same is = is ∙ same
-fault_later (faults.Morphism kind) old mid new later same is = is ∙ same
-fault_later (faults.LetterMissing letter) old mid new later same is = is ∙ same
-fault_later (faults.CombineShape one two) old mid new later same is = is ∙ same
-fault_later (faults.NotPlain of) old mid new later same is = is ∙ same
-fault_later (faults.LangShape one two) old mid new later same is = is ∙ same
-fault_later faults.TestLong old mid new later same is = is ∙ same
-fault_later (faults.Place of) old mid new later same is = is ∙ same
-fault_later (faults.BaseNeeded of systems) old mid new later same is = is ∙ same
-fault_later (faults.NotRelated one two) old mid new later same is = is ∙ same
-fault_later (faults.MixedChain byte) old mid new later same is = is ∙ same
-fault_later (faults.NotLinear byte) old mid new later same is = is ∙ same
-fault_later (faults.LoadDepth of) old mid new later same is = is ∙ same
-fault_later (faults.Unknown of file) old mid new later same is = is ∙ same
-fault_later (faults.File of file flaw) old mid new later same is = is ∙ same
-fault_later (faults.Arity of tracks given) old mid new later same is = is ∙ same
-fault_later (faults.Clash of one two) old mid new later same is = is ∙ same
-fault_later (faults.Plain of) old mid new later same is = is ∙ same
+fault_later (faults.Refused refusal) old mid new later same is = is ∙ same
 
 pub reads_both : {X Y : Type 0} (old mid new : StoreView) (x : X) (r : Result Y Fault) → HasRead old (Ok x) mid → HasRead mid r new → HasRead old r new
 reads_both old mid new x (Ok y) first second = record { files = second.files ∙ first.files; later = omega (arith, first.later, second.later); cause = second.cause ∙ first.cause }

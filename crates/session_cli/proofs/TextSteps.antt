@@ -49,8 +49,8 @@ macro_reads_none ledger text place (inr (head, spells, read)) = read
 
 -- where rules break their grammar
 pub rules_unread : (body : List ℕ) (fault : RulesFault) → Parses body (Err fault) → Fails (Pure (RulesAnswers body)) (fault_of_rules fault)
-rules_unread body (rules_faults.Syntax at) breaks = breaks
-rules_unread body (rules_faults.Number at) breaks = breaks
+rules_unread body (rules_faults.Syntax at) breaks = (rules_faults.Syntax at, refl, breaks)
+rules_unread body (rules_faults.Number at) breaks = (rules_faults.Number at, refl, breaks)
 rules_unread body rules_faults.Memory breaks = tt
 
 -- what is made of the rules of a `morphism`

@@ -119,7 +119,7 @@ parted custom names (s ∷ systems) d (suc j) first other are named head apart i
 
 -- why names mean no tracks, by the check of the direction
 pub parted_so : (custom : Custom) (users : List named_systems.NamedSystem) (names : List (List ℕ)) (fault : TracksFault) → AreUsers custom users → RefusesNames users names fault → Fails (Pure (TracksAnswers custom (heads.Systems names))) (fault_of_tracks fault)
-parted_so custom users names (tracks.Direction first other) of p = parted custom names p.systems p.direction p.place first other (are_theirs custom users p.systems (users_meant custom users of) p.named.are) p.named.names_are p.first_of p.other_of p.first_is p.other_is
+parted_so custom users names (tracks.Direction first other) of p = (first, other, refl, parted custom names p.systems p.direction p.place first other (are_theirs custom users p.systems (users_meant custom users of) p.named.are) p.named.names_are p.first_of p.other_of p.first_is p.other_is)
 parted_so custom users names tracks.Memory of p = tt
 
 -- each has as many digits as a track may have

@@ -1,14 +1,13 @@
 -- The systems of users that a command names are admitted, or the command is refused.
-use Rattle.std.proofs.Common.{ℕ, List, Ok, Err, subst}
+use Rattle.std.proofs.Common.{ℕ, List, Ok, Err, refl}
 use Rattle.digit_tuple.specs.declared.step_fault.StepFault.TheVariants as steps
 use Rattle.dfa_loading.specs.Places as places
 use Rattle.dfa_loading.specs.declared.fault.LoadFault.{LoadFault}
 use Rattle.dfa_loading.specs.declared.fault.LoadFault.TheVariants as loads
 use Rattle.wal_outside.specs.Views.{StoreView}
-use Rattle.wal_outside.specs.declared.folder.Folder.{Folder}
 use Rattle.system_files.specs.SystemFiles.{Custom}
 use Rattle.system_admission.specs.NameAdmissions.{as_loading}
-use Rattle.system_admission.specs.SystemSteps.{AdmitsNames, no_steps}
+use Rattle.system_admission.specs.SystemSteps.{no_steps}
 use Rattle.system_admission.specs.UserSystems as admissions
 use Rattle.system_admission.specs.UserSystems.{FailsNames}
 use Rattle.system_admission.specs.declared.system_fault.SystemFault.{SystemFault}
@@ -25,11 +24,11 @@ fails_so : (limit : ℕ) (custom : Custom) (names : List (List ℕ)) (fault : Sy
 fails_so limit custom names (systems.Load (loads.Store folder at)) fails = fails
 fails_so limit custom names (systems.Load loads.Memory) fails = tt
 fails_so limit custom names (systems.Step steps.Memory) fails = tt
-fails_so limit custom names (systems.Load (loads.Unknown folder at)) (is, new, admits) = (new, subst (λ (f : Folder). AdmitsNames custom names (no_steps limit) (Err (systems.Load (loads.Unknown f at))) new) is admits)
-fails_so limit custom names (systems.Load (loads.File folder at flaw)) fails = fails
-fails_so limit custom names (systems.NotAdmitted system law) fails = fails
-fails_so limit custom names (systems.Step (steps.Letters step)) fails = fails
-fails_so limit custom names (systems.Step (steps.States step)) fails = fails
+fails_so limit custom names (systems.Load (loads.Unknown folder at)) (is, new, admits) = (systems.Load (loads.Unknown folder at), refl, (new, admits))
+fails_so limit custom names (systems.Load (loads.File folder at flaw)) fails = (systems.Load (loads.File folder at flaw), refl, fails)
+fails_so limit custom names (systems.NotAdmitted system law) fails = (systems.NotAdmitted system law, refl, fails)
+fails_so limit custom names (systems.Step (steps.Letters step)) fails = (systems.Step (steps.Letters step), refl, fails)
+fails_so limit custom names (systems.Step (steps.States step)) fails = (systems.Step (steps.States step), refl, fails)
 
 -- what is read for systems is read for a command
 caused_so : (f : LoadFault) (old new : StoreView) → places.IsCausedBy f old new → IsReadFault (fault_of_system (systems.Load f)) old new

@@ -2,6 +2,8 @@
 use Rattle.std.proofs.Common.{◌≡◌, ◌≢◌, ℕ, ◌<◌, ◌≤◌, Bool, List, length, Result, refl, subst}
 use Rattle.wal_outside.specs.declared.folder.Folder.{Folder}
 use Rattle.command_head.specs.Parts.{first_word_of}
+use Rattle.session_cli.specs.declared.text_refusal.TextRefusal.TheVariants as text_refusals
+use Rattle.session_cli.specs.declared.refusal.Refusal.TheVariants as refusals
 use Rattle.session_cli.specs.declared.fault.Fault.{Fault}
 use Rattle.session_cli.specs.declared.fault.Fault.TheVariants as faults
 use Rattle.session_cli.specs.declared.file_change.Action.{Action}
@@ -31,10 +33,10 @@ change_of_formula word at folder to options these ledger text result words folde
     (subst (λ (f : Folder). ChangesFile (custom_of ledger) (formula_checks at f options.limit ledger text) options.shown result) folders (subst (λ (w : List ℕ). ChangesFile (custom_of ledger) (formula_checks w folder options.limit ledger text) options.shown result) words changes))
 
 -- a command that is too long, and one whose first word is none
-pub too_long : (limit : ℕ) (ledger : Ledger) (text : List ℕ) → 65536 < length text → Fails (checks_of limit ledger text) (faults.Long 65536)
-too_long limit ledger text long = fails_first (Pure (LengthAnswers text)) (λ done. after_length limit ledger text) (faults.Long 65536) (refl, long)
+pub too_long : (limit : ℕ) (ledger : Ledger) (text : List ℕ) → 65536 < length text → Fails (checks_of limit ledger text) (faults.Refused (refusals.Text (text_refusals.Long 65536)))
+too_long limit ledger text long = fails_first (Pure (LengthAnswers text)) (λ done. after_length limit ledger text) (faults.Refused (refusals.Text (text_refusals.Long 65536))) (refl, long)
 
-pub no_word : (limit : ℕ) (ledger : Ledger) (text : List ℕ) → length text ≤ 65536 → ((word : CommandWord) → first_word_of text ≢ word_text word) → Fails (checks_of limit ledger text) faults.Command
+pub no_word : (limit : ℕ) (ledger : Ledger) (text : List ℕ) → length text ≤ 65536 → ((word : CommandWord) → first_word_of text ≢ word_text word) → Fails (checks_of limit ledger text) (faults.Refused (refusals.Text text_refusals.Command))
 no_word limit ledger text short none =
-    fails_after (Pure (LengthAnswers text)) (λ done. after_length limit ledger text) tt faults.Command short
-    (fails_first (Pure (WordAnswers text)) (λ word. checks_by word limit ledger text) faults.Command none)
+    fails_after (Pure (LengthAnswers text)) (λ done. after_length limit ledger text) tt (faults.Refused (refusals.Text text_refusals.Command)) short
+    (fails_first (Pure (WordAnswers text)) (λ word. checks_by word limit ledger text) (faults.Refused (refusals.Text text_refusals.Command)) (refl, none))

@@ -2,8 +2,10 @@
 use Rattle.std.specs.Prelude.{◌≡◌, ℕ, ◌<◌, ◌≤◌, Bool, List, length, Option, Result, Ok, Err}
 use Rattle.digit_tuple.specs.declared.steps.StepLine.{StepLine}
 use Rattle.wal_outside.specs.declared.folder.Folder.{Folder}
+use Rattle.session_cli.specs.declared.text_refusal.TextRefusal.TheVariants as text_refusals
+use Rattle.session_cli.specs.declared.refusal.Refusal.{Refusal}
+use Rattle.session_cli.specs.declared.refusal.Refusal.TheVariants as refusals
 use Rattle.session_cli.specs.declared.fault.Fault.{Fault}
-use Rattle.session_cli.specs.declared.fault.Fault.TheVariants as faults
 use Rattle.session_cli.specs.Checks.{Check, Pure, Passing, Then}
 use Rattle.definitions.specs.Trees.{Entry, Ledger, entered}
 use Rattle.definitions.specs.Texts.{HasText}
@@ -41,10 +43,9 @@ abbrev pub FitsFile : List ℕ → Type 0
 FitsFile text = length text ≤ 16777216
 
 -- whether the text that is to be stored fits
-abbrev pub StoredAnswers : Custom → Success → Result Success Fault → Type 0
+abbrev pub StoredAnswers : Custom → Success → Result Success Refusal → Type 0
 StoredAnswers custom made (Ok success) = (success ≡ made) × ((text : List ℕ) × HasText custom made.entry text × FitsFile text)
-StoredAnswers custom made (Err (faults.Long bytes)) = (bytes ≡ 16777216) × ((text : List ℕ) × HasText custom made.entry text × (16777216 < length text))
-StoredAnswers custom made (Err fault) = ⊥
+StoredAnswers custom made (Err refusal) = (refusal ≡ refusals.Text (text_refusals.Long 16777216)) × ((text : List ℕ) × HasText custom made.entry text × (16777216 < length text))
 
 -- the last check of each command that stores: what it makes is stored, unless its text is too long
 abbrev pub stored : Custom → Success → Check Success

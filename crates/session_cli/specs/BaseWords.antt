@@ -12,6 +12,8 @@ use Rattle.formula_resolve.specs.Headers.{Headers, word_tracks}
 use Rattle.word_output.specs.Words.{WordValue}
 use Rattle.definitions.specs.Tracks.{NamedSystem}
 use Rattle.session_cli.specs.declared.base_system.BaseSystem.{BaseSystem}
+use Rattle.session_cli.specs.declared.shape_refusal.ShapeRefusal.TheVariants as shape_refusals
+use Rattle.session_cli.specs.declared.refusal.Refusal.TheVariants as refusals
 use Rattle.session_cli.specs.declared.fault.Fault.{Fault}
 use Rattle.session_cli.specs.declared.fault.Fault.TheVariants as faults
 use Rattle.session_cli.specs.Checks.{Check}
@@ -58,7 +60,7 @@ BaseAnswers asked h word (Ok s) = IsBaseOf asked h word s
 BaseAnswers asked h word (Err header) = (header ≡ (word, word_tracks h word)) × ((s : BaseSystem) → ¬ IsBaseOf asked h word s)
 
 abbrev pub fault_of_base : List ℕ × List (List ℕ) → Fault
-fault_of_base header = faults.BaseNeeded header.0 header.1
+fault_of_base header = faults.Refused (refusals.Shape (shape_refusals.BaseNeeded header.0 header.1))
 
 abbrev pub over_base : Option Direction → Headers → List ℕ → Check BaseSystem
 over_base asked h word = Refusing fault_of_base (BaseAnswers asked h word)

@@ -4,7 +4,6 @@ use Rattle.std.specs.Prelude.{◌≡◌, ◌≢◌, ◌⊎◌, ℕ, suc, List, [
 use Rattle.std.specs.List.{AllByRecursion}
 use Rattle.digit_tuple.specs.Steps.{StepLog}
 use Rattle.digit_tuple.specs.declared.direction.Direction.{Direction}
-use Rattle.digit_tuple.specs.declared.step_fault.StepFault.TheVariants as steps
 use Rattle.digit_tuple.specs.declared.steps.StepLine.{StepLine}
 use Rattle.wal_outside.specs.declared.folder.Folder.TheVariants.{Automata, Words}
 use Rattle.command_head.specs.Grammar.{DerivesCombine}
@@ -22,7 +21,9 @@ use Rattle.definitions.specs.Named.{AreNamed}
 use Rattle.definitions.specs.Tracks.{NamedSystem, names_of}
 use Rattle.definitions.specs.Trees.{Combine, Defined, Ledger, Parts, no_parts, with_part, custom_of}
 use Rattle.system_files.specs.SystemFiles.{Custom}
-use Rattle.session_cli.specs.declared.fault.Fault.{Fault}
+use Rattle.session_cli.specs.declared.shape_refusal.ShapeRefusal.TheVariants as shape_refusals
+use Rattle.session_cli.specs.declared.refusal.Refusal.{Refusal}
+use Rattle.session_cli.specs.declared.refusal.Refusal.TheVariants as refusals
 use Rattle.session_cli.specs.declared.fault.Fault.TheVariants as faults
 use Rattle.session_cli.specs.Accepting.{Success, stored}
 use Rattle.session_cli.specs.Checks.{Check, Passing, Pure, Then}
@@ -30,6 +31,8 @@ use Rattle.session_cli.specs.CombineSteps.{AreCombineSteps, AreCombineStepsRefus
 use Rattle.session_cli.specs.FileChecks.{files_loaded}
 use Rattle.session_cli.specs.HeadAnswers.{HeadAnswers}
 use Rattle.session_cli.specs.SystemChecks.{systems_known}
+use Rattle.session_cli.specs.TrackSystems.{fault_of}
+use Rattle.digit_tuple.specs.declared.step_fault.StepFault.{StepFault}
 
 -- the names of the listed automata
 abbrev pub listed_names : List ValuedName → List (List ℕ)
@@ -53,10 +56,9 @@ first_plain h [] = None
 first_plain h (name ∷ names) = if is_plain h name then Some name else first_plain h names
 
 -- none is over sets, or this is the first that is
-abbrev pub PlainAnswers : Headers → List (List ℕ) → Result (Unit {0}) Fault → Type 0
+abbrev pub PlainAnswers : Headers → List (List ℕ) → Result (Unit {0}) Refusal → Type 0
 PlainAnswers h names (Ok none) = first_plain h names ≡ None
-PlainAnswers h names (Err (faults.Plain name)) = first_plain h names ≡ Some name
-PlainAnswers h names (Err fault) = ⊥
+PlainAnswers h names (Err refusal) = (name : List ℕ) × (refusal ≡ refusals.Shape (shape_refusals.Plain name)) × (first_plain h names ≡ Some name)
 
 -- the first of the names whose automaton has not these systems
 abbrev pub IsFirstOver : Headers → List (List ℕ) → List (List ℕ) → List ℕ → Type 0
@@ -73,10 +75,9 @@ abbrev pub HaveShapeFault : Headers → List (List ℕ) → List ℕ → List �
 HaveShapeFault h [] first other = ⊥
 HaveShapeFault h (name ∷ names) first other = (first ≡ name) × (((automaton_tracks h name ≡ []) × (other ≡ name)) ⊎ ((automaton_tracks h name ≢ []) × IsFirstOver h (automaton_tracks h name) names other))
 
-abbrev pub ShapeAnswers : Headers → List (List ℕ) → Result (Unit {0}) Fault → Type 0
+abbrev pub ShapeAnswers : Headers → List (List ℕ) → Result (Unit {0}) Refusal → Type 0
 ShapeAnswers h names (Ok shape) = HaveSystemsOfFirst h names
-ShapeAnswers h names (Err (faults.CombineShape first other)) = HaveShapeFault h names first other
-ShapeAnswers h names (Err fault) = ⊥
+ShapeAnswers h names (Err refusal) = (first : List ℕ) × (other : List ℕ) × (refusal ≡ refusals.Shape (shape_refusals.CombineShape first other)) × HaveShapeFault h names first other
 
 -- the direction of the systems of the tracks, and what their names mean
 pub record WordTracks : Type 0 where
@@ -89,11 +90,9 @@ AreTracksOfFirst custom h [] tracks = ⊥
 AreTracksOfFirst custom h (name ∷ names) tracks = (automaton_tracks h name ≡ names_of tracks.named) × AreNamed custom tracks.direction tracks.named
 
 -- the lines of the steps, or the number of the first one that passes a limit
-abbrev pub CombinedAnswers : StepLog → Custom → List Loaded → List ValuedName → Result (List StepLine) Fault → Type 0
+abbrev pub CombinedAnswers : StepLog → Custom → List Loaded → List ValuedName → Result (List StepLine) Refusal → Type 0
 CombinedAnswers admitted custom tables automata (Ok lines) = (word : WordValue) × AreCombineSteps admitted custom tables automata word lines
-CombinedAnswers admitted custom tables automata (Err (faults.Letters step)) = AreCombineStepsRefused admitted custom tables automata (steps.Letters step)
-CombinedAnswers admitted custom tables automata (Err (faults.States step)) = AreCombineStepsRefused admitted custom tables automata (steps.States step)
-CombinedAnswers admitted custom tables automata (Err fault) = ⊥
+CombinedAnswers admitted custom tables automata (Err refusal) = (fault : StepFault) × (fault_of fault ≡ faults.Refused refusal) × AreCombineStepsRefused admitted custom tables automata fault
 
 -- the definitions that the listed names mean now, with their values, the first at this place of the list
 abbrev pub parts_from : Ledger → ℕ → List ValuedName → Parts

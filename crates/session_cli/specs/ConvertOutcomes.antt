@@ -14,6 +14,9 @@ use Rattle.base_change.specs.Roots.{HaveNoRoot, IsLeastRoot}
 use Rattle.definitions.specs.Trees.{Converted, Ledger, custom_of}
 use Rattle.session_cli.specs.declared.base_system.BaseSystem.{BaseSystem}
 use Rattle.session_cli.specs.declared.convert.Change.{Change}
+use Rattle.session_cli.specs.declared.system_refusal.SystemRefusal.TheVariants as system_refusals
+use Rattle.session_cli.specs.declared.shape_refusal.ShapeRefusal.TheVariants as shape_refusals
+use Rattle.session_cli.specs.declared.refusal.Refusal.TheVariants as refusals
 use Rattle.session_cli.specs.declared.fault.Fault.{Fault}
 use Rattle.session_cli.specs.declared.fault.Fault.TheVariants as faults
 use Rattle.session_cli.specs.Accepting.{Success}
@@ -40,7 +43,7 @@ UnknownBaseAnswers system (Ok other) = ¬ IsUnknownBase system
 UnknownBaseAnswers system (Err name) = (name ≡ system) × IsUnknownBase system
 
 abbrev pub no_unknown_base : List ℕ → Check (Unit {0})
-no_unknown_base system = Refusing faults.SystemUnknown (UnknownBaseAnswers system)
+no_unknown_base system = Refusing (λ name. faults.Refused (refusals.System (system_refusals.SystemUnknown name))) (UnknownBaseAnswers system)
 
 -- the name is that of the new base, and this is the least integer of which both bases are powers, with the exponents
 pub record IsChange (over : BaseSystem) (system : List ℕ) (change : Change) : Type 0 where
@@ -53,7 +56,7 @@ ChangeAnswers over system (Ok change) = IsChange over system change
 ChangeAnswers over system (Err names) = (names ≡ (name_of_base over, system)) × ((s : BaseSystem) → IsNameOfBase s system → HaveNoRoot over.base s.base)
 
 abbrev pub fault_of_change : List ℕ × List ℕ → Fault
-fault_of_change names = faults.NotRelated names.0 names.1
+fault_of_change names = faults.Refused (refusals.Shape (shape_refusals.NotRelated names.0 names.1))
 
 abbrev pub related_base : BaseSystem → List ℕ → Check Change
 related_base over system = Refusing fault_of_change (ChangeAnswers over system)

@@ -8,6 +8,8 @@ use Rattle.digit_tuple.specs.declared.header.Header.{Header}
 use Rattle.digit_tuple.specs.declared.steps.StepLine.{StepLine}
 use Rattle.regex_build.specs.Patterns.{Pattern}
 use Rattle.regex_build.specs.Parsing.{Parses}
+use Rattle.session_cli.specs.declared.text_refusal.TextRefusal.TheVariants as text_refusals
+use Rattle.session_cli.specs.declared.refusal.Refusal.TheVariants as refusals
 use Rattle.session_cli.specs.declared.fault.Fault.{Fault}
 use Rattle.session_cli.specs.declared.fault.Fault.TheVariants as faults
 use Rattle.session_cli.specs.declared.file_change.Action.{Action}
@@ -90,9 +92,9 @@ pub record IsPrinted (header : Header) (automaton : Automaton) (shown : Bool) (l
   pub fits : FitsFile stored
 
 abbrev pub IsNotPrinted : Header → Automaton → Fault → Type 0
-IsNotPrinted header automaton (faults.Long bytes) = (bytes ≡ 16777216) × (16777216 < length (relation_text header automaton))
+IsNotPrinted header automaton (faults.Refused refusal) = (refusal ≡ refusals.Text (text_refusals.Long 16777216)) × (16777216 < length (relation_text header automaton))
+IsNotPrinted header automaton (faults.Store folder name) = ⊥
 IsNotPrinted header automaton faults.Memory = ⊤
-IsNotPrinted header automaton _ = ⊥
 
 abbrev pub Prints : Header → Automaton → Bool → List StepLine → Result Made Fault → Type 0
 Prints header automaton shown lines result = MatchResult result (λ made. IsPrinted header automaton shown lines made.stored.items made.printed) (IsNotPrinted header automaton)

@@ -2,8 +2,7 @@
 use Rattle.std.specs.Prelude.{◌≡◌, ◌≢◌, ◌↔◌, ◌⊎◌, ℕ, ◌<◌, ◌≤◌, List, [], length, Bool, IsTrue, ⊤, map}
 use Rattle.std.specs.List.{AllByRecursion}
 use Rattle.wal_outside.specs.Files.{Files}
-use Rattle.dfa_loading.specs.Loading.{FirstRefuses, ReadsAt}
-use Rattle.dfa_loading.specs.declared.fault.LoadFault.TheVariants as loads
+use Rattle.dfa_loading.specs.Loading.{FirstFails}
 use Rattle.digit_tuple.specs.declared.header.Header.TheVariants as headers
 use Rattle.digit_tuple.specs.declared.systems.SystemTrack.{SystemTrack}
 use Rattle.dfa_text.specs.RelationText.{relation_text}
@@ -13,18 +12,18 @@ use Rattle.formula_resolve.specs.declared.file.File.{File}
 use Rattle.formula_resolve.specs.declared.variable.Variable.{Variable}
 use Rattle.num_system.specs.Sealed.{SystemValue}
 use Rattle.number_relations.specs.Relations.{RelationValue, RelationHolds}
+use Rattle.session_cli.specs.declared.text_refusal.TextRefusal.TheVariants as text_refusals
+use Rattle.session_cli.specs.declared.refusal.Refusal.TheVariants as refusals
 use Rattle.session_cli.specs.declared.fault.Fault.{Fault}
 use Rattle.session_cli.specs.declared.fault.Fault.TheVariants as faults
+use Rattle.session_cli.specs.FormulaFaults.{fault_of_loading}
+use Rattle.dfa_loading.specs.declared.fault.LoadFault.{LoadFault}
 use Rattle.definitions.specs.FormulaTexts.{truth_text}
 use Rattle.session_cli.specs.WordPrinting.{HaveNames, tracks_named}
 
 -- why the tables of some files are not there
 abbrev pub AreUnloaded : Files → List File → Fault → Type 0
-AreUnloaded files named (faults.Unknown folder name) = FirstRefuses files named (loads.Unknown folder name)
-AreUnloaded files named (faults.File folder name flaw) = FirstRefuses files named (loads.File folder name flaw)
-AreUnloaded files named (faults.Store folder name) = ReadsAt files named folder name
-AreUnloaded files named faults.Memory = ⊤
-AreUnloaded files named fault = ⊥
+AreUnloaded files named fault = (own : LoadFault) × (fault_of_loading own ≡ fault) × FirstFails files named own
 
 -- each of these names and the default means a system
 pub record HasSystems (names : List (List ℕ)) (systems : List NamedSystem) : Type 0 where
@@ -55,6 +54,6 @@ IsTextOf variables r text =
 
 -- the text is too long, or memory ran out
 abbrev pub HasNoTextOf : List Variable → RelationValue → Fault → Type 0
-HasNoTextOf variables r (faults.Long bytes) = (r.names ≢ []) × (bytes ≡ 16777216) × (16777216 < length (automaton_text variables r))
+HasNoTextOf variables r (faults.Refused refusal) = (refusal ≡ refusals.Text (text_refusals.Long 16777216)) × (r.names ≢ []) × (16777216 < length (automaton_text variables r))
+HasNoTextOf variables r (faults.Store folder name) = ⊥
 HasNoTextOf variables r faults.Memory = ⊤
-HasNoTextOf variables r _ = ⊥

@@ -6,7 +6,6 @@ use Rattle.wal_outside.specs.Places.{Place}
 use Rattle.wal_outside.specs.declared.folder.Folder.{Folder}
 use Rattle.dfa_loading.specs.Headers.{headers_of}
 use Rattle.dfa_loading.specs.declared.loaded.Loaded.{Loaded}
-use Rattle.digit_tuple.specs.declared.step_fault.StepFault.TheVariants as steps
 use Rattle.digit_tuple.specs.Steps.{StepLog}
 use Rattle.digit_tuple.specs.declared.steps.StepLine.{StepLine}
 use Rattle.command_head.specs.Heads.{NamedHead}
@@ -22,11 +21,9 @@ use Rattle.formula_resolve.specs.FreeVariables.{free_variables}
 use Rattle.formula_resolve.specs.Mentions.{mentions}
 use Rattle.formula_resolve.specs.Occurrences.{all_occurrences}
 use Rattle.formula_resolve.specs.Resolving.{fault_of}
-use Rattle.formula_resolve.specs.declared.fault.ResolveFault.TheVariants as resolves
 use Rattle.formula_resolve.specs.declared.variable.Variable as resolved
 use Rattle.number_relations.specs.Relations.{RelationValue}
-use Rattle.session_cli.specs.declared.fault.Grammar.TheVariants as grammars
-use Rattle.session_cli.specs.declared.fault.Fault.{Fault}
+use Rattle.session_cli.specs.declared.refusal.Refusal.{Refusal}
 use Rattle.session_cli.specs.declared.fault.Fault.TheVariants as faults
 use Rattle.session_cli.specs.Checks.{Check, Passing, Pure, Then}
 use Rattle.session_cli.specs.FileChecks.{files_loaded}
@@ -39,32 +36,36 @@ use Rattle.session_cli.specs.SystemChecks.{systems_known}
 use Rattle.session_cli.specs.HeadAnswers.{HeadAnswers}
 use Rattle.session_cli.specs.MacroChecks.{expanded}
 use Rattle.session_cli.specs.Accepting.{Success, stored}
+use Rattle.session_cli.specs.FormulaFaults.{fault_of_formula, fault_of_resolution}
+use Rattle.session_cli.specs.TrackSystems.{fault_of as fault_of_step}
+use Rattle.digit_tuple.specs.declared.step_fault.StepFault.{StepFault}
+use Rattle.formula_resolve.specs.declared.fault.ResolveFault.{ResolveFault}
+use Rattle.formula_parse.specs.declared.fault.ParseFault.{ParseFault}
+use Rattle.formula_parse.specs.declared.fault.ParseFault.TheVariants as parses
 
--- the formula of a text, or where it breaks the grammar
-abbrev pub FormulaAnswers : List ℕ → Result trees.Formula Fault → Type 0
+-- where a text breaks the grammar, or what its formula has too much of
+abbrev pub HasNoFormula : List ℕ → ParseFault → Type 0
+HasNoFormula body (parses.Syntax at) = parsing.IsSyntaxAt body at
+HasNoFormula body (parses.Number at) = parsing.IsNumberAt body at
+HasNoFormula body (parses.Depth at) = parsing.IsDepthAt body at
+HasNoFormula body (parses.MixedChain at) = IsFlawed (tokens (spots body)) (mixed_chain at)
+HasNoFormula body (parses.NotLinear at) = IsFlawed (tokens (spots body)) (not_linear at)
+HasNoFormula body parses.Memory = ⊥
+
+-- the formula of a text, or why it has none
+abbrev pub FormulaAnswers : List ℕ → Result trees.Formula Refusal → Type 0
 FormulaAnswers body (Ok formula) = Reads (tokens (spots body)) formula
-FormulaAnswers body (Err (faults.Syntax grammars.Formula at)) = parsing.IsSyntaxAt body at
-FormulaAnswers body (Err (faults.Number grammars.Formula at)) = parsing.IsNumberAt body at
-FormulaAnswers body (Err (faults.Depth grammars.Formula at)) = parsing.IsDepthAt body at
-FormulaAnswers body (Err (faults.MixedChain at)) = IsFlawed (tokens (spots body)) (mixed_chain at)
-FormulaAnswers body (Err (faults.NotLinear at)) = IsFlawed (tokens (spots body)) (not_linear at)
-FormulaAnswers body (Err fault) = ⊥
+FormulaAnswers body (Err refusal) = (fault : ParseFault) × (fault_of_formula fault ≡ faults.Refused refusal) × HasNoFormula body fault
 
 -- the formula has a resolution, or this is why it has none
-abbrev pub ResolvedAnswers : List Loaded → trees.Formula → Result (Unit {0}) Fault → Type 0
+abbrev pub ResolvedAnswers : List Loaded → trees.Formula → Result (Unit {0}) Refusal → Type 0
 ResolvedAnswers tables formula (Ok resolved) = fault_of (headers_of tables) formula ≡ None
-ResolvedAnswers tables formula (Err (faults.Plain name)) = fault_of (headers_of tables) formula ≡ Some (resolves.Plain name)
-ResolvedAnswers tables formula (Err (faults.Arity name tracks given)) = fault_of (headers_of tables) formula ≡ Some (resolves.Arity name tracks given)
-ResolvedAnswers tables formula (Err (faults.Clash name first other)) = fault_of (headers_of tables) formula ≡ Some (resolves.Clash name first other)
-ResolvedAnswers tables formula (Err (faults.Direction first other)) = fault_of (headers_of tables) formula ≡ Some (resolves.Direction first other)
-ResolvedAnswers tables formula (Err fault) = ⊥
+ResolvedAnswers tables formula (Err refusal) = (fault : ResolveFault) × (fault_of_resolution fault ≡ faults.Refused refusal) × (fault_of (headers_of tables) formula ≡ Some fault)
 
 -- the lines of the steps, or the number of the first one that passes a limit
-abbrev pub BuiltAnswers : StepLog → Custom → List Loaded → trees.Formula → Result (List StepLine) Fault → Type 0
+abbrev pub BuiltAnswers : StepLog → Custom → List Loaded → trees.Formula → Result (List StepLine) Refusal → Type 0
 BuiltAnswers admitted custom tables formula (Ok lines) = (relation : RelationValue) × AreFormulaSteps admitted custom tables formula (Ok relation) lines
-BuiltAnswers admitted custom tables formula (Err (faults.Letters step)) = AreStepsRefused admitted custom tables formula (steps.Letters step)
-BuiltAnswers admitted custom tables formula (Err (faults.States step)) = AreStepsRefused admitted custom tables formula (steps.States step)
-BuiltAnswers admitted custom tables formula (Err fault) = ⊥
+BuiltAnswers admitted custom tables formula (Err refusal) = (fault : StepFault) × (fault_of_step fault ≡ faults.Refused refusal) × AreStepsRefused admitted custom tables formula fault
 
 -- a free variable over the system that the name of its system means
 pub record IsVariable (custom : Custom) (found : resolved.Variable) (v : Variable) : Type 0 where

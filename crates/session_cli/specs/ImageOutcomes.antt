@@ -3,8 +3,6 @@
 use Rattle.std.specs.Prelude.{◌≡◌, ◌≢◌, ◌⊎◌, ℕ, List, [], ◌∷◌, length, None, Some, Result, Ok, Err, codes}
 use Rattle.digit_tuple.specs.Steps.{StepLog}
 use Rattle.digit_tuple.specs.declared.direction.Direction.{Direction}
-use Rattle.digit_tuple.specs.declared.step_fault.StepFault.{StepFault}
-use Rattle.digit_tuple.specs.declared.step_fault.StepFault.TheVariants as steps
 use Rattle.digit_tuple.specs.declared.steps.StepLine.{StepLine}
 use Rattle.wal_outside.specs.declared.folder.Folder.TheVariants.{Words}
 use Rattle.command_head.specs.Grammar.{DerivesImage}
@@ -18,6 +16,7 @@ use Rattle.formula_resolve.specs.FirstMentions.{first_files, first_systems}
 use Rattle.formula_resolve.specs.Headers.{Headers, word_tracks}
 use Rattle.formula_resolve.specs.declared.mention.Mention.{Mention}
 use Rattle.formula_resolve.specs.declared.mention.Mention.TheVariants.{Indexed}
+use Rattle.morph_words.specs.declared.morphism_kind.MorphismKind.{MorphismKind}
 use Rattle.morph_words.specs.Rules.{Rules}
 use Rattle.morph_words.specs.Uniform.{HasLength, IsImageLength, IsLengthRefused}
 use Rattle.session_cli.specs.ImageSteps.{DoesImage}
@@ -28,7 +27,10 @@ use Rattle.definitions.specs.Named.{IsSystemNamed}
 use Rattle.definitions.specs.Tracks as named_tracks
 use Rattle.definitions.specs.Trees.{Defined, Entry, Image, Ledger, custom_of, tree_of}
 use Rattle.system_files.specs.SystemFiles.{Custom}
-use Rattle.session_cli.specs.declared.fault.Fault.{Fault}
+use Rattle.session_cli.specs.declared.shape_refusal.ShapeRefusal.TheVariants as shape_refusals
+use Rattle.session_cli.specs.declared.word_refusal.WordRefusal.TheVariants as word_refusals
+use Rattle.session_cli.specs.declared.refusal.Refusal.{Refusal}
+use Rattle.session_cli.specs.declared.refusal.Refusal.TheVariants as refusals
 use Rattle.session_cli.specs.declared.fault.Fault.TheVariants as faults
 use Rattle.session_cli.specs.Accepting.{Success, stored}
 use Rattle.session_cli.specs.Checks.{Check, Passing, Pure, Then}
@@ -38,22 +40,21 @@ use Rattle.session_cli.specs.HeadAnswers.{HeadAnswers}
 use Rattle.session_cli.specs.MorphismChecks.{morphism_loaded}
 use Rattle.session_cli.specs.SystemChecks.{systems_known}
 use Rattle.session_cli.specs.TableReads.{TableRead, AreTablesRead, words_in}
+use Rattle.session_cli.specs.ImageFaults.{fault_of_imaging}
 
 -- the old word is mentioned as one that is indexed at one place
 abbrev pub old_mentions : List ℕ → List Mention
 old_mentions old = Indexed old 1 ∷ []
 
 -- the word has one track, or has another number of them
-abbrev pub OneTrackAnswers : Headers → List ℕ → Result (Unit {0}) Fault → Type 0
+abbrev pub OneTrackAnswers : Headers → List ℕ → Result (Unit {0}) Refusal → Type 0
 OneTrackAnswers h old (Ok one) = length (word_tracks h old) ≡ 1
-OneTrackAnswers h old (Err (faults.Arity name tracks given)) = (name ≡ old) × (length (word_tracks h old) ≢ 1) × (tracks ≡ kept_count (length (word_tracks h old))) × (given ≡ 1)
-OneTrackAnswers h old (Err fault) = ⊥
+OneTrackAnswers h old (Err refusal) = (length (word_tracks h old) ≢ 1) × (refusal ≡ refusals.Shape (shape_refusals.Arity old (kept_count (length (word_tracks h old))) 1))
 
 -- all images have one length that is allowed, or the first kind that says that they have not
-abbrev pub LengthsAnswers : Rules → Result (Unit {0}) Fault → Type 0
+abbrev pub LengthsAnswers : Rules → Result (Unit {0}) Refusal → Type 0
 LengthsAnswers rules (Ok uniform) = (k : ℕ) × HasLength IsImageLength rules k
-LengthsAnswers rules (Err (faults.Morphism kind)) = IsLengthRefused IsImageLength rules kind
-LengthsAnswers rules (Err fault) = ⊥
+LengthsAnswers rules (Err refusal) = (kind : MorphismKind) × (refusal ≡ refusals.Word (word_refusals.Morphism kind)) × IsLengthRefused IsImageLength rules kind
 
 -- the system of the word's track, read in a direction
 pub record WordTrack : Type 0 where
@@ -88,18 +89,17 @@ pub record IsImagingStopped (admitted : StepLog) (custom : Custom) (tables : Lis
   pub log : StepLog
   pub refused : DoesImage rules before.word name before.reading (Err fault) log
 
--- a step that reads the table, or one of the image, is the first to pass a limit
-abbrev pub AreImageStepsRefused : StepLog → Custom → List Loaded → List ℕ → List ℕ → Rules → StepFault → Type 0
-AreImageStepsRefused admitted custom tables old name rules fault = IsReadingStopped admitted custom tables fault ⊎ IsImagingStopped admitted custom tables old name rules (images.Step fault)
+-- a step that reads the table, or one of the image, is the first to pass a limit, or the old word has a letter without a rule
+abbrev pub AreImageStepsRefused : StepLog → Custom → List Loaded → List ℕ → List ℕ → Rules → ImageFault → Type 0
+AreImageStepsRefused admitted custom tables old name rules (images.Morphism kind) = ⊥
+AreImageStepsRefused admitted custom tables old name rules (images.Missing letter) = IsImagingStopped admitted custom tables old name rules (images.Missing letter)
+AreImageStepsRefused admitted custom tables old name rules (images.Step fault) = IsReadingStopped admitted custom tables fault ⊎ IsImagingStopped admitted custom tables old name rules (images.Step fault)
 
 -- the lines of the steps; or the number of the first one that passes a limit; or that the old word has a letter without a rule, where that
 -- comes first
-abbrev pub ImagedAnswers : StepLog → Custom → List Loaded → List ℕ → List ℕ → Rules → Result (List StepLine) Fault → Type 0
+abbrev pub ImagedAnswers : StepLog → Custom → List Loaded → List ℕ → List ℕ → Rules → Result (List StepLine) Refusal → Type 0
 ImagedAnswers admitted custom tables old name rules (Ok lines) = (word : WordValue) × AreImageSteps admitted custom tables old name rules word lines
-ImagedAnswers admitted custom tables old name rules (Err (faults.Letters step)) = AreImageStepsRefused admitted custom tables old name rules (steps.Letters step)
-ImagedAnswers admitted custom tables old name rules (Err (faults.States step)) = AreImageStepsRefused admitted custom tables old name rules (steps.States step)
-ImagedAnswers admitted custom tables old name rules (Err (faults.LetterMissing letter)) = IsImagingStopped admitted custom tables old name rules (images.Missing letter)
-ImagedAnswers admitted custom tables old name rules (Err fault) = ⊥
+ImagedAnswers admitted custom tables old name rules (Err refusal) = (fault : ImageFault) × (fault_of_imaging fault ≡ faults.Refused refusal) × AreImageStepsRefused admitted custom tables old name rules fault
 
 -- the checks after the systems: what is stored is the rules and the definition that the old name means
 abbrev pub after_old_systems : Ledger → ImageHead → Rules → List Loaded → StepLog → Check Success

@@ -23,6 +23,8 @@ use Rattle.language_steps.specs.declared.op.OneOp.TheVariants.{Star, Reversal}
 use Rattle.language_steps.specs.declared.op.PairOp.TheVariants.{Union, Intersection, Concatenation}
 use Rattle.definitions.specs.Trees as trees
 use Rattle.definitions.specs.Trees.{Language, Defined, Ledger, custom_of, trees_of}
+use Rattle.session_cli.specs.declared.shape_refusal.ShapeRefusal.TheVariants as shape_refusals
+use Rattle.session_cli.specs.declared.refusal.Refusal.TheVariants as refusals
 use Rattle.session_cli.specs.declared.fault.Fault.{Fault}
 use Rattle.session_cli.specs.declared.fault.Fault.TheVariants as faults
 use Rattle.session_cli.specs.Accepting.{Success, stored}
@@ -67,7 +69,7 @@ NotPlainAnswers tables (Ok plain) = first_not_plain tables ≡ None
 NotPlainAnswers tables (Err name) = first_not_plain tables ≡ Some name
 
 abbrev pub all_plain : List Loaded → Check (Unit {0})
-all_plain tables = Refusing faults.NotPlain (NotPlainAnswers tables)
+all_plain tables = Refusing (λ name. faults.Refused (refusals.Shape (shape_refusals.NotPlain name))) (NotPlainAnswers tables)
 
 -- the sets of all; or the first listed automaton, and the first later one that has another header
 abbrev pub LangShapeAnswers : List Loaded → Result (List (List ℤ)) (List ℕ × List ℕ) → Type 0
@@ -75,7 +77,7 @@ LangShapeAnswers tables (Ok sets) = AreOverSets sets tables
 LangShapeAnswers tables (Err names) = AreUnlike tables names
 
 abbrev pub fault_of_shape : List ℕ × List ℕ → Fault
-fault_of_shape names = faults.LangShape names.0 names.1
+fault_of_shape names = faults.Refused (refusals.Shape (shape_refusals.LangShape names.0 names.1))
 
 abbrev pub one_header : List Loaded → Check (List (List ℤ))
 one_header tables = Refusing fault_of_shape (LangShapeAnswers tables)

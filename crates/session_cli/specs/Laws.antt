@@ -1,18 +1,19 @@
 -- What holds of all runs.
-use Rattle.std.specs.Prelude.{◌≡◌, ℕ, Bool, List, Some}
+use Rattle.std.specs.Prelude.{◌≡◌, ℕ, Bool, List, Some, Result}
 use Rattle.wal_outside.specs.Files.{Files}
 use Rattle.wal_outside.specs.Views.{SourceView, SinkView, StoreView}
 use Rattle.script_runs.specs.Laws.{IsClean, EndAlike, StoreFaultsAreCounted}
 use Rattle.script_runs.specs.declared.status.Status.{Status}
 use Rattle.definitions.specs.Trees.{Ledger}
-use Rattle.session_cli.specs.Accepting.{Answer}
+use Rattle.session_cli.specs.declared.refusal.Refusal.{Refusal}
+use Rattle.session_cli.specs.Accepting.{Accepted}
 use Rattle.session_cli.specs.Outcomes.{Outcome}
 use Rattle.session_cli.specs.SessionLanguage.{session_language}
 use Rattle.session_cli.specs.Whole.{HasCalled}
 
 -- a command has at most one proper outcome
 abbrev pub OneOutcome : Type 0
-OneOutcome = (limit : ℕ) (ledger : Ledger) (text : List ℕ) (answer other : Answer) → Outcome limit ledger text answer → Outcome limit ledger text other → answer ≡ other
+OneOutcome = (limit : ℕ) (ledger : Ledger) (text : List ℕ) (answer other : Result Accepted Refusal) → Outcome limit ledger text answer → Outcome limit ledger text other → answer ≡ other
 
 -- Where the store reports its files and the status is Done or Refused, what was printed, the files and the status are a function of the
 -- words, of the script and of the files at the beginning: how the bytes of the script came does not change them.

@@ -11,8 +11,22 @@ use Rattle.dfa_loading.specs.declared.fault.FileFlaw.{FileFlaw}
 use Rattle.dfa_loading.specs.declared.fault.FileFlaw.TheVariants as flaws
 use Rattle.morph_words.specs.declared.morphism_kind.MorphismKind.{MorphismKind}
 use Rattle.morph_words.specs.declared.morphism_kind.MorphismKind.TheVariants as kinds
-use Rattle.session_cli.specs.declared.fault.Grammar.{Grammar}
-use Rattle.session_cli.specs.declared.fault.Grammar.TheVariants as grammars
+use Rattle.session_cli.specs.declared.text_refusal.Grammar.{Grammar}
+use Rattle.session_cli.specs.declared.text_refusal.Grammar.TheVariants as grammars
+use Rattle.session_cli.specs.declared.text_refusal.TextRefusal.{TextRefusal}
+use Rattle.session_cli.specs.declared.text_refusal.TextRefusal.TheVariants as text_refusals
+use Rattle.session_cli.specs.declared.file_refusal.FileRefusal.{FileRefusal}
+use Rattle.session_cli.specs.declared.file_refusal.FileRefusal.TheVariants as file_refusals
+use Rattle.session_cli.specs.declared.system_refusal.SystemRefusal.{SystemRefusal}
+use Rattle.session_cli.specs.declared.system_refusal.SystemRefusal.TheVariants as system_refusals
+use Rattle.session_cli.specs.declared.step_refusal.StepRefusal.{StepRefusal}
+use Rattle.session_cli.specs.declared.step_refusal.StepRefusal.TheVariants as step_refusals
+use Rattle.session_cli.specs.declared.shape_refusal.ShapeRefusal.{ShapeRefusal}
+use Rattle.session_cli.specs.declared.shape_refusal.ShapeRefusal.TheVariants as shape_refusals
+use Rattle.session_cli.specs.declared.word_refusal.WordRefusal.{WordRefusal}
+use Rattle.session_cli.specs.declared.word_refusal.WordRefusal.TheVariants as word_refusals
+use Rattle.session_cli.specs.declared.refusal.Refusal.{Refusal}
+use Rattle.session_cli.specs.declared.refusal.Refusal.TheVariants as refusals
 use Rattle.session_cli.specs.declared.fault.Fault.{Fault}
 use Rattle.session_cli.specs.declared.fault.Fault.TheVariants as faults
 use Rattle.session_cli.specs.Accepting.{Success, Said, Accepted, Storing, Saying}
@@ -85,41 +99,69 @@ refusal_letter (kinds.NotFixed letter) = letter
 abbrev pub names_text : List (List ℕ) → List ℕ
 names_text names = flat_map (λ name. codes " " ++ name) names
 
--- the number, name and kept values of a fault
+-- the number, name and kept values of a refused text
+abbrev pub text_detail : TextRefusal → List ℕ
+text_detail text_refusals.Command = codes ": F01 Command"
+text_detail (text_refusals.Syntax grammar at) = (codes ": F02 Syntax in " ++ grammar_name grammar) ++ (codes " at " ++ decimal at)
+text_detail (text_refusals.MixedChain at) = codes ": F03 MixedChain at " ++ decimal at
+text_detail (text_refusals.Number grammar at) = (codes ": F04 Number in " ++ grammar_name grammar) ++ (codes " at " ++ decimal at)
+text_detail (text_refusals.NotLinear at) = codes ": F05 NotLinear at " ++ decimal at
+text_detail (text_refusals.Depth grammar at) = (codes ": F06 Depth in " ++ grammar_name grammar) ++ (codes " at " ++ decimal at)
+text_detail (text_refusals.Long bytes) = codes ": F07 Long " ++ decimal bytes
+text_detail (text_refusals.MacroArgs name place given) = ((codes ": F08 MacroArgs " ++ name) ++ (codes " " ++ decimal place)) ++ (codes " " ++ decimal given)
+text_detail (text_refusals.MacroDepth name) = codes ": F09 MacroDepth " ++ name
+text_detail text_refusals.MacroLong = codes ": F10 MacroLong 65536"
+
+-- of a refused file or script
+abbrev pub file_detail : FileRefusal → List ℕ
+file_detail (file_refusals.Unknown folder name) = (codes ": F11 Unknown " ++ folder_text folder) ++ (codes "/" ++ name)
+file_detail (file_refusals.File folder name flaw) = ((codes ": F12 File " ++ folder_text folder) ++ (codes "/" ++ name)) ++ flaw_text flaw
+file_detail (file_refusals.LoadDepth name) = codes ": F25 LoadDepth " ++ name
+file_detail file_refusals.ScriptLimit = codes ": F28 ScriptLimit"
+
+-- of refused systems
+abbrev pub system_detail : SystemRefusal → List ℕ
+system_detail (system_refusals.SystemUnknown name) = codes ": F14 SystemUnknown " ++ name
+system_detail (system_refusals.NotAdmitted name law) = (codes ": F15 NotAdmitted " ++ name) ++ (codes " " ++ law_name law)
+system_detail (system_refusals.Clash name first other) = ((codes ": F16 Clash " ++ name) ++ (codes " " ++ first)) ++ (codes " " ++ other)
+system_detail (system_refusals.Direction first other) = (codes ": F17 Direction " ++ first) ++ (codes " " ++ other)
+
+-- of a refused step
+abbrev pub step_detail : StepRefusal → List ℕ
+step_detail (step_refusals.Letters step) = codes ": F18 Letters step " ++ decimal step
+step_detail (step_refusals.States step) = codes ": F19 States step " ++ decimal step
+
+-- of a refused automaton or word
+abbrev pub shape_detail : ShapeRefusal → List ℕ
+shape_detail (shape_refusals.Arity name tracks given) = ((codes ": F13 Arity " ++ name) ++ (codes " " ++ decimal tracks)) ++ (codes " " ++ decimal given)
+shape_detail (shape_refusals.Plain name) = codes ": F21 Plain " ++ name
+shape_detail (shape_refusals.CombineShape first other) = (codes ": F24 CombineShape " ++ first) ++ (codes " " ++ other)
+shape_detail (shape_refusals.NotPlain name) = codes ": F29 NotPlain " ++ name
+shape_detail (shape_refusals.LangShape first other) = (codes ": F30 LangShape " ++ first) ++ (codes " " ++ other)
+shape_detail (shape_refusals.Place name) = codes ": F32 Place " ++ name
+shape_detail (shape_refusals.BaseNeeded name systems) = (codes ": F33 BaseNeeded " ++ name) ++ names_text systems
+shape_detail (shape_refusals.NotRelated first other) = (codes ": F34 NotRelated " ++ first) ++ (codes " " ++ other)
+
+-- of refused letters or words
+abbrev pub word_detail : WordRefusal → List ℕ
+word_detail (word_refusals.Morphism kind) = (codes ": F22 Morphism " ++ refusal_name kind) ++ (codes " " ++ signed_decimal (refusal_letter kind))
+word_detail (word_refusals.LetterMissing letter) = codes ": F23 LetterMissing " ++ signed_decimal letter
+word_detail word_refusals.TestLong = codes ": F31 TestLong 16777216"
+
+-- of a cause for which a command is refused
+abbrev pub refusal_detail : Refusal → List ℕ
+refusal_detail (refusals.Text refusal) = text_detail refusal
+refusal_detail (refusals.File refusal) = file_detail refusal
+refusal_detail (refusals.System refusal) = system_detail refusal
+refusal_detail (refusals.Step refusal) = step_detail refusal
+refusal_detail (refusals.Shape refusal) = shape_detail refusal
+refusal_detail (refusals.Word refusal) = word_detail refusal
+
+-- of a fault
 abbrev pub detail : Fault → List ℕ
-detail faults.Command = codes ": F01 Command"
-detail (faults.Syntax grammar at) = (codes ": F02 Syntax in " ++ grammar_name grammar) ++ (codes " at " ++ decimal at)
-detail (faults.MixedChain at) = codes ": F03 MixedChain at " ++ decimal at
-detail (faults.Number grammar at) = (codes ": F04 Number in " ++ grammar_name grammar) ++ (codes " at " ++ decimal at)
-detail (faults.NotLinear at) = codes ": F05 NotLinear at " ++ decimal at
-detail (faults.Depth grammar at) = (codes ": F06 Depth in " ++ grammar_name grammar) ++ (codes " at " ++ decimal at)
-detail (faults.Long bytes) = codes ": F07 Long " ++ decimal bytes
-detail (faults.MacroArgs name place given) = ((codes ": F08 MacroArgs " ++ name) ++ (codes " " ++ decimal place)) ++ (codes " " ++ decimal given)
-detail (faults.MacroDepth name) = codes ": F09 MacroDepth " ++ name
-detail faults.MacroLong = codes ": F10 MacroLong 65536"
-detail (faults.Unknown folder name) = (codes ": F11 Unknown " ++ folder_text folder) ++ (codes "/" ++ name)
-detail (faults.File folder name flaw) = ((codes ": F12 File " ++ folder_text folder) ++ (codes "/" ++ name)) ++ flaw_text flaw
-detail (faults.Arity name tracks given) = ((codes ": F13 Arity " ++ name) ++ (codes " " ++ decimal tracks)) ++ (codes " " ++ decimal given)
-detail (faults.SystemUnknown name) = codes ": F14 SystemUnknown " ++ name
-detail (faults.NotAdmitted name law) = (codes ": F15 NotAdmitted " ++ name) ++ (codes " " ++ law_name law)
-detail (faults.Clash name first other) = ((codes ": F16 Clash " ++ name) ++ (codes " " ++ first)) ++ (codes " " ++ other)
-detail (faults.Direction first other) = (codes ": F17 Direction " ++ first) ++ (codes " " ++ other)
-detail (faults.Letters step) = codes ": F18 Letters step " ++ decimal step
-detail (faults.States step) = codes ": F19 States step " ++ decimal step
-detail (faults.Plain name) = codes ": F21 Plain " ++ name
-detail (faults.Morphism kind) = (codes ": F22 Morphism " ++ refusal_name kind) ++ (codes " " ++ signed_decimal (refusal_letter kind))
-detail (faults.LetterMissing letter) = codes ": F23 LetterMissing " ++ signed_decimal letter
-detail (faults.CombineShape first other) = (codes ": F24 CombineShape " ++ first) ++ (codes " " ++ other)
-detail (faults.LoadDepth name) = codes ": F25 LoadDepth " ++ name
+detail (faults.Refused refusal) = refusal_detail refusal
 detail (faults.Store folder name) = (codes ": F26 Store " ++ folder_text folder) ++ (codes "/" ++ name)
 detail faults.Memory = codes ": F27 Memory"
-detail faults.ScriptLimit = codes ": F28 ScriptLimit"
-detail (faults.NotPlain name) = codes ": F29 NotPlain " ++ name
-detail (faults.LangShape first other) = (codes ": F30 LangShape " ++ first) ++ (codes " " ++ other)
-detail faults.TestLong = codes ": F31 TestLong 16777216"
-detail (faults.Place name) = codes ": F32 Place " ++ name
-detail (faults.BaseNeeded name systems) = (codes ": F33 BaseNeeded " ++ name) ++ names_text systems
-detail (faults.NotRelated first other) = (codes ": F34 NotRelated " ++ first) ++ (codes " " ++ other)
 
 -- the line of a command that begins on a line and is refused by a fault
 abbrev pub fault_line : ℕ → Fault → List ℕ

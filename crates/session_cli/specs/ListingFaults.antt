@@ -2,6 +2,9 @@
 use Rattle.digit_tuple.specs.declared.step_fault.StepFault.TheVariants as steps
 use Rattle.listings.specs.declared.line_fault.LineFault.{LineFault}
 use Rattle.listings.specs.declared.line_fault.LineFault.TheVariants as lines
+use Rattle.session_cli.specs.declared.shape_refusal.ShapeRefusal.TheVariants as shape_refusals
+use Rattle.session_cli.specs.declared.word_refusal.WordRefusal.TheVariants as word_refusals
+use Rattle.session_cli.specs.declared.refusal.Refusal.TheVariants as refusals
 use Rattle.session_cli.specs.declared.fault.Fault.{Fault}
 use Rattle.session_cli.specs.declared.fault.Fault.TheVariants as faults
 use Rattle.session_cli.specs.declared.listing_fault.ListingFault.{ListingFault}
@@ -15,6 +18,6 @@ of_lines lines.Memory = Step steps.Memory
 
 -- why there is no answer
 abbrev pub fault_of_listing : ListingFault → Fault
-fault_of_listing (Place name) = faults.Place name
+fault_of_listing (Place name) = faults.Refused (refusals.Shape (shape_refusals.Place name))
 fault_of_listing (Step fault) = fault_of fault
-fault_of_listing Long = faults.TestLong
+fault_of_listing Long = faults.Refused (refusals.Word word_refusals.TestLong)

@@ -29,6 +29,9 @@ use Rattle.system_files.specs.SystemFiles.{Custom}
 use Rattle.table_listings.specs.Questions.{HasLines, HasTooLongAnswer, HasVerdict, IsAskedOn}
 use Rattle.table_listings.specs.declared.question.Question.{Question}
 use Rattle.table_listings.specs.declared.question.Question.TheVariants.{Words, Infinity}
+use Rattle.session_cli.specs.declared.shape_refusal.ShapeRefusal.TheVariants as shape_refusals
+use Rattle.session_cli.specs.declared.word_refusal.WordRefusal.TheVariants as word_refusals
+use Rattle.session_cli.specs.declared.refusal.Refusal.TheVariants as refusals
 use Rattle.session_cli.specs.declared.fault.Fault.{Fault}
 use Rattle.session_cli.specs.declared.fault.Fault.TheVariants as faults
 use Rattle.session_cli.specs.Accepting.{Said}
@@ -137,7 +140,7 @@ ReplyAnswers ledger name tracks question (Ok reply) = (listing : HasListing ledg
 ReplyAnswers ledger name tracks question (Err long) = (listing : HasListing ledger name tracks) × HasTooLongAnswer listing.lists (letter_sets tracks) question
 
 abbrev pub too_long : Unit {0} → Fault
-too_long long = faults.TestLong
+too_long long = faults.Refused (refusals.Word word_refusals.TestLong)
 
 -- the checks after the steps, after the place, and after the tracks
 abbrev pub after_read : Ledger → List ℕ → Question → Tracks → List StepLine → Check Said
@@ -147,7 +150,7 @@ abbrev pub after_place : Ledger → List ℕ → Question → List Loaded → St
 after_place ledger name question tables admitted tracks = Then (Refusing fault_of (ReadingAnswers admitted (custom_of ledger) tables)) (λ lines. after_read ledger name question tracks lines)
 
 abbrev pub after_tracks : Ledger → List ℕ → Question → List Loaded → StepLog → Tracks → Check Said
-after_tracks ledger name question tables admitted tracks = Then (Refusing faults.Place (PlaceAnswers name tracks question)) (λ on. after_place ledger name question tables admitted tracks)
+after_tracks ledger name question tables admitted tracks = Then (Refusing (λ of. faults.Refused (refusals.Shape (shape_refusals.Place of))) (PlaceAnswers name tracks question)) (λ on. after_place ledger name question tables admitted tracks)
 
 -- those after the systems, after the table, and after the head
 abbrev pub after_listing_systems : Ledger → List ℕ → Question → List Loaded → StepLog → Check Said

@@ -1,37 +1,27 @@
 -- What the code does for calls of macros.
-use Rattle.std.specs.Prelude.{◌≡◌, ◌≢◌, ℕ, List, Result, MatchResult, Ok, ⊤}
+use Rattle.std.specs.Prelude.{◌≡◌, ◌≢◌, ℕ, List, Result, MatchResult, Ok}
 use Rattle.std.specs.declared.alloc.Global.{Global}
 use Rattle.std.specs.declared.vec.Vec.{Vec}
 use Rattle.wal_outside.specs.Files.{Files}
 use Rattle.wal_outside.specs.Places.{Place}
 use Rattle.wal_outside.specs.declared.folder.Folder.{Folder}
 use Rattle.wal_outside.specs.declared.folder.Folder.TheVariants.{Macros}
-use Rattle.dfa_loading.specs.declared.fault.LoadFault.TheVariants as loads
 use Rattle.macro_expand.specs.Expansion.{expansion}
 use Rattle.macro_loading.specs.MacroFiles as macros
 use Rattle.macro_loading.specs.MacroFiles.{macros_of}
-use Rattle.macro_loading.specs.declared.fault.ExpansionFault.TheVariants as expansions
 use Rattle.definitions.specs.Trees.{Ledger, custom_of}
 use Rattle.definitions.specs.Texts.{Stores}
-use Rattle.session_cli.specs.declared.fault.Grammar.TheVariants as grammars
 use Rattle.session_cli.specs.declared.fault.Fault.{Fault}
-use Rattle.session_cli.specs.declared.fault.Fault.TheVariants as faults
 use Rattle.session_cli.specs.declared.file_change.Made.{Made}
 use Rattle.session_cli.specs.declared.step_options.StepOptions.{StepOptions}
 use Rattle.session_cli.specs.FormulaOutcomes.{after_text}
 use Rattle.session_cli.specs.FileChanges.{Makes}
+use Rattle.session_cli.specs.FormulaFaults.{fault_of_expansion}
+use Rattle.macro_loading.specs.declared.fault.ExpansionFault.{ExpansionFault}
 
 -- why a text is not expanded by some files
 abbrev pub IsUnexpanded : Files → List ℕ → Fault → Type 0
-IsUnexpanded files body (faults.Syntax grammars.Macro at) = macros.Fails files body (expansions.Syntax at)
-IsUnexpanded files body (faults.MacroArgs name place given) = macros.Fails files body (expansions.MacroArgs name place given)
-IsUnexpanded files body (faults.MacroDepth name) = macros.Fails files body (expansions.MacroDepth name)
-IsUnexpanded files body faults.MacroLong = macros.Fails files body expansions.MacroLong
-IsUnexpanded files body (faults.Unknown folder name) = macros.Fails files body (expansions.Load (loads.Unknown folder name))
-IsUnexpanded files body (faults.File folder name flaw) = macros.Fails files body (expansions.Load (loads.File folder name flaw))
-IsUnexpanded files body (faults.Store folder name) = macros.Fails files body (expansions.Load (loads.Store folder name))
-IsUnexpanded files body faults.Memory = ⊤
-IsUnexpanded files body fault = ⊥
+IsUnexpanded files body fault = (own : ExpansionFault) × (fault_of_expansion own ≡ fault) × macros.Fails files body own
 
 -- the expansion by some files, or why there is none
 abbrev pub ExpandsTo : List ℕ → Files → Result (Vec ℕ Global) Fault → Type 0

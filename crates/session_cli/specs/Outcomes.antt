@@ -2,8 +2,9 @@
 use Rattle.std.specs.Prelude.{◌≡◌, ◌≢◌, ℕ, ◌<◌, ◌≤◌, List, length, Result, Ok, Err, codes}
 use Rattle.wal_outside.specs.declared.folder.Folder.TheVariants.{Automata, Results}
 use Rattle.command_head.specs.Parts.{first_word_of}
-use Rattle.session_cli.specs.declared.fault.Fault.{Fault}
-use Rattle.session_cli.specs.declared.fault.Fault.TheVariants as faults
+use Rattle.session_cli.specs.declared.text_refusal.TextRefusal.TheVariants as text_refusals
+use Rattle.session_cli.specs.declared.refusal.Refusal.{Refusal}
+use Rattle.session_cli.specs.declared.refusal.Refusal.TheVariants as refusals
 use Rattle.session_cli.specs.declared.command_word.CommandWord.{CommandWord}
 use Rattle.session_cli.specs.declared.command_word.CommandWord.TheVariants as words
 use Rattle.session_cli.specs.Checks.{Check, Pure, Then}
@@ -11,7 +12,7 @@ use Rattle.definitions.specs.Trees.{Ledger}
 use Rattle.language_steps.specs.declared.op.LanguageOp.TheVariants.{Pair, One}
 use Rattle.language_steps.specs.declared.op.OneOp.TheVariants.{Star, Reversal}
 use Rattle.language_steps.specs.declared.op.PairOp.TheVariants.{Union, Intersection, Concatenation}
-use Rattle.session_cli.specs.Accepting.{Accepted, Answer, saying, storing}
+use Rattle.session_cli.specs.Accepting.{Accepted, saying, storing}
 use Rattle.session_cli.specs.RegOutcomes.{reg_checks}
 use Rattle.session_cli.specs.FormulaOutcomes.{formula_checks}
 use Rattle.session_cli.specs.TextOutcomes.{macro_checks, morphism_checks}
@@ -27,10 +28,9 @@ use Rattle.session_cli.specs.ConvertOutcomes.{convert_checks}
 abbrev pub IsShort : List ℕ → Type 0
 IsShort text = length text ≤ 65536
 
-abbrev pub LengthAnswers : List ℕ → Result (Unit {0}) Fault → Type 0
+abbrev pub LengthAnswers : List ℕ → Result (Unit {0}) Refusal → Type 0
 LengthAnswers text (Ok short) = IsShort text
-LengthAnswers text (Err (faults.Long bytes)) = (bytes ≡ 65536) × (65536 < length text)
-LengthAnswers text (Err fault) = ⊥
+LengthAnswers text (Err refusal) = (refusal ≡ refusals.Text (text_refusals.Long 65536)) × (65536 < length text)
 
 -- the word with which a command begins
 abbrev pub word_text : CommandWord → List ℕ
@@ -53,10 +53,9 @@ word_text words.Inf = codes "inf"
 word_text words.Convert = codes "convert"
 
 -- the first word is that of this command, or none that a command has
-abbrev pub WordAnswers : List ℕ → Result CommandWord Fault → Type 0
+abbrev pub WordAnswers : List ℕ → Result CommandWord Refusal → Type 0
 WordAnswers text (Ok word) = first_word_of text ≡ word_text word
-WordAnswers text (Err faults.Command) = (word : CommandWord) → first_word_of text ≢ word_text word
-WordAnswers text (Err fault) = ⊥
+WordAnswers text (Err refusal) = (refusal ≡ refusals.Text text_refusals.Command) × ((word : CommandWord) → first_word_of text ≢ word_text word)
 
 -- the checks of each command
 abbrev pub checks_by : CommandWord → ℕ → Ledger → List ℕ → Check Accepted
@@ -88,5 +87,5 @@ abbrev pub checks_of : ℕ → Ledger → List ℕ → Check Accepted
 checks_of limit ledger text = Then (Pure (LengthAnswers text)) (λ short. after_length limit ledger text)
 
 -- the proper outcome of a command that has its terminator
-abbrev pub Outcome : ℕ → Ledger → List ℕ → Answer → Type 0
+abbrev pub Outcome : ℕ → Ledger → List ℕ → Result Accepted Refusal → Type 0
 Outcome limit ledger text answer = (checks_of limit ledger text).answers answer

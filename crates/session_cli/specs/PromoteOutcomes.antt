@@ -2,32 +2,29 @@
 -- the step, and the length of the text to store.
 use Rattle.std.specs.Prelude.{◌≡◌, ℕ, List, None, Result, Ok, Err}
 use Rattle.digit_tuple.specs.Steps.{StepLog}
-use Rattle.digit_tuple.specs.declared.step_fault.StepFault.TheVariants as steps
 use Rattle.digit_tuple.specs.declared.steps.StepLine.{StepLine}
 use Rattle.wal_outside.specs.declared.folder.Folder.TheVariants.{Words}
 use Rattle.command_head.specs.Grammar.{DerivesPromote}
 use Rattle.command_head.specs.Heads.{PromoteHead}
 use Rattle.fixed_points.specs.Promotion.{DoesPromote}
-use Rattle.fixed_points.specs.declared.promote_fault.PromoteFault.TheVariants as promotes
 use Rattle.morph_words.specs.Rules.{Rules}
 use Rattle.word_output.specs.Words.{WordValue}
 use Rattle.definitions.specs.Trees.{Defined, Fixed, Ledger, custom_of}
 use Rattle.system_files.specs.SystemFiles.{Custom}
-use Rattle.session_cli.specs.declared.fault.Fault.{Fault}
+use Rattle.session_cli.specs.declared.refusal.Refusal.{Refusal}
 use Rattle.session_cli.specs.declared.fault.Fault.TheVariants as faults
 use Rattle.session_cli.specs.Accepting.{Success, stored}
 use Rattle.session_cli.specs.Checks.{Check, Pure, Then}
 use Rattle.session_cli.specs.HeadAnswers.{HeadAnswers}
 use Rattle.session_cli.specs.MorphismChecks.{morphism_loaded}
+use Rattle.session_cli.specs.MorphismFaults.{fault_of_promotion}
+use Rattle.fixed_points.specs.declared.promote_fault.PromoteFault.{PromoteFault}
 use Rattle.system_admission.specs.SystemSteps.{no_steps}
 
 -- the line of the step; or why the morphism has no fixed point, or the number of the step where it passes a limit
-abbrev pub PromotedAnswers : ℕ → Rules → Result (List StepLine) Fault → Type 0
+abbrev pub PromotedAnswers : ℕ → Rules → Result (List StepLine) Refusal → Type 0
 PromotedAnswers limit rules (Ok lines) = (word : WordValue) × (log : StepLog) × DoesPromote rules (no_steps limit) (Ok word) log × (lines ≡ log.lines)
-PromotedAnswers limit rules (Err (faults.Morphism kind)) = (log : StepLog) × DoesPromote rules (no_steps limit) (Err (promotes.Morphism kind)) log
-PromotedAnswers limit rules (Err (faults.Letters step)) = (log : StepLog) × DoesPromote rules (no_steps limit) (Err (promotes.Step (steps.Letters step))) log
-PromotedAnswers limit rules (Err (faults.States step)) = (log : StepLog) × DoesPromote rules (no_steps limit) (Err (promotes.Step (steps.States step))) log
-PromotedAnswers limit rules (Err fault) = ⊥
+PromotedAnswers limit rules (Err refusal) = (fault : PromoteFault) × (fault_of_promotion fault ≡ faults.Refused refusal) × ((log : StepLog) × DoesPromote rules (no_steps limit) (Err fault) log)
 
 -- the checks after the morphism: its fixed point is stored
 abbrev pub after_morphism : ℕ → Custom → List ℕ → Rules → Check Success

@@ -4,7 +4,6 @@ use Rattle.std.specs.Prelude.{◌≡◌, ℕ, ℤ, List, [], None, Result, Ok, E
 use Rattle.std.specs.Str.{bytes_eq}
 use Rattle.wal_outside.specs.declared.folder.Folder.TheVariants.{Automata}
 use Rattle.digit_tuple.specs.Steps.{StepLog}
-use Rattle.digit_tuple.specs.declared.step_fault.StepFault.TheVariants as steps
 use Rattle.digit_tuple.specs.declared.steps.StepLine.{StepLine}
 use Rattle.minimise.specs.Tracked.{NamedAutomaton}
 use Rattle.command_head.specs.Heads as heads
@@ -14,7 +13,11 @@ use Rattle.regex_build.specs.declared.fault.RegexFault.TheVariants as regexes
 use Rattle.regex_build.specs.Expression.{Expression}
 use Rattle.regex_build.specs.Patterns.{Pattern}
 use Rattle.regex_build.specs.Parsing.{Parses}
-use Rattle.session_cli.specs.declared.fault.Grammar.TheVariants as grammars
+use Rattle.session_cli.specs.declared.text_refusal.Grammar.TheVariants as grammars
+use Rattle.session_cli.specs.declared.text_refusal.TextRefusal.TheVariants as text_refusals
+use Rattle.session_cli.specs.declared.system_refusal.SystemRefusal.TheVariants as system_refusals
+use Rattle.session_cli.specs.declared.refusal.Refusal.{Refusal}
+use Rattle.session_cli.specs.declared.refusal.Refusal.TheVariants as refusals
 use Rattle.session_cli.specs.declared.fault.Fault.{Fault}
 use Rattle.session_cli.specs.declared.fault.Fault.TheVariants as faults
 use Rattle.session_cli.specs.Checks.{Check, Pure, Then}
@@ -27,6 +30,9 @@ use Rattle.session_cli.specs.TrackSteps.{DoesExpression}
 use Rattle.session_cli.specs.HeadAnswers.{HeadAnswers}
 use Rattle.session_cli.specs.SystemChecks.{systems_known}
 use Rattle.session_cli.specs.Accepting.{Success, stored}
+use Rattle.session_cli.specs.TrackSystems.{fault_of}
+use Rattle.digit_tuple.specs.declared.step_fault.StepFault.{StepFault}
+use Rattle.regex_build.specs.declared.fault.RegexFault.{RegexFault}
 
 -- the systems that a head names, each once
 abbrev pub systems_named : heads.Alphabets → List (List ℕ)
@@ -34,25 +40,27 @@ systems_named (heads.Sets sets) = []
 systems_named (heads.Systems names) = each_once bytes_eq names
 
 -- the tracks that a head means; or two systems of different directions
-abbrev pub TracksAnswers : Custom → heads.Alphabets → Result Tracks Fault → Type 0
+abbrev pub TracksAnswers : Custom → heads.Alphabets → Result Tracks Refusal → Type 0
 TracksAnswers custom of_head (Ok tracks) = AreTracksOf custom of_head tracks
-TracksAnswers custom (heads.Systems names) (Err (faults.Direction first other)) = PartInDirection custom names first other
-TracksAnswers custom of_head (Err fault) = ⊥
+TracksAnswers custom (heads.Sets sets) (Err refusal) = ⊥
+TracksAnswers custom (heads.Systems names) (Err refusal) = (first : List ℕ) × (other : List ℕ) × (refusal ≡ refusals.System (system_refusals.Direction first other)) × PartInDirection custom names first other
+
+-- the fault of an expression, as a command's
+abbrev pub fault_of_regex : RegexFault → Fault
+fault_of_regex (regexes.Syntax at) = faults.Refused (refusals.Text (text_refusals.Syntax grammars.Regex at))
+fault_of_regex (regexes.Number at) = faults.Refused (refusals.Text (text_refusals.Number grammars.Regex at))
+fault_of_regex (regexes.Depth at) = faults.Refused (refusals.Text (text_refusals.Depth grammars.Regex at))
+fault_of_regex regexes.Memory = faults.Memory
 
 -- the expression of a quoted text, or where it breaks the grammar
-abbrev pub ParsedAnswers : List (List ℤ) → List ℕ → Result Pattern Fault → Type 0
+abbrev pub ParsedAnswers : List (List ℤ) → List ℕ → Result Pattern Refusal → Type 0
 ParsedAnswers sets body (Ok pattern) = Parses sets body (Ok pattern)
-ParsedAnswers sets body (Err (faults.Syntax grammars.Regex at)) = Parses sets body (Err (regexes.Syntax at))
-ParsedAnswers sets body (Err (faults.Number grammars.Regex at)) = Parses sets body (Err (regexes.Number at))
-ParsedAnswers sets body (Err (faults.Depth grammars.Regex at)) = Parses sets body (Err (regexes.Depth at))
-ParsedAnswers sets body (Err fault) = ⊥
+ParsedAnswers sets body (Err refusal) = (fault : RegexFault) × (fault_of_regex fault ≡ faults.Refused refusal) × Parses sets body (Err fault)
 
 -- the lines of the steps, or the number of the first one that passes a limit
-abbrev pub StepsAnswers : StepLog → Tracks → Expression (List ℤ) → Result (List StepLine) Fault → Type 0
+abbrev pub StepsAnswers : StepLog → Tracks → Expression (List ℤ) → Result (List StepLine) Refusal → Type 0
 StepsAnswers admitted tracks expression (Ok lines) = (made : NamedAutomaton) × (log : StepLog) × DoesExpression tracks expression admitted (Ok made) log × (lines ≡ log.lines)
-StepsAnswers admitted tracks expression (Err (faults.Letters step)) = (log : StepLog) × DoesExpression tracks expression admitted (Err (steps.Letters step)) log
-StepsAnswers admitted tracks expression (Err (faults.States step)) = (log : StepLog) × DoesExpression tracks expression admitted (Err (steps.States step)) log
-StepsAnswers admitted tracks expression (Err fault) = ⊥
+StepsAnswers admitted tracks expression (Err refusal) = (fault : StepFault) × (fault_of fault ≡ faults.Refused refusal) × ((log : StepLog) × DoesExpression tracks expression admitted (Err fault) log)
 
 -- the checks after the tracks: an automaton is made of the expression, and its text is stored
 abbrev pub after_tracks : StepLog → Custom → List ℕ → List ℕ → Tracks → Check Success

@@ -7,6 +7,9 @@ use Rattle.command_head.specs.Parts.{first_word_of}
 use Rattle.command_head.specs.Grammar.{DerivesLoad, DerivesAlone}
 use Rattle.dfa_loading.specs.declared.fault.FileFlaw.TheVariants as flaws
 use Rattle.script_runs.specs.Languages.{Deed, Enters, Loads, Ends}
+use Rattle.session_cli.specs.declared.file_refusal.FileRefusal.TheVariants as file_refusals
+use Rattle.session_cli.specs.declared.refusal.Refusal.{Refusal}
+use Rattle.session_cli.specs.declared.refusal.Refusal.TheVariants as refusals
 use Rattle.session_cli.specs.declared.fault.Fault.{Fault}
 use Rattle.session_cli.specs.declared.fault.Fault.TheVariants as faults
 use Rattle.session_cli.specs.declared.run_word.RunWord.{RunWord}
@@ -25,21 +28,21 @@ run_word_text words.Exit = codes "exit"
 run_word_text words.Quit = codes "quit"
 
 -- the first word is one of these, or none of them
-abbrev pub RunWordAnswers : List ℕ → Result (Option RunWord) Fault → Type 0
+abbrev pub RunWordAnswers : List ℕ → Result (Option RunWord) Refusal → Type 0
 RunWordAnswers text result =
     ((word : RunWord) × (first_word_of text ≡ run_word_text word) × (result ≡ Ok (Some word)))
     ⊎ (((word : RunWord) → first_word_of text ≢ run_word_text word) × (result ≡ Ok None))
 
 -- a load of this name stands in fewer than eight others
-abbrev pub DepthAnswers : ℕ → List ℕ → Result (Unit {0}) Fault → Type 0
-DepthAnswers depth name result = ((depth < 8) × (result ≡ Ok tt)) ⊎ ((8 ≤ depth) × (result ≡ Err (faults.LoadDepth name)))
+abbrev pub DepthAnswers : ℕ → List ℕ → Result (Unit {0}) Refusal → Type 0
+DepthAnswers depth name result = ((depth < 8) × (result ≡ Ok tt)) ⊎ ((8 ≤ depth) × (result ≡ Err (refusals.File (file_refusals.LoadDepth name))))
 
 -- the text of a file of commands, which has at most 16,777,216 bytes; or that it is not there, or too long
-abbrev pub TextIn : List ℕ → Option (List ℕ) → Result (List ℕ) Fault → Type 0
-TextIn name None result = result ≡ Err (faults.Unknown Commands name)
+abbrev pub TextIn : List ℕ → Option (List ℕ) → Result (List ℕ) Refusal → Type 0
+TextIn name None result = result ≡ Err (refusals.File (file_refusals.Unknown Commands name))
 TextIn name (Some text) result =
     ((length text ≤ 16777216) × (result ≡ Ok text))
-    ⊎ ((16777216 < length text) × (result ≡ Err (faults.File Commands name flaws.TooLong)))
+    ⊎ ((16777216 < length text) × (result ≡ Err (refusals.File (file_refusals.File Commands name flaws.TooLong))))
 
 -- by the texts of the ledger
 abbrev pub text_read : Ledger → List ℕ → Check (List ℕ)
@@ -71,6 +74,6 @@ LoadsText depth ledger text result = MatchResult result (λ loaded. (load_checks
 -- what was read of a file of commands
 abbrev pub IsLoadedText : List ℕ → Files → Result (Vec ℕ Global) Fault → Type 0
 IsLoadedText name files (Ok text) = TextIn name (files Commands name) (Ok text.items)
+IsLoadedText name files (Err (faults.Refused refusal)) = TextIn name (files Commands name) (Err refusal)
 IsLoadedText name files (Err (faults.Store folder under)) = (folder ≡ Commands) × (under ≡ name)
 IsLoadedText name files (Err faults.Memory) = ⊤
-IsLoadedText name files (Err fault) = TextIn name (files Commands name) (Err fault)

@@ -6,7 +6,10 @@ use Rattle.wal_outside.specs.Places.{Place}
 use Rattle.script_runs.specs.Languages.{CommandLanguage, Deed, Enters}
 use Rattle.script_runs.specs.declared.script_fault.ScriptFault.{ScriptFault}
 use Rattle.script_runs.specs.declared.script_fault.ScriptFault.TheVariants as script
-use Rattle.session_cli.specs.declared.fault.Grammar.TheVariants as grammars
+use Rattle.session_cli.specs.declared.text_refusal.Grammar.TheVariants as grammars
+use Rattle.session_cli.specs.declared.text_refusal.TextRefusal.TheVariants as text_refusals
+use Rattle.session_cli.specs.declared.file_refusal.FileRefusal.TheVariants as file_refusals
+use Rattle.session_cli.specs.declared.refusal.Refusal.TheVariants as refusals
 use Rattle.session_cli.specs.declared.fault.Fault.{Fault}
 use Rattle.session_cli.specs.declared.fault.Fault.TheVariants as faults
 use Rattle.definitions.specs.Trees.{Ledger, ledger_of, custom_of}
@@ -49,13 +52,13 @@ is_memory_fault _ = false
 
 -- how texts are refused that are no commands
 abbrev pub script_refusal : ScriptFault → Fault
-script_refusal script.Long = faults.Long 65536
-script_refusal (script.Unterminated at) = faults.Syntax grammars.Command at
-script_refusal script.PastLimit = faults.ScriptLimit
+script_refusal script.Long = faults.Refused (refusals.Text (text_refusals.Long 65536))
+script_refusal (script.Unterminated at) = faults.Refused (refusals.Text (text_refusals.Syntax grammars.Command at))
+script_refusal script.PastLimit = faults.Refused (refusals.File file_refusals.ScriptLimit)
 
 -- The limit ends a run. So does each other refusal where the run is to stop at the first.
 abbrev pub ends_run : Bool → Fault → Bool
-ends_run stop faults.ScriptLimit = true
+ends_run stop (faults.Refused (refusals.File file_refusals.ScriptLimit)) = true
 ends_run stop _ = stop
 
 -- the ledger at the beginning: the store's files, where these are reported

@@ -1,5 +1,7 @@
 -- What the code makes of a text that is stored as it is, and of the rules of a morphism.
 use Rattle.std.specs.Prelude.{◌≡◌, ℕ, ◌<◌, List, [], length, Result, MatchResult, ⊤}
+use Rattle.session_cli.specs.declared.text_refusal.TextRefusal.TheVariants as text_refusals
+use Rattle.session_cli.specs.declared.refusal.Refusal.TheVariants as refusals
 use Rattle.session_cli.specs.declared.fault.Fault.{Fault}
 use Rattle.session_cli.specs.declared.fault.Fault.TheVariants as faults
 use Rattle.session_cli.specs.declared.file_change.Made.{Made}
@@ -13,9 +15,9 @@ pub record IsTextMade (text : List ℕ) (made : Made) : Type 0 where
 
 -- the text is too long, or memory ran out
 abbrev pub IsTextRefused : List ℕ → Fault → Type 0
-IsTextRefused text (faults.Long bytes) = (bytes ≡ 16777216) × (16777216 < length text)
+IsTextRefused text (faults.Refused refusal) = (refusal ≡ refusals.Text (text_refusals.Long 16777216)) × (16777216 < length text)
+IsTextRefused text (faults.Store folder name) = ⊥
 IsTextRefused text faults.Memory = ⊤
-IsTextRefused text _ = ⊥
 
 -- a text is stored, or refused
 abbrev pub StoresText : List ℕ → Result Made Fault → Type 0

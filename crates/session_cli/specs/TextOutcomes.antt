@@ -1,21 +1,21 @@
 -- What a `macro` and a `morphism` do: they store a text, and the printed rules of a morphism. Their checks are the shape of the head, for a
 -- `morphism` its rules, and the length of the text to store.
-use Rattle.std.specs.Prelude.{ℕ, List, [], None, Result, Ok, Err, codes}
+use Rattle.std.specs.Prelude.{ℕ, List, [], None, Result, Ok, Err, codes, ◌≡◌}
 use Rattle.wal_outside.specs.declared.folder.Folder.TheVariants.{Macros, Morphisms}
 use Rattle.command_head.specs.Grammar.{DerivesNamed}
 use Rattle.command_head.specs.Heads.{NamedHead}
 use Rattle.morph_words.specs.Faults.{Parses}
 use Rattle.morph_words.specs.Printed.{printed}
 use Rattle.morph_words.specs.Rules.{Rules}
-use Rattle.morph_words.specs.declared.fault.RulesFault.TheVariants as rules_faults
 use Rattle.definitions.specs.Trees.{Bytes, Ledger, custom_of}
 use Rattle.system_files.specs.SystemFiles.{Custom}
-use Rattle.session_cli.specs.declared.fault.Grammar.TheVariants as grammars
-use Rattle.session_cli.specs.declared.fault.Fault.{Fault}
+use Rattle.session_cli.specs.declared.refusal.Refusal.{Refusal}
 use Rattle.session_cli.specs.declared.fault.Fault.TheVariants as faults
 use Rattle.session_cli.specs.Accepting.{Success, stored}
 use Rattle.session_cli.specs.Checks.{Check, Pure, Then}
 use Rattle.session_cli.specs.HeadAnswers.{HeadAnswers}
+use Rattle.session_cli.specs.MorphismFaults.{fault_of_rules}
+use Rattle.morph_words.specs.declared.fault.RulesFault.{RulesFault}
 
 -- all checks of a `macro`
 abbrev pub macro_checks : Ledger → List ℕ → Check Success
@@ -24,11 +24,9 @@ macro_checks ledger text =
     stored (custom_of ledger) (record { folder = Macros; name = head.name; entry = Bytes head.body; lines = []; verdict = None }))
 
 -- the rules of a quoted text, or where it breaks the grammar
-abbrev pub RulesAnswers : List ℕ → Result Rules Fault → Type 0
+abbrev pub RulesAnswers : List ℕ → Result Rules Refusal → Type 0
 RulesAnswers body (Ok rules) = Parses body (Ok rules)
-RulesAnswers body (Err (faults.Syntax grammars.Rules at)) = Parses body (Err (rules_faults.Syntax at))
-RulesAnswers body (Err (faults.Number grammars.Rules at)) = Parses body (Err (rules_faults.Number at))
-RulesAnswers body (Err fault) = ⊥
+RulesAnswers body (Err refusal) = (fault : RulesFault) × (fault_of_rules fault ≡ faults.Refused refusal) × Parses body (Err fault)
 
 -- the checks after the head
 abbrev pub after_rules_head : Custom → NamedHead → Check Success

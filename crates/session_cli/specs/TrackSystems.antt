@@ -7,18 +7,21 @@ use Rattle.named_systems.specs.declared.track_system.TrackSystem.{TrackSystem}
 use Rattle.named_systems.specs.declared.track_systems.TracksFault.{TracksFault}
 use Rattle.named_systems.specs.declared.track_systems.TracksFault.TheVariants as tracks
 use Rattle.definitions.specs.Tracks.{NamedSystem}
+use Rattle.session_cli.specs.declared.system_refusal.SystemRefusal.TheVariants as system_refusals
+use Rattle.session_cli.specs.declared.step_refusal.StepRefusal.TheVariants as step_refusals
+use Rattle.session_cli.specs.declared.refusal.Refusal.TheVariants as refusals
 use Rattle.session_cli.specs.declared.fault.Fault.{Fault}
 use Rattle.session_cli.specs.declared.fault.Fault.TheVariants as faults
 
 -- the fault of a step, as a command's
 abbrev pub fault_of : StepFault → Fault
-fault_of (steps.Letters step) = faults.Letters step
-fault_of (steps.States step) = faults.States step
+fault_of (steps.Letters step) = faults.Refused (refusals.Step (step_refusals.Letters step))
+fault_of (steps.States step) = faults.Refused (refusals.Step (step_refusals.States step))
 fault_of steps.Memory = faults.Memory
 
 -- why names mean no tracks, as a command's fault
 abbrev pub fault_of_tracks : TracksFault → Fault
-fault_of_tracks (tracks.Direction first other) = faults.Direction first other
+fault_of_tracks (tracks.Direction first other) = faults.Refused (refusals.System (system_refusals.Direction first other))
 fault_of_tracks tracks.Memory = faults.Memory
 
 -- a system under its name

@@ -7,14 +7,15 @@ use Rattle.transducer_loading.specs.TransducerFiles.{IsTransducerIn, RefusesTran
 use Rattle.transducer_reading.specs.Transducers.{Transducer}
 use Rattle.definitions.specs.Texts.{Stores}
 use Rattle.definitions.specs.Trees.{Ledger}
-use Rattle.session_cli.specs.declared.fault.Fault.{Fault}
+use Rattle.session_cli.specs.declared.refusal.Refusal.{Refusal}
+use Rattle.session_cli.specs.declared.fault.Fault.TheVariants as faults
 use Rattle.session_cli.specs.Checks.{Check}
 use Rattle.session_cli.specs.FormulaFaults.{fault_of_loading}
 
 -- the transducer of the file of this name, by the texts of the ledger; or why it has none
-abbrev pub TransducerAnswers : Ledger → List ℕ → Result Transducer Fault → Type 0
+abbrev pub TransducerAnswers : Ledger → List ℕ → Result Transducer Refusal → Type 0
 TransducerAnswers ledger name (Ok transducer) = (files : Files) × Stores ledger files × IsTransducerIn files name transducer
-TransducerAnswers ledger name (Err fault) = (load : LoadFault) × (fault_of_loading load ≡ fault) × ((files : Files) × Stores ledger files × RefusesTransducer files name load)
+TransducerAnswers ledger name (Err refusal) = (load : LoadFault) × (fault_of_loading load ≡ faults.Refused refusal) × ((files : Files) × Stores ledger files × RefusesTransducer files name load)
 
 abbrev pub transducer_loaded : Ledger → List ℕ → Check Transducer
 transducer_loaded ledger name = record { answers = TransducerAnswers ledger name; reads = λ place. (place.0 ≡ Transducers) × (place.1 ≡ name) }

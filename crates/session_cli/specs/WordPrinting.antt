@@ -8,6 +8,8 @@ use Rattle.dfa_text.specs.RelationText.{word_text}
 use Rattle.num_system.specs.Sealed.{SystemValue}
 use Rattle.word_output.specs.Words.{WordValue}
 use Rattle.word_output.specs.LetterFunctions.{outputs_of}
+use Rattle.session_cli.specs.declared.text_refusal.TextRefusal.TheVariants as text_refusals
+use Rattle.session_cli.specs.declared.refusal.Refusal.TheVariants as refusals
 use Rattle.session_cli.specs.declared.fault.Fault.{Fault}
 use Rattle.session_cli.specs.declared.file_change.Made.{Made}
 use Rattle.session_cli.specs.Lines.{shown_steps}
@@ -35,9 +37,9 @@ IsWordTextOf names v text = (text ≡ named_text names v) × (length text ≤ 16
 
 -- the text is too long, or memory ran out
 abbrev pub HasNoWordText : List (List ℕ) → WordValue → Fault → Type 0
-HasNoWordText names v (faults.Long bytes) = (bytes ≡ 16777216) × (16777216 < length (named_text names v))
+HasNoWordText names v (faults.Refused refusal) = (refusal ≡ refusals.Text (text_refusals.Long 16777216)) × (16777216 < length (named_text names v))
+HasNoWordText names v (faults.Store folder name) = ⊥
 HasNoWordText names v faults.Memory = ⊤
-HasNoWordText names v _ = ⊥
 
 -- the text of a word under these names, and the lines of the steps; or why there is no text
 pub record IsKept (names : List (List ℕ)) (word : WordValue) (shown : Bool) (lines : List StepLine) (made : Made) : Type 0 where

@@ -18,8 +18,10 @@ use crate::kept::Kept;
 use crate::language::language_change;
 use crate::listing::{say_inf, say_test};
 use crate::promote::promote_change;
+use crate::refusal::Refusal;
 use crate::reg::reg_change;
 use crate::step_options::StepOptions;
+use crate::text_refusal::TextRefusal;
 use crate::texts::{macro_change, morphism_change};
 use crate::transduce::transduce_change;
 use language_steps::{LanguageOp, OneOp, PairOp};
@@ -67,7 +69,7 @@ pub(crate) fn action_of<T: Store>(
     ensures { FromFiles (λ found action. (ledger : Ledger) → Stores ledger found → Acts (custom_of ledger) (checks_of options.limit ledger text.now) options.shown action) (T.view store.old) result (T.view store.new) }
 {
     if text.len() > COMMAND_LIMIT {
-        return Err(Fault::Long(COMMAND_LIMIT));
+        return Err(Fault::Refused(Refusal::Text(TextRefusal::Long(COMMAND_LIMIT))));
     }
     match command_word(text) {
         Some(CommandWord::Reg) => writing(reg_change(alloc, options, text, kept, store)),
@@ -106,6 +108,6 @@ pub(crate) fn action_of<T: Store>(
         Some(CommandWord::Test) => printing(say_test(alloc, options, text, kept, store)),
         Some(CommandWord::Inf) => printing(say_inf(alloc, options, text, kept, store)),
         Some(CommandWord::Convert) => { writing(convert_change(alloc, options, text, kept, store)) }
-        None => Err(Fault::Command),
+        None => Err(Fault::Refused(Refusal::Text(TextRefusal::Command))),
     }
 }

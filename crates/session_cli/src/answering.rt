@@ -14,12 +14,15 @@ ghost use Rattle.session_cli.specs.SessionLanguage.{session_language};
 ghost use Rattle.session_cli.specs.SoundLanguage.{session_is_sound};
 
 use crate::actions::COMMAND_LIMIT;
-use crate::fault::{Fault, Grammar};
+use crate::fault::Fault;
+use crate::file_refusal::FileRefusal;
 use crate::lines::send_fault;
 use crate::loading::loaded_text;
 use crate::printed::Printed;
+use crate::refusal::Refusal;
 use crate::run_word::{RunWord, run_word};
 use crate::session::Session;
+use crate::text_refusal::{Grammar, TextRefusal};
 use command_head::word_alone;
 use script_runs::{Answering, Command, Deed, ScriptFault};
 use std::alloc::Global;
@@ -80,7 +83,7 @@ impl Answering for Answerer {
         store: &mut T,
     ) -> Result<Deed, Fault> {
         if command.text.len() > COMMAND_LIMIT {
-            return Err(Fault::Long(COMMAND_LIMIT));
+            return Err(Fault::from(TextRefusal::Long(COMMAND_LIMIT)));
         }
         match run_word(command.text) {
             None => self.command(alloc, command, store),
@@ -101,9 +104,12 @@ impl Answering for Answerer {
 
     fn refuse(&self, fault: ScriptFault) -> Fault {
         match fault {
-            ScriptFault::Long => Fault::Long(COMMAND_LIMIT),
-            ScriptFault::Unterminated(len) => Fault::Syntax(Grammar::Command, len),
-            ScriptFault::PastLimit => Fault::ScriptLimit,
+            ScriptFault::Long => Fault::from(TextRefusal::Long(COMMAND_LIMIT)),
+            ScriptFault::Unterminated(len) => Fault::from(TextRefusal::Syntax(
+                Grammar::Command,
+                len,
+            )),
+            ScriptFault::PastLimit => Fault::from(FileRefusal::ScriptLimit),
         }
     }
 
@@ -116,7 +122,10 @@ impl Answering for Answerer {
     }
 
     fn ends_run(&self, refusal: &Fault) -> bool {
-        self.stop || matches!(refusal, Fault::ScriptLimit)
+        match refusal {
+            Fault::Refused(Refusal::File(FileRefusal::ScriptLimit)) => true,
+            _ => self.stop,
+        }
     }
 
     fn send_line<K: Sink>(

@@ -8,6 +8,8 @@ ghost use Rattle.session_cli.specs.BaseWords.{IsAskedFor, IsBaseOf, IsNameOfBase
 ghost use Rattle.session_cli.specs.Checks.{Fails};
 
 use crate::fault::Fault;
+use crate::refusal::Refusal;
+use crate::shape_refusal::ShapeRefusal;
 use crate::word_systems::WordSystems;
 use digit_tuple::direction::Direction;
 use digit_tuple::faults::OutOfMemory;
@@ -63,7 +65,10 @@ pub(crate) fn base_of(
         Some(system) => Ok(system),
         None => {
             let systems = WordSystems::of(alloc, headers.word_tracks(word))?;
-            Err(Fault::BaseNeeded(word.copy(alloc)?, systems))
+            Err(Fault::Refused(Refusal::Shape(ShapeRefusal::BaseNeeded(
+                word.copy(alloc)?,
+                systems,
+            ))))
         }
     }
 }

@@ -21,6 +21,8 @@ use crate::fault::Fault;
 use crate::file_change::{FileChange, Made};
 use crate::kept::Kept;
 use crate::mentioned_tables::{MentionedTables, SealedNames, load_mentioned, names_of};
+use crate::refusal::Refusal;
+use crate::shape_refusal::ShapeRefusal;
 use crate::step_options::StepOptions;
 use crate::table_reading::read_tables;
 use crate::word_text::{letters_fit, word_made};
@@ -153,7 +155,9 @@ fn none_plain(alloc: Global, headers: &Headers, automata: &[ValuedName]) -> Resu
 {
     for valued in automata {
         if headers.is_plain(&valued.name) {
-            return Err(Fault::Plain(valued.name.copy(alloc)?));
+            return Err(Fault::Refused(Refusal::Shape(ShapeRefusal::Plain(
+                valued.name.copy(alloc)?,
+            ))));
         }
     }
     Ok(())
@@ -169,10 +173,16 @@ fn have_one_shape(alloc: Global, headers: &Headers, automata: &[ValuedName]) -> 
     };
     let tracks = headers.automaton_tracks(&first.name);
     if tracks.is_empty() {
-        return Err(Fault::CombineShape(first.name.copy(alloc)?, first.name.copy(alloc)?));
+        return Err(Fault::Refused(Refusal::Shape(ShapeRefusal::CombineShape(
+            first.name.copy(alloc)?,
+            first.name.copy(alloc)?,
+        ))));
     }
     match first_other(headers, tracks, others) {
-        Some(other) => Err(Fault::CombineShape(first.name.copy(alloc)?, other.name.copy(alloc)?)),
+        Some(other) => Err(Fault::Refused(Refusal::Shape(ShapeRefusal::CombineShape(
+            first.name.copy(alloc)?,
+            other.name.copy(alloc)?,
+        )))),
         None => Ok(()),
     }
 }

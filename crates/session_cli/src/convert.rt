@@ -26,7 +26,10 @@ use crate::file_change::{FileChange, Made};
 use crate::kept::Kept;
 use crate::mentioned_tables::{SealedNames, names_of};
 use crate::old_word::{OldWord, load_old, read_old};
+use crate::refusal::Refusal;
+use crate::shape_refusal::ShapeRefusal;
 use crate::step_options::StepOptions;
+use crate::system_refusal::SystemRefusal;
 use crate::word_text::{letters_fit, word_made};
 use base_change::conversion::convert;
 use base_change::laws::conversions_keep_letters;
@@ -118,7 +121,9 @@ fn is_no_unknown_base(alloc: Global, system: &Name) -> Result<(), Fault>
     }
     match base_named(system) {
         Some(_) => Ok(()),
-        None => Err(Fault::SystemUnknown(system.copy(alloc)?)),
+        None => Err(Fault::Refused(Refusal::System(SystemRefusal::SystemUnknown(system.copy(
+            alloc,
+        )?)))),
     }
 }
 
@@ -176,7 +181,10 @@ fn change_of(alloc: Global, over: BaseSystem, system: &Name) -> Result<Change, F
 {
     match change_to(over, system) {
         Some(change) => Ok(change),
-        None => Err(Fault::NotRelated(over.name(alloc)?, system.copy(alloc)?)),
+        None => Err(Fault::Refused(Refusal::Shape(ShapeRefusal::NotRelated(
+            over.name(alloc)?,
+            system.copy(alloc)?,
+        )))),
     }
 }
 

@@ -15,14 +15,16 @@ ghost use Rattle.session_cli.specs.MacroMakes.{ExpandsTo, MakesOfText};
 ghost use Rattle.session_cli.specs.FileChanges.{Makes, ChangesFile};
 ghost use Rattle.session_cli.specs.StoreReads.{FromFiles, FromTexts};
 
-use crate::fault::{Fault, Grammar};
+use crate::fault::Fault;
 use crate::file_change::{FileChange, Made};
 use crate::formula_text::formula_text;
 use crate::kept::Kept;
 use crate::mentioned_tables::{MentionedTables, SealedNames, load_mentioned, names_of};
 use crate::printed::Printed;
+use crate::refusal::Refusal;
 use crate::step_options::StepOptions;
 use crate::table_reading::read_tables;
+use crate::text_refusal::{Grammar, TextRefusal};
 use command_head::{HeadFault, NamedParts, named_parts};
 use formula_build::{build, resolve};
 use formula_parse::parse;
@@ -68,8 +70,14 @@ pub(crate) fn formula_change<T: Store>(
                 Err(fault) => Err(fault),
             }
         }
-        Err(HeadFault::Syntax(at)) => Err(Fault::Syntax(Grammar::Command, at)),
-        Err(HeadFault::Number(at)) => Err(Fault::Number(Grammar::Command, at)),
+        Err(HeadFault::Syntax(at)) => Err(Fault::Refused(Refusal::Text(TextRefusal::Syntax(
+            Grammar::Command,
+            at,
+        )))),
+        Err(HeadFault::Number(at)) => Err(Fault::Refused(Refusal::Text(TextRefusal::Number(
+            Grammar::Command,
+            at,
+        )))),
         Err(HeadFault::Memory) => Err(Fault::Memory),
     }
 }

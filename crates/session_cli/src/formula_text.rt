@@ -6,6 +6,8 @@ ghost use Rattle.session_cli.specs.FormulaLoads.{HaveTracks, IsTextOf, HasNoText
 
 use crate::fault::Fault;
 use crate::named_tracks::tracks_of;
+use crate::refusal::Refusal;
+use crate::text_refusal::TextRefusal;
 use dfa_text::print_within;
 use digit_tuple::faults::OutOfMemory;
 use digit_tuple::header::Header;
@@ -35,7 +37,7 @@ pub(crate) fn formula_text(
     let header = Header::Systems(tracks_of(alloc, &names, relation.systems())?);
     match print_within(alloc, &header, relation.dfa(), TEXT_LIMIT)? {
         Some(text) => Ok(text),
-        None => Err(Fault::Long(TEXT_LIMIT)),
+        None => Err(Fault::Refused(Refusal::Text(TextRefusal::Long(TEXT_LIMIT)))),
     }
 }
 

@@ -20,7 +20,10 @@ use crate::imaging::image;
 use crate::kept::Kept;
 use crate::mentioned_tables::{SealedNames, names_of};
 use crate::old_word::{OldWord, load_old, read_old};
+use crate::refusal::Refusal;
+use crate::shape_refusal::ShapeRefusal;
 use crate::step_options::StepOptions;
+use crate::word_refusal::WordRefusal;
 use crate::word_text::{letters_fit, word_made};
 use command_head::{ImageParts, image_parts};
 use digit_tuple::name::Name;
@@ -142,7 +145,7 @@ fn has_one_track(alloc: Global, headers: &Headers, old: &Name) -> Result<(), Fau
         return Ok(());
     }
     let count = tracks.min(u32::MAX as usize) as u32;
-    Err(Fault::Arity(old.copy(alloc)?, count, 1))
+    Err(Fault::Refused(Refusal::Shape(ShapeRefusal::Arity(old.copy(alloc)?, count, 1))))
 }
 
 /// Refuses a morphism whose images have not one length of 1 to 40.
@@ -151,6 +154,6 @@ fn has_one_length(morphism: &Morphism) -> Result<(), Fault>
 {
     match image_kind(morphism) {
         None => Ok(()),
-        Some(kind) => Err(Fault::Morphism(kind)),
+        Some(kind) => Err(Fault::Refused(Refusal::Word(WordRefusal::Morphism(kind)))),
     }
 }

@@ -16,7 +16,9 @@ ghost use Rattle.session_cli.specs.StoreReads.{FromFiles};
 use crate::fault::Fault;
 use crate::file_change::{FileChange, Made};
 use crate::mentioned_tables::load_mentioned;
+use crate::refusal::Refusal;
 use crate::reg::made_of;
+use crate::shape_refusal::ShapeRefusal;
 use crate::step_options::StepOptions;
 use command_head::{HeadFault, LanguagesParts, language_parts, languages_parts};
 use dfa_loading::Loaded;
@@ -120,10 +122,13 @@ fn refuse_tables(alloc: Global, tables: &[Loaded]) -> Result<(), Fault>
     ensures { MatchResult result (λ _. AreAlike tables.now) (RefusesTables tables.now) }
 {
     if let Some(name) = first_not_plain(tables) {
-        return Err(Fault::NotPlain(name.copy(alloc)?));
+        return Err(Fault::Refused(Refusal::Shape(ShapeRefusal::NotPlain(name.copy(alloc)?))));
     }
     if let Some((first, other)) = first_unlike(tables) {
-        return Err(Fault::LangShape(first.copy(alloc)?, other.copy(alloc)?));
+        return Err(Fault::Refused(Refusal::Shape(ShapeRefusal::LangShape(
+            first.copy(alloc)?,
+            other.copy(alloc)?,
+        ))));
     }
     Ok(())
 }

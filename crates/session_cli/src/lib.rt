@@ -3,7 +3,21 @@
 
 // the systems of a word, by name
 mod word_systems;
-// why a command is refused
+// what the text of a command is refused for
+mod text_refusal;
+// what a file or a script is refused for
+mod file_refusal;
+// what the systems of a command are refused for
+mod system_refusal;
+// what a step is refused for
+mod step_refusal;
+// what the automata and words that a command names are refused for
+mod shape_refusal;
+// what the letters and words that a command asks for are refused for
+mod word_refusal;
+// the causes of its own for which a command is refused
+mod refusal;
+// why a command is refused, or fails from outside
 mod fault;
 // the lines of refused commands
 mod lines;
@@ -86,10 +100,17 @@ mod laws;
 
 pub use adder_check::admit_fault::Law;
 pub use dfa_loading::FileFlaw;
-pub use fault::{Fault, Grammar};
+pub use fault::Fault;
+pub use file_refusal::FileRefusal;
 pub use laws::{one_outcome, one_run, store_faults_counted};
 pub use printed::Printed;
+pub use refusal::Refusal;
 pub use script_runs::Status;
 pub use session::Session;
+pub use shape_refusal::ShapeRefusal;
+pub use step_refusal::StepRefusal;
+pub use system_refusal::SystemRefusal;
+pub use text_refusal::{Grammar, TextRefusal};
 pub use whole::run;
+pub use word_refusal::WordRefusal;
 pub use word_systems::WordSystems;

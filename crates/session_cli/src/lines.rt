@@ -2,9 +2,16 @@ ghost use Rattle.std.specs.Prelude.{◌≡◌, ◌++◌, codes, decimal};
 ghost use Rattle.std.specs.Fmt.{signed_decimal};
 ghost use Rattle.wal_outside.specs.Folders.{folder_text};
 ghost use Rattle.wal_outside.specs.Sending.{Sends};
-ghost use Rattle.session_cli.specs.Lines.{grammar_name as grammar_text, flaw_text, refusal_name, refusal_letter, law_name as law_text, names_text, detail, fault_line};
+ghost use Rattle.session_cli.specs.Lines.{grammar_name as grammar_text, flaw_text, refusal_name, refusal_letter, law_name as law_text, names_text, text_detail, file_detail, system_detail, step_detail, shape_detail, word_detail, refusal_detail, detail, fault_line};
 
-use crate::fault::{Fault, Grammar};
+use crate::fault::Fault;
+use crate::file_refusal::FileRefusal;
+use crate::refusal::Refusal;
+use crate::shape_refusal::ShapeRefusal;
+use crate::step_refusal::StepRefusal;
+use crate::system_refusal::SystemRefusal;
+use crate::text_refusal::{Grammar, TextRefusal};
+use crate::word_refusal::WordRefusal;
 use crate::word_systems::WordSystems;
 use adder_check::admit_fault::Law;
 use dfa_loading::FileFlaw;
@@ -58,63 +65,130 @@ fn send_detail<K: Sink>(out: &mut K, fault: &Fault) -> Result<(), WriteFault>
     ensures { Sends (K.view out.old) (detail fault.now) result (K.view out.new) }
 {
     match fault {
-        Fault::Command => send(out, b": F01 Command"),
-        Fault::Syntax(grammar, at) => send_place(out, b": F02 Syntax in ", *grammar, *at),
-        Fault::MixedChain(at) => send_number(out, b": F03 MixedChain at ", *at as u64),
-        Fault::Number(grammar, at) => send_place(out, b": F04 Number in ", *grammar, *at),
-        Fault::NotLinear(at) => send_number(out, b": F05 NotLinear at ", *at as u64),
-        Fault::Depth(grammar, at) => send_place(out, b": F06 Depth in ", *grammar, *at),
-        Fault::Long(bytes) => send_number(out, b": F07 Long ", *bytes as u64),
-        Fault::MacroArgs(name, place, given) => send_arguments(out, name, *place, *given),
-        Fault::MacroDepth(name) => send_two(out, b": F09 MacroDepth ", name.as_bytes()),
-        Fault::MacroLong => send(out, b": F10 MacroLong 65536"),
-        Fault::Unknown(folder, name) => send_file(out, b": F11 Unknown ", *folder, name),
-        Fault::File(folder, name, flaw) => send_flawed(out, *folder, name, *flaw),
-        Fault::Arity(name, tracks, given) => send_arity(out, name, *tracks, *given),
-        Fault::SystemUnknown(name) => send_two(out, b": F14 SystemUnknown ", name.as_bytes()),
-        Fault::NotAdmitted(name, law) => send_law(out, name, *law),
-        Fault::Clash(name, first, other) => send_clash(out, name, first, other),
-        Fault::Direction(first, other) => send_four(
+        Fault::Refused(refusal) => send_refusal(out, refusal),
+        Fault::Store(folder, name) => send_file(out, b": F26 Store ", *folder, name),
+        Fault::Memory => send(out, b": F27 Memory"),
+    }
+}
+
+/// Hands over the number, name and kept values of a cause for which a command is refused.
+fn send_refusal<K: Sink>(out: &mut K, refusal: &Refusal) -> Result<(), WriteFault>
+    ensures { Sends (K.view out.old) (refusal_detail refusal.now) result (K.view out.new) }
+{
+    match refusal {
+        Refusal::Text(refusal) => send_text_refusal(out, refusal),
+        Refusal::File(refusal) => send_file_refusal(out, refusal),
+        Refusal::System(refusal) => send_system_refusal(out, refusal),
+        Refusal::Step(refusal) => send_step_refusal(out, refusal),
+        Refusal::Shape(refusal) => send_shape_refusal(out, refusal),
+        Refusal::Word(refusal) => send_word_refusal(out, refusal),
+    }
+}
+
+/// Hands over the refusal of a text.
+fn send_text_refusal<K: Sink>(out: &mut K, refusal: &TextRefusal) -> Result<(), WriteFault>
+    ensures { Sends (K.view out.old) (text_detail refusal.now) result (K.view out.new) }
+{
+    match refusal {
+        TextRefusal::Command => send(out, b": F01 Command"),
+        TextRefusal::Syntax(grammar, at) => send_place(out, b": F02 Syntax in ", *grammar, *at),
+        TextRefusal::MixedChain(at) => send_number(out, b": F03 MixedChain at ", *at as u64),
+        TextRefusal::Number(grammar, at) => send_place(out, b": F04 Number in ", *grammar, *at),
+        TextRefusal::NotLinear(at) => send_number(out, b": F05 NotLinear at ", *at as u64),
+        TextRefusal::Depth(grammar, at) => send_place(out, b": F06 Depth in ", *grammar, *at),
+        TextRefusal::Long(bytes) => send_number(out, b": F07 Long ", *bytes as u64),
+        TextRefusal::MacroArgs(name, place, given) => send_arguments(out, name, *place, *given),
+        TextRefusal::MacroDepth(name) => send_two(out, b": F09 MacroDepth ", name.as_bytes()),
+        TextRefusal::MacroLong => send(out, b": F10 MacroLong 65536"),
+    }
+}
+
+/// Hands over the refusal of a file or a script.
+fn send_file_refusal<K: Sink>(out: &mut K, refusal: &FileRefusal) -> Result<(), WriteFault>
+    ensures { Sends (K.view out.old) (file_detail refusal.now) result (K.view out.new) }
+{
+    match refusal {
+        FileRefusal::Unknown(folder, name) => send_file(out, b": F11 Unknown ", *folder, name),
+        FileRefusal::File(folder, name, flaw) => send_flawed(out, *folder, name, *flaw),
+        FileRefusal::LoadDepth(name) => send_two(out, b": F25 LoadDepth ", name.as_bytes()),
+        FileRefusal::ScriptLimit => send(out, b": F28 ScriptLimit"),
+    }
+}
+
+/// Hands over the refusal of systems.
+fn send_system_refusal<K: Sink>(out: &mut K, refusal: &SystemRefusal) -> Result<(), WriteFault>
+    ensures { Sends (K.view out.old) (system_detail refusal.now) result (K.view out.new) }
+{
+    match refusal {
+        SystemRefusal::SystemUnknown(name) => send_two(
+            out,
+            b": F14 SystemUnknown ",
+            name.as_bytes(),
+        ),
+        SystemRefusal::NotAdmitted(name, law) => send_law(out, name, *law),
+        SystemRefusal::Clash(name, first, other) => send_clash(out, name, first, other),
+        SystemRefusal::Direction(first, other) => send_four(
             out,
             b": F17 Direction ",
             first.as_bytes(),
             b" ",
             other.as_bytes(),
         ),
-        Fault::Letters(step) => send_number(out, b": F18 Letters step ", *step),
-        Fault::States(step) => send_number(out, b": F19 States step ", *step),
-        Fault::Plain(name) => send_two(out, b": F21 Plain ", name.as_bytes()),
-        Fault::Morphism(kind) => send_kind(out, *kind),
-        Fault::LetterMissing(letter) => send_signed(out, b": F23 LetterMissing ", *letter),
-        Fault::CombineShape(first, other) => send_four(
+    }
+}
+
+/// Hands over the refusal of a step.
+fn send_step_refusal<K: Sink>(out: &mut K, refusal: &StepRefusal) -> Result<(), WriteFault>
+    ensures { Sends (K.view out.old) (step_detail refusal.now) result (K.view out.new) }
+{
+    match refusal {
+        StepRefusal::Letters(step) => send_number(out, b": F18 Letters step ", *step),
+        StepRefusal::States(step) => send_number(out, b": F19 States step ", *step),
+    }
+}
+
+/// Hands over the refusal of a named automaton or word.
+fn send_shape_refusal<K: Sink>(out: &mut K, refusal: &ShapeRefusal) -> Result<(), WriteFault>
+    ensures { Sends (K.view out.old) (shape_detail refusal.now) result (K.view out.new) }
+{
+    match refusal {
+        ShapeRefusal::Arity(name, tracks, given) => send_arity(out, name, *tracks, *given),
+        ShapeRefusal::Plain(name) => send_two(out, b": F21 Plain ", name.as_bytes()),
+        ShapeRefusal::CombineShape(first, other) => send_four(
             out,
             b": F24 CombineShape ",
             first.as_bytes(),
             b" ",
             other.as_bytes(),
         ),
-        Fault::LoadDepth(name) => send_two(out, b": F25 LoadDepth ", name.as_bytes()),
-        Fault::Store(folder, name) => send_file(out, b": F26 Store ", *folder, name),
-        Fault::Memory => send(out, b": F27 Memory"),
-        Fault::ScriptLimit => send(out, b": F28 ScriptLimit"),
-        Fault::NotPlain(name) => send_two(out, b": F29 NotPlain ", name.as_bytes()),
-        Fault::LangShape(first, other) => send_four(
+        ShapeRefusal::NotPlain(name) => send_two(out, b": F29 NotPlain ", name.as_bytes()),
+        ShapeRefusal::LangShape(first, other) => send_four(
             out,
             b": F30 LangShape ",
             first.as_bytes(),
             b" ",
             other.as_bytes(),
         ),
-        Fault::TestLong => send(out, b": F31 TestLong 16777216"),
-        Fault::Place(name) => send_two(out, b": F32 Place ", name.as_bytes()),
-        Fault::BaseNeeded(name, systems) => send_base(out, name, systems),
-        Fault::NotRelated(first, other) => send_four(
+        ShapeRefusal::Place(name) => send_two(out, b": F32 Place ", name.as_bytes()),
+        ShapeRefusal::BaseNeeded(name, systems) => send_base(out, name, systems),
+        ShapeRefusal::NotRelated(first, other) => send_four(
             out,
             b": F34 NotRelated ",
             first.as_bytes(),
             b" ",
             other.as_bytes(),
         ),
+    }
+}
+
+/// Hands over the refusal of letters or words.
+fn send_word_refusal<K: Sink>(out: &mut K, refusal: &WordRefusal) -> Result<(), WriteFault>
+    ensures { Sends (K.view out.old) (word_detail refusal.now) result (K.view out.new) }
+{
+    match refusal {
+        WordRefusal::Morphism(kind) => send_kind(out, *kind),
+        WordRefusal::LetterMissing(letter) => send_signed(out, b": F23 LetterMissing ", *letter),
+        WordRefusal::TestLong => send(out, b": F31 TestLong 16777216"),
     }
 }
 

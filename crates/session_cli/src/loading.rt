@@ -6,6 +6,7 @@ ghost use Rattle.session_cli.specs.RunOutcomes.{LoadsText, IsLoadedText};
 ghost use Rattle.session_cli.specs.StoreReads.{FromFiles};
 
 use crate::fault::Fault;
+use crate::file_refusal::FileRefusal;
 use command_head::load_name;
 use dfa_loading::FileFlaw;
 use digit_tuple::name::Name;
@@ -29,7 +30,7 @@ pub(crate) fn loaded_text<T: Store>(
             if depth < LOAD_LIMIT {
                 file_text(alloc, name, store)
             } else {
-                Err(Fault::LoadDepth(name))
+                Err(Fault::from(FileRefusal::LoadDepth(name)))
             }
         }
         Err(fault) => Err(Fault::from(fault)),
@@ -43,8 +44,12 @@ fn file_text<T: Store>(alloc: Global, name: Name, store: &mut T) -> Result<Vec<u
     let mut text = Vec::new(alloc);
     match store.read(Folder::Commands, name.as_str(), &mut text) {
         Found::Found => Ok(text),
-        Found::Absent => Err(Fault::Unknown(Folder::Commands, name)),
-        Found::TooLong => Err(Fault::File(Folder::Commands, name, FileFlaw::TooLong)),
+        Found::Absent => Err(Fault::from(FileRefusal::Unknown(Folder::Commands, name))),
+        Found::TooLong => Err(Fault::from(FileRefusal::File(
+            Folder::Commands,
+            name,
+            FileFlaw::TooLong,
+        ))),
         Found::Failed => Err(Fault::Store(Folder::Commands, name)),
         Found::Memory => Err(Fault::Memory),
     }

@@ -17,11 +17,13 @@ ghost use Rattle.session_cli.specs.TrackSystems.{named_in};
 ghost use Rattle.named_systems.specs.TrackSystems.{IsIn};
 ghost use Rattle.session_cli.specs.FileChanges.{AreFormedAlphabets, Makes, ParsesTo, ChangesFile, Prints};
 
-use crate::fault::{Fault, Grammar};
+use crate::fault::Fault;
 use crate::file_change::{FileChange, Made};
 use crate::kept::Kept;
 use crate::printed::Printed;
+use crate::refusal::Refusal;
 use crate::step_options::StepOptions;
+use crate::text_refusal::{Grammar, TextRefusal};
 use crate::track_systems::{languages, tracks};
 use crate::user_systems::admitted;
 use command_head::{Alphabets, HeadFault, RegParts, reg_parts};
@@ -34,7 +36,6 @@ use digit_tuple::steps::Steps;
 use named_systems::TrackSystems;
 use reg_steps::regex_step::regex_step;
 use reg_steps::relation_steps::relation_steps;
-use regex_build::fault::RegexFault;
 use regex_build::parse;
 use regex_build::regex::Regex;
 use std::alloc::Global;
@@ -77,8 +78,14 @@ pub(crate) fn reg_change<T: Store>(
             }),
             Err(fault) => Err(fault),
         },
-        Err(HeadFault::Syntax(at)) => Err(Fault::Syntax(Grammar::Command, at)),
-        Err(HeadFault::Number(at)) => Err(Fault::Number(Grammar::Command, at)),
+        Err(HeadFault::Syntax(at)) => Err(Fault::Refused(Refusal::Text(TextRefusal::Syntax(
+            Grammar::Command,
+            at,
+        )))),
+        Err(HeadFault::Number(at)) => Err(Fault::Refused(Refusal::Text(TextRefusal::Number(
+            Grammar::Command,
+            at,
+        )))),
         Err(HeadFault::Memory) => Err(Fault::Memory),
     }
 }
@@ -162,10 +169,7 @@ fn parsed(alloc: Global, body: &[u8], header: &Header) -> Result<Regex, Fault>
 {
     match parse(alloc, body, header) {
         Ok(regex) => Ok(regex),
-        Err(RegexFault::Syntax(at)) => Err(Fault::Syntax(Grammar::Regex, at)),
-        Err(RegexFault::Number(at)) => Err(Fault::Number(Grammar::Regex, at)),
-        Err(RegexFault::Depth(at)) => Err(Fault::Depth(Grammar::Regex, at)),
-        Err(RegexFault::Memory) => Err(Fault::Memory),
+        Err(fault) => Err(Fault::from(fault)),
     }
 }
 
@@ -185,6 +189,6 @@ pub(crate) fn made_of(
             stored,
             printed: Printed::of_steps(alloc, steps, shown)?,
         }),
-        None => Err(Fault::Long(TEXT_LIMIT)),
+        None => Err(Fault::Refused(Refusal::Text(TextRefusal::Long(TEXT_LIMIT)))),
     }
 }

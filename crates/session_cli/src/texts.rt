@@ -10,6 +10,8 @@ ghost use Rattle.session_cli.specs.TextChanges.{StoresText};
 use crate::fault::Fault;
 use crate::file_change::{FileChange, Made};
 use crate::printed::Printed;
+use crate::refusal::Refusal;
+use crate::text_refusal::TextRefusal;
 use command_head::{NamedParts, named_parts};
 use morph_words::Morphism;
 use std::alloc::Global;
@@ -73,7 +75,7 @@ fn stored_text(alloc: Global, stored: Vec<u8>) -> Result<Made, Fault>
     ensures { StoresText stored.items result }
 {
     if stored.len() > TEXT_LIMIT {
-        return Err(Fault::Long(TEXT_LIMIT));
+        return Err(Fault::Refused(Refusal::Text(TextRefusal::Long(TEXT_LIMIT))));
     }
     Ok(Made {
         stored,

@@ -9,6 +9,8 @@ use crate::fault::Fault;
 use crate::file_change::Made;
 use crate::named_tracks::tracks_of;
 use crate::printed::Printed;
+use crate::refusal::Refusal;
+use crate::text_refusal::TextRefusal;
 use dfa_text::print_word_within;
 use digit_tuple::header::Header;
 use digit_tuple::name::Name;
@@ -30,7 +32,7 @@ pub(crate) fn word_text(alloc: Global, names: &[Name], word: &Word) -> Result<Ve
     let outputs = function.outputs(alloc)?;
     match print_word_within(alloc, &header, function.dfa(), &outputs, TEXT_LIMIT)? {
         Some(text) => Ok(text),
-        None => Err(Fault::Long(TEXT_LIMIT)),
+        None => Err(Fault::Refused(Refusal::Text(TextRefusal::Long(TEXT_LIMIT)))),
     }
 }
 

@@ -1,4 +1,4 @@
-use Rattle.std.proofs.Common.{◌≡◌, Some, get_or, sym, ap, ◌∙◌, subst, arith}
+use Rattle.std.proofs.Common.{◌≡◌, Some, refl, get_or, sym, ap, ◌∙◌, subst, arith}
 use Rattle.std.proofs.lemmas.List.{take_all}
 use Rattle.command_head.specs.declared.head.ValuedName.{ValuedName}
 use Rattle.formula_resolve.specs.Headers.{is_plain}
@@ -11,7 +11,7 @@ returns-then-is_plain c =
     let automata = c.args.automata.now in
     let i = c.loop-valued.valued-index in
     let own : (get_or automata i c.valued-item.result).name ≡ c.in_ok-copy.field-0 = ap (λ (v : ValuedName). v.name) (sym c.valued-item.is) ∙ sym c.in_ok-copy.ensures in
-    first_at h automata i c.valued-item.result c.loop-valued-test.true c.loop-valued.invariant (ap (λ (v : ValuedName). is_plain h v.name) (sym c.valued-item.is) ∙ (sym c.is_plain.ensures ∙ c.if-is_plain.true)) ∙ ap Some own
+    (c.in_ok-copy.field-0, refl, first_at h automata i c.valued-item.result c.loop-valued-test.true c.loop-valued.invariant (ap (λ (v : ValuedName). is_plain h v.name) (sym c.valued-item.is) ∙ (sym c.is_plain.ensures ∙ c.if-is_plain.true)) ∙ ap Some own)
 
 pub returns : goal.returns
 returns c =

@@ -12,13 +12,13 @@ pub returns-in-Absent : goal.returns-in-Absent
 returns-in-Absent g c =
     let old : StoreView = g.T.Store.view c.args.store.now in
     let new : StoreView = g.T.Store.view c.read.new.self in
-    absent_there c.args.name old new c.read.new.into.items (rw c.as_str.ensures at c.in-Absent.ensures.answer) c.in-Absent.ensures.unchanged c.in-Absent.ensures.faults c.in-Absent.ensures.place
+    rw c.from.ensures (absent_there c.args.name old new c.read.new.into.items (rw c.as_str.ensures at c.in-Absent.ensures.answer) c.in-Absent.ensures.unchanged c.in-Absent.ensures.faults c.in-Absent.ensures.place)
 
 pub returns-in-TooLong : goal.returns-in-TooLong
 returns-in-TooLong g c =
     let old : StoreView = g.T.Store.view c.args.store.now in
     let new : StoreView = g.T.Store.view c.read.new.self in
-    long_there c.args.name old new c.read.new.into.items (rw c.as_str.ensures at c.in-TooLong.ensures.answer) c.in-TooLong.ensures.unchanged c.in-TooLong.ensures.faults c.in-TooLong.ensures.place
+    rw c.from-in-TooLong.ensures (long_there c.args.name old new c.read.new.into.items (rw c.as_str.ensures at c.in-TooLong.ensures.answer) c.in-TooLong.ensures.unchanged c.in-TooLong.ensures.faults c.in-TooLong.ensures.place)
 
 pub returns-in-Failed : goal.returns-in-Failed
 returns-in-Failed g c =

@@ -12,8 +12,8 @@ returns-then-depth-lt-LOAD_LIMIT-clause-loaded g c =
 
 pub returns-else-depth-lt-LOAD_LIMIT-clause-loaded : goal.returns-else-depth-lt-LOAD_LIMIT-clause-loaded
 returns-else-depth-lt-LOAD_LIMIT-clause-loaded g c =
-    from_none _ _ _ refl (λ found ledger stores. load_deep c.args.depth c.args.text.now c.in-Ok.name c.in-Ok.ensures c.if-depth-lt-LOAD_LIMIT.false ledger)
+    rw c.from.ensures (from_none _ _ _ refl (λ found ledger stores. load_deep c.args.depth c.args.text.now c.in-Ok.name c.in-Ok.ensures c.if-depth-lt-LOAD_LIMIT.false ledger))
 
 pub returns-in-Err-clause-loaded : goal.returns-in-Err-clause-loaded
 returns-in-Err-clause-loaded g c =
-    rw c.from.ensures (from_none _ _ _ (own_head c.in-Err.fault) (λ found ledger stores. load_unread c.args.depth c.args.text.now c.in-Err.fault c.in-Err.ensures ledger))
+    rw c.from-in-Err.ensures (from_none _ _ _ (own_head c.in-Err.fault) (λ found ledger stores. load_unread c.args.depth c.args.text.now c.in-Err.fault c.in-Err.ensures ledger))

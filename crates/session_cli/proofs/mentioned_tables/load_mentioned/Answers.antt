@@ -1,3 +1,4 @@
+use Rattle.dfa_loading.specs.declared.fault.LoadFault.TheVariants as loads
 use Rattle.std.proofs.Common.{◌≡◌, List, refl, sym, ap, ◌∙◌, subst}
 use Rattle.std.proofs.lemmas.Result.{err_from_is_err_and}
 use Rattle.dfa_loading.specs.Loading.{AreListedBy, FirstFails}
@@ -11,7 +12,7 @@ use Rattle.session_cli.proofs.mentioned_tables.load_mentioned.Goals as goal
 pub returns-in_err-files : goal.returns-in_err-files
 returns-in_err-files g c =
     let p = err_from_is_err_and c.from_residual.result c.from_residual.ensures.1 in
-    rw (p.1, p.2) (from_none _ _ _ refl (λ found. tt))
+    rw (p.1, p.2) (from_none _ _ _ refl (λ found. (loads.Memory, refl, tt)))
 
 pub load-requires : goal.load-requires
 load-requires g c = subst IsOnce (sym (c.deref-2.ensures.value ∙ (c.in_ok-files.ensures ∙ ap first_files c.deref.ensures.value))) (first_once c.args.mentions.items)

@@ -1,3 +1,4 @@
+use Rattle.dfa_loading.specs.declared.fault.LoadFault.TheVariants as loads
 use Rattle.std.proofs.Common.{refl, sym, ap, ◌∙◌}
 use Rattle.std.proofs.lemmas.Result.{err_from_is_err_and}
 use Rattle.session_cli.specs.ImageOutcomes.{old_mentions}
@@ -8,12 +9,12 @@ use Rattle.session_cli.proofs.old_word.load_old.Goals as goal
 pub returns-in_err-copy : goal.returns-in_err-copy
 returns-in_err-copy g c =
     let p = err_from_is_err_and c.from_residual.result c.from_residual.ensures.1 in
-    rw (p.1, p.2) (from_none _ _ _ refl (λ found. tt))
+    rw (p.1, p.2) (from_none _ _ _ refl (λ found. (loads.Memory, refl, tt)))
 
 pub returns-in_err-mentions : goal.returns-in_err-mentions
 returns-in_err-mentions g c =
     let p = err_from_is_err_and c.from_residual-in_err-mentions.result c.from_residual-in_err-mentions.ensures.1 in
-    rw (p.1, p.2) (from_none _ _ _ refl (λ found. tt))
+    rw (p.1, p.2) (from_none _ _ _ refl (λ found. (loads.Memory, refl, tt)))
 
 pub returns-in_err-mentioned : goal.returns-in_err-mentioned
 returns-in_err-mentioned g c =

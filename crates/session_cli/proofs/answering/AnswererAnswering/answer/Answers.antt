@@ -3,8 +3,8 @@ use Rattle.session_cli.proofs.AnsweringSteps.{long_refused, text_loaded, load_re
 use Rattle.session_cli.proofs.answering.AnswererAnswering.answer.Goals as goal
 
 pub returns-then-command-gt-COMMAND_LIMIT-clause-command : goal.returns-then-command-gt-COMMAND_LIMIT-clause-command
-returns-then-command-gt-COMMAND_LIMIT-clause-command g c = λ ledger stores.
-    long_refused c.args.self.now.session.limit c.args.self.now.stop c.args.command.now.depth ledger _ c.args.command.now.text.now c.args.command.now.shown c.if-command-gt-COMMAND_LIMIT.true
+returns-then-command-gt-COMMAND_LIMIT-clause-command g c = rw c.from.ensures (λ ledger stores.
+    long_refused c.args.self.now.session.limit c.args.self.now.stop c.args.command.now.depth ledger _ c.args.command.now.text.now c.args.command.now.shown c.if-command-gt-COMMAND_LIMIT.true)
 
 pub returns-in_err-text-in-Some-Load-clause-command : goal.returns-in_err-text-in-Some-Load-clause-command
 returns-in_err-text-in-Some-Load-clause-command g c = λ ledger stores.
