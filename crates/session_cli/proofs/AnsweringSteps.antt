@@ -25,7 +25,7 @@ use Rattle.definitions.specs.Texts.{Stores}
 use Rattle.definitions.specs.Trees.{Ledger}
 use Rattle.std.specs.Prelude.{⊤}
 use Rattle.script_runs.proofs.ReplySteps.{own_ledger}
-use Rattle.session_cli.proofs.CheckNames.{is_store_fault}
+use Rattle.session_cli.proofs.StoreFaults.{is_store_fault}
 use Rattle.session_cli.proofs.StoreReads.{own_fault, from_none}
 use Rattle.session_cli.proofs.CheckSteps.{fails_first, fails_after, fails_wider}
 use Rattle.session_cli.proofs.CommandSteps.{IsAnswering, answering, cause_of, failed_of}

@@ -28,9 +28,9 @@ use Rattle.session_cli.specs.FileChecks.{FilesAnswers, files_loaded}
 use Rattle.session_cli.specs.HeadAnswers.{HeadAnswers, fault_of_head}
 use Rattle.session_cli.specs.FileChanges.{Makes, ChangesFile}
 use Rattle.session_cli.specs.SystemChecks.{SystemsAnswers, systems_known}
-use Rattle.session_cli.proofs.CheckNames.{WordTracksAnswers, combine_success, after_combined, after_shape, after_plain}
+use Rattle.session_cli.proofs.CombineCheckNames.{WordTracksAnswers, combine_success, after_combined, after_shape, after_plain}
 use Rattle.session_cli.proofs.CheckSteps.{fails_first, fails_after, makes_after, changes_after}
-use Rattle.session_cli.proofs.CommandSteps.{files_store}
+use Rattle.session_cli.proofs.StoredLedgers.{files_store}
 use Rattle.session_cli.proofs.FilesElsewhere.{listed_elsewhere}
 use Rattle.session_cli.proofs.StoreReads.{IsOwn, own_made}
 use Rattle.session_cli.proofs.TextReads.{with_bases}

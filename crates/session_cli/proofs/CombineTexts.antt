@@ -43,7 +43,7 @@ use Rattle.session_cli.specs.FormulaLoads.{HasSystems}
 use Rattle.session_cli.specs.FormulaSteps.{AreMeant}
 use Rattle.session_cli.specs.TableReads.{relations_in}
 use Rattle.session_cli.specs.WordPrinting.{HaveNames, tracks_named, named_text}
-use Rattle.session_cli.proofs.CheckNames.{WordTracksAnswers}
+use Rattle.session_cli.proofs.CombineCheckNames.{WordTracksAnswers}
 use Rattle.session_cli.proofs.ListedTables.{listed_readable, listed_under}
 use Rattle.session_cli.proofs.MeantNames.{found_meant, named_digits}
 use Rattle.session_cli.proofs.TableMeanings.{HoldsAs, named_holds_as, tables_mean_as}

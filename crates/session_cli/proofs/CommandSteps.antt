@@ -4,7 +4,6 @@ use Rattle.std.specs.Option.{option_map}
 use Rattle.wal_outside.specs.Causes.{Rose}
 use Rattle.wal_outside.specs.Files.{Files, put}
 use Rattle.wal_outside.specs.Places.{Place}
-use Rattle.wal_outside.specs.declared.folder.Folder.{Folder}
 use Rattle.wal_outside.specs.Views.{StoreView}
 use Rattle.session_cli.specs.declared.fault.Fault.{Fault}
 use Rattle.session_cli.specs.declared.fault.Fault.TheVariants as faults
@@ -12,33 +11,26 @@ use Rattle.session_cli.specs.declared.file_change.Action.{Action}
 use Rattle.session_cli.specs.declared.file_change.Action.TheVariants as actions
 use Rattle.session_cli.specs.declared.file_change.FileChange.{FileChange}
 use Rattle.session_cli.specs.Checks.{Fails}
-use Rattle.definitions.specs.Texts.{HasTextAt, Stores}
-use Rattle.definitions.specs.Trees.{Bytes, Ledger, ledger_of, custom_of}
-use Rattle.system_files.specs.SystemFiles.{Custom}
+use Rattle.definitions.specs.Texts.{Stores}
+use Rattle.definitions.specs.Trees.{Ledger, ledger_of, custom_of}
 use Rattle.session_cli.specs.Outcomes.{checks_of}
 use Rattle.script_runs.specs.Replies.{failed_by}
-use Rattle.session_cli.specs.SessionLanguage.{IsAnswer, failed_at}
+use Rattle.session_cli.specs.SessionLanguage.{IsAnswer}
+use Rattle.session_cli.specs.StoreFailures.{failed_at}
 use Rattle.session_cli.specs.Accepting.{Success, Said, Accepted, Storing, Saying}
 use Rattle.session_cli.specs.FileChanges.{IsFileChangeOf, IsAction, IsActionOf}
 use Rattle.session_cli.specs.Commands.{Commands, DoesAction, WritesChange}
 use Rattle.session_cli.specs.Lines.{said_text}
 use Rattle.session_cli.specs.StoreReads.{IsReadFault, HasRead}
-use Rattle.session_cli.proofs.CheckNames.{is_store_fault}
+use Rattle.session_cli.proofs.StoreFaults.{is_store_fault}
 use Rattle.session_cli.proofs.StoreReads.{rises}
+use Rattle.session_cli.proofs.StoredLedgers.{files_store}
 
 -- a ledger by which a command over these files is answered: that of the files where they are reported, and else that of what was found
 pub record IsAnswering (reported : Option Files) (ledger : Ledger) (found : Files) : Type 0 where
   pub known : Ledger
   pub known_is : IfSome reported (λ files. known ≡ ledger)
   pub stores : Stores known found
-
-entry_stores : (custom : Custom) (folder : Folder) (found : Option (List ℕ)) → HasTextAt custom folder (option_map (λ (bytes : List ℕ). Bytes bytes) found) found
-entry_stores custom folder None = tt
-entry_stores custom folder (Some text) = (tt, refl)
-
--- files store the ledger that has their texts
-pub files_store : (found : Files) → Stores (ledger_of found) found
-files_store found = λ folder name. entry_stores (custom_of (ledger_of found)) folder (found folder name)
 
 pub answering : (reported : Option Files) (ledger : Ledger) (found : Files) → IfSome reported (Stores ledger) → IfSome reported (λ files. found ≡ files) → IsAnswering reported ledger found
 answering None ledger found stores is = record { known = ledger_of found; known_is = tt; stores = files_store found }

@@ -38,7 +38,7 @@ use Rattle.session_cli.specs.OldWordMakes.{IsLoadedOld, IsOldAt}
 use Rattle.session_cli.specs.FileChanges.{Makes, ChangesFile}
 use Rattle.session_cli.specs.SystemChecks.{SystemsAnswers, systems_known}
 use Rattle.session_cli.proofs.CheckSteps.{fails_first, fails_after, makes_after, changes_after}
-use Rattle.session_cli.proofs.CommandSteps.{files_store}
+use Rattle.session_cli.proofs.StoredLedgers.{files_store}
 use Rattle.session_cli.proofs.FilesElsewhere.{listed_elsewhere}
 use Rattle.session_cli.proofs.HeadSteps.{head_unread}
 use Rattle.session_cli.proofs.OldWordChains.{no_old_read}

@@ -25,7 +25,7 @@ use Rattle.session_cli.specs.FormulaOutcomes.{FormulaAnswers, ResolvedAnswers, B
 use Rattle.session_cli.specs.MacroChecks.{ExpandedAnswers, expanded}
 use Rattle.session_cli.specs.SystemChecks.{SystemsAnswers, systems_known}
 use Rattle.session_cli.specs.FileChanges.{Makes, ChangesFile}
-use Rattle.session_cli.proofs.CheckNames.{loaded, mentioned_systems, VariablesAnswers, after_variables, after_steps, after_resolution, after_formula}
+use Rattle.session_cli.proofs.FormulaCheckNames.{loaded, mentioned_systems, VariablesAnswers, after_variables, after_steps, after_resolution, after_formula}
 use Rattle.session_cli.proofs.CheckSteps.{fails_first, fails_after, makes_after, changes_after}
 
 -- where the head breaks the grammar

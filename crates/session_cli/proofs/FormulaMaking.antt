@@ -14,9 +14,9 @@ use Rattle.session_cli.specs.declared.formula.ReadFormula.{ReadFormula}
 use Rattle.session_cli.specs.declared.file_change.Made.{Made}
 use Rattle.session_cli.specs.FormulaMakes.{tree_of, IsReadFormula, MakesAfterSystems}
 use Rattle.session_cli.specs.FormulaOutcomes.{after_systems}
-use Rattle.session_cli.proofs.CommandSteps.{files_store}
+use Rattle.session_cli.proofs.StoredLedgers.{files_store}
 use Rattle.session_cli.proofs.FilesElsewhere.{listed_elsewhere}
-use Rattle.session_cli.proofs.ReadingChecks.{no_file_read}
+use Rattle.session_cli.proofs.FormulaReadingChecks.{no_file_read}
 use Rattle.session_cli.proofs.StoreReads.{IsOwn, own_made}
 use Rattle.session_cli.proofs.TextReads.{with_bases}
 

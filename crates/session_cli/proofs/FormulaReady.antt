@@ -1,5 +1,5 @@
 -- What resolving and building a formula asks for, of the systems that a session keeps.
-use Rattle.std.proofs.Common.{◌≡◌, List, None, Result, Ok, inl, inr, refl, sym, ap, ◌∙◌, subst}
+use Rattle.std.proofs.Common.{◌≡◌, List, None, Result, Ok, refl, sym, ap, ◌∙◌, subst}
 use Rattle.dfa_loading.specs.Headers.{headers_of}
 use Rattle.dfa_loading.specs.declared.loaded.Loaded.{Loaded}
 use Rattle.digit_tuple.specs.Steps.{StepLog}
@@ -25,9 +25,8 @@ use Rattle.formula_build.specs.declared.resolving.Resolved.{Resolved}
 use Rattle.number_relations.specs.Relations.{RelationValue}
 use Rattle.system_files.specs.SystemFiles.{Custom}
 use Rattle.session_cli.specs.FormulaOutcomes.{ResolvedAnswers}
-use Rattle.session_cli.specs.FormulaSteps.{AreMeant, IsUnread, AreFormulaSteps}
+use Rattle.session_cli.specs.FormulaSteps.{AreMeant, AreFormulaSteps}
 use Rattle.session_cli.specs.TableReads.{TableRead, AreTablesRead, read_of, library_with}
-use Rattle.session_cli.specs.TableReading.{IsReadingFault}
 
 -- a formula that was resolved has no fault
 pub resolves_here : (tables : List Loaded) (formula : trees.Formula) (headers : Headers) → headers ≡ headers_of tables → fault_of headers formula ≡ None → ResolvedAnswers tables formula (Ok tt)
@@ -84,8 +83,3 @@ module _ (r : Resolved) (read : ReadValue) (reads : List TableRead) (formula : t
         builds = subst (λ (f : trees.Formula). BuildsFormula (library_with reads systems) (formula_plan (headers_of tables) f) reading result new) up.formula_is three;
         lines_are = refl;
       }
-
--- tables that were not read
-pub stopped_here : (systems : List NamedSystem) (admitted : StepLog) (custom : Custom) (tables : List Loaded) (fault : StepFault) → AreSealed systems → AreMeant custom systems → IsReadingFault systems admitted tables fault → IsUnread admitted custom tables fault
-stopped_here systems admitted custom tables fault sealed meant (inl memory) = inl memory
-stopped_here systems admitted custom tables fault sealed meant (inr refused) = inr (record { systems = systems; sealed = sealed; meant = meant; refused = refused })

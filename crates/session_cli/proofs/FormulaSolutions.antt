@@ -31,7 +31,7 @@ use Rattle.definitions.specs.TreeMeanings.{assigned, meanings_in}
 use Rattle.session_cli.specs.FormulaSteps.{AreMeant}
 use Rattle.session_cli.specs.FormulaLoads.{tracks_over, automaton_text}
 use Rattle.session_cli.specs.VariablesOver.{variable_over, variables_over}
-use Rattle.session_cli.proofs.CheckNames.{AreVariables}
+use Rattle.session_cli.proofs.FormulaCheckNames.{AreVariables}
 use Rattle.session_cli.proofs.MeantNames.{found_meant, named_digits}
 use Rattle.definitions.proofs.AssignedLemmas.{names_of_variables, assigned_numbers}
 

@@ -24,7 +24,7 @@ use Rattle.session_cli.specs.FormulaLoads.{automaton_text, IsTextOf, HasNoTextOf
 use Rattle.session_cli.specs.Lines.{shown_steps, verdict_line}
 use Rattle.session_cli.specs.FileChanges.{Makes}
 use Rattle.session_cli.specs.VariablesOver.{variables_over}
-use Rattle.session_cli.proofs.CheckNames.{VerdictAnswers, formula_success, after_variables}
+use Rattle.session_cli.proofs.FormulaCheckNames.{VerdictAnswers, formula_success, after_variables}
 use Rattle.session_cli.proofs.CheckSteps.{fails_after, makes_after}
 use Rattle.session_cli.proofs.FormulaSolutions.{solution_text, no_variables, some_variables, sentence_truth}
 

@@ -5,7 +5,7 @@ use Rattle.command_head.specs.declared.fault.HeadFault.{HeadFault}
 use Rattle.command_head.specs.declared.fault.HeadFault.TheVariants as heads
 use Rattle.session_cli.specs.Checks.{Pure, Fails}
 use Rattle.session_cli.specs.HeadAnswers.{HeadAnswers, fault_of_head}
-use Rattle.session_cli.proofs.CheckNames.{is_store_fault}
+use Rattle.session_cli.proofs.StoreFaults.{is_store_fault}
 
 pub head_unread : {X H : Type 0} (grammar : List (List ℕ) → H → Type 0) (view : X → H) (text : List ℕ) (fault : HeadFault) → HasHead grammar view text (Err fault) → Fails (Pure (HeadAnswers grammar text)) (fault_of_head fault)
 head_unread grammar view text (heads.Syntax at) breaks = (heads.Syntax at, refl, breaks)

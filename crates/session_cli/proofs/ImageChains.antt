@@ -34,9 +34,9 @@ use Rattle.session_cli.specs.MorphismChecks.{MorphismAnswers, morphism_loaded}
 use Rattle.session_cli.specs.FileChanges.{Makes, ChangesFile}
 use Rattle.session_cli.specs.OldWordMakes.{IsLoadedOld}
 use Rattle.session_cli.specs.SystemChecks.{SystemsAnswers, systems_known}
-use Rattle.session_cli.proofs.CheckNames.{TrackAnswers, OldAnswers, image_success, after_image_steps, after_track, after_lengths, after_one_track, after_image_morphism}
+use Rattle.session_cli.proofs.ImageCheckNames.{TrackAnswers, OldAnswers, image_success, after_image_steps, after_track, after_lengths, after_one_track, after_image_morphism}
 use Rattle.session_cli.proofs.CheckSteps.{fails_first, fails_after, makes_after, changes_after}
-use Rattle.session_cli.proofs.CommandSteps.{files_store}
+use Rattle.session_cli.proofs.StoredLedgers.{files_store}
 use Rattle.session_cli.proofs.FilesElsewhere.{listed_elsewhere}
 use Rattle.session_cli.proofs.StoreReads.{IsOwn, own_made}
 use Rattle.session_cli.proofs.TextReads.{with_bases}

@@ -23,7 +23,7 @@ use Rattle.session_cli.specs.ImageOutcomes.{WordTrack}
 use Rattle.session_cli.specs.OldWordMakes.{AreTablesOfOld}
 use Rattle.session_cli.specs.TableReads.{library_with}
 use Rattle.session_cli.specs.WordPrinting.{HaveNames, named_text}
-use Rattle.session_cli.proofs.CheckNames.{TrackAnswers}
+use Rattle.session_cli.proofs.ImageCheckNames.{TrackAnswers}
 use Rattle.session_cli.proofs.MeantNames.{found_meant, named_digits}
 use Rattle.session_cli.proofs.OldWords.{old_means, old_over}
 use Rattle.session_cli.proofs.TableMeanings.{HasLettersAs}

@@ -33,7 +33,7 @@ use Rattle.session_cli.specs.ImageOutcomes.{WordTrack, ImagedAnswers, old_mentio
 use Rattle.session_cli.specs.FileChanges.{Makes}
 use Rattle.session_cli.specs.OldWordMakes.{AreTablesOfOld, systems_of_old}
 use Rattle.session_cli.specs.WordPrinting.{Keeps, named_text}
-use Rattle.session_cli.proofs.CheckNames.{TrackAnswers, image_success}
+use Rattle.session_cli.proofs.ImageCheckNames.{TrackAnswers, image_success}
 use Rattle.session_cli.proofs.ImageChains.{image_loaded, image_tracked, image_stopped, image_done}
 use Rattle.session_cli.proofs.StoringTexts.{kept_text}
 use Rattle.session_cli.proofs.ImageTexts.{image_text, image_track, old_entry, old_word, only_name, system, track_over}

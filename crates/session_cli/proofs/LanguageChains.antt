@@ -37,11 +37,12 @@ use Rattle.session_cli.specs.HeadAnswers.{HeadAnswers, fault_of_head}
 use Rattle.session_cli.specs.LanguageMakes.{MakesLanguage}
 use Rattle.session_cli.specs.LanguageOutcomes.{DerivesOperation, all_plain, after_header, after_language_head, after_language_tables, after_sets, language_checks, language_done, language_files, language_success, one_header, tree_op}
 use Rattle.session_cli.specs.Lines.{shown_steps}
-use Rattle.session_cli.specs.FileChanges.{IsNotPrinted, Makes, ChangesFile, Prints}
+use Rattle.session_cli.specs.StoredRelations.{IsNotPrinted, Prints}
+use Rattle.session_cli.specs.FileChanges.{Makes, ChangesFile}
 use Rattle.session_cli.specs.TextChanges.{IsTextRefused}
 use Rattle.session_cli.specs.TrackSystems.{fault_of}
 use Rattle.session_cli.proofs.CheckSteps.{fails_first, makes_after, changes_after}
-use Rattle.session_cli.proofs.CommandSteps.{files_store}
+use Rattle.session_cli.proofs.StoredLedgers.{files_store}
 use Rattle.session_cli.proofs.HeadSteps.{head_unread}
 use Rattle.session_cli.proofs.StoreReads.{IsOwn, own_made}
 use Rattle.session_cli.proofs.StoringTexts.{unstored}

@@ -37,7 +37,8 @@ use Rattle.session_cli.specs.LanguageOutcomes.{language_checks}
 use Rattle.session_cli.specs.ListingOutcomes.{after_listing_head, inf_checks, listing_systems, test_checks, words_asked}
 use Rattle.session_cli.specs.Outcomes.{checks_by, checks_of}
 use Rattle.session_cli.specs.PromoteOutcomes.{promote_checks}
-use Rattle.session_cli.specs.RegOutcomes.{TracksAnswers, reg_checks, systems_named, fault_of_regex}
+use Rattle.session_cli.specs.RegOutcomes.{TracksAnswers, reg_checks, systems_named}
+use Rattle.session_cli.specs.RegexFaults.{fault_of_regex}
 use Rattle.session_cli.specs.SystemChecks.{SystemsAnswers}
 use Rattle.session_cli.specs.TextOutcomes.{macro_checks, morphism_checks}
 use Rattle.session_cli.specs.TrackSystems.{fault_of}

@@ -1,6 +1,12 @@
 -- Lemmas, in reading order.
 pub mod StepLines
-pub mod CheckNames
+pub mod StoreFaults
+pub mod TextCheckNames
+pub mod RegexCheckNames
+pub mod FormulaCheckNames
+pub mod PromoteCheckNames
+pub mod CombineCheckNames
+pub mod ImageCheckNames
 pub mod CheckSteps
 pub mod RefusingSteps
 pub mod ActionSteps
@@ -8,8 +14,10 @@ pub mod NamesSent
 pub mod WordSteps
 pub mod StoreReads
 pub mod TextReads
+pub mod StoredLedgers
 pub mod CommandSteps
-pub mod ReadingChecks
+pub mod FormulaReadingChecks
+pub mod RegexReadingChecks
 pub mod LoadedFiles
 pub mod FilesElsewhere
 pub mod MacroReads
@@ -46,6 +54,7 @@ pub mod PromoteSteps
 pub mod UserFaults
 pub mod NamedTracks
 pub mod FormulaSolutions
+pub mod StoppedReadings
 pub mod FormulaReady
 pub mod FormulaGround
 pub mod FormulaRefusals

@@ -18,7 +18,7 @@ use Rattle.session_cli.specs.declared.listing_fault.ListingFault.{ListingFault}
 use Rattle.session_cli.specs.FormulaSteps.{AreMeant}
 use Rattle.session_cli.specs.ListingMakes.{AnswersBelow, CanBeListed, TellsAfterSystems, IsReadListing}
 use Rattle.session_cli.specs.ListingOutcomes.{after_listing_systems, listing_files}
-use Rattle.session_cli.proofs.CommandSteps.{files_store}
+use Rattle.session_cli.proofs.StoredLedgers.{files_store}
 use Rattle.session_cli.proofs.FilesElsewhere.{listed_elsewhere}
 use Rattle.session_cli.proofs.ListingChains.{TellsAnswer, own_said}
 use Rattle.session_cli.proofs.ListingMaking.{below_said}

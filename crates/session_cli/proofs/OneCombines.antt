@@ -43,7 +43,7 @@ use Rattle.session_cli.specs.HeadAnswers.{HeadAnswers}
 use Rattle.session_cli.specs.SystemChecks.{systems_known}
 use Rattle.session_cli.specs.TableReads.{TableRead, relations_in}
 use Rattle.session_cli.specs.TrackSystems.{fault_of}
-use Rattle.session_cli.proofs.CheckNames.{WordTracksAnswers, combine_success, after_combined, after_shape, after_plain}
+use Rattle.session_cli.proofs.CombineCheckNames.{WordTracksAnswers, combine_success, after_combined, after_shape, after_plain}
 use Rattle.session_cli.proofs.CheckSteps.{IsSingle, then_single, single_so}
 use Rattle.session_cli.proofs.OneHeads.{head_single}
 use Rattle.session_cli.proofs.OneLoadings.{files_single}

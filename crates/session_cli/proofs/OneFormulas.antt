@@ -26,7 +26,7 @@ use Rattle.formula_resolve.specs.Mentions.{mentions}
 use Rattle.session_cli.specs.Accepting.{stored}
 use Rattle.session_cli.specs.FormulaOutcomes.{FormulaAnswers, IsVariable, ResolvedAnswers, BuiltAnswers, bindings_now, after_systems, after_tables, after_text, after_named_head, formula_checks}
 use Rattle.session_cli.specs.SystemChecks.{systems_known}
-use Rattle.session_cli.proofs.CheckNames.{loaded, mentioned_systems, AreVariables, VariablesAnswers, VerdictAnswers, formula_success, after_variables, after_steps, after_resolution, after_formula}
+use Rattle.session_cli.proofs.FormulaCheckNames.{loaded, mentioned_systems, AreVariables, VariablesAnswers, VerdictAnswers, formula_success, after_variables, after_steps, after_resolution, after_formula}
 use Rattle.session_cli.proofs.CheckSteps.{IsSingle, then_single, single_so}
 use Rattle.definitions.proofs.NameLemmas.{one_meaning}
 use Rattle.definitions.proofs.OneTexts.{one_verdict}

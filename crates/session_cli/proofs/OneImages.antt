@@ -48,7 +48,7 @@ use Rattle.session_cli.specs.ImageOutcomes.{WordTrack, IsOldWordRead, AreImageSt
 use Rattle.session_cli.specs.MorphismChecks.{morphism_loaded}
 use Rattle.session_cli.specs.SystemChecks.{systems_known}
 use Rattle.session_cli.specs.TableReads.{TableRead, words_in}
-use Rattle.session_cli.proofs.CheckNames.{TrackAnswers, OldAnswers, image_success, after_image_steps, after_track, after_lengths, after_one_track, after_image_morphism}
+use Rattle.session_cli.proofs.ImageCheckNames.{TrackAnswers, OldAnswers, image_success, after_image_steps, after_track, after_lengths, after_one_track, after_image_morphism}
 use Rattle.session_cli.proofs.CheckSteps.{IsSingle, then_single, single_so}
 use Rattle.session_cli.proofs.ImagedSteps.{of_one_kind}
 use Rattle.session_cli.proofs.OneHeads.{head_single}

@@ -21,7 +21,7 @@ use Rattle.session_cli.specs.ImageOutcomes.{IsOldWordRead}
 use Rattle.session_cli.specs.OldWordSteps.{AreOldWordSteps, OldWordAnswers, after_old_steps, made_of_old, old_word_done, old_word_success}
 use Rattle.session_cli.specs.TableReads.{TableRead, words_in}
 use Rattle.session_cli.specs.TrackSystems.{fault_of}
-use Rattle.session_cli.proofs.CheckNames.{OldAnswers}
+use Rattle.session_cli.proofs.ImageCheckNames.{OldAnswers}
 use Rattle.session_cli.proofs.CheckSteps.{IsSingle, then_single}
 use Rattle.session_cli.proofs.OneImages.{old_single}
 use Rattle.session_cli.proofs.OneMeantReadings.{IsStopped, both_stopped, read_stopped, same_reading, stopped_by}

@@ -34,12 +34,13 @@ use Rattle.system_files.specs.SystemFiles.{Custom}
 use Rattle.session_cli.specs.HeadTracks.{AreTracksOf, PartInDirection}
 use Rattle.session_cli.specs.HeadAnswers.{HeadAnswers}
 use Rattle.session_cli.specs.Accepting.{Accepted, stored}
-use Rattle.session_cli.specs.RegOutcomes.{systems_named, TracksAnswers, ParsedAnswers, StepsAnswers, after_tracks, after_head, reg_checks, fault_of_regex}
+use Rattle.session_cli.specs.RegOutcomes.{systems_named, TracksAnswers, ParsedAnswers, StepsAnswers, after_tracks, after_head, reg_checks}
+use Rattle.session_cli.specs.RegexFaults.{fault_of_regex}
 use Rattle.session_cli.specs.SystemChecks.{systems_known}
 use Rattle.session_cli.specs.TrackSteps.{DoesExpression}
 use Rattle.session_cli.specs.TrackSystems.{fault_of}
 use Rattle.session_cli.specs.Outcomes.{LengthAnswers, WordAnswers, word_text, checks_by, after_length, Outcome}
-use Rattle.session_cli.proofs.CheckNames.{regex_success, after_expression, after_admission}
+use Rattle.session_cli.proofs.RegexCheckNames.{regex_success, after_expression, after_admission}
 use Rattle.session_cli.specs.FormulaOutcomes.{formula_checks}
 use Rattle.session_cli.specs.TextOutcomes.{macro_checks, morphism_checks}
 use Rattle.session_cli.specs.PromoteOutcomes.{promote_checks}

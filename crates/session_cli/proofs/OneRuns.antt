@@ -25,7 +25,8 @@ use Rattle.session_cli.specs.declared.fault.Fault.TheVariants as faults
 use Rattle.session_cli.specs.Checks.{Check, Fails}
 use Rattle.session_cli.specs.Accepting.{Success, Accepted, Storing, Saying}
 use Rattle.session_cli.specs.RunOutcomes.{run_checks}
-use Rattle.session_cli.specs.SessionLanguage.{IsReply, StoresEntry, ChangesFiles, failed_at, is_memory_fault, session_language}
+use Rattle.session_cli.specs.SessionLanguage.{IsReply, StoresEntry, ChangesFiles, is_memory_fault, session_language}
+use Rattle.session_cli.specs.StoreFailures.{failed_at}
 use Rattle.session_cli.specs.Made.{made_line, made_status, HasMade}
 use Rattle.session_cli.specs.Whole.{HasServed, HasCalled}
 use Rattle.session_cli.proofs.WholeSteps.{usage_or_memory}

@@ -37,7 +37,8 @@ use Rattle.session_cli.specs.MorphismFaults.{fault_of_promotion, fault_of_rules}
 use Rattle.session_cli.specs.PromoteOutcomes.{PromotedAnswers, after_morphism, promote_checks}
 use Rattle.system_admission.specs.SystemSteps.{no_steps}
 use Rattle.session_cli.specs.TextOutcomes.{RulesAnswers, after_rules_head, macro_checks, morphism_checks}
-use Rattle.session_cli.proofs.CheckNames.{fixed_success, after_promote_head, text_success}
+use Rattle.session_cli.proofs.PromoteCheckNames.{fixed_success, after_promote_head}
+use Rattle.session_cli.proofs.TextCheckNames.{text_success}
 use Rattle.session_cli.proofs.CheckSteps.{IsSingle, then_single, single_so}
 use Rattle.session_cli.proofs.OneHeads.{head_single}
 use Rattle.session_cli.proofs.OneLoadings.{same_there}

@@ -33,7 +33,7 @@ use Rattle.session_cli.specs.FileChanges.{IsMade, Makes, ChangesFile}
 use Rattle.session_cli.specs.PromoteOutcomes.{PromotedAnswers, after_morphism, promote_checks}
 use Rattle.system_admission.specs.SystemSteps.{no_steps}
 use Rattle.session_cli.specs.WordPrinting.{IsWordTextOf, HasNoWordText, named_text}
-use Rattle.session_cli.proofs.CheckNames.{fixed_success, after_promote_head}
+use Rattle.session_cli.proofs.PromoteCheckNames.{fixed_success, after_promote_head}
 use Rattle.session_cli.proofs.BaseTexts.{fixed_text}
 use Rattle.session_cli.proofs.CheckSteps.{fails_first, fails_after, changes_after}
 use Rattle.session_cli.proofs.StoringTexts.{unstored, word_refused}

@@ -26,7 +26,7 @@ use Rattle.session_cli.specs.HeadAnswers.{HeadAnswers}
 use Rattle.session_cli.specs.RegOutcomes.{systems_named, TracksAnswers, after_tracks, after_head, reg_checks}
 use Rattle.session_cli.specs.SystemChecks.{SystemsAnswers, systems_known}
 use Rattle.session_cli.specs.FileChanges.{Makes, ChangesFile}
-use Rattle.session_cli.proofs.CheckNames.{after_admission}
+use Rattle.session_cli.proofs.RegexCheckNames.{after_admission}
 use Rattle.session_cli.proofs.CheckSteps.{fails_first, fails_after, makes_after, changes_after}
 
 -- what is read of a text is what its parts derive, or where they break the grammar

@@ -37,9 +37,11 @@ use Rattle.session_cli.specs.declared.file_change.Made.{Made}
 use Rattle.definitions.specs.Texts.{IsTrackText}
 use Rattle.session_cli.specs.TrackSteps.{DoesExpression}
 use Rattle.session_cli.specs.Accepting.{Success, stored}
-use Rattle.session_cli.specs.RegOutcomes.{ParsedAnswers, StepsAnswers, after_tracks, fault_of_regex}
-use Rattle.session_cli.specs.FileChanges.{Prints, Makes}
-use Rattle.session_cli.proofs.CheckNames.{regex_success, after_expression}
+use Rattle.session_cli.specs.RegOutcomes.{ParsedAnswers, StepsAnswers, after_tracks}
+use Rattle.session_cli.specs.RegexFaults.{fault_of_regex}
+use Rattle.session_cli.specs.StoredRelations.{Prints}
+use Rattle.session_cli.specs.FileChanges.{Makes}
+use Rattle.session_cli.proofs.RegexCheckNames.{regex_success, after_expression}
 use Rattle.session_cli.proofs.CheckSteps.{fails_first, fails_after, makes_after}
 use Rattle.definitions.proofs.NameLemmas.{named_are_systems}
 use Rattle.definitions.proofs.RegexTexts.{regex_text}

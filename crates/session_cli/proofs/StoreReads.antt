@@ -15,7 +15,7 @@ use Rattle.session_cli.specs.declared.file_change.FileChange.{FileChange}
 use Rattle.session_cli.specs.Checks.{Check, Fails}
 use Rattle.session_cli.specs.Accepting.{Success}
 use Rattle.session_cli.specs.FileChanges.{Makes, ChangesFile}
-use Rattle.session_cli.proofs.CheckNames.{is_store_fault}
+use Rattle.session_cli.proofs.StoreFaults.{is_store_fault}
 use Rattle.session_cli.specs.StoreReads.{IsReadFault, HasRead, FromFiles}
 use Rattle.system_files.specs.SystemFiles.{Custom}
 

@@ -13,7 +13,7 @@ use Rattle.session_cli.specs.Lines.{shown_steps, verdict_line}
 use Rattle.session_cli.specs.FileChanges.{Makes}
 use Rattle.session_cli.specs.TextChanges.{IsTextRefused, StoresText}
 use Rattle.session_cli.specs.WordPrinting.{HasNoWordText, Keeps, named_text}
-use Rattle.session_cli.proofs.CheckNames.{text_success}
+use Rattle.session_cli.proofs.TextCheckNames.{text_success}
 
 nothing_shown : (shown : Bool) → [] ≡ shown_steps shown [] ++ []
 nothing_shown true = refl

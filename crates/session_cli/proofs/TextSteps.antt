@@ -22,7 +22,7 @@ use Rattle.session_cli.specs.MorphismFaults.{fault_of_rules}
 use Rattle.session_cli.specs.FileChanges.{IsMade, Makes, ChangesFile}
 use Rattle.session_cli.specs.TextOutcomes.{RulesAnswers, after_rules_head, macro_checks, morphism_checks}
 use Rattle.session_cli.specs.TextChanges.{IsTextRefused, StoresText}
-use Rattle.session_cli.proofs.CheckNames.{text_success}
+use Rattle.session_cli.proofs.TextCheckNames.{text_success}
 use Rattle.session_cli.proofs.CheckSteps.{fails_first, fails_after, makes_after, changes_after}
 use Rattle.session_cli.proofs.StoringTexts.{text_stored, unstored}
 

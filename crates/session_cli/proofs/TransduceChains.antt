@@ -40,7 +40,7 @@ use Rattle.session_cli.specs.TransduceOutcomes.{after_transduce_head, after_tran
 use Rattle.session_cli.specs.TransduceSteps.{DoesTransduce}
 use Rattle.session_cli.specs.TransducerChecks.{TransducerAnswers, transducer_loaded}
 use Rattle.session_cli.proofs.CheckSteps.{fails_first, fails_after, makes_after, changes_after}
-use Rattle.session_cli.proofs.CommandSteps.{files_store}
+use Rattle.session_cli.proofs.StoredLedgers.{files_store}
 use Rattle.session_cli.proofs.FilesElsewhere.{listed_elsewhere}
 use Rattle.session_cli.proofs.HeadSteps.{head_unread}
 use Rattle.session_cli.proofs.OldWordChains.{no_old_read}

@@ -14,7 +14,8 @@ use Rattle.definitions.specs.Trees.{Ledger, custom_of}
 use Rattle.session_cli.specs.Accepting.{Answer}
 use Rattle.session_cli.specs.Lines.{accepted_text}
 use Rattle.session_cli.specs.Outcomes.{checks_of}
-use Rattle.session_cli.specs.SessionLanguage.{IsAnswer, ChangesFiles, failed_at}
+use Rattle.session_cli.specs.SessionLanguage.{IsAnswer, ChangesFiles}
+use Rattle.session_cli.specs.StoreFailures.{failed_at}
 
 -- A call's result and the text to print are the answer: accepted, with what it prints; or the same fault, and then the text is empty.
 abbrev pub Gives : Bool → Result (Unit {0}) Fault → List ℕ → Answer → Type 0

@@ -1,27 +1,15 @@
 -- What a command is to store and to print, from its checks.
-use Rattle.std.specs.Prelude.{◌≡◌, ℕ, ℤ, ◌<◌, Bool, List, length, Result, Ok, Err, ⊤, MatchResult}
-use Rattle.command_head.specs.Heads as heads
-use Rattle.dfa_text.specs.Meaning.{AreTrackSets}
-use Rattle.dfa_text.specs.RelationText.{relation_text}
-use Rattle.digit_tuple.specs.Deterministic.{Automaton}
-use Rattle.digit_tuple.specs.declared.header.Header.{Header}
-use Rattle.digit_tuple.specs.declared.steps.StepLine.{StepLine}
-use Rattle.regex_build.specs.Patterns.{Pattern}
-use Rattle.regex_build.specs.Parsing.{Parses}
-use Rattle.session_cli.specs.declared.text_refusal.TextRefusal.TheVariants as text_refusals
-use Rattle.session_cli.specs.declared.refusal.Refusal.TheVariants as refusals
+use Rattle.std.specs.Prelude.{◌≡◌, ℕ, Bool, List, Result, Ok, Err, MatchResult}
 use Rattle.session_cli.specs.declared.fault.Fault.{Fault}
-use Rattle.session_cli.specs.declared.fault.Fault.TheVariants as faults
 use Rattle.session_cli.specs.declared.file_change.Action.{Action}
 use Rattle.session_cli.specs.declared.file_change.Action.TheVariants as actions
 use Rattle.session_cli.specs.declared.file_change.Made.{Made}
 use Rattle.session_cli.specs.declared.file_change.FileChange.{FileChange}
-use Rattle.session_cli.specs.Checks.{Check, Pure, Fails}
-use Rattle.session_cli.specs.Lines.{shown_steps, success_text, said_text}
+use Rattle.session_cli.specs.Checks.{Check, Fails}
+use Rattle.session_cli.specs.Lines.{success_text, said_text}
 use Rattle.definitions.specs.Texts.{HasText}
 use Rattle.system_files.specs.SystemFiles.{Custom}
-use Rattle.session_cli.specs.Accepting.{Success, Said, Accepted, Storing, Saying, FitsFile}
-use Rattle.session_cli.specs.RegOutcomes.{ParsedAnswers}
+use Rattle.session_cli.specs.Accepting.{Success, Said, Accepted, Storing, Saying}
 
 -- the text to store and the one to print are those of an accepted command
 pub record IsMade (custom : Custom) (checks : Check Success) (shown : Bool) (made : Made) : Type 0 where
@@ -80,26 +68,3 @@ writing (Err fault) = Err fault
 abbrev pub printing : Result (List ℕ) Fault → Result Action Fault
 printing (Ok printed) = Ok (actions.Print printed)
 printing (Err fault) = Err fault
-
--- the expression of a quoted text over sets, or why there is none
-abbrev pub ParsesTo : List (List ℤ) → List ℕ → Result Pattern Fault → Type 0
-ParsesTo sets body result = MatchResult result (λ pattern. Parses sets body (Ok pattern)) (Fails (Pure (ParsedAnswers sets body)))
-
--- the text of an automaton and the lines of its steps, or why the text is not stored
-pub record IsPrinted (header : Header) (automaton : Automaton) (shown : Bool) (lines : List StepLine) (stored printed : List ℕ) : Type 0 where
-  pub text_is : stored ≡ relation_text header automaton
-  pub printed_is : printed ≡ shown_steps shown lines
-  pub fits : FitsFile stored
-
-abbrev pub IsNotPrinted : Header → Automaton → Fault → Type 0
-IsNotPrinted header automaton (faults.Refused refusal) = (refusal ≡ refusals.Text (text_refusals.Long 16777216)) × (16777216 < length (relation_text header automaton))
-IsNotPrinted header automaton (faults.Store folder name) = ⊥
-IsNotPrinted header automaton faults.Memory = ⊤
-
-abbrev pub Prints : Header → Automaton → Bool → List StepLine → Result Made Fault → Type 0
-Prints header automaton shown lines result = MatchResult result (λ made. IsPrinted header automaton shown lines made.stored.items made.printed) (IsNotPrinted header automaton)
-
--- tracks of a head: sets of which each has a member, or some systems
-abbrev pub AreFormedAlphabets : heads.Alphabets → Type 0
-AreFormedAlphabets (heads.Sets sets) = AreTrackSets sets
-AreFormedAlphabets (heads.Systems names) = 0 < length names

@@ -7,6 +7,7 @@ pub mod Accepting
 pub mod TableReads
 pub mod FormulaSteps
 pub mod HeadAnswers
+pub mod RegexFaults
 pub mod RegOutcomes
 pub mod FileChecks
 pub mod MacroChecks
@@ -30,6 +31,7 @@ pub mod Outcomes
 pub mod RunOutcomes
 pub mod Lines
 pub mod Views
+pub mod StoreFailures
 pub mod SessionLanguage
 pub mod Made
 pub mod Whole
@@ -42,6 +44,8 @@ pub mod ImageFaults
 pub mod LetterSettings
 pub mod LetterParts
 pub mod OneImage
+pub mod RegexMakes
+pub mod StoredRelations
 pub mod FileChanges
 pub mod StoreReads
 pub mod UserSystems

@@ -9,16 +9,12 @@ use Rattle.minimise.specs.Tracked.{NamedAutomaton}
 use Rattle.command_head.specs.Heads as heads
 use Rattle.command_head.specs.Heads.{RegHead}
 use Rattle.command_head.specs.Grammar.{DerivesReg}
-use Rattle.regex_build.specs.declared.fault.RegexFault.TheVariants as regexes
 use Rattle.regex_build.specs.Expression.{Expression}
 use Rattle.regex_build.specs.Patterns.{Pattern}
 use Rattle.regex_build.specs.Parsing.{Parses}
-use Rattle.session_cli.specs.declared.text_refusal.Grammar.TheVariants as grammars
-use Rattle.session_cli.specs.declared.text_refusal.TextRefusal.TheVariants as text_refusals
 use Rattle.session_cli.specs.declared.system_refusal.SystemRefusal.TheVariants as system_refusals
 use Rattle.session_cli.specs.declared.refusal.Refusal.{Refusal}
 use Rattle.session_cli.specs.declared.refusal.Refusal.TheVariants as refusals
-use Rattle.session_cli.specs.declared.fault.Fault.{Fault}
 use Rattle.session_cli.specs.declared.fault.Fault.TheVariants as faults
 use Rattle.session_cli.specs.Checks.{Check, Pure, Then}
 use Rattle.definitions.specs.Trees.{Regex, Defined, Ledger, custom_of}
@@ -33,6 +29,7 @@ use Rattle.session_cli.specs.Accepting.{Success, stored}
 use Rattle.session_cli.specs.TrackSystems.{fault_of}
 use Rattle.digit_tuple.specs.declared.step_fault.StepFault.{StepFault}
 use Rattle.regex_build.specs.declared.fault.RegexFault.{RegexFault}
+use Rattle.session_cli.specs.RegexFaults.{fault_of_regex}
 
 -- the systems that a head names, each once
 abbrev pub systems_named : heads.Alphabets → List (List ℕ)
@@ -44,13 +41,6 @@ abbrev pub TracksAnswers : Custom → heads.Alphabets → Result Tracks Refusal 
 TracksAnswers custom of_head (Ok tracks) = AreTracksOf custom of_head tracks
 TracksAnswers custom (heads.Sets sets) (Err refusal) = ⊥
 TracksAnswers custom (heads.Systems names) (Err refusal) = (first : List ℕ) × (other : List ℕ) × (refusal ≡ refusals.System (system_refusals.Direction first other)) × PartInDirection custom names first other
-
--- the fault of an expression, as a command's
-abbrev pub fault_of_regex : RegexFault → Fault
-fault_of_regex (regexes.Syntax at) = faults.Refused (refusals.Text (text_refusals.Syntax grammars.Regex at))
-fault_of_regex (regexes.Number at) = faults.Refused (refusals.Text (text_refusals.Number grammars.Regex at))
-fault_of_regex (regexes.Depth at) = faults.Refused (refusals.Text (text_refusals.Depth grammars.Regex at))
-fault_of_regex regexes.Memory = faults.Memory
 
 -- the expression of a quoted text, or where it breaks the grammar
 abbrev pub ParsedAnswers : List (List ℤ) → List ℕ → Result Pattern Refusal → Type 0

@@ -2,7 +2,6 @@
 use Rattle.std.specs.Prelude.{◌≡◌, ◌⊎◌, ℕ, Bool, true, false, List, Option, None, Some, Result, Ok, Err}
 use Rattle.std.specs.Option.{option_map}
 use Rattle.wal_outside.specs.Files.{Files, put}
-use Rattle.wal_outside.specs.Places.{Place}
 use Rattle.script_runs.specs.Languages.{CommandLanguage, Deed, Enters}
 use Rattle.script_runs.specs.declared.script_fault.ScriptFault.{ScriptFault}
 use Rattle.script_runs.specs.declared.script_fault.ScriptFault.TheVariants as script
@@ -19,6 +18,7 @@ use Rattle.session_cli.specs.Checks.{Check, Fails}
 use Rattle.session_cli.specs.Accepting.{Success, Accepted, Storing, Saying, Answer, after}
 use Rattle.session_cli.specs.RunOutcomes.{run_checks}
 use Rattle.session_cli.specs.Lines.{accepted_text, fault_line}
+use Rattle.session_cli.specs.StoreFailures.{failed_at}
 
 -- A command's answer is what its checks answer. Or the store failed at a file that they read, or at the one of what the command stores; or
 -- memory ran out.
@@ -40,11 +40,6 @@ StoresEntry custom success old new = (stored : List ℕ) × HasText custom succe
 abbrev pub ChangesFiles : Custom → Accepted → Option Files → Option Files → Type 0
 ChangesFiles custom (Storing success) old new = StoresEntry custom success old new
 ChangesFiles custom (Saying said) old new = new ≡ old
-
--- the file of a store fault
-abbrev pub failed_at : Fault → Option Place
-failed_at (faults.Store folder name) = Some (folder, name)
-failed_at _ = None
 
 abbrev pub is_memory_fault : Fault → Bool
 is_memory_fault faults.Memory = true

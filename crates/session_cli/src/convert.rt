@@ -164,11 +164,11 @@ fn made_over(
 
 /// A base to which a word is changed, and the least root of both bases.
 #[derive(Clone, Copy)]
-struct Change {
+pub(crate) struct Change {
     /// The new base.
-    system: BaseSystem,
+    pub(crate) system: BaseSystem,
     /// The least integer of which both bases are powers.
-    common: CommonRoot,
+    pub(crate) common: CommonRoot,
 }
 
 /// The change of a word over this base to the system of this name.

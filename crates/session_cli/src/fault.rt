@@ -7,7 +7,7 @@ ghost use Rattle.session_cli.specs.HeadAnswers.{fault_of_head};
 ghost use Rattle.session_cli.specs.MorphismFaults.{fault_of_promotion, fault_of_rules};
 ghost use Rattle.session_cli.specs.ImageFaults.{fault_of_imaging};
 ghost use Rattle.session_cli.specs.ListingFaults.{fault_of_listing};
-ghost use Rattle.session_cli.specs.RegOutcomes.{fault_of_regex};
+ghost use Rattle.session_cli.specs.RegexFaults.{fault_of_regex};
 ghost use Rattle.session_cli.specs.SystemFaults.{fault_of_system};
 
 use crate::file_refusal::FileRefusal;

@@ -15,7 +15,9 @@ ghost use Rattle.system_admission.specs.SystemSteps.{no_steps};
 ghost use Rattle.session_cli.specs.StoreReads.{FromTexts};
 ghost use Rattle.session_cli.specs.TrackSystems.{named_in};
 ghost use Rattle.named_systems.specs.TrackSystems.{IsIn};
-ghost use Rattle.session_cli.specs.FileChanges.{AreFormedAlphabets, Makes, ParsesTo, ChangesFile, Prints};
+ghost use Rattle.session_cli.specs.RegexMakes.{AreFormedAlphabets, ParsesTo};
+ghost use Rattle.session_cli.specs.FileChanges.{Makes, ChangesFile};
+ghost use Rattle.session_cli.specs.StoredRelations.{Prints};
 
 use crate::fault::Fault;
 use crate::file_change::{FileChange, Made};

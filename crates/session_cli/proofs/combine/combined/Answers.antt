@@ -11,7 +11,7 @@ use Rattle.session_cli.specs.CombineOutcomes.{PlainAnswers, ShapeAnswers, HaveSy
 use Rattle.session_cli.specs.FormulaLoads.{HasSystems}
 use Rattle.session_cli.specs.WordPrinting.{HaveNames, Keeps}
 use Rattle.session_cli.proofs.CombineChains.{list_plain, list_unlike, list_stopped, list_combined}
-use Rattle.session_cli.proofs.CheckNames.{combine_success}
+use Rattle.session_cli.proofs.CombineCheckNames.{combine_success}
 use Rattle.session_cli.proofs.StoringTexts.{kept_text}
 use Rattle.session_cli.proofs.CombineTexts.{first_tracks, stored_text_is, word_names, word_tracks_are}
 use Rattle.session_cli.proofs.combine.combined.Goals as goal

@@ -11,7 +11,7 @@ use Rattle.session_cli.specs.CombineMakes.{HasRelations, automata_in, automata_o
 use Rattle.session_cli.specs.CombineSteps.{ArePartsFrom}
 use Rattle.session_cli.specs.TableReads.{relations_in}
 use Rattle.session_cli.specs.TableReading.{AreReadable}
-use Rattle.session_cli.proofs.FormulaReady.{stopped_here}
+use Rattle.session_cli.proofs.StoppedReadings.{stopped_here}
 use Rattle.session_cli.proofs.ListedParts.{parts_shaped, some_automata, some_parts}
 use Rattle.session_cli.proofs.ListedSteps.{list_done, list_refused, unread_list}
 use Rattle.session_cli.proofs.ListedTables.{listed_readable, listed_relations, listed_under}

@@ -20,11 +20,12 @@ use Rattle.session_cli.specs.TableReading.{AreReadable}
 use Rattle.session_cli.specs.TableReads.{library_with}
 use Rattle.session_cli.specs.TrackSystems as track_systems
 use Rattle.session_cli.specs.VariablesOver.{variables_over}
-use Rattle.session_cli.proofs.CheckNames.{AreVariables}
+use Rattle.session_cli.proofs.FormulaCheckNames.{AreVariables}
 use Rattle.session_cli.proofs.FormulaChains.{systems_unresolved, resolved_unbuilt, steps_made}
 use Rattle.session_cli.proofs.FormulaGround.{ground_directions, ground_readable, ground_fits, ground_known, ground_means}
 use Rattle.session_cli.proofs.FormulaWrites.{text_made, text_refused, verdict_is}
-use Rattle.session_cli.proofs.FormulaReady.{stopped_here, set_up, fits_here, known_here, solution_here, tracks_here, variables_here, steps_here, resolves_here}
+use Rattle.session_cli.proofs.StoppedReadings.{stopped_here}
+use Rattle.session_cli.proofs.FormulaReady.{set_up, fits_here, known_here, solution_here, tracks_here, variables_here, steps_here, resolves_here}
 use Rattle.session_cli.proofs.FormulaRefusals.{unresolved, unbuilt, unread}
 use Rattle.session_cli.proofs.FormulaSolutions.{are_variables, as_many, over_digits}
 use Rattle.session_cli.proofs.formula.built.Goals as goal

@@ -9,7 +9,7 @@ use Rattle.language_steps.specs.Operands.{RunsOutOr}
 use Rattle.session_cli.proofs.LanguageTexts.{languages_have_texts}
 use Rattle.language_steps.proofs.MadeSizes.{language_sizes}
 use Rattle.session_cli.specs.LanguageOutcomes.{language_files}
-use Rattle.session_cli.specs.FileChanges.{Prints}
+use Rattle.session_cli.specs.StoredRelations.{Prints}
 use Rattle.system_admission.specs.SystemSteps.{no_steps}
 use Rattle.session_cli.proofs.LanguageChains.{done_of, language_stopped, language_stored, some_names}
 use Rattle.session_cli.proofs.LanguageTables.{files_are_automata, names_have_tables, plain_tables, some_table}

@@ -3,7 +3,7 @@ use Rattle.std.proofs.lemmas.Result.{err_from_is_err_and}
 use Rattle.dfa_loading.specs.declared.loaded.Loaded.{Loaded}
 use Rattle.formula_build.specs.Libraries.{ReadValue, word_named}
 use Rattle.session_cli.specs.TableReading.{AreReadable}
-use Rattle.session_cli.proofs.FormulaReady.{stopped_here}
+use Rattle.session_cli.proofs.StoppedReadings.{stopped_here}
 use Rattle.session_cli.proofs.OldWords.{old_readable, old_there}
 use Rattle.session_cli.proofs.old_word.read_old.Goals as goal
 

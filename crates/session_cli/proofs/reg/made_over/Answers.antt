@@ -6,7 +6,7 @@ use Rattle.definitions.specs.Tracks.{OverSets}
 use Rattle.session_cli.specs.FileChanges.{Makes}
 use Rattle.session_cli.specs.RegOutcomes.{after_head, after_tracks}
 use Rattle.system_admission.specs.SystemSteps.{no_steps}
-use Rattle.session_cli.proofs.ReadingChecks.{no_track_read}
+use Rattle.session_cli.proofs.RegexReadingChecks.{no_track_read}
 use Rattle.session_cli.proofs.RegSteps.{tracks_made}
 use Rattle.session_cli.proofs.StoreReads.{own_made}
 use Rattle.session_cli.proofs.TextReads.{texts_none, texts_part, no_texts}

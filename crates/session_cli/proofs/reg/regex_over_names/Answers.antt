@@ -12,7 +12,7 @@ use Rattle.system_admission.specs.UserSystems.{AreAdmitted}
 use Rattle.named_systems.specs.NamedSystems.{IsThere}
 use Rattle.session_cli.proofs.TrackSystemSteps.{parted_so, tracks_so}
 use Rattle.session_cli.proofs.MentionedTables.{all_once}
-use Rattle.session_cli.proofs.ReadingChecks.{no_track_read}
+use Rattle.session_cli.proofs.RegexReadingChecks.{no_track_read}
 use Rattle.session_cli.proofs.RegSteps.{head_refused, tracks_made, tracks_fail}
 use Rattle.session_cli.proofs.StoreReads.{own_made, own_fault}
 use Rattle.session_cli.proofs.TextReads.{texts_none, texts_refused, texts_read}
