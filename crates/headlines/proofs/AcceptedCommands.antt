@@ -7,12 +7,12 @@ use Rattle.wal_outside.specs.declared.folder.Folder.{Folder}
 use Rattle.wal_outside.specs.declared.folder.Folder.TheVariants.{Automata, Results}
 use Rattle.definitions.specs.Texts.{HasText}
 use Rattle.definitions.specs.Trees.{Ledger, custom_of}
-use Rattle.session_cli.specs.Accepting.{Success, Said, Accepted, Storing, Saying, Answer, saying, storing}
-use Rattle.session_cli.specs.Checks.{Check}
+use Rattle.command_parts.specs.Accepting.{Success, Said, Accepted, Storing, Saying, Answer, saying, storing}
+use Rattle.command_parts.specs.Checks.{Check}
 use Rattle.session_cli.specs.Commands.{Commands, Gives, Changes}
 use Rattle.session_cli.specs.Outcomes.{after_length, checks_of}
-use Rattle.session_cli.specs.FormulaOutcomes.{formula_checks}
-use Rattle.session_cli.specs.Lines.{accepted_text, said_text}
+use Rattle.formula_commands.specs.FormulaOutcomes.{formula_checks}
+use Rattle.command_parts.specs.Lines.{accepted_text, said_text}
 use Rattle.session_cli.specs.SessionLanguage.{IsAnswer, ChangesFiles, StoresEntry}
 use Rattle.session_cli.proofs.CommandsMade.{eval_made, def_made}
 use Rattle.headlines.specs.Sentences.{IsFormulaCommand}

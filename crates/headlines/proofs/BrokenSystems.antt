@@ -15,16 +15,16 @@ use Rattle.system_admission.specs.declared.system_fault.SystemFault.{SystemFault
 use Rattle.system_admission.specs.declared.system_fault.SystemFault.TheVariants as systems
 use Rattle.system_admission.proofs.BrokenLaws.{files_have_words}
 use Rattle.definitions.specs.Trees.{Ledger, custom_of}
-use Rattle.session_cli.specs.declared.fault.Fault.{Fault}
-use Rattle.session_cli.specs.declared.system_refusal.SystemRefusal.TheVariants as system_refusals
-use Rattle.session_cli.specs.declared.refusal.Refusal.TheVariants as refusals
-use Rattle.session_cli.specs.declared.fault.Fault.TheVariants as faults
-use Rattle.session_cli.specs.SystemFaults.{fault_of_system}
-use Rattle.session_cli.specs.Accepting.{Answer}
+use Rattle.command_parts.specs.declared.fault.Fault.{Fault}
+use Rattle.command_parts.specs.declared.system_refusal.SystemRefusal.TheVariants as system_refusals
+use Rattle.command_parts.specs.declared.refusal.Refusal.TheVariants as refusals
+use Rattle.command_parts.specs.declared.fault.Fault.TheVariants as faults
+use Rattle.command_parts.specs.SystemFaults.{fault_of_system}
+use Rattle.command_parts.specs.Accepting.{Answer}
 use Rattle.session_cli.specs.Commands.{Gives}
 use Rattle.session_cli.specs.Outcomes.{checks_of}
 use Rattle.session_cli.specs.SessionLanguage.{IsAnswer}
-use Rattle.session_cli.specs.SystemChecks.{SystemsAnswers}
+use Rattle.command_parts.specs.SystemChecks.{SystemsAnswers}
 use Rattle.session_cli.proofs.LawRefusals.{refused_by_law}
 use Rattle.headlines.specs.RefusedSystems.{BreaksLaw, RefusedSystems}
 use Rattle.headlines.proofs.AcceptedCommands.{reported_ledger}

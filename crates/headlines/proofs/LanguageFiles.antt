@@ -7,9 +7,9 @@ use Rattle.wal_outside.specs.declared.folder.Folder.TheVariants.{Automata}
 use Rattle.language_steps.specs.declared.op.LanguageOp.{LanguageOp}
 use Rattle.definitions.specs.Texts.{HasText}
 use Rattle.definitions.specs.Trees.{Language, Entry, Ledger, Defined, custom_of, trees_of}
-use Rattle.session_cli.specs.Accepting.{Success}
-use Rattle.session_cli.specs.Checks.{Check}
-use Rattle.session_cli.specs.LanguageOutcomes.{language_checks, tree_op}
+use Rattle.command_parts.specs.Accepting.{Success}
+use Rattle.command_parts.specs.Checks.{Check}
+use Rattle.language_commands.specs.LanguageOutcomes.{language_checks, tree_op}
 use Rattle.session_cli.proofs.CommandsMade.{language_made}
 use Rattle.headlines.specs.Languages.{IsLanguageMade, Languages}
 use Rattle.headlines.proofs.AcceptedCommands.{IsMade, is_made}

@@ -8,11 +8,11 @@ use Rattle.listings.specs.WordLines.{word_lines}
 use Rattle.table_listings.specs.declared.question.Question.TheVariants.{Infinity}
 use Rattle.definitions.specs.Tracks.{Tracks, letter_sets}
 use Rattle.definitions.specs.Trees.{Ledger, custom_of}
-use Rattle.session_cli.specs.Accepting.{Said}
-use Rattle.session_cli.specs.Checks.{Check}
-use Rattle.session_cli.specs.FileChecks.{FilesAnswers}
-use Rattle.session_cli.specs.Lines.{said_text, verdict_line}
-use Rattle.session_cli.specs.ListingOutcomes.{AreTableTracks, HasListing, IsReply, Reply, Lines, Verdict, inf_checks, listing_files, reply_text, test_checks, words_asked}
+use Rattle.command_parts.specs.Accepting.{Said}
+use Rattle.command_parts.specs.Checks.{Check}
+use Rattle.command_parts.specs.FileChecks.{FilesAnswers}
+use Rattle.command_parts.specs.Lines.{said_text, verdict_line}
+use Rattle.listing_commands.specs.ListingOutcomes.{AreTableTracks, HasListing, IsReply, Reply, Lines, Verdict, inf_checks, listing_files, reply_text, test_checks, words_asked}
 use Rattle.session_cli.proofs.CommandsMade.{inf_made, test_made}
 use Rattle.headlines.specs.Sentences.{truth_line}
 use Rattle.headlines.specs.Listings.{Infinities, IsAutomatonOf, IsCounted, IsPrinted, IsTested, Tests}

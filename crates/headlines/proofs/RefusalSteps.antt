@@ -3,9 +3,9 @@ use Rattle.std.proofs.Common.{◌≡◌, ℕ, Bool, List, IsTrue, Ok, Err, refl,
 use Rattle.wal_outside.specs.Causes.{Rose}
 use Rattle.wal_outside.specs.Views.{StoreView}
 use Rattle.definitions.specs.Trees.{Ledger}
-use Rattle.session_cli.specs.declared.fault.Fault.{Fault}
-use Rattle.session_cli.specs.declared.fault.Fault.TheVariants as faults
-use Rattle.session_cli.specs.Accepting.{Answer}
+use Rattle.command_parts.specs.declared.fault.Fault.{Fault}
+use Rattle.command_parts.specs.declared.fault.Fault.TheVariants as faults
+use Rattle.command_parts.specs.Accepting.{Answer}
 use Rattle.session_cli.specs.Commands.{Commands, Gives, Leaves, is_refused_by_store}
 use Rattle.session_cli.specs.Outcomes.{checks_of}
 use Rattle.session_cli.specs.SessionLanguage.{IsAnswer}

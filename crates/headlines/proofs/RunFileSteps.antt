@@ -16,11 +16,11 @@ use Rattle.language_steps.specs.declared.op.LanguageOp.TheVariants.{Pair, One}
 use Rattle.language_steps.specs.declared.op.OneOp.TheVariants.{Star, Reversal}
 use Rattle.language_steps.specs.declared.op.PairOp.TheVariants.{Union, Intersection, Concatenation}
 use Rattle.definitions.specs.Trees.{Ledger}
-use Rattle.session_cli.specs.declared.fault.Fault.{Fault}
-use Rattle.session_cli.specs.Accepting.{Accepted}
+use Rattle.command_parts.specs.declared.fault.Fault.{Fault}
+use Rattle.command_parts.specs.Accepting.{Accepted}
 use Rattle.session_cli.specs.Commands.{Commands}
-use Rattle.session_cli.specs.LanguageOutcomes.{op_word}
-use Rattle.session_cli.specs.Lines.{accepted_text}
+use Rattle.language_commands.specs.LanguageOutcomes.{op_word}
+use Rattle.command_parts.specs.Lines.{accepted_text}
 use Rattle.session_cli.specs.RunOutcomes.{run_checks}
 use Rattle.session_cli.specs.SessionLanguage.{first_ledger, session_language}
 use Rattle.session_cli.proofs.CommandsMade.{IsRunWord, ends_word, loads_word, session_command}

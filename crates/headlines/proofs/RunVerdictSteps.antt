@@ -13,9 +13,9 @@ use Rattle.script_runs.specs.Runs.{first_state}
 use Rattle.script_runs.specs.Ends.{HasRun}
 use Rattle.script_runs.specs.declared.status.Status.{Status}
 use Rattle.definitions.specs.Trees.{Ledger}
-use Rattle.session_cli.specs.declared.fault.Fault.{Fault}
-use Rattle.session_cli.specs.Accepting.{Accepted, Storing, Saying}
-use Rattle.session_cli.specs.Lines.{accepted_text, fault_line}
+use Rattle.command_parts.specs.declared.fault.Fault.{Fault}
+use Rattle.command_parts.specs.Accepting.{Accepted, Storing, Saying}
+use Rattle.command_parts.specs.Lines.{accepted_text, fault_line}
 use Rattle.session_cli.proofs.CommandsMade.{session_command}
 use Rattle.session_cli.specs.RunOutcomes.{run_checks}
 use Rattle.session_cli.specs.SessionLanguage.{first_ledger, session_language}

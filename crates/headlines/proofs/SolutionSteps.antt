@@ -31,11 +31,11 @@ use Rattle.definitions.specs.Trees.{Ledger, Variable, Bindings, custom_of}
 use Rattle.definitions.proofs.FileNames.{file_systems}
 use Rattle.definitions.proofs.TextMeanings.{system_sizes}
 use Rattle.system_files.specs.SystemFiles.{Custom}
-use Rattle.session_cli.specs.Accepting.{Success}
-use Rattle.session_cli.specs.Checks.{Check}
+use Rattle.command_parts.specs.Accepting.{Success}
+use Rattle.command_parts.specs.Checks.{Check}
 use Rattle.session_cli.specs.Commands.{Commands}
-use Rattle.session_cli.specs.FileChecks.{FilesAnswers}
-use Rattle.session_cli.specs.FormulaOutcomes.{IsVariable, bindings_now, formula_checks}
+use Rattle.command_parts.specs.FileChecks.{FilesAnswers}
+use Rattle.formula_commands.specs.FormulaOutcomes.{IsVariable, bindings_now, formula_checks}
 use Rattle.session_cli.proofs.CommandsMade.{def_made}
 use Rattle.headlines.specs.Verdicts.{IsOfFormula}
 use Rattle.headlines.specs.Solutions.{AcceptsExactly, IsSolutionFile, IsTruthFile, IsDefined}

@@ -12,9 +12,9 @@ use Rattle.formula_resolve.specs.Mentions.{mentions}
 use Rattle.system_admission.specs.SystemSteps.{AdmitsName, AdmitsNames, no_steps}
 use Rattle.system_admission.proofs.OneNames.{admitted_are_meant}
 use Rattle.definitions.specs.Trees.{Ledger, custom_of}
-use Rattle.session_cli.specs.Accepting.{Success}
-use Rattle.session_cli.specs.Checks.{Check}
-use Rattle.session_cli.specs.FormulaOutcomes.{formula_checks}
+use Rattle.command_parts.specs.Accepting.{Success}
+use Rattle.command_parts.specs.Checks.{Check}
+use Rattle.formula_commands.specs.FormulaOutcomes.{formula_checks}
 use Rattle.session_cli.proofs.CommandsMade.{eval_made, def_made}
 use Rattle.headlines.specs.Sentences.{IsFormulaCommand}
 use Rattle.headlines.specs.OwnSystems.{IsUsedSystem, UsesSystems, OwnSystems}

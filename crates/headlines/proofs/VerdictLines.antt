@@ -5,7 +5,7 @@ use Rattle.std.proofs.lemmas.Bool.{lt-ltb}
 use Rattle.std.proofs.lemmas.List.{append_assoc, append-nil, reverse-append}
 use Rattle.digit_tuple.specs.Kinds.{kind_name}
 use Rattle.digit_tuple.specs.declared.steps.StepLine.{StepLine}
-use Rattle.session_cli.specs.Lines.{step_line, step_lines, shown_steps, verdict_line}
+use Rattle.command_parts.specs.Lines.{step_line, step_lines, shown_steps, verdict_line}
 use Rattle.headlines.specs.Sentences.{truth_line}
 
 -- the text ends with a digit and a line feed

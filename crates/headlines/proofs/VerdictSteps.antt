@@ -32,11 +32,11 @@ use Rattle.definitions.specs.Trees.{Variable, Bindings, Ledger, custom_of}
 use Rattle.definitions.specs.FormulaTexts.{HasVerdict}
 use Rattle.definitions.specs.TreeMeanings.{meanings_in}
 use Rattle.system_files.specs.SystemFiles.{Custom}
-use Rattle.session_cli.specs.Accepting.{Success, Answer}
-use Rattle.session_cli.specs.Lines.{success_text, accepted_text}
+use Rattle.command_parts.specs.Accepting.{Success, Answer}
+use Rattle.command_parts.specs.Lines.{success_text, accepted_text}
 use Rattle.session_cli.specs.Commands.{Commands, Gives}
 use Rattle.session_cli.specs.Outcomes.{checks_of}
-use Rattle.session_cli.specs.FormulaOutcomes.{IsVariable, bindings_now, formula_checks}
+use Rattle.formula_commands.specs.FormulaOutcomes.{IsVariable, bindings_now, formula_checks}
 use Rattle.session_cli.specs.SessionLanguage.{IsAnswer}
 use Rattle.headlines.specs.Sentences.{HasInQuotes, IsReadAs, IsFormulaCommand, IsVerdict, truth_line}
 use Rattle.headlines.specs.Verdicts.{IsOfFormula, meanings_now, SaysTruth, Verdicts}

@@ -21,14 +21,14 @@ use Rattle.definitions.proofs.FileNames.{file_systems}
 use Rattle.definitions.proofs.TextMeanings.{system_sizes}
 use Rattle.definitions.proofs.WordTextLetters.{outputs_fit}
 use Rattle.definitions.proofs.WordTexts.{word_text_means}
-use Rattle.session_cli.specs.Accepting.{Success}
-use Rattle.session_cli.specs.BaseWords.{name_of_base, named_base}
-use Rattle.session_cli.specs.Checks.{Check}
-use Rattle.session_cli.specs.CombineOutcomes.{parts_from, combine_checks}
-use Rattle.session_cli.specs.ConvertOutcomes.{convert_checks}
-use Rattle.session_cli.specs.ImageOutcomes.{image_checks}
-use Rattle.session_cli.specs.PromoteOutcomes.{promote_checks}
-use Rattle.session_cli.specs.TransduceOutcomes.{transduce_checks}
+use Rattle.command_parts.specs.Accepting.{Success}
+use Rattle.word_commands.specs.BaseWords.{name_of_base, named_base}
+use Rattle.command_parts.specs.Checks.{Check}
+use Rattle.word_commands.specs.CombineOutcomes.{parts_from, combine_checks}
+use Rattle.word_commands.specs.ConvertOutcomes.{convert_checks}
+use Rattle.word_commands.specs.ImageOutcomes.{image_checks}
+use Rattle.word_commands.specs.PromoteOutcomes.{promote_checks}
+use Rattle.word_commands.specs.TransduceOutcomes.{transduce_checks}
 use Rattle.session_cli.proofs.CommandsMade.{promote_made, image_made, combine_made, transduce_made, convert_made}
 use Rattle.headlines.specs.Words.{IsStoredWord, IsPromoted, IsImaged, IsTransduced, IsConverted, IsCombined, Promotions, Images, Transductions, Conversions, Combinations}
 use Rattle.headlines.proofs.AcceptedCommands.{IsMade, is_made}

@@ -14,8 +14,8 @@ use Rattle.regex_build.specs.Patterns.{AreMembers}
 use Rattle.definitions.specs.TreeMeanings.{made_words}
 use Rattle.definitions.specs.Trees.{Ledger, custom_of, trees_of}
 use Rattle.session_cli.specs.Commands.{Commands}
-use Rattle.session_cli.specs.FileChecks.{FilesAnswers}
-use Rattle.session_cli.specs.LanguageOutcomes.{DerivesOperation, language_files, op_word, tree_op}
+use Rattle.command_parts.specs.FileChecks.{FilesAnswers}
+use Rattle.language_commands.specs.LanguageOutcomes.{DerivesOperation, language_files, op_word, tree_op}
 
 -- A file was stored among automata under the name, and no other file changed. The automata that the command names are all over the same sets. Read as a
 -- file over sets, the bytes accept exactly the words over these sets that the operation makes of the languages of the definitions under the names.

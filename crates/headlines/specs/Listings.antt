@@ -15,8 +15,8 @@ use Rattle.definitions.specs.Listings.{ListsInfinitely}
 use Rattle.definitions.specs.Tracks.{Tracks, letter_sets}
 use Rattle.definitions.specs.Trees.{Entry, Ledger, custom_of, tree_of}
 use Rattle.session_cli.specs.Commands.{Commands}
-use Rattle.session_cli.specs.FileChecks.{FilesAnswers}
-use Rattle.session_cli.specs.ListingOutcomes.{AreTableTracks, TellsListed, listing_files}
+use Rattle.command_parts.specs.FileChecks.{FilesAnswers}
+use Rattle.listing_commands.specs.ListingOutcomes.{AreTableTracks, TellsListed, listing_files}
 use Rattle.headlines.specs.Sentences.{HasNo, truth_line}
 use Rattle.headlines.specs.RunVerdicts.{step_text}
 

@@ -15,7 +15,7 @@ use Rattle.formula_resolve.specs.FirstMentions.{first_files, first_systems}
 use Rattle.formula_resolve.specs.Mentions.{mentions}
 use Rattle.definitions.specs.Trees.{Ledger, custom_of}
 use Rattle.session_cli.specs.Commands.{Commands}
-use Rattle.session_cli.specs.FileChecks.{FilesAnswers}
+use Rattle.command_parts.specs.FileChecks.{FilesAnswers}
 use Rattle.headlines.specs.Sentences.{IsFormulaCommand}
 use Rattle.headlines.specs.Verdicts.{IsOfFormula}
 

@@ -11,9 +11,9 @@ use Rattle.system_files.specs.SystemFiles.{Custom, SystemFiles}
 use Rattle.system_files.specs.UserSystems.{AreWordsOf, AddsInFile}
 use Rattle.system_admission.specs.SystemSteps.{HasFiles}
 use Rattle.definitions.specs.Trees.{Ledger, custom_of}
-use Rattle.session_cli.specs.declared.system_refusal.SystemRefusal.TheVariants as system_refusals
-use Rattle.session_cli.specs.declared.refusal.Refusal.TheVariants as refusals
-use Rattle.session_cli.specs.declared.fault.Fault.TheVariants as faults
+use Rattle.command_parts.specs.declared.system_refusal.SystemRefusal.TheVariants as system_refusals
+use Rattle.command_parts.specs.declared.refusal.Refusal.TheVariants as refusals
+use Rattle.command_parts.specs.declared.fault.Fault.TheVariants as faults
 use Rattle.session_cli.specs.Commands.{Commands}
 
 -- The name is that of a user's system, whose files are there. Of the words that the language's file accepts, and of the sums of the adder's file, this law is

@@ -9,7 +9,7 @@ use Rattle.script_runs.specs.Printed.{is_shown}
 use Rattle.script_runs.specs.declared.status.Status.{Status}
 use Rattle.language_steps.specs.declared.op.LanguageOp.{LanguageOp}
 use Rattle.definitions.specs.Trees.{Ledger, ledger_of}
-use Rattle.session_cli.specs.LanguageOutcomes.{op_word}
+use Rattle.language_commands.specs.LanguageOutcomes.{op_word}
 use Rattle.session_cli.specs.SessionLanguage.{session_language}
 use Rattle.headlines.specs.Sentences.{IsFormulaCommand}
 use Rattle.headlines.specs.Languages.{IsLanguageMade}

@@ -28,8 +28,8 @@ use Rattle.definitions.specs.Tracks.{systems_of}
 use Rattle.definitions.specs.TreeMeanings.{assigned}
 use Rattle.definitions.specs.Trees.{Ledger, Variable, custom_of}
 use Rattle.session_cli.specs.Commands.{Commands}
-use Rattle.session_cli.specs.FileChecks.{FilesAnswers}
-use Rattle.session_cli.specs.FormulaOutcomes.{IsVariable}
+use Rattle.command_parts.specs.FileChecks.{FilesAnswers}
+use Rattle.formula_commands.specs.FormulaOutcomes.{IsVariable}
 use Rattle.headlines.specs.Verdicts.{IsOfFormula, meanings_now, SaysTruth}
 
 -- The bytes are a file. Of the words over the digits of the systems it accepts exactly those that represent, padded with zeros or not, numbers of

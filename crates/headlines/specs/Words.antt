@@ -23,9 +23,9 @@ use Rattle.definitions.specs.TreeMeanings.{AtNumber, tree_letter, first_letter}
 use Rattle.definitions.specs.Trees.{Entry, Ledger, custom_of, tree_of}
 use Rattle.definitions.specs.WordFiles.{FileLetter}
 use Rattle.system_files.specs.SystemFiles.{Custom}
-use Rattle.session_cli.specs.CombineOutcomes.{WordTracks, AreTracksOfFirst, listed_files, listed_names, parts_from}
+use Rattle.word_commands.specs.CombineOutcomes.{WordTracks, AreTracksOfFirst, listed_files, listed_names, parts_from}
 use Rattle.session_cli.specs.Commands.{Commands}
-use Rattle.session_cli.specs.FileChecks.{FilesAnswers}
+use Rattle.command_parts.specs.FileChecks.{FilesAnswers}
 
 -- A file was stored among words under the name, and no other file changed. As a word's file it has these letters at places, and no others.
 pub record IsStoredWord (custom : Custom) (files : Files) (name : List ℕ) (HasLetter : List ℕ → ℤ → Type 0) (new : StoreView) : Type 0 where

@@ -2,15 +2,15 @@
 use Rattle.std.proofs.Common.{◌≡◌, ℕ, Bool, List, Result, Ok, Err, refl}
 use Rattle.wal_outside.specs.Files.{Files}
 use Rattle.wal_outside.specs.Views.{StoreView}
-use Rattle.session_cli.specs.declared.fault.Fault.{Fault}
-use Rattle.session_cli.specs.declared.file_change.Action.{Action}
-use Rattle.session_cli.specs.declared.file_change.FileChange.{FileChange}
-use Rattle.session_cli.specs.Checks.{Check, Passing, Then}
+use Rattle.command_parts.specs.declared.fault.Fault.{Fault}
+use Rattle.command_parts.specs.declared.file_change.Action.{Action}
+use Rattle.command_parts.specs.declared.file_change.FileChange.{FileChange}
+use Rattle.command_parts.specs.Checks.{Check, Passing, Then}
 use Rattle.system_files.specs.SystemFiles.{Custom}
-use Rattle.session_cli.specs.Accepting.{Success, Said, Accepted, Storing, Saying, storing, saying}
-use Rattle.session_cli.specs.FileChanges.{ChangesFile, Tells, Acts, writing, printing}
-use Rattle.session_cli.specs.StoreReads.{HasRead, FromFiles}
-use Rattle.session_cli.proofs.CheckSteps.{IsSingle, then_single, passing_single, fails_first, fails_after}
+use Rattle.command_parts.specs.Accepting.{Success, Said, Accepted, Storing, Saying, storing, saying}
+use Rattle.command_parts.specs.FileChanges.{ChangesFile, Tells, Acts, writing, printing}
+use Rattle.command_parts.specs.StoreReads.{HasRead, FromFiles}
+use Rattle.command_parts.proofs.CheckSteps.{IsSingle, then_single, passing_single, fails_first, fails_after}
 
 -- what the checks after the first lead to
 pub acts_after : {Y : Type 0} (custom : Custom) (first : Check Y) (rest : Y → Check Accepted) (y : Y) (shown : Bool) (r : Result Action Fault) → first.answers (Ok y) → Acts custom (rest y) shown r → Acts custom (Then first rest) shown r

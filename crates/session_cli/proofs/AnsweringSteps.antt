@@ -7,27 +7,27 @@ use Rattle.command_head.specs.Grammar.{DerivesAlone}
 use Rattle.script_runs.specs.Languages.{Deed, Enters, Loads, Ends}
 use Rattle.script_runs.specs.Replies.{AnswersCommand}
 use Rattle.script_runs.specs.declared.deed.Deed.TheVariants as deeds
-use Rattle.session_cli.specs.declared.text_refusal.TextRefusal.TheVariants as text_refusals
-use Rattle.session_cli.specs.declared.refusal.Refusal.TheVariants as refusals
-use Rattle.session_cli.specs.declared.fault.Fault.{Fault}
-use Rattle.session_cli.specs.declared.fault.Fault.TheVariants as faults
+use Rattle.command_parts.specs.declared.text_refusal.TextRefusal.TheVariants as text_refusals
+use Rattle.command_parts.specs.declared.refusal.Refusal.TheVariants as refusals
+use Rattle.command_parts.specs.declared.fault.Fault.{Fault}
+use Rattle.command_parts.specs.declared.fault.Fault.TheVariants as faults
 use Rattle.session_cli.specs.declared.run_word.RunWord.{RunWord}
 use Rattle.session_cli.specs.declared.run_word.RunWord.TheVariants as words
-use Rattle.session_cli.specs.Checks.{Check, Pure, Passing, Then, Fails}
-use Rattle.session_cli.specs.HeadAnswers.{HeadAnswers}
+use Rattle.command_parts.specs.Checks.{Check, Pure, Passing, Then, Fails}
+use Rattle.command_parts.specs.HeadAnswers.{HeadAnswers}
 use Rattle.session_cli.specs.Outcomes.{LengthAnswers, checks_of}
 use Rattle.session_cli.specs.RunOutcomes.{run_word_text, RunWordAnswers, load_checks, checks_by_word, run_checks, LoadsText}
 use Rattle.session_cli.specs.SessionLanguage.{IsAnswer, IsReply, session_language}
-use Rattle.session_cli.specs.Accepting.{Success, Accepted, Storing, Answer}
+use Rattle.command_parts.specs.Accepting.{Success, Accepted, Storing, Answer}
 use Rattle.session_cli.specs.Commands.{Commands, Gives, Leaves}
-use Rattle.session_cli.specs.StoreReads.{FromFiles, HasRead}
+use Rattle.command_parts.specs.StoreReads.{FromFiles, HasRead}
 use Rattle.definitions.specs.Texts.{Stores}
 use Rattle.definitions.specs.Trees.{Ledger}
 use Rattle.std.specs.Prelude.{⊤}
 use Rattle.script_runs.proofs.ReplySteps.{own_ledger}
-use Rattle.session_cli.proofs.StoreFaults.{is_store_fault}
-use Rattle.session_cli.proofs.StoreReads.{own_fault, from_none}
-use Rattle.session_cli.proofs.CheckSteps.{fails_first, fails_after, fails_wider}
+use Rattle.command_parts.proofs.StoreFaults.{is_store_fault}
+use Rattle.command_parts.proofs.StoreReads.{own_fault, from_none}
+use Rattle.command_parts.proofs.CheckSteps.{fails_first, fails_after, fails_wider}
 use Rattle.session_cli.proofs.CommandSteps.{IsAnswering, answering, cause_of, failed_of}
 
 -- an answer that is a fault is a fault of the checks, or the store's at the file that the command makes

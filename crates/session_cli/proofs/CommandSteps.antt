@@ -5,26 +5,26 @@ use Rattle.wal_outside.specs.Causes.{Rose}
 use Rattle.wal_outside.specs.Files.{Files, put}
 use Rattle.wal_outside.specs.Places.{Place}
 use Rattle.wal_outside.specs.Views.{StoreView}
-use Rattle.session_cli.specs.declared.fault.Fault.{Fault}
-use Rattle.session_cli.specs.declared.fault.Fault.TheVariants as faults
-use Rattle.session_cli.specs.declared.file_change.Action.{Action}
-use Rattle.session_cli.specs.declared.file_change.Action.TheVariants as actions
-use Rattle.session_cli.specs.declared.file_change.FileChange.{FileChange}
-use Rattle.session_cli.specs.Checks.{Fails}
+use Rattle.command_parts.specs.declared.fault.Fault.{Fault}
+use Rattle.command_parts.specs.declared.fault.Fault.TheVariants as faults
+use Rattle.command_parts.specs.declared.file_change.Action.{Action}
+use Rattle.command_parts.specs.declared.file_change.Action.TheVariants as actions
+use Rattle.command_parts.specs.declared.file_change.FileChange.{FileChange}
+use Rattle.command_parts.specs.Checks.{Fails}
 use Rattle.definitions.specs.Texts.{Stores}
 use Rattle.definitions.specs.Trees.{Ledger, ledger_of, custom_of}
 use Rattle.session_cli.specs.Outcomes.{checks_of}
 use Rattle.script_runs.specs.Replies.{failed_by}
 use Rattle.session_cli.specs.SessionLanguage.{IsAnswer}
-use Rattle.session_cli.specs.StoreFailures.{failed_at}
-use Rattle.session_cli.specs.Accepting.{Success, Said, Accepted, Storing, Saying}
-use Rattle.session_cli.specs.FileChanges.{IsFileChangeOf, IsAction, IsActionOf}
+use Rattle.command_parts.specs.StoreFailures.{failed_at}
+use Rattle.command_parts.specs.Accepting.{Success, Said, Accepted, Storing, Saying}
+use Rattle.command_parts.specs.FileChanges.{IsFileChangeOf, IsAction, IsActionOf}
 use Rattle.session_cli.specs.Commands.{Commands, DoesAction, WritesChange}
-use Rattle.session_cli.specs.Lines.{said_text}
-use Rattle.session_cli.specs.StoreReads.{IsReadFault, HasRead}
-use Rattle.session_cli.proofs.StoreFaults.{is_store_fault}
-use Rattle.session_cli.proofs.StoreReads.{rises}
-use Rattle.session_cli.proofs.StoredLedgers.{files_store}
+use Rattle.command_parts.specs.Lines.{said_text}
+use Rattle.command_parts.specs.StoreReads.{IsReadFault, HasRead}
+use Rattle.command_parts.proofs.StoreFaults.{is_store_fault}
+use Rattle.command_parts.proofs.StoreReads.{rises}
+use Rattle.command_parts.proofs.StoredLedgers.{files_store}
 
 -- a ledger by which a command over these files is answered: that of the files where they are reported, and else that of what was found
 pub record IsAnswering (reported : Option Files) (ledger : Ledger) (found : Files) : Type 0 where

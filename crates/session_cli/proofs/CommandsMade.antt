@@ -12,17 +12,17 @@ use Rattle.session_cli.specs.declared.command_word.CommandWord.{CommandWord}
 use Rattle.session_cli.specs.declared.command_word.CommandWord.TheVariants as words
 use Rattle.session_cli.specs.declared.run_word.RunWord.{RunWord}
 use Rattle.session_cli.specs.declared.run_word.RunWord.TheVariants as others
-use Rattle.session_cli.specs.Accepting.{Accepted, saying, storing}
-use Rattle.session_cli.specs.CombineOutcomes.{combine_checks}
-use Rattle.session_cli.specs.ConvertOutcomes.{convert_checks}
-use Rattle.session_cli.specs.FormulaOutcomes.{formula_checks}
-use Rattle.session_cli.specs.ImageOutcomes.{image_checks}
-use Rattle.session_cli.specs.LanguageOutcomes.{language_checks, op_word}
-use Rattle.session_cli.specs.ListingOutcomes.{inf_checks, test_checks}
+use Rattle.command_parts.specs.Accepting.{Accepted, saying, storing}
+use Rattle.word_commands.specs.CombineOutcomes.{combine_checks}
+use Rattle.word_commands.specs.ConvertOutcomes.{convert_checks}
+use Rattle.formula_commands.specs.FormulaOutcomes.{formula_checks}
+use Rattle.word_commands.specs.ImageOutcomes.{image_checks}
+use Rattle.language_commands.specs.LanguageOutcomes.{language_checks, op_word}
+use Rattle.listing_commands.specs.ListingOutcomes.{inf_checks, test_checks}
 use Rattle.session_cli.specs.Outcomes.{word_text, checks_by, after_length}
-use Rattle.session_cli.specs.PromoteOutcomes.{promote_checks}
+use Rattle.word_commands.specs.PromoteOutcomes.{promote_checks}
 use Rattle.session_cli.specs.RunOutcomes.{run_checks, run_word_text}
-use Rattle.session_cli.specs.TransduceOutcomes.{transduce_checks}
+use Rattle.word_commands.specs.TransduceOutcomes.{transduce_checks}
 use Rattle.session_cli.proofs.OneOutcomes.{one_word}
 
 module _ (limit : ℕ) (known : Ledger) (command : List ℕ) (accepted : Accepted) where

@@ -39,12 +39,12 @@ use Rattle.combinations.specs.Parts.{PartValue}
 use Rattle.combinations.specs.CombineSteps.{combine_step}
 use Rattle.combinations.proofs.OutcomeLemmas.{step_outcome}
 use Rattle.word_images.specs.ImageFormula.{word_name}
-use Rattle.session_cli.specs.ImageSteps.{DoesImage, DoesLetters, DoesMapped, IsLetterMissing, letter_plan}
+use Rattle.word_commands.specs.ImageSteps.{DoesImage, DoesLetters, DoesMapped, IsLetterMissing, letter_plan}
 use Rattle.word_images.specs.ImageWords.{AreOutputs, IsMapped, IsMissing}
 use Rattle.session_cli.specs.OneImage.{ImagesHaveOneOutcome}
 use Rattle.word_images.specs.Recoded.{IsRecoded}
-use Rattle.session_cli.specs.RecodedWords.{AreRecoded, IsImageLibrary}
-use Rattle.session_cli.specs.declared.image_fault.ImageFault.TheVariants.{Morphism, Missing, Step}
+use Rattle.word_commands.specs.RecodedWords.{AreRecoded, IsImageLibrary}
+use Rattle.command_parts.specs.declared.image_fault.ImageFault.TheVariants.{Morphism, Missing, Step}
 
 module _ (rules : Rules) (word : WordValue) where
   -- the recoded word of a place is one

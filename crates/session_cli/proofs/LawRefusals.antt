@@ -23,42 +23,42 @@ use Rattle.definitions.specs.Trees.{Ledger, custom_of}
 use Rattle.system_files.specs.SystemFiles.{Custom}
 use Rattle.session_cli.specs.declared.command_word.CommandWord.{CommandWord}
 use Rattle.session_cli.specs.declared.command_word.CommandWord.TheVariants as words
-use Rattle.session_cli.specs.declared.system_refusal.SystemRefusal.TheVariants as system_refusals
-use Rattle.session_cli.specs.declared.refusal.Refusal.{Refusal}
-use Rattle.session_cli.specs.declared.refusal.Refusal.TheVariants as refusals
-use Rattle.session_cli.specs.declared.fault.Fault.TheVariants as faults
-use Rattle.session_cli.specs.CombineOutcomes.{combine_checks, listed_systems}
-use Rattle.session_cli.specs.ConvertOutcomes.{convert_checks}
-use Rattle.session_cli.specs.FormulaFaults.{fault_of_loading, fault_of_formula, fault_of_expansion, fault_of_resolution}
-use Rattle.session_cli.specs.FormulaOutcomes.{formula_checks}
-use Rattle.session_cli.specs.HeadAnswers.{fault_of_head}
-use Rattle.session_cli.specs.ImageOutcomes.{image_checks, old_mentions}
-use Rattle.session_cli.specs.LanguageOutcomes.{language_checks}
-use Rattle.session_cli.specs.ListingOutcomes.{after_listing_head, inf_checks, listing_systems, test_checks, words_asked}
+use Rattle.command_parts.specs.declared.system_refusal.SystemRefusal.TheVariants as system_refusals
+use Rattle.command_parts.specs.declared.refusal.Refusal.{Refusal}
+use Rattle.command_parts.specs.declared.refusal.Refusal.TheVariants as refusals
+use Rattle.command_parts.specs.declared.fault.Fault.TheVariants as faults
+use Rattle.word_commands.specs.CombineOutcomes.{combine_checks, listed_systems}
+use Rattle.word_commands.specs.ConvertOutcomes.{convert_checks}
+use Rattle.command_parts.specs.FormulaFaults.{fault_of_loading, fault_of_formula, fault_of_expansion, fault_of_resolution}
+use Rattle.formula_commands.specs.FormulaOutcomes.{formula_checks}
+use Rattle.command_parts.specs.HeadAnswers.{fault_of_head}
+use Rattle.word_commands.specs.ImageOutcomes.{image_checks, old_mentions}
+use Rattle.language_commands.specs.LanguageOutcomes.{language_checks}
+use Rattle.listing_commands.specs.ListingOutcomes.{after_listing_head, inf_checks, listing_systems, test_checks, words_asked}
 use Rattle.session_cli.specs.Outcomes.{checks_by, checks_of}
-use Rattle.session_cli.specs.PromoteOutcomes.{promote_checks}
-use Rattle.session_cli.specs.RegOutcomes.{TracksAnswers, reg_checks, systems_named}
-use Rattle.session_cli.specs.RegexFaults.{fault_of_regex}
-use Rattle.session_cli.specs.SystemChecks.{SystemsAnswers}
+use Rattle.word_commands.specs.PromoteOutcomes.{promote_checks}
+use Rattle.language_commands.specs.RegOutcomes.{TracksAnswers, reg_checks, systems_named}
+use Rattle.command_parts.specs.RegexFaults.{fault_of_regex}
+use Rattle.command_parts.specs.SystemChecks.{SystemsAnswers}
 use Rattle.session_cli.specs.TextOutcomes.{macro_checks, morphism_checks}
-use Rattle.session_cli.specs.TrackSystems.{fault_of}
-use Rattle.session_cli.specs.TransduceOutcomes.{transduce_checks}
-use Rattle.session_cli.specs.MorphismFaults.{fault_of_rules, fault_of_promotion}
-use Rattle.session_cli.specs.ImageFaults.{fault_of_imaging}
+use Rattle.command_parts.specs.TrackSystems.{fault_of}
+use Rattle.word_commands.specs.TransduceOutcomes.{transduce_checks}
+use Rattle.command_parts.specs.MorphismFaults.{fault_of_rules, fault_of_promotion}
+use Rattle.command_parts.specs.ImageFaults.{fault_of_imaging}
 use Rattle.regex_build.specs.declared.fault.RegexFault.{RegexFault}
 use Rattle.morph_words.specs.declared.fault.RulesFault.{RulesFault}
 use Rattle.formula_parse.specs.declared.fault.ParseFault.{ParseFault}
 use Rattle.macro_loading.specs.declared.fault.ExpansionFault.{ExpansionFault}
 use Rattle.formula_resolve.specs.declared.fault.ResolveFault.{ResolveFault}
 use Rattle.fixed_points.specs.declared.promote_fault.PromoteFault.{PromoteFault}
-use Rattle.session_cli.specs.declared.image_fault.ImageFault.{ImageFault}
+use Rattle.command_parts.specs.declared.image_fault.ImageFault.{ImageFault}
 use Rattle.regex_build.specs.declared.fault.RegexFault.TheVariants as regexes
 use Rattle.morph_words.specs.declared.fault.RulesFault.TheVariants as rules_faults
 use Rattle.formula_parse.specs.declared.fault.ParseFault.TheVariants as parses
 use Rattle.macro_loading.specs.declared.fault.ExpansionFault.TheVariants as expansions
 use Rattle.formula_resolve.specs.declared.fault.ResolveFault.TheVariants as resolves
 use Rattle.fixed_points.specs.declared.promote_fault.PromoteFault.TheVariants as promotes
-use Rattle.session_cli.specs.declared.image_fault.ImageFault.TheVariants as images
+use Rattle.command_parts.specs.declared.image_fault.ImageFault.TheVariants as images
 
 module _ (limit : ℕ) (ledger : Ledger) (name : List ℕ) (law : Law) where
   abbrev by_law : Refusal

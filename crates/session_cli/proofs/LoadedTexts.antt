@@ -15,17 +15,17 @@ use Rattle.definitions.specs.Texts.{Stores}
 use Rattle.definitions.specs.Trees.{Ledger}
 use Rattle.dfa_loading.proofs.PlaceSteps.{text_past, files_by, reported_by}
 use Rattle.dfa_loading.specs.declared.fault.FileFlaw.TheVariants.{TooLong}
-use Rattle.session_cli.specs.declared.file_refusal.FileRefusal.TheVariants as file_refusals
-use Rattle.session_cli.specs.declared.refusal.Refusal.TheVariants as refusals
-use Rattle.session_cli.specs.declared.fault.Fault.{Fault}
-use Rattle.session_cli.specs.declared.fault.Fault.TheVariants as faults
-use Rattle.session_cli.specs.Checks.{Check, Pure, Then, Fails}
-use Rattle.session_cli.specs.HeadAnswers.{HeadAnswers, fault_of_head}
+use Rattle.command_parts.specs.declared.file_refusal.FileRefusal.TheVariants as file_refusals
+use Rattle.command_parts.specs.declared.refusal.Refusal.TheVariants as refusals
+use Rattle.command_parts.specs.declared.fault.Fault.{Fault}
+use Rattle.command_parts.specs.declared.fault.Fault.TheVariants as faults
+use Rattle.command_parts.specs.Checks.{Check, Pure, Then, Fails}
+use Rattle.command_parts.specs.HeadAnswers.{HeadAnswers, fault_of_head}
 use Rattle.session_cli.specs.RunOutcomes.{DepthAnswers, TextIn, text_read, LoadsText, IsLoadedText}
-use Rattle.session_cli.specs.StoreReads.{HasRead, FromFiles}
-use Rattle.session_cli.proofs.CheckSteps.{fails_first, fails_after}
-use Rattle.session_cli.proofs.HeadSteps.{head_unread}
-use Rattle.session_cli.proofs.StoreReads.{IsOwn, read_on}
+use Rattle.command_parts.specs.StoreReads.{HasRead, FromFiles}
+use Rattle.command_parts.proofs.CheckSteps.{fails_first, fails_after}
+use Rattle.command_parts.proofs.HeadSteps.{head_unread}
+use Rattle.command_parts.proofs.StoreReads.{IsOwn, read_on}
 
 -- a call that did not fail
 quiet : {X : Type 0} (old new : StoreView) (result : Result X Fault) → IsOwn result → new.files ≡ old.files → new.faults ≡ old.faults → new.failed ≡ old.failed → HasRead old result new

@@ -6,7 +6,7 @@ use Rattle.digit_tuple.specs.declared.direction.Direction.{Direction}
 use Rattle.definitions.specs.Tracks.{NamedSystem, names_of}
 use Rattle.system_files.specs.SystemFiles.{Custom}
 use Rattle.definitions.specs.Named.{IsOf, IsFirstWithout}
-use Rattle.session_cli.specs.HeadTracks.{AreSystemsOf, PartInDirection}
+use Rattle.language_commands.specs.HeadTracks.{AreSystemsOf, PartInDirection}
 use Rattle.definitions.proofs.NameLemmas.{one_direction, one_first, no_first, named_of_direction, same_list, same_direction}
 
 -- names determine the systems of tracks

@@ -19,18 +19,18 @@ use Rattle.formula_build.proofs.OneBuildingLemmas.{one_building}
 use Rattle.number_relations.specs.Relations.{RelationValue}
 use Rattle.system_files.specs.SystemFiles.{Custom}
 use Rattle.definitions.proofs.TableRelations.{table_holds}
-use Rattle.session_cli.specs.declared.refusal.Refusal.{Refusal}
-use Rattle.session_cli.specs.Checks.{Pure}
-use Rattle.session_cli.specs.FormulaOutcomes.{BuiltAnswers}
-use Rattle.session_cli.specs.FormulaSteps.{AreFormulaSteps}
-use Rattle.session_cli.specs.TableReads.{TableRead, library_with}
-use Rattle.session_cli.specs.TrackSystems.{fault_of}
-use Rattle.session_cli.proofs.CheckSteps.{IsSingle, single_so}
+use Rattle.command_parts.specs.declared.refusal.Refusal.{Refusal}
+use Rattle.command_parts.specs.Checks.{Pure}
+use Rattle.formula_commands.specs.FormulaOutcomes.{BuiltAnswers}
+use Rattle.command_parts.specs.FormulaSteps.{AreFormulaSteps}
+use Rattle.command_parts.specs.TableReads.{TableRead, library_with}
+use Rattle.command_parts.specs.TrackSystems.{fault_of}
+use Rattle.command_parts.proofs.CheckSteps.{IsSingle, single_so}
 use Rattle.session_cli.proofs.OneMeantReadings.{IsStopped, stopped_by, same_reading, were_readable, read_stopped, both_stopped}
 use Rattle.session_cli.proofs.OneSealed.{meant_agree}
-use Rattle.session_cli.proofs.TableFits.{are_relations, are_words}
+use Rattle.command_parts.proofs.TableFits.{are_relations, are_words}
 use Rattle.session_cli.proofs.RefusingSteps.{no_memory, refusing_single}
-use Rattle.session_cli.specs.RefusingChecks.{Refusing}
+use Rattle.command_parts.specs.RefusingChecks.{Refusing}
 
 -- the lines of steps, or the fault that stops them
 abbrev of_steps : Result RelationValue StepFault → List StepLine → Result (List StepLine) StepFault

@@ -31,27 +31,27 @@ use Rattle.definitions.specs.Named.{AreNamed, IsSystemNamed}
 use Rattle.definitions.specs.Tracks as tracks
 use Rattle.definitions.specs.Tracks.{names_of}
 use Rattle.definitions.specs.Trees.{Ledger, custom_of}
-use Rattle.session_cli.specs.declared.shape_refusal.ShapeRefusal.TheVariants as shape_refusals
-use Rattle.session_cli.specs.declared.refusal.Refusal.{Refusal}
-use Rattle.session_cli.specs.declared.refusal.Refusal.TheVariants as refusals
-use Rattle.session_cli.specs.Accepting.{stored}
-use Rattle.session_cli.specs.Checks.{Pure}
-use Rattle.session_cli.specs.CombineOutcomes.{WordTracks, PlainAnswers, ShapeAnswers, CombinedAnswers, AreTracksOfFirst, HaveSystemsOfFirst, HaveShapeFault, IsFirstOver, first_plain, listed_files, listed_names, listed_systems, after_listed_systems, after_listed_tables, after_combine_head, combine_checks}
-use Rattle.session_cli.specs.CombineSteps.{ArePartsFrom, AreListedParts, AreCombineSteps, IsCombiningStopped}
-use Rattle.session_cli.specs.FileChecks.{files_loaded}
-use Rattle.session_cli.specs.HeadAnswers.{HeadAnswers}
-use Rattle.session_cli.specs.SystemChecks.{systems_known}
-use Rattle.session_cli.specs.TableReads.{TableRead, relations_in}
-use Rattle.session_cli.specs.TrackSystems.{fault_of}
-use Rattle.session_cli.proofs.CombineCheckNames.{WordTracksAnswers, combine_success, after_combined, after_shape, after_plain}
-use Rattle.session_cli.proofs.CheckSteps.{IsSingle, then_single, single_so}
+use Rattle.command_parts.specs.declared.shape_refusal.ShapeRefusal.TheVariants as shape_refusals
+use Rattle.command_parts.specs.declared.refusal.Refusal.{Refusal}
+use Rattle.command_parts.specs.declared.refusal.Refusal.TheVariants as refusals
+use Rattle.command_parts.specs.Accepting.{stored}
+use Rattle.command_parts.specs.Checks.{Pure}
+use Rattle.word_commands.specs.CombineOutcomes.{WordTracks, PlainAnswers, ShapeAnswers, CombinedAnswers, AreTracksOfFirst, HaveSystemsOfFirst, HaveShapeFault, IsFirstOver, first_plain, listed_files, listed_names, listed_systems, after_listed_systems, after_listed_tables, after_combine_head, combine_checks}
+use Rattle.word_commands.specs.CombineSteps.{ArePartsFrom, AreListedParts, AreCombineSteps, IsCombiningStopped}
+use Rattle.command_parts.specs.FileChecks.{files_loaded}
+use Rattle.command_parts.specs.HeadAnswers.{HeadAnswers}
+use Rattle.command_parts.specs.SystemChecks.{systems_known}
+use Rattle.command_parts.specs.TableReads.{TableRead, relations_in}
+use Rattle.command_parts.specs.TrackSystems.{fault_of}
+use Rattle.word_commands.proofs.CombineCheckNames.{WordTracksAnswers, combine_success, after_combined, after_shape, after_plain}
+use Rattle.command_parts.proofs.CheckSteps.{IsSingle, then_single, single_so}
 use Rattle.session_cli.proofs.OneHeads.{head_single}
 use Rattle.session_cli.proofs.OneLoadings.{files_single}
 use Rattle.session_cli.proofs.OneMeantReadings.{IsStopped, stopped_by, same_reading, read_stopped, both_stopped}
 use Rattle.session_cli.proofs.OneSystems.{systems_single}
 use Rattle.session_cli.proofs.OneTexts.{stored_single}
 use Rattle.session_cli.proofs.RefusingSteps.{no_memory, refusing_single}
-use Rattle.session_cli.specs.RefusingChecks.{Refusing}
+use Rattle.command_parts.specs.RefusingChecks.{Refusing}
 
 -- none is over sets, or one is the first
 abbrev IsPlainAnswer : Headers → List (List ℕ) → Result (Unit {0}) Refusal → Type 0

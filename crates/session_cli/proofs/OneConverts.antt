@@ -16,26 +16,26 @@ use Rattle.system_names.specs.Names.{IsBase}
 use Rattle.word_output.specs.Words.{WordValue}
 use Rattle.system_files.specs.SystemFiles.{Custom}
 use Rattle.definitions.specs.Trees.{Converted, Ledger, custom_of}
-use Rattle.session_cli.specs.declared.base_system.BaseSystem.{BaseSystem}
-use Rattle.session_cli.specs.declared.convert.Change.{Change}
-use Rattle.session_cli.specs.declared.system_refusal.SystemRefusal.TheVariants as system_refusals
-use Rattle.session_cli.specs.declared.refusal.Refusal.TheVariants as refusals
-use Rattle.session_cli.specs.declared.fault.Fault.TheVariants as faults
-use Rattle.session_cli.specs.BaseWords.{BaseAnswers, fault_of_base, named_base, over_base}
-use Rattle.session_cli.specs.Checks.{Pure}
-use Rattle.session_cli.specs.ConvertOutcomes.{ChangeAnswers, IsChange, UnknownBaseAnswers, after_change, after_convert_head, after_convert_systems, after_convert_table, after_new_name, after_old_base, convert_checks, fault_of_change, no_unknown_base, related_base}
-use Rattle.session_cli.specs.ConvertSteps.{DoesConvert}
-use Rattle.session_cli.specs.FileChecks.{files_loaded}
-use Rattle.session_cli.specs.HeadAnswers.{HeadAnswers}
-use Rattle.session_cli.specs.ImageOutcomes.{old_mentions}
-use Rattle.session_cli.specs.SystemChecks.{systems_known}
-use Rattle.session_cli.proofs.BaseNames.{base_one, one_base}
-use Rattle.session_cli.proofs.CheckSteps.{IsSingle, then_single}
+use Rattle.word_commands.specs.declared.base_system.BaseSystem.{BaseSystem}
+use Rattle.word_commands.specs.declared.convert.Change.{Change}
+use Rattle.command_parts.specs.declared.system_refusal.SystemRefusal.TheVariants as system_refusals
+use Rattle.command_parts.specs.declared.refusal.Refusal.TheVariants as refusals
+use Rattle.command_parts.specs.declared.fault.Fault.TheVariants as faults
+use Rattle.word_commands.specs.BaseWords.{BaseAnswers, fault_of_base, named_base, over_base}
+use Rattle.command_parts.specs.Checks.{Pure}
+use Rattle.word_commands.specs.ConvertOutcomes.{ChangeAnswers, IsChange, UnknownBaseAnswers, after_change, after_convert_head, after_convert_systems, after_convert_table, after_new_name, after_old_base, convert_checks, fault_of_change, no_unknown_base, related_base}
+use Rattle.word_commands.specs.ConvertSteps.{DoesConvert}
+use Rattle.command_parts.specs.FileChecks.{files_loaded}
+use Rattle.command_parts.specs.HeadAnswers.{HeadAnswers}
+use Rattle.word_commands.specs.ImageOutcomes.{old_mentions}
+use Rattle.command_parts.specs.SystemChecks.{systems_known}
+use Rattle.word_commands.proofs.BaseNames.{base_one, one_base}
+use Rattle.command_parts.proofs.CheckSteps.{IsSingle, then_single}
 use Rattle.session_cli.proofs.OneHeads.{head_single}
 use Rattle.session_cli.proofs.OneLoadings.{files_single}
 use Rattle.session_cli.proofs.OneOldWords.{made_single}
 use Rattle.session_cli.proofs.OneSystems.{systems_single}
-use Rattle.session_cli.proofs.WordLaws.{one_conversion_outcome}
+use Rattle.command_parts.proofs.WordLaws.{one_conversion_outcome}
 use Rattle.session_cli.proofs.RefusingSteps.{refusing_single}
 
 -- the new system is named like a base that there is not, or is not

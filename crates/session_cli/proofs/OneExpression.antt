@@ -13,7 +13,7 @@ use Rattle.reg_steps.proofs.OneLanguages.{one_list_of_languages}
 use Rattle.reg_steps.proofs.OneRegex.{regex_one}
 use Rattle.reg_steps.proofs.OneRelation.{relation_one}
 use Rattle.definitions.specs.Tracks.{systems_of, Tracks, OverSets, OverSystems, letter_sets}
-use Rattle.session_cli.specs.TrackSteps.{DoesExpression}
+use Rattle.language_commands.specs.TrackSteps.{DoesExpression}
 
 pub expression_one : (tracks : Tracks) (e : Expression (List ℤ)) → HasOneAnswer Memory (DoesExpression tracks e)
 expression_one (OverSets sets) e = then_one Memory (DoesStep (regex_step sets e)) (λ automaton. Gives (numbered automaton)) (regex_one sets e) (λ automaton. gives_one (numbered automaton))

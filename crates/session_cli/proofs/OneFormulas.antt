@@ -11,23 +11,23 @@ use Rattle.formula_resolve.specs.Resolving as resolving
 use Rattle.formula_resolve.specs.declared.fault.ResolveFault.{ResolveFault}
 use Rattle.formula_resolve.specs.declared.fault.ResolveFault.TheVariants as resolves
 use Rattle.formula_resolve.specs.declared.variable.Variable as resolved
-use Rattle.session_cli.specs.declared.refusal.Refusal.{Refusal}
-use Rattle.session_cli.specs.Checks.{Pure}
+use Rattle.command_parts.specs.declared.refusal.Refusal.{Refusal}
+use Rattle.command_parts.specs.Checks.{Pure}
 use Rattle.definitions.specs.Trees.{Variable, Bindings, Ledger, custom_of}
 use Rattle.system_files.specs.SystemFiles.{Custom}
 use Rattle.definitions.specs.Named.{IsSystemNamed}
-use Rattle.session_cli.specs.FormulaFaults.{fault_of_resolution}
-use Rattle.session_cli.specs.MacroChecks.{expanded}
-use Rattle.session_cli.specs.HeadAnswers.{HeadAnswers}
+use Rattle.command_parts.specs.FormulaFaults.{fault_of_resolution}
+use Rattle.formula_commands.specs.MacroChecks.{expanded}
+use Rattle.command_parts.specs.HeadAnswers.{HeadAnswers}
 use Rattle.dfa_loading.specs.Headers.{headers_of}
 use Rattle.dfa_loading.specs.declared.loaded.Loaded.{Loaded}
 use Rattle.formula_resolve.specs.FirstMentions.{first_files}
 use Rattle.formula_resolve.specs.Mentions.{mentions}
-use Rattle.session_cli.specs.Accepting.{stored}
-use Rattle.session_cli.specs.FormulaOutcomes.{FormulaAnswers, IsVariable, ResolvedAnswers, BuiltAnswers, bindings_now, after_systems, after_tables, after_text, after_named_head, formula_checks}
-use Rattle.session_cli.specs.SystemChecks.{systems_known}
-use Rattle.session_cli.proofs.FormulaCheckNames.{loaded, mentioned_systems, AreVariables, VariablesAnswers, VerdictAnswers, formula_success, after_variables, after_steps, after_resolution, after_formula}
-use Rattle.session_cli.proofs.CheckSteps.{IsSingle, then_single, single_so}
+use Rattle.command_parts.specs.Accepting.{stored}
+use Rattle.formula_commands.specs.FormulaOutcomes.{FormulaAnswers, IsVariable, ResolvedAnswers, BuiltAnswers, bindings_now, after_systems, after_tables, after_text, after_named_head, formula_checks}
+use Rattle.command_parts.specs.SystemChecks.{systems_known}
+use Rattle.formula_commands.proofs.FormulaCheckNames.{loaded, mentioned_systems, AreVariables, VariablesAnswers, VerdictAnswers, formula_success, after_variables, after_steps, after_resolution, after_formula}
+use Rattle.command_parts.proofs.CheckSteps.{IsSingle, then_single, single_so}
 use Rattle.definitions.proofs.NameLemmas.{one_meaning}
 use Rattle.definitions.proofs.OneTexts.{one_verdict}
 use Rattle.session_cli.proofs.OneLoadings.{files_single}
@@ -38,7 +38,7 @@ use Rattle.session_cli.proofs.OneTexts.{stored_single}
 use Rattle.session_cli.proofs.OneReadings.{reading_single}
 use Rattle.session_cli.proofs.OneSystems.{systems_single}
 use Rattle.session_cli.proofs.RefusingSteps.{refusing_single}
-use Rattle.session_cli.specs.RefusingChecks.{Refusing}
+use Rattle.command_parts.specs.RefusingChecks.{Refusing}
 
 -- a variable over the system of a name is one
 one_variable : (custom : Custom) (x : resolved.Variable) (v w : Variable) → IsVariable custom x v → IsVariable custom x w → v ≡ w

@@ -2,12 +2,12 @@
 use Rattle.std.proofs.Common.{ℕ, List, Result, Ok, Err, refl}
 use Rattle.command_head.specs.declared.fault.HeadFault.TheVariants as head_faults
 use Rattle.command_head.specs.Breaks.{HasHead, HasOneHead}
-use Rattle.session_cli.specs.declared.refusal.Refusal.{Refusal}
-use Rattle.session_cli.specs.Checks.{Pure}
-use Rattle.session_cli.specs.HeadAnswers.{HeadAnswers, fault_of_head}
-use Rattle.session_cli.proofs.CheckSteps.{IsSingle, single_so}
+use Rattle.command_parts.specs.declared.refusal.Refusal.{Refusal}
+use Rattle.command_parts.specs.Checks.{Pure}
+use Rattle.command_parts.specs.HeadAnswers.{HeadAnswers, fault_of_head}
+use Rattle.command_parts.proofs.CheckSteps.{IsSingle, single_so}
 use Rattle.session_cli.proofs.RefusingSteps.{refusing_one}
-use Rattle.session_cli.specs.RefusingChecks.{Refusing}
+use Rattle.command_parts.specs.RefusingChecks.{Refusing}
 
 head_is : {H : Type 0} (grammar : List (List ℕ) → H → Type 0) (text : List ℕ) (r : Result H Refusal) → HeadAnswers grammar text r → (Refusing fault_of_head (HasHead grammar (λ (h : H). h) text)).answers r
 head_is grammar text (Ok head) a = a

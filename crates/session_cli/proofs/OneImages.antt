@@ -24,42 +24,42 @@ use Rattle.morph_words.proofs.MorphismShape.{derives_morphisms}
 use Rattle.morph_words.proofs.UniformLemmas.{one_lengths}
 use Rattle.automaton_steps.proofs.AnswerCases.{memory_alone, one_value, same_fault}
 use Rattle.automaton_steps.specs.OneAnswers.{HasOneAnswer}
-use Rattle.session_cli.specs.ImageSteps.{DoesImage}
+use Rattle.word_commands.specs.ImageSteps.{DoesImage}
 use Rattle.session_cli.specs.OneImage.{ImagesHaveOneOutcome}
-use Rattle.session_cli.specs.declared.image_fault.ImageFault.{ImageFault}
-use Rattle.session_cli.specs.declared.image_fault.ImageFault.TheVariants as images
+use Rattle.command_parts.specs.declared.image_fault.ImageFault.{ImageFault}
+use Rattle.command_parts.specs.declared.image_fault.ImageFault.TheVariants as images
 use Rattle.word_output.specs.Words.{IsWordValue, WordValue}
 use Rattle.system_files.specs.SystemFiles.{Custom}
 use Rattle.definitions.proofs.NameLemmas.{one_meaning}
 use Rattle.definitions.proofs.TableRelations.{table_holds}
 use Rattle.definitions.specs.Named.{IsSystemNamed}
 use Rattle.definitions.specs.Trees.{Entry, Ledger, custom_of}
-use Rattle.session_cli.specs.declared.shape_refusal.ShapeRefusal.TheVariants as shape_refusals
-use Rattle.session_cli.specs.declared.word_refusal.WordRefusal.TheVariants as word_refusals
-use Rattle.session_cli.specs.declared.refusal.Refusal.{Refusal}
-use Rattle.session_cli.specs.declared.refusal.Refusal.TheVariants as refusals
-use Rattle.session_cli.specs.Accepting.{stored}
-use Rattle.session_cli.specs.Checks.{Pure}
-use Rattle.session_cli.specs.FileChecks.{files_loaded}
-use Rattle.session_cli.specs.HeadAnswers.{HeadAnswers}
-use Rattle.session_cli.specs.ImageFaults.{fault_of_imaging}
-use Rattle.session_cli.specs.TrackSystems.{fault_of}
-use Rattle.session_cli.specs.ImageOutcomes.{WordTrack, IsOldWordRead, AreImageSteps, IsImagingStopped, OneTrackAnswers, LengthsAnswers, ImagedAnswers, old_mentions, after_old_systems, after_old_table, after_image_head, image_checks}
-use Rattle.session_cli.specs.MorphismChecks.{morphism_loaded}
-use Rattle.session_cli.specs.SystemChecks.{systems_known}
-use Rattle.session_cli.specs.TableReads.{TableRead, words_in}
-use Rattle.session_cli.proofs.ImageCheckNames.{TrackAnswers, OldAnswers, image_success, after_image_steps, after_track, after_lengths, after_one_track, after_image_morphism}
-use Rattle.session_cli.proofs.CheckSteps.{IsSingle, then_single, single_so}
-use Rattle.session_cli.proofs.ImagedSteps.{of_one_kind}
+use Rattle.command_parts.specs.declared.shape_refusal.ShapeRefusal.TheVariants as shape_refusals
+use Rattle.command_parts.specs.declared.word_refusal.WordRefusal.TheVariants as word_refusals
+use Rattle.command_parts.specs.declared.refusal.Refusal.{Refusal}
+use Rattle.command_parts.specs.declared.refusal.Refusal.TheVariants as refusals
+use Rattle.command_parts.specs.Accepting.{stored}
+use Rattle.command_parts.specs.Checks.{Pure}
+use Rattle.command_parts.specs.FileChecks.{files_loaded}
+use Rattle.command_parts.specs.HeadAnswers.{HeadAnswers}
+use Rattle.command_parts.specs.ImageFaults.{fault_of_imaging}
+use Rattle.command_parts.specs.TrackSystems.{fault_of}
+use Rattle.word_commands.specs.ImageOutcomes.{WordTrack, IsOldWordRead, AreImageSteps, IsImagingStopped, OneTrackAnswers, LengthsAnswers, ImagedAnswers, old_mentions, after_old_systems, after_old_table, after_image_head, image_checks}
+use Rattle.word_commands.specs.MorphismChecks.{morphism_loaded}
+use Rattle.command_parts.specs.SystemChecks.{systems_known}
+use Rattle.command_parts.specs.TableReads.{TableRead, words_in}
+use Rattle.word_commands.proofs.ImageCheckNames.{TrackAnswers, OldAnswers, image_success, after_image_steps, after_track, after_lengths, after_one_track, after_image_morphism}
+use Rattle.command_parts.proofs.CheckSteps.{IsSingle, then_single, single_so}
+use Rattle.word_commands.proofs.ImagedSteps.{of_one_kind}
 use Rattle.session_cli.proofs.OneHeads.{head_single}
 use Rattle.session_cli.proofs.OneLoadings.{files_single}
 use Rattle.session_cli.proofs.OneMeantReadings.{IsStopped, stopped_by, same_reading, were_readable, read_stopped, both_stopped}
 use Rattle.session_cli.proofs.OneSystems.{systems_single}
 use Rattle.session_cli.proofs.OneTexts.{stored_single}
-use Rattle.session_cli.proofs.TableFits.{are_words}
+use Rattle.command_parts.proofs.TableFits.{are_words}
 use Rattle.session_cli.proofs.OneTextCommands.{loading_single}
 use Rattle.session_cli.proofs.RefusingSteps.{no_memory, refusing_single}
-use Rattle.session_cli.specs.RefusingChecks.{Refusing}
+use Rattle.command_parts.specs.RefusingChecks.{Refusing}
 use Rattle.digit_tuple.specs.declared.step_fault.StepFault.{StepFault}
 
 -- the word has one track, or another number of them

@@ -20,16 +20,16 @@ use Rattle.language_steps.proofs.OneSteps.{language_one}
 use Rattle.language_steps.specs.declared.op.LanguageOp.{LanguageOp}
 use Rattle.language_steps.specs.declared.op.LanguageOp.TheVariants.{Pair, One}
 use Rattle.definitions.specs.Trees.{Ledger, custom_of}
-use Rattle.session_cli.specs.declared.shape_refusal.ShapeRefusal.TheVariants as shape_refusals
-use Rattle.session_cli.specs.declared.refusal.Refusal.TheVariants as refusals
-use Rattle.session_cli.specs.declared.fault.Fault.TheVariants as faults
-use Rattle.session_cli.specs.Accepting.{stored}
-use Rattle.session_cli.specs.Checks.{Pure}
-use Rattle.session_cli.specs.FileChecks.{files_loaded}
-use Rattle.session_cli.specs.HeadAnswers.{HeadAnswers}
-use Rattle.session_cli.specs.LanguageOutcomes.{DerivesOperation, LangShapeAnswers, LanguageAnswers, NotPlainAnswers, after_header, after_language_head, after_language_tables, after_sets, all_plain, fault_of_shape, language_checks, language_done, language_files, language_success, one_header, op_word}
-use Rattle.session_cli.specs.TrackSystems.{fault_of}
-use Rattle.session_cli.proofs.CheckSteps.{IsSingle, then_single}
+use Rattle.command_parts.specs.declared.shape_refusal.ShapeRefusal.TheVariants as shape_refusals
+use Rattle.command_parts.specs.declared.refusal.Refusal.TheVariants as refusals
+use Rattle.command_parts.specs.declared.fault.Fault.TheVariants as faults
+use Rattle.command_parts.specs.Accepting.{stored}
+use Rattle.command_parts.specs.Checks.{Pure}
+use Rattle.command_parts.specs.FileChecks.{files_loaded}
+use Rattle.command_parts.specs.HeadAnswers.{HeadAnswers}
+use Rattle.language_commands.specs.LanguageOutcomes.{DerivesOperation, LangShapeAnswers, LanguageAnswers, NotPlainAnswers, after_header, after_language_head, after_language_tables, after_sets, all_plain, fault_of_shape, language_checks, language_done, language_files, language_success, one_header, op_word}
+use Rattle.command_parts.specs.TrackSystems.{fault_of}
+use Rattle.command_parts.proofs.CheckSteps.{IsSingle, then_single}
 use Rattle.session_cli.proofs.OneHeads.{head_single}
 use Rattle.session_cli.proofs.OneLoadings.{files_single}
 use Rattle.session_cli.proofs.OneTexts.{stored_single}

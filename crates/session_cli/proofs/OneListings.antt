@@ -39,22 +39,22 @@ use Rattle.table_listings.specs.Questions.{HasLines, HasTooLongAnswer, HasVerdic
 use Rattle.table_listings.specs.declared.question.Question.{Question}
 use Rattle.table_listings.specs.declared.question.Question.TheVariants.{Words, Infinity}
 use Rattle.table_listings.proofs.OneAnswer.{equal_lists}
-use Rattle.session_cli.specs.declared.shape_refusal.ShapeRefusal.TheVariants as shape_refusals
-use Rattle.session_cli.specs.declared.refusal.Refusal.{Refusal}
-use Rattle.session_cli.specs.declared.refusal.Refusal.TheVariants as refusals
-use Rattle.session_cli.specs.declared.fault.Fault.TheVariants as faults
-use Rattle.session_cli.specs.Accepting.{Said}
-use Rattle.session_cli.specs.Checks.{Passing, Pure}
-use Rattle.session_cli.specs.FileChecks.{files_loaded}
-use Rattle.session_cli.specs.FormulaSteps.{IsReadingStopped}
-use Rattle.session_cli.specs.HeadAnswers.{HeadAnswers, fault_of_head}
-use Rattle.session_cli.specs.ListingOutcomes.{AreTableTracks, HasListing, IsPlainRead, IsReply, IsSystemsRead, Lines, PlaceAnswers, IsReadRefused, ReadingAnswers, ReadingAnswersBelow, Reply, ReplyAnswers, Verdict, after_listing_head, after_listing_systems, after_listing_tables, after_place, after_read, after_tracks, listing_files, inf_checks, listing_systems, reply_text, test_checks, too_long, words_asked, TestAnswers}
-use Rattle.session_cli.specs.RefusingChecks.{Refusing}
-use Rattle.session_cli.specs.SystemChecks.{systems_known}
-use Rattle.session_cli.specs.TrackSystems.{fault_of}
-use Rattle.session_cli.proofs.CheckSteps.{IsSingle, passing_single, then_single}
-use Rattle.session_cli.proofs.HeaderLines.{listed_some}
-use Rattle.session_cli.proofs.MeantNames.{named_digits}
+use Rattle.command_parts.specs.declared.shape_refusal.ShapeRefusal.TheVariants as shape_refusals
+use Rattle.command_parts.specs.declared.refusal.Refusal.{Refusal}
+use Rattle.command_parts.specs.declared.refusal.Refusal.TheVariants as refusals
+use Rattle.command_parts.specs.declared.fault.Fault.TheVariants as faults
+use Rattle.command_parts.specs.Accepting.{Said}
+use Rattle.command_parts.specs.Checks.{Passing, Pure}
+use Rattle.command_parts.specs.FileChecks.{files_loaded}
+use Rattle.command_parts.specs.FormulaSteps.{IsReadingStopped}
+use Rattle.command_parts.specs.HeadAnswers.{HeadAnswers, fault_of_head}
+use Rattle.listing_commands.specs.ListingOutcomes.{AreTableTracks, HasListing, IsPlainRead, IsReply, IsSystemsRead, Lines, PlaceAnswers, IsReadRefused, ReadingAnswers, ReadingAnswersBelow, Reply, ReplyAnswers, Verdict, after_listing_head, after_listing_systems, after_listing_tables, after_place, after_read, after_tracks, listing_files, inf_checks, listing_systems, reply_text, test_checks, too_long, words_asked, TestAnswers}
+use Rattle.command_parts.specs.RefusingChecks.{Refusing}
+use Rattle.command_parts.specs.SystemChecks.{systems_known}
+use Rattle.command_parts.specs.TrackSystems.{fault_of}
+use Rattle.command_parts.proofs.CheckSteps.{IsSingle, passing_single, then_single}
+use Rattle.command_parts.proofs.HeaderLines.{listed_some}
+use Rattle.command_parts.proofs.MeantNames.{named_digits}
 use Rattle.session_cli.proofs.OneHeads.{head_single}
 use Rattle.session_cli.proofs.OneLoadings.{files_single}
 use Rattle.session_cli.proofs.OneMeantReadings.{both_stopped, read_stopped, same_reading, stopped_by}

@@ -14,12 +14,12 @@ use Rattle.definitions.specs.Texts.{HasTextAt, Stores}
 use Rattle.definitions.specs.Trees.{Entry, Ledger, custom_of}
 use Rattle.definitions.proofs.OneTexts.{one_text_of}
 use Rattle.system_files.specs.SystemFiles.{Custom}
-use Rattle.session_cli.specs.declared.refusal.Refusal.{Refusal}
-use Rattle.session_cli.specs.FileChecks.{FilesAnswers, files_loaded}
-use Rattle.session_cli.specs.FormulaFaults.{fault_of_loading}
-use Rattle.session_cli.proofs.CheckSteps.{IsSingle, single_so}
+use Rattle.command_parts.specs.declared.refusal.Refusal.{Refusal}
+use Rattle.command_parts.specs.FileChecks.{FilesAnswers, files_loaded}
+use Rattle.command_parts.specs.FormulaFaults.{fault_of_loading}
+use Rattle.command_parts.proofs.CheckSteps.{IsSingle, single_so}
 use Rattle.session_cli.proofs.RefusingSteps.{refusing_single}
-use Rattle.session_cli.specs.RefusingChecks.{Refusing}
+use Rattle.command_parts.specs.RefusingChecks.{Refusing}
 
 -- files that are the texts of one ledger have the same texts
 same_text_at : (custom : Custom) (folder : Folder) (entry : Option Entry) (text other : Option (List ℕ)) → HasTextAt custom folder entry text → HasTextAt custom folder entry other → text ≡ other

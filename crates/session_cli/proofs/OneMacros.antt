@@ -8,14 +8,14 @@ use Rattle.macro_loading.specs.declared.fault.ExpansionFault.TheVariants as expa
 use Rattle.macro_loading.proofs.OneAnswers.{one_answer}
 use Rattle.definitions.specs.Trees.{Ledger}
 use Rattle.definitions.specs.Texts.{Stores}
-use Rattle.session_cli.specs.declared.refusal.Refusal.{Refusal}
-use Rattle.session_cli.specs.declared.fault.Fault.TheVariants as faults
-use Rattle.session_cli.specs.FormulaFaults.{fault_of_expansion}
-use Rattle.session_cli.specs.MacroChecks.{ExpandedAnswers, expanded}
-use Rattle.session_cli.proofs.CheckSteps.{IsSingle, single_so}
+use Rattle.command_parts.specs.declared.refusal.Refusal.{Refusal}
+use Rattle.command_parts.specs.declared.fault.Fault.TheVariants as faults
+use Rattle.command_parts.specs.FormulaFaults.{fault_of_expansion}
+use Rattle.formula_commands.specs.MacroChecks.{ExpandedAnswers, expanded}
+use Rattle.command_parts.proofs.CheckSteps.{IsSingle, single_so}
 use Rattle.session_cli.proofs.OneLoadings.{same_there}
 use Rattle.session_cli.proofs.RefusingSteps.{refusing_single}
-use Rattle.session_cli.specs.RefusingChecks.{Refusing}
+use Rattle.command_parts.specs.RefusingChecks.{Refusing}
 
 -- an answer of the expansion by files that are the ledger's texts
 record IsExpansion (ledger : Ledger) (body : List ℕ) (result : Result (List ℕ) ExpansionFault) : Type 0 where

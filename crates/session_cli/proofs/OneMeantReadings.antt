@@ -19,17 +19,17 @@ use Rattle.num_system.specs.Tracks.{ShareDirection}
 use Rattle.system_files.specs.SystemFiles.{Custom}
 use Rattle.definitions.proofs.FileTables.{file_is_table}
 use Rattle.definitions.proofs.OneTable.{one_table}
-use Rattle.session_cli.specs.FormulaSteps.{AreMeant, IsReadingStopped}
-use Rattle.session_cli.specs.TableReads.{TableRead, ARelation, AWord, AreSystemsUnder, IsTableRead, AreTablesRead}
-use Rattle.session_cli.specs.TableReading.{IsReadable, AreReadable}
+use Rattle.command_parts.specs.FormulaSteps.{AreMeant, IsReadingStopped}
+use Rattle.command_parts.specs.TableReads.{TableRead, ARelation, AWord, AreSystemsUnder, IsTableRead, AreTablesRead}
+use Rattle.command_parts.specs.TableReading.{IsReadable, AreReadable}
 use Rattle.session_cli.proofs.OneSealed.{meant_agree}
 use Rattle.session_cli.proofs.OneTableReadings.{StopsReading, refusal_stops, one_reading, reading_apart, one_stopping}
-use Rattle.session_cli.proofs.ReadableTables.{under_shared_direction}
-use Rattle.session_cli.proofs.TableFiles.{IsListedTable, tables_listed}
-use Rattle.session_cli.proofs.TableHeaders as table_headers
-use Rattle.session_cli.proofs.TableHeaders.{systems_in, tables_shared_direction}
-use Rattle.session_cli.proofs.TableReads.{AreAlike}
-use Rattle.session_cli.proofs.WordLaws.{one_word_outcome}
+use Rattle.command_parts.proofs.ReadableTables.{under_shared_direction}
+use Rattle.command_parts.proofs.TableFiles.{IsListedTable, tables_listed}
+use Rattle.command_parts.proofs.TableHeaders as table_headers
+use Rattle.command_parts.proofs.TableHeaders.{systems_in, tables_shared_direction}
+use Rattle.command_parts.proofs.TableReads.{AreAlike}
+use Rattle.command_parts.proofs.WordLaws.{one_word_outcome}
 
 -- the systems that are under the header of the table have one direction
 abbrev IsOfOneDirection : List NamedSystem → Loaded → Type 0

@@ -14,15 +14,15 @@ use Rattle.formula_resolve.specs.declared.file.File.{File}
 use Rattle.word_output.specs.Words.{WordValue}
 use Rattle.definitions.specs.Trees.{Ledger, Tree, custom_of}
 use Rattle.system_files.specs.SystemFiles.{Custom}
-use Rattle.session_cli.specs.Accepting.{stored}
-use Rattle.session_cli.specs.Checks.{Pure}
-use Rattle.session_cli.specs.FormulaSteps.{IsReadingStopped}
-use Rattle.session_cli.specs.ImageOutcomes.{IsOldWordRead}
-use Rattle.session_cli.specs.OldWordSteps.{AreOldWordSteps, OldWordAnswers, after_old_steps, made_of_old, old_word_done, old_word_success}
-use Rattle.session_cli.specs.TableReads.{TableRead, words_in}
-use Rattle.session_cli.specs.TrackSystems.{fault_of}
-use Rattle.session_cli.proofs.ImageCheckNames.{OldAnswers}
-use Rattle.session_cli.proofs.CheckSteps.{IsSingle, then_single}
+use Rattle.command_parts.specs.Accepting.{stored}
+use Rattle.command_parts.specs.Checks.{Pure}
+use Rattle.command_parts.specs.FormulaSteps.{IsReadingStopped}
+use Rattle.word_commands.specs.ImageOutcomes.{IsOldWordRead}
+use Rattle.word_commands.specs.OldWordSteps.{AreOldWordSteps, OldWordAnswers, after_old_steps, made_of_old, old_word_done, old_word_success}
+use Rattle.command_parts.specs.TableReads.{TableRead, words_in}
+use Rattle.command_parts.specs.TrackSystems.{fault_of}
+use Rattle.word_commands.proofs.ImageCheckNames.{OldAnswers}
+use Rattle.command_parts.proofs.CheckSteps.{IsSingle, then_single}
 use Rattle.session_cli.proofs.OneImages.{old_single}
 use Rattle.session_cli.proofs.OneMeantReadings.{IsStopped, both_stopped, read_stopped, same_reading, stopped_by}
 use Rattle.session_cli.proofs.OneTexts.{stored_single}

@@ -18,39 +18,39 @@ use Rattle.regex_build.specs.Expression.{Expression}
 use Rattle.regex_build.specs.Patterns.{Pattern}
 use Rattle.regex_build.specs.Parsing.{Parses}
 use Rattle.regex_build.proofs.OneParse.{one_parse}
-use Rattle.session_cli.specs.declared.text_refusal.TextRefusal.TheVariants as text_refusals
-use Rattle.session_cli.specs.declared.system_refusal.SystemRefusal.TheVariants as system_refusals
-use Rattle.session_cli.specs.declared.refusal.Refusal.{Refusal}
-use Rattle.session_cli.specs.declared.refusal.Refusal.TheVariants as refusals
+use Rattle.command_parts.specs.declared.text_refusal.TextRefusal.TheVariants as text_refusals
+use Rattle.command_parts.specs.declared.system_refusal.SystemRefusal.TheVariants as system_refusals
+use Rattle.command_parts.specs.declared.refusal.Refusal.{Refusal}
+use Rattle.command_parts.specs.declared.refusal.Refusal.TheVariants as refusals
 use Rattle.session_cli.specs.declared.command_word.CommandWord.{CommandWord}
 use Rattle.session_cli.specs.declared.command_word.CommandWord.TheVariants as words
-use Rattle.session_cli.specs.Checks.{Check, Pure}
+use Rattle.command_parts.specs.Checks.{Check, Pure}
 use Rattle.definitions.specs.Trees.{Ledger, custom_of}
 use Rattle.language_steps.specs.declared.op.LanguageOp.TheVariants.{Pair, One}
 use Rattle.language_steps.specs.declared.op.OneOp.TheVariants.{Star, Reversal}
 use Rattle.language_steps.specs.declared.op.PairOp.TheVariants.{Union, Intersection, Concatenation}
 use Rattle.definitions.specs.Tracks.{NamedSystem, Tracks, OverSets, OverSystems, letter_sets}
 use Rattle.system_files.specs.SystemFiles.{Custom}
-use Rattle.session_cli.specs.HeadTracks.{AreTracksOf, PartInDirection}
-use Rattle.session_cli.specs.HeadAnswers.{HeadAnswers}
-use Rattle.session_cli.specs.Accepting.{Accepted, stored}
-use Rattle.session_cli.specs.RegOutcomes.{systems_named, TracksAnswers, ParsedAnswers, StepsAnswers, after_tracks, after_head, reg_checks}
-use Rattle.session_cli.specs.RegexFaults.{fault_of_regex}
-use Rattle.session_cli.specs.SystemChecks.{systems_known}
-use Rattle.session_cli.specs.TrackSteps.{DoesExpression}
-use Rattle.session_cli.specs.TrackSystems.{fault_of}
+use Rattle.language_commands.specs.HeadTracks.{AreTracksOf, PartInDirection}
+use Rattle.command_parts.specs.HeadAnswers.{HeadAnswers}
+use Rattle.command_parts.specs.Accepting.{Accepted, stored}
+use Rattle.language_commands.specs.RegOutcomes.{systems_named, TracksAnswers, ParsedAnswers, StepsAnswers, after_tracks, after_head, reg_checks}
+use Rattle.command_parts.specs.RegexFaults.{fault_of_regex}
+use Rattle.command_parts.specs.SystemChecks.{systems_known}
+use Rattle.language_commands.specs.TrackSteps.{DoesExpression}
+use Rattle.command_parts.specs.TrackSystems.{fault_of}
 use Rattle.session_cli.specs.Outcomes.{LengthAnswers, WordAnswers, word_text, checks_by, after_length, Outcome}
-use Rattle.session_cli.proofs.RegexCheckNames.{regex_success, after_expression, after_admission}
-use Rattle.session_cli.specs.FormulaOutcomes.{formula_checks}
+use Rattle.language_commands.proofs.RegexCheckNames.{regex_success, after_expression, after_admission}
+use Rattle.formula_commands.specs.FormulaOutcomes.{formula_checks}
 use Rattle.session_cli.specs.TextOutcomes.{macro_checks, morphism_checks}
-use Rattle.session_cli.specs.PromoteOutcomes.{promote_checks}
-use Rattle.session_cli.specs.CombineOutcomes.{combine_checks}
-use Rattle.session_cli.specs.ImageOutcomes.{image_checks}
-use Rattle.session_cli.specs.LanguageOutcomes.{language_checks}
-use Rattle.session_cli.specs.ListingOutcomes.{inf_checks, test_checks}
-use Rattle.session_cli.specs.TransduceOutcomes.{transduce_checks}
-use Rattle.session_cli.specs.ConvertOutcomes.{convert_checks}
-use Rattle.session_cli.proofs.CheckSteps.{IsSingle, then_single, single_so}
+use Rattle.word_commands.specs.PromoteOutcomes.{promote_checks}
+use Rattle.word_commands.specs.CombineOutcomes.{combine_checks}
+use Rattle.word_commands.specs.ImageOutcomes.{image_checks}
+use Rattle.language_commands.specs.LanguageOutcomes.{language_checks}
+use Rattle.listing_commands.specs.ListingOutcomes.{inf_checks, test_checks}
+use Rattle.word_commands.specs.TransduceOutcomes.{transduce_checks}
+use Rattle.word_commands.specs.ConvertOutcomes.{convert_checks}
+use Rattle.command_parts.proofs.CheckSteps.{IsSingle, then_single, single_so}
 use Rattle.session_cli.proofs.ActionSteps.{saying_single, storing_single}
 use Rattle.session_cli.proofs.OneExpression.{expression_one}
 use Rattle.session_cli.proofs.NameLemmas.{one_list_of_systems, not_parted, same_part}
@@ -67,7 +67,7 @@ use Rattle.session_cli.proofs.OneConverts.{convert_single}
 use Rattle.session_cli.proofs.OneSystems.{systems_single}
 use Rattle.session_cli.proofs.OneTextCommands.{macro_single, morphism_single, promote_single}
 use Rattle.session_cli.proofs.RefusingSteps.{refusing_one}
-use Rattle.session_cli.specs.RefusingChecks.{Refusing}
+use Rattle.command_parts.specs.RefusingChecks.{Refusing}
 
 -- an answer is that of one function of what was read
 single_by : {Y : Type 0} (c : Check Y) (value : Result Y Refusal) → ((r : Result Y Refusal) → c.answers r → r ≡ value) → IsSingle c

@@ -16,13 +16,13 @@ use Rattle.formula_parse.proofs.DerivedFlaws.{formula_flaw}
 use Rattle.formula_parse.proofs.BothGrammars.{breaks_derived, reaches_derived, WholeDerived, whole_derived}
 use Rattle.formula_parse.proofs.Cuts.{one_derivation, Stops, breaks_stop, reaches_stop, whole_stops}
 use Rattle.formula_parse.proofs.OneAnswer.{one_answer_of, one_tree_of}
-use Rattle.session_cli.specs.declared.refusal.Refusal.{Refusal}
-use Rattle.session_cli.specs.Checks.{Pure}
-use Rattle.session_cli.specs.FormulaFaults.{fault_of_formula}
-use Rattle.session_cli.specs.FormulaOutcomes.{FormulaAnswers}
-use Rattle.session_cli.proofs.CheckSteps.{IsSingle, single_so}
+use Rattle.command_parts.specs.declared.refusal.Refusal.{Refusal}
+use Rattle.command_parts.specs.Checks.{Pure}
+use Rattle.command_parts.specs.FormulaFaults.{fault_of_formula}
+use Rattle.formula_commands.specs.FormulaOutcomes.{FormulaAnswers}
+use Rattle.command_parts.proofs.CheckSteps.{IsSingle, single_so}
 use Rattle.session_cli.proofs.RefusingSteps.{refusing_single}
-use Rattle.session_cli.specs.RefusingChecks.{Refusing}
+use Rattle.command_parts.specs.RefusingChecks.{Refusing}
 
 -- a formula that is read, or a fault
 abbrev ReadResult : Type 0

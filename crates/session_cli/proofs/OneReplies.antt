@@ -7,17 +7,17 @@ use Rattle.command_head.proofs.OneFault.{one_head}
 use Rattle.command_head.proofs.RunHeads.{one_load, one_alone}
 use Rattle.script_runs.specs.Languages.{Enters, Loads, Ends}
 use Rattle.fixed_points.specs.Laws.{PromotionsHaveOneOutcome}
-use Rattle.session_cli.specs.declared.file_refusal.FileRefusal.TheVariants as file_refusals
-use Rattle.session_cli.specs.declared.refusal.Refusal.{Refusal}
-use Rattle.session_cli.specs.declared.refusal.Refusal.TheVariants as refusals
+use Rattle.command_parts.specs.declared.file_refusal.FileRefusal.TheVariants as file_refusals
+use Rattle.command_parts.specs.declared.refusal.Refusal.{Refusal}
+use Rattle.command_parts.specs.declared.refusal.Refusal.TheVariants as refusals
 use Rattle.session_cli.specs.declared.run_word.RunWord.{RunWord}
 use Rattle.session_cli.specs.declared.run_word.RunWord.TheVariants as words
-use Rattle.session_cli.specs.Checks.{Pure, Passing, Then}
-use Rattle.session_cli.specs.HeadAnswers.{HeadAnswers}
+use Rattle.command_parts.specs.Checks.{Pure, Passing, Then}
+use Rattle.command_parts.specs.HeadAnswers.{HeadAnswers}
 use Rattle.session_cli.specs.Outcomes.{LengthAnswers, after_length}
 use Rattle.session_cli.specs.RunOutcomes.{run_word_text, RunWordAnswers, DepthAnswers, TextIn, text_read, load_checks, checks_by_word, run_checks}
 use Rattle.definitions.specs.Trees.{Ledger}
-use Rattle.session_cli.proofs.CheckSteps.{IsSingle, then_single, passing_single}
+use Rattle.command_parts.proofs.CheckSteps.{IsSingle, then_single, passing_single}
 use Rattle.session_cli.proofs.OneHeads.{head_single}
 use Rattle.session_cli.proofs.OneLoadings.{same_there}
 use Rattle.session_cli.proofs.OneOutcomes.{length_single, after_length_single}

@@ -19,14 +19,14 @@ use Rattle.definitions.specs.Trees.{Ledger, custom_of}
 use Rattle.definitions.proofs.OneTexts.{one_text_of}
 use Rattle.fixed_points.specs.Laws.{PromotionsHaveOneOutcome}
 use Rattle.system_files.specs.SystemFiles.{Custom}
-use Rattle.session_cli.specs.declared.refusal.Refusal.{Refusal}
-use Rattle.session_cli.specs.declared.fault.Fault.{Fault}
-use Rattle.session_cli.specs.declared.fault.Fault.TheVariants as faults
-use Rattle.session_cli.specs.Checks.{Check, Fails}
-use Rattle.session_cli.specs.Accepting.{Success, Accepted, Storing, Saying}
+use Rattle.command_parts.specs.declared.refusal.Refusal.{Refusal}
+use Rattle.command_parts.specs.declared.fault.Fault.{Fault}
+use Rattle.command_parts.specs.declared.fault.Fault.TheVariants as faults
+use Rattle.command_parts.specs.Checks.{Check, Fails}
+use Rattle.command_parts.specs.Accepting.{Success, Accepted, Storing, Saying}
 use Rattle.session_cli.specs.RunOutcomes.{run_checks}
 use Rattle.session_cli.specs.SessionLanguage.{IsReply, StoresEntry, ChangesFiles, is_memory_fault, session_language}
-use Rattle.session_cli.specs.StoreFailures.{failed_at}
+use Rattle.command_parts.specs.StoreFailures.{failed_at}
 use Rattle.session_cli.specs.Made.{made_line, made_status, HasMade}
 use Rattle.session_cli.specs.Whole.{HasServed, HasCalled}
 use Rattle.session_cli.proofs.WholeSteps.{usage_or_memory}

@@ -8,7 +8,7 @@ use Rattle.named_systems.specs.NamedSystems.{NamedSystem, system_named, AreSeale
 use Rattle.formula_build.specs.OneBuilding.{Agree}
 use Rattle.system_files.specs.SystemFiles.{Custom}
 use Rattle.definitions.specs.Named.{IsSystemNamed}
-use Rattle.session_cli.specs.FormulaSteps.{AreMeant, library_of}
+use Rattle.command_parts.specs.FormulaSteps.{AreMeant, library_of}
 use Rattle.definitions.proofs.NameLemmas.{one_meaning}
 
 -- a system that is under a name is sealed, and means what the name means

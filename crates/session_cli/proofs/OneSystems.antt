@@ -9,12 +9,12 @@ use Rattle.system_admission.specs.SystemSteps.{AdmitsNames, no_steps}
 use Rattle.system_admission.specs.declared.system_fault.SystemFault.{SystemFault}
 use Rattle.system_admission.specs.declared.system_fault.SystemFault.TheVariants as systems
 use Rattle.system_admission.proofs.OneNames.{names_one}
-use Rattle.session_cli.specs.declared.refusal.Refusal.{Refusal}
-use Rattle.session_cli.specs.SystemChecks.{SystemsAnswers, systems_known}
-use Rattle.session_cli.specs.SystemFaults.{fault_of_system}
-use Rattle.session_cli.proofs.CheckSteps.{IsSingle, single_so}
+use Rattle.command_parts.specs.declared.refusal.Refusal.{Refusal}
+use Rattle.command_parts.specs.SystemChecks.{SystemsAnswers, systems_known}
+use Rattle.command_parts.specs.SystemFaults.{fault_of_system}
+use Rattle.command_parts.proofs.CheckSteps.{IsSingle, single_so}
 use Rattle.session_cli.proofs.RefusingSteps.{refusing_one}
-use Rattle.session_cli.specs.RefusingChecks.{Refusing}
+use Rattle.command_parts.specs.RefusingChecks.{Refusing}
 
 -- the steps, or the fault
 abbrev of_names : Result ⊤ SystemFault → StepLog → Result StepLog SystemFault

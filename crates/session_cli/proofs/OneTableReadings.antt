@@ -14,8 +14,8 @@ use Rattle.word_output.specs.Laws.{WordReadingsHaveOneOutcome}
 use Rattle.word_output.specs.WordReadings.{DoesWord}
 use Rattle.definitions.specs.TableSteps.{DoesTable}
 use Rattle.definitions.specs.TableLaws.{TablesHaveOneAnswer}
-use Rattle.session_cli.specs.TableReads.{TableRead, ARelation, AWord, AreSystemsUnder, IsRelationRead, IsWordRead, IsTableRead, PassesFile, IsTableRefused, AreTablesRead, IsReadingRefused}
-use Rattle.session_cli.proofs.TableReads.{AreAlike, same_under}
+use Rattle.command_parts.specs.TableReads.{TableRead, ARelation, AWord, AreSystemsUnder, IsRelationRead, IsWordRead, IsTableRead, PassesFile, IsTableRefused, AreTablesRead, IsReadingRefused}
+use Rattle.command_parts.proofs.TableReads.{AreAlike, same_under}
 
 -- why one table is not read, unless memory ran out
 abbrev pub StopsTable : List NamedSystem → StepLog → Loaded → StepFault → Type 0

@@ -27,24 +27,24 @@ use Rattle.word_output.specs.Words.{WordValue}
 use Rattle.definitions.specs.Texts.{Stores}
 use Rattle.definitions.specs.Trees.{Ledger, custom_of}
 use Rattle.system_files.specs.SystemFiles.{Custom}
-use Rattle.session_cli.specs.declared.refusal.Refusal.{Refusal}
-use Rattle.session_cli.specs.Accepting.{stored}
-use Rattle.session_cli.specs.Checks.{Pure}
-use Rattle.session_cli.specs.FormulaFaults.{fault_of_loading}
-use Rattle.session_cli.specs.HeadAnswers.{HeadAnswers}
-use Rattle.session_cli.specs.MorphismChecks.{MorphismAnswers, morphism_loaded}
-use Rattle.session_cli.specs.MorphismFaults.{fault_of_promotion, fault_of_rules}
-use Rattle.session_cli.specs.PromoteOutcomes.{PromotedAnswers, after_morphism, promote_checks}
+use Rattle.command_parts.specs.declared.refusal.Refusal.{Refusal}
+use Rattle.command_parts.specs.Accepting.{stored}
+use Rattle.command_parts.specs.Checks.{Pure}
+use Rattle.command_parts.specs.FormulaFaults.{fault_of_loading}
+use Rattle.command_parts.specs.HeadAnswers.{HeadAnswers}
+use Rattle.word_commands.specs.MorphismChecks.{MorphismAnswers, morphism_loaded}
+use Rattle.command_parts.specs.MorphismFaults.{fault_of_promotion, fault_of_rules}
+use Rattle.word_commands.specs.PromoteOutcomes.{PromotedAnswers, after_morphism, promote_checks}
 use Rattle.system_admission.specs.SystemSteps.{no_steps}
 use Rattle.session_cli.specs.TextOutcomes.{RulesAnswers, after_rules_head, macro_checks, morphism_checks}
-use Rattle.session_cli.proofs.PromoteCheckNames.{fixed_success, after_promote_head}
-use Rattle.session_cli.proofs.TextCheckNames.{text_success}
-use Rattle.session_cli.proofs.CheckSteps.{IsSingle, then_single, single_so}
+use Rattle.word_commands.proofs.PromoteCheckNames.{fixed_success, after_promote_head}
+use Rattle.command_parts.proofs.TextCheckNames.{text_success}
+use Rattle.command_parts.proofs.CheckSteps.{IsSingle, then_single, single_so}
 use Rattle.session_cli.proofs.OneHeads.{head_single}
 use Rattle.session_cli.proofs.OneLoadings.{same_there}
 use Rattle.session_cli.proofs.OneTexts.{stored_single}
 use Rattle.session_cli.proofs.RefusingSteps.{refusing_single, refusing_one}
-use Rattle.session_cli.specs.RefusingChecks.{Refusing}
+use Rattle.command_parts.specs.RefusingChecks.{Refusing}
 
 -- a `macro` stores what is in its quotes
 pub macro_single : (ledger : Ledger) (text : List ℕ) → IsSingle (macro_checks ledger text)

@@ -1,12 +1,12 @@
 -- An entry has one text, and so it is stored in one way.
 use Rattle.std.proofs.Common.{◌≡◌, ℕ, ◌<◌, ◌≤◌, ◌⊎◌, List, length, Result, Ok, Err, sym, ap, ◌∙◌, inl, inr, arith}
-use Rattle.session_cli.specs.declared.text_refusal.TextRefusal.TheVariants as text_refusals
-use Rattle.session_cli.specs.declared.refusal.Refusal.{Refusal}
-use Rattle.session_cli.specs.declared.refusal.Refusal.TheVariants as refusals
+use Rattle.command_parts.specs.declared.text_refusal.TextRefusal.TheVariants as text_refusals
+use Rattle.command_parts.specs.declared.refusal.Refusal.{Refusal}
+use Rattle.command_parts.specs.declared.refusal.Refusal.TheVariants as refusals
 use Rattle.definitions.specs.Texts.{HasText}
 use Rattle.system_files.specs.SystemFiles.{Custom}
-use Rattle.session_cli.specs.Accepting.{Success, StoredAnswers, stored}
-use Rattle.session_cli.proofs.CheckSteps.{IsSingle}
+use Rattle.command_parts.specs.Accepting.{Success, StoredAnswers, stored}
+use Rattle.command_parts.proofs.CheckSteps.{IsSingle}
 use Rattle.definitions.proofs.OneTexts.{one_text_of}
 
 -- what is stored

@@ -13,25 +13,25 @@ use Rattle.transducer_loading.proofs.OneAnswer.{files_have_one_answer}
 use Rattle.transducer_reading.specs.Transducers.{Transducer}
 use Rattle.definitions.specs.Texts.{Stores}
 use Rattle.definitions.specs.Trees.{Ledger, Transduced, custom_of}
-use Rattle.session_cli.specs.declared.refusal.Refusal.{Refusal}
-use Rattle.session_cli.specs.BaseWords.{BaseAnswers, fault_of_base, named_base, over_base}
-use Rattle.session_cli.specs.Checks.{Pure}
-use Rattle.session_cli.specs.FileChecks.{files_loaded}
-use Rattle.session_cli.specs.FormulaFaults.{fault_of_loading}
-use Rattle.session_cli.specs.HeadAnswers.{HeadAnswers}
-use Rattle.session_cli.specs.ImageOutcomes.{old_mentions}
-use Rattle.session_cli.specs.SystemChecks.{systems_known}
-use Rattle.session_cli.specs.TransduceOutcomes.{after_transduce_head, after_transduced_base, after_transduced_systems, after_transduced_table, after_transducer, transduce_checks}
-use Rattle.session_cli.specs.TransduceSteps.{DoesTransduce}
-use Rattle.session_cli.specs.TransducerChecks.{TransducerAnswers, transducer_loaded}
-use Rattle.session_cli.proofs.BaseNames.{base_one}
-use Rattle.session_cli.proofs.CheckSteps.{IsSingle, then_single, single_so}
+use Rattle.command_parts.specs.declared.refusal.Refusal.{Refusal}
+use Rattle.word_commands.specs.BaseWords.{BaseAnswers, fault_of_base, named_base, over_base}
+use Rattle.command_parts.specs.Checks.{Pure}
+use Rattle.command_parts.specs.FileChecks.{files_loaded}
+use Rattle.command_parts.specs.FormulaFaults.{fault_of_loading}
+use Rattle.command_parts.specs.HeadAnswers.{HeadAnswers}
+use Rattle.word_commands.specs.ImageOutcomes.{old_mentions}
+use Rattle.command_parts.specs.SystemChecks.{systems_known}
+use Rattle.word_commands.specs.TransduceOutcomes.{after_transduce_head, after_transduced_base, after_transduced_systems, after_transduced_table, after_transducer, transduce_checks}
+use Rattle.word_commands.specs.TransduceSteps.{DoesTransduce}
+use Rattle.word_commands.specs.TransducerChecks.{TransducerAnswers, transducer_loaded}
+use Rattle.word_commands.proofs.BaseNames.{base_one}
+use Rattle.command_parts.proofs.CheckSteps.{IsSingle, then_single, single_so}
 use Rattle.session_cli.proofs.OneHeads.{head_single}
 use Rattle.session_cli.proofs.OneLoadings.{files_single, same_there}
 use Rattle.session_cli.proofs.OneOldWords.{made_single}
 use Rattle.session_cli.proofs.OneSystems.{systems_single}
-use Rattle.session_cli.proofs.TransduceSteps.{transductions_one}
-use Rattle.session_cli.specs.RefusingChecks.{Refusing}
+use Rattle.word_commands.proofs.TransduceSteps.{transductions_one}
+use Rattle.command_parts.specs.RefusingChecks.{Refusing}
 use Rattle.session_cli.proofs.RefusingSteps.{refusing_single}
 
 -- what the file of a transducer gives

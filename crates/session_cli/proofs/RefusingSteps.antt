@@ -1,11 +1,11 @@
 -- Checks that refuse by faults of their own have one answer where these do.
 use Rattle.std.specs.Prelude.{⊤}
 use Rattle.std.proofs.Common.{◌≡◌, ◌≢◌, Result, Ok, Err, sym, ap, ◌∙◌}
-use Rattle.session_cli.specs.declared.refusal.Refusal.{Refusal}
-use Rattle.session_cli.specs.declared.fault.Fault.{Fault}
-use Rattle.session_cli.specs.declared.fault.Fault.TheVariants as faults
-use Rattle.session_cli.specs.RefusingChecks.{Refusing}
-use Rattle.session_cli.proofs.CheckSteps.{IsSingle}
+use Rattle.command_parts.specs.declared.refusal.Refusal.{Refusal}
+use Rattle.command_parts.specs.declared.fault.Fault.{Fault}
+use Rattle.command_parts.specs.declared.fault.Fault.TheVariants as faults
+use Rattle.command_parts.specs.RefusingChecks.{Refusing}
+use Rattle.command_parts.proofs.CheckSteps.{IsSingle}
 
 -- what refuses a command is not that memory ran out
 pub no_memory : {E : Type 0} (as_fault : E → Fault) (memory : E) → as_fault memory ≡ faults.Memory → (own : E) (refusal : Refusal) → as_fault own ≡ faults.Refused refusal → own ≢ memory

@@ -12,19 +12,19 @@ use Rattle.morph_words.specs.declared.fault.RulesFault.{RulesFault}
 use Rattle.morph_words.specs.declared.fault.RulesFault.TheVariants as rules_faults
 use Rattle.definitions.specs.Trees.{Ledger, custom_of}
 use Rattle.system_files.specs.SystemFiles.{Custom}
-use Rattle.session_cli.specs.declared.fault.Fault.{Fault}
-use Rattle.session_cli.specs.declared.file_change.Made.{Made}
-use Rattle.session_cli.specs.declared.file_change.FileChange.{FileChange}
-use Rattle.session_cli.specs.Accepting.{Success, stored}
-use Rattle.session_cli.specs.Checks.{Pure, Fails}
-use Rattle.session_cli.specs.HeadAnswers.{HeadAnswers}
-use Rattle.session_cli.specs.MorphismFaults.{fault_of_rules}
-use Rattle.session_cli.specs.FileChanges.{IsMade, Makes, ChangesFile}
+use Rattle.command_parts.specs.declared.fault.Fault.{Fault}
+use Rattle.command_parts.specs.declared.file_change.Made.{Made}
+use Rattle.command_parts.specs.declared.file_change.FileChange.{FileChange}
+use Rattle.command_parts.specs.Accepting.{Success, stored}
+use Rattle.command_parts.specs.Checks.{Pure, Fails}
+use Rattle.command_parts.specs.HeadAnswers.{HeadAnswers}
+use Rattle.command_parts.specs.MorphismFaults.{fault_of_rules}
+use Rattle.command_parts.specs.FileChanges.{IsMade, Makes, ChangesFile}
 use Rattle.session_cli.specs.TextOutcomes.{RulesAnswers, after_rules_head, macro_checks, morphism_checks}
-use Rattle.session_cli.specs.TextChanges.{IsTextRefused, StoresText}
-use Rattle.session_cli.proofs.TextCheckNames.{text_success}
-use Rattle.session_cli.proofs.CheckSteps.{fails_first, fails_after, makes_after, changes_after}
-use Rattle.session_cli.proofs.StoringTexts.{text_stored, unstored}
+use Rattle.command_parts.specs.TextChanges.{IsTextRefused, StoresText}
+use Rattle.command_parts.proofs.TextCheckNames.{text_success}
+use Rattle.command_parts.proofs.CheckSteps.{fails_first, fails_after, makes_after, changes_after}
+use Rattle.command_parts.proofs.StoringTexts.{text_stored, unstored}
 
 -- what is in the quotes of a `macro` is stored
 pub macro_changed : (ledger : Ledger) (text : List ℕ) (shown : Bool) (head : NamedHead) (change : FileChange) → HasHead (DerivesNamed (codes "macro")) (λ (h : NamedHead). h) text (Ok head) → change.folder ≡ Macros → change.name ≡ head.name → StoresText head.body (Ok change.made)

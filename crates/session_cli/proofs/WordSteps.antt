@@ -2,20 +2,20 @@
 use Rattle.std.proofs.Common.{◌≡◌, ◌≢◌, ℕ, ◌<◌, ◌≤◌, Bool, List, length, Result, refl, subst}
 use Rattle.wal_outside.specs.declared.folder.Folder.{Folder}
 use Rattle.command_head.specs.Parts.{first_word_of}
-use Rattle.session_cli.specs.declared.text_refusal.TextRefusal.TheVariants as text_refusals
-use Rattle.session_cli.specs.declared.refusal.Refusal.TheVariants as refusals
-use Rattle.session_cli.specs.declared.fault.Fault.{Fault}
-use Rattle.session_cli.specs.declared.fault.Fault.TheVariants as faults
-use Rattle.session_cli.specs.declared.file_change.Action.{Action}
-use Rattle.session_cli.specs.declared.file_change.FileChange.{FileChange}
+use Rattle.command_parts.specs.declared.text_refusal.TextRefusal.TheVariants as text_refusals
+use Rattle.command_parts.specs.declared.refusal.Refusal.TheVariants as refusals
+use Rattle.command_parts.specs.declared.fault.Fault.{Fault}
+use Rattle.command_parts.specs.declared.fault.Fault.TheVariants as faults
+use Rattle.command_parts.specs.declared.file_change.Action.{Action}
+use Rattle.command_parts.specs.declared.file_change.FileChange.{FileChange}
 use Rattle.session_cli.specs.declared.command_word.CommandWord.{CommandWord}
-use Rattle.session_cli.specs.Checks.{Pure, Fails}
+use Rattle.command_parts.specs.Checks.{Pure, Fails}
 use Rattle.definitions.specs.Trees.{Ledger, custom_of}
 use Rattle.session_cli.specs.Outcomes.{LengthAnswers, WordAnswers, word_text, checks_by, after_length, checks_of}
-use Rattle.session_cli.specs.FormulaOutcomes.{formula_checks}
-use Rattle.session_cli.specs.FileChanges.{ChangesFile, Acts}
-use Rattle.session_cli.specs.declared.step_options.StepOptions.{StepOptions}
-use Rattle.session_cli.proofs.CheckSteps.{fails_first, fails_after}
+use Rattle.formula_commands.specs.FormulaOutcomes.{formula_checks}
+use Rattle.command_parts.specs.FileChanges.{ChangesFile, Acts}
+use Rattle.command_parts.specs.declared.step_options.StepOptions.{StepOptions}
+use Rattle.command_parts.proofs.CheckSteps.{fails_first, fails_after}
 use Rattle.session_cli.proofs.ActionSteps.{acts_after}
 
 -- what the checks of a short command of this word give, all its checks give

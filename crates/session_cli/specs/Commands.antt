@@ -6,16 +6,16 @@ use Rattle.wal_outside.specs.Files.{Files, put}
 use Rattle.wal_outside.specs.Places.{Place}
 use Rattle.wal_outside.specs.Views.{StoreView}
 use Rattle.script_runs.specs.Replies.{failed_by}
-use Rattle.session_cli.specs.declared.fault.Fault.{Fault}
-use Rattle.session_cli.specs.declared.fault.Fault.TheVariants as faults
-use Rattle.session_cli.specs.declared.file_change.Action.{Action}
-use Rattle.session_cli.specs.declared.file_change.Action.TheVariants as actions
+use Rattle.command_parts.specs.declared.fault.Fault.{Fault}
+use Rattle.command_parts.specs.declared.fault.Fault.TheVariants as faults
+use Rattle.command_parts.specs.declared.file_change.Action.{Action}
+use Rattle.command_parts.specs.declared.file_change.Action.TheVariants as actions
 use Rattle.definitions.specs.Trees.{Ledger, custom_of}
-use Rattle.session_cli.specs.Accepting.{Answer}
-use Rattle.session_cli.specs.Lines.{accepted_text}
+use Rattle.command_parts.specs.Accepting.{Answer}
+use Rattle.command_parts.specs.Lines.{accepted_text}
 use Rattle.session_cli.specs.Outcomes.{checks_of}
 use Rattle.session_cli.specs.SessionLanguage.{IsAnswer, ChangesFiles}
-use Rattle.session_cli.specs.StoreFailures.{failed_at}
+use Rattle.command_parts.specs.StoreFailures.{failed_at}
 
 -- A call's result and the text to print are the answer: accepted, with what it prints; or the same fault, and then the text is empty.
 abbrev pub Gives : Bool → Result (Unit {0}) Fault → List ℕ → Answer → Type 0

@@ -5,8 +5,8 @@ use Rattle.wal_outside.specs.Views.{SourceView, SinkView, StoreView}
 use Rattle.script_runs.specs.Laws.{IsClean, EndAlike, StoreFaultsAreCounted}
 use Rattle.script_runs.specs.declared.status.Status.{Status}
 use Rattle.definitions.specs.Trees.{Ledger}
-use Rattle.session_cli.specs.declared.refusal.Refusal.{Refusal}
-use Rattle.session_cli.specs.Accepting.{Accepted}
+use Rattle.command_parts.specs.declared.refusal.Refusal.{Refusal}
+use Rattle.command_parts.specs.Accepting.{Accepted}
 use Rattle.session_cli.specs.Outcomes.{Outcome}
 use Rattle.session_cli.specs.SessionLanguage.{session_language}
 use Rattle.session_cli.specs.Whole.{HasCalled}

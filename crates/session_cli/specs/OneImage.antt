@@ -4,8 +4,8 @@ use Rattle.automaton_steps.specs.OneAnswers.{HasOneAnswer}
 use Rattle.morph_words.specs.Rules.{Rules, IsMorphism}
 use Rattle.word_output.specs.Words.{IsWordValue, WordValue}
 use Rattle.formula_parse.specs.Tokens.{Name}
-use Rattle.session_cli.specs.ImageSteps.{DoesImage}
-use Rattle.session_cli.specs.declared.image_fault.ImageFault.TheVariants.{Step}
+use Rattle.word_commands.specs.ImageSteps.{DoesImage}
+use Rattle.command_parts.specs.declared.image_fault.ImageFault.TheVariants.{Step}
 
 -- one word is made by the same steps, or it is refused by one fault, unless memory runs out
 abbrev pub ImagesHaveOneOutcome : Type 0

@@ -2,27 +2,27 @@
 use Rattle.std.specs.Prelude.{◌≡◌, ◌≢◌, ℕ, ◌<◌, ◌≤◌, List, length, Result, Ok, Err, codes}
 use Rattle.wal_outside.specs.declared.folder.Folder.TheVariants.{Automata, Results}
 use Rattle.command_head.specs.Parts.{first_word_of}
-use Rattle.session_cli.specs.declared.text_refusal.TextRefusal.TheVariants as text_refusals
-use Rattle.session_cli.specs.declared.refusal.Refusal.{Refusal}
-use Rattle.session_cli.specs.declared.refusal.Refusal.TheVariants as refusals
+use Rattle.command_parts.specs.declared.text_refusal.TextRefusal.TheVariants as text_refusals
+use Rattle.command_parts.specs.declared.refusal.Refusal.{Refusal}
+use Rattle.command_parts.specs.declared.refusal.Refusal.TheVariants as refusals
 use Rattle.session_cli.specs.declared.command_word.CommandWord.{CommandWord}
 use Rattle.session_cli.specs.declared.command_word.CommandWord.TheVariants as words
-use Rattle.session_cli.specs.Checks.{Check, Pure, Then}
+use Rattle.command_parts.specs.Checks.{Check, Pure, Then}
 use Rattle.definitions.specs.Trees.{Ledger}
 use Rattle.language_steps.specs.declared.op.LanguageOp.TheVariants.{Pair, One}
 use Rattle.language_steps.specs.declared.op.OneOp.TheVariants.{Star, Reversal}
 use Rattle.language_steps.specs.declared.op.PairOp.TheVariants.{Union, Intersection, Concatenation}
-use Rattle.session_cli.specs.Accepting.{Accepted, saying, storing}
-use Rattle.session_cli.specs.RegOutcomes.{reg_checks}
-use Rattle.session_cli.specs.FormulaOutcomes.{formula_checks}
+use Rattle.command_parts.specs.Accepting.{Accepted, saying, storing}
+use Rattle.language_commands.specs.RegOutcomes.{reg_checks}
+use Rattle.formula_commands.specs.FormulaOutcomes.{formula_checks}
 use Rattle.session_cli.specs.TextOutcomes.{macro_checks, morphism_checks}
-use Rattle.session_cli.specs.PromoteOutcomes.{promote_checks}
-use Rattle.session_cli.specs.CombineOutcomes.{combine_checks}
-use Rattle.session_cli.specs.ImageOutcomes.{image_checks}
-use Rattle.session_cli.specs.LanguageOutcomes.{language_checks}
-use Rattle.session_cli.specs.TransduceOutcomes.{transduce_checks}
-use Rattle.session_cli.specs.ListingOutcomes.{inf_checks, test_checks}
-use Rattle.session_cli.specs.ConvertOutcomes.{convert_checks}
+use Rattle.word_commands.specs.PromoteOutcomes.{promote_checks}
+use Rattle.word_commands.specs.CombineOutcomes.{combine_checks}
+use Rattle.word_commands.specs.ImageOutcomes.{image_checks}
+use Rattle.language_commands.specs.LanguageOutcomes.{language_checks}
+use Rattle.word_commands.specs.TransduceOutcomes.{transduce_checks}
+use Rattle.listing_commands.specs.ListingOutcomes.{inf_checks, test_checks}
+use Rattle.word_commands.specs.ConvertOutcomes.{convert_checks}
 
 -- a command may have 65,536 bytes
 abbrev pub IsShort : List ℕ → Type 0

@@ -7,18 +7,18 @@ use Rattle.command_head.specs.Parts.{first_word_of}
 use Rattle.command_head.specs.Grammar.{DerivesLoad, DerivesAlone}
 use Rattle.dfa_loading.specs.declared.fault.FileFlaw.TheVariants as flaws
 use Rattle.script_runs.specs.Languages.{Deed, Enters, Loads, Ends}
-use Rattle.session_cli.specs.declared.file_refusal.FileRefusal.TheVariants as file_refusals
-use Rattle.session_cli.specs.declared.refusal.Refusal.{Refusal}
-use Rattle.session_cli.specs.declared.refusal.Refusal.TheVariants as refusals
-use Rattle.session_cli.specs.declared.fault.Fault.{Fault}
-use Rattle.session_cli.specs.declared.fault.Fault.TheVariants as faults
+use Rattle.command_parts.specs.declared.file_refusal.FileRefusal.TheVariants as file_refusals
+use Rattle.command_parts.specs.declared.refusal.Refusal.{Refusal}
+use Rattle.command_parts.specs.declared.refusal.Refusal.TheVariants as refusals
+use Rattle.command_parts.specs.declared.fault.Fault.{Fault}
+use Rattle.command_parts.specs.declared.fault.Fault.TheVariants as faults
 use Rattle.session_cli.specs.declared.run_word.RunWord.{RunWord}
 use Rattle.session_cli.specs.declared.run_word.RunWord.TheVariants as words
-use Rattle.session_cli.specs.Checks.{Check, Pure, Passing, Then, Fails}
+use Rattle.command_parts.specs.Checks.{Check, Pure, Passing, Then, Fails}
 use Rattle.definitions.specs.Texts.{Stores}
 use Rattle.definitions.specs.Trees.{Ledger}
-use Rattle.session_cli.specs.Accepting.{Accepted}
-use Rattle.session_cli.specs.HeadAnswers.{HeadAnswers}
+use Rattle.command_parts.specs.Accepting.{Accepted}
+use Rattle.command_parts.specs.HeadAnswers.{HeadAnswers}
 use Rattle.session_cli.specs.Outcomes.{LengthAnswers, after_length}
 
 -- the word with which a command begins that makes nothing

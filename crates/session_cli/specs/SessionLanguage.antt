@@ -5,20 +5,20 @@ use Rattle.wal_outside.specs.Files.{Files, put}
 use Rattle.script_runs.specs.Languages.{CommandLanguage, Deed, Enters}
 use Rattle.script_runs.specs.declared.script_fault.ScriptFault.{ScriptFault}
 use Rattle.script_runs.specs.declared.script_fault.ScriptFault.TheVariants as script
-use Rattle.session_cli.specs.declared.text_refusal.Grammar.TheVariants as grammars
-use Rattle.session_cli.specs.declared.text_refusal.TextRefusal.TheVariants as text_refusals
-use Rattle.session_cli.specs.declared.file_refusal.FileRefusal.TheVariants as file_refusals
-use Rattle.session_cli.specs.declared.refusal.Refusal.TheVariants as refusals
-use Rattle.session_cli.specs.declared.fault.Fault.{Fault}
-use Rattle.session_cli.specs.declared.fault.Fault.TheVariants as faults
+use Rattle.command_parts.specs.declared.text_refusal.Grammar.TheVariants as grammars
+use Rattle.command_parts.specs.declared.text_refusal.TextRefusal.TheVariants as text_refusals
+use Rattle.command_parts.specs.declared.file_refusal.FileRefusal.TheVariants as file_refusals
+use Rattle.command_parts.specs.declared.refusal.Refusal.TheVariants as refusals
+use Rattle.command_parts.specs.declared.fault.Fault.{Fault}
+use Rattle.command_parts.specs.declared.fault.Fault.TheVariants as faults
 use Rattle.definitions.specs.Trees.{Ledger, ledger_of, custom_of}
 use Rattle.definitions.specs.Texts.{HasText, Stores}
 use Rattle.system_files.specs.SystemFiles.{Custom}
-use Rattle.session_cli.specs.Checks.{Check, Fails}
-use Rattle.session_cli.specs.Accepting.{Success, Accepted, Storing, Saying, Answer, after}
+use Rattle.command_parts.specs.Checks.{Check, Fails}
+use Rattle.command_parts.specs.Accepting.{Success, Accepted, Storing, Saying, Answer, after}
 use Rattle.session_cli.specs.RunOutcomes.{run_checks}
-use Rattle.session_cli.specs.Lines.{accepted_text, fault_line}
-use Rattle.session_cli.specs.StoreFailures.{failed_at}
+use Rattle.command_parts.specs.Lines.{accepted_text, fault_line}
+use Rattle.command_parts.specs.StoreFailures.{failed_at}
 
 -- A command's answer is what its checks answer. Or the store failed at a file that they read, or at the one of what the command stores; or
 -- memory ran out.

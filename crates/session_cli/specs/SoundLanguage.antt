@@ -11,11 +11,11 @@ use Rattle.script_runs.specs.Languages.{Enters, IsSound}
 use Rattle.script_runs.specs.declared.script_fault.ScriptFault.{ScriptFault}
 use Rattle.script_runs.specs.declared.script_fault.ScriptFault.TheVariants as script
 use Rattle.session_cli.specs.declared.run_word.RunWord.TheVariants as words
-use Rattle.session_cli.specs.Accepting.{Success, Accepted, Storing, Saying, after}
+use Rattle.command_parts.specs.Accepting.{Success, Accepted, Storing, Saying, after}
 use Rattle.session_cli.specs.Outcomes.{after_length, checks_of}
 use Rattle.session_cli.specs.RunOutcomes.{run_checks}
 use Rattle.session_cli.specs.SessionLanguage.{StoresEntry, ChangesFiles, script_refusal, first_ledger, session_language}
-use Rattle.session_cli.specs.StoreFailures.{failed_at}
+use Rattle.command_parts.specs.StoreFailures.{failed_at}
 use Rattle.session_cli.specs.StoredEntries.{Stands, AcceptedStands, stands_there, accepted_stands}
 
 -- bytes are stored as they are

@@ -14,18 +14,18 @@ use Rattle.language_steps.specs.declared.op.OneOp.TheVariants.{Star, Reversal}
 use Rattle.language_steps.specs.declared.op.PairOp.TheVariants.{Union, Intersection, Concatenation}
 use Rattle.session_cli.specs.declared.command_word.CommandWord.{CommandWord}
 use Rattle.session_cli.specs.declared.command_word.CommandWord.TheVariants as words
-use Rattle.session_cli.specs.Accepting.{Success, Said, Accepted, Storing, Saying, saying, storing}
-use Rattle.session_cli.specs.Checks.{Check}
-use Rattle.session_cli.specs.CombineOutcomes.{combine_checks}
-use Rattle.session_cli.specs.FormulaOutcomes.{formula_checks}
-use Rattle.session_cli.specs.ImageOutcomes.{image_checks}
-use Rattle.session_cli.specs.LanguageOutcomes.{language_checks}
-use Rattle.session_cli.specs.TransduceOutcomes.{transduce_checks}
-use Rattle.session_cli.specs.ListingOutcomes.{inf_checks, test_checks}
-use Rattle.session_cli.specs.ConvertOutcomes.{convert_checks}
+use Rattle.command_parts.specs.Accepting.{Success, Said, Accepted, Storing, Saying, saying, storing}
+use Rattle.command_parts.specs.Checks.{Check}
+use Rattle.word_commands.specs.CombineOutcomes.{combine_checks}
+use Rattle.formula_commands.specs.FormulaOutcomes.{formula_checks}
+use Rattle.word_commands.specs.ImageOutcomes.{image_checks}
+use Rattle.language_commands.specs.LanguageOutcomes.{language_checks}
+use Rattle.word_commands.specs.TransduceOutcomes.{transduce_checks}
+use Rattle.listing_commands.specs.ListingOutcomes.{inf_checks, test_checks}
+use Rattle.word_commands.specs.ConvertOutcomes.{convert_checks}
 use Rattle.session_cli.specs.Outcomes.{checks_of, checks_by, word_text}
-use Rattle.session_cli.specs.PromoteOutcomes.{promote_checks}
-use Rattle.session_cli.specs.RegOutcomes.{reg_checks}
+use Rattle.word_commands.specs.PromoteOutcomes.{promote_checks}
+use Rattle.language_commands.specs.RegOutcomes.{reg_checks}
 use Rattle.session_cli.specs.TextOutcomes.{macro_checks, morphism_checks}
 
 -- the entry that a command stores may be in its folder, and defines no system

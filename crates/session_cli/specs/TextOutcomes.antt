@@ -9,12 +9,12 @@ use Rattle.morph_words.specs.Printed.{printed}
 use Rattle.morph_words.specs.Rules.{Rules}
 use Rattle.definitions.specs.Trees.{Bytes, Ledger, custom_of}
 use Rattle.system_files.specs.SystemFiles.{Custom}
-use Rattle.session_cli.specs.declared.refusal.Refusal.{Refusal}
-use Rattle.session_cli.specs.declared.fault.Fault.TheVariants as faults
-use Rattle.session_cli.specs.Accepting.{Success, stored}
-use Rattle.session_cli.specs.Checks.{Check, Pure, Then}
-use Rattle.session_cli.specs.HeadAnswers.{HeadAnswers}
-use Rattle.session_cli.specs.MorphismFaults.{fault_of_rules}
+use Rattle.command_parts.specs.declared.refusal.Refusal.{Refusal}
+use Rattle.command_parts.specs.declared.fault.Fault.TheVariants as faults
+use Rattle.command_parts.specs.Accepting.{Success, stored}
+use Rattle.command_parts.specs.Checks.{Check, Pure, Then}
+use Rattle.command_parts.specs.HeadAnswers.{HeadAnswers}
+use Rattle.command_parts.specs.MorphismFaults.{fault_of_rules}
 use Rattle.morph_words.specs.declared.fault.RulesFault.{RulesFault}
 
 -- all checks of a `macro`

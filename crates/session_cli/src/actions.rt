@@ -4,29 +4,29 @@ ghost use Rattle.wal_outside.specs.declared.folder.Folder.TheVariants.{Automata,
 ghost use Rattle.definitions.specs.Texts.{Stores};
 ghost use Rattle.definitions.specs.Trees.{Ledger, custom_of};
 ghost use Rattle.session_cli.specs.Outcomes.{checks_of};
-ghost use Rattle.session_cli.specs.FileChanges.{Acts};
-ghost use Rattle.session_cli.specs.StoreReads.{FromFiles};
+ghost use Rattle.command_parts.specs.FileChanges.{Acts};
+ghost use Rattle.command_parts.specs.StoreReads.{FromFiles};
 
-use crate::combine::combine_change;
 use crate::command_word::{CommandWord, command_word};
-use crate::convert::convert_change;
-use crate::fault::Fault;
-use crate::file_change::{Action, printing, writing};
-use crate::formula::{FormulaCommand, formula_change};
-use crate::image::image_change;
-use crate::kept::Kept;
-use crate::language::language_change;
-use crate::listing::{say_inf, say_test};
-use crate::promote::promote_change;
-use crate::refusal::Refusal;
-use crate::reg::reg_change;
-use crate::step_options::StepOptions;
-use crate::text_refusal::TextRefusal;
 use crate::texts::{macro_change, morphism_change};
-use crate::transduce::transduce_change;
+use command_parts::fault::Fault;
+use command_parts::file_change::{Action, printing, writing};
+use command_parts::kept::Kept;
+use command_parts::refusal::Refusal;
+use command_parts::step_options::StepOptions;
+use command_parts::text_refusal::TextRefusal;
+use formula_commands::formula::{FormulaCommand, formula_change};
+use language_commands::language::language_change;
+use language_commands::reg::reg_change;
 use language_steps::{LanguageOp, OneOp, PairOp};
+use listing_commands::listing::{say_inf, say_test};
 use std::alloc::Global;
 use wal_outside::{Folder, Store};
+use word_commands::combine::combine_change;
+use word_commands::convert::convert_change;
+use word_commands::image::image_change;
+use word_commands::promote::promote_change;
+use word_commands::transduce::transduce_change;
 
 /// The most bytes that a command may have.
 pub(crate) const COMMAND_LIMIT: usize = 65_536;

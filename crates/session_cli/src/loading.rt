@@ -3,11 +3,11 @@ ghost use Rattle.std.specs.Prelude.{◌<◌, OnOk};
 ghost use Rattle.definitions.specs.Texts.{Stores};
 ghost use Rattle.definitions.specs.Trees.{Ledger};
 ghost use Rattle.session_cli.specs.RunOutcomes.{LoadsText, IsLoadedText};
-ghost use Rattle.session_cli.specs.StoreReads.{FromFiles};
+ghost use Rattle.command_parts.specs.StoreReads.{FromFiles};
 
-use crate::fault::Fault;
-use crate::file_refusal::FileRefusal;
 use command_head::load_name;
+use command_parts::fault::Fault;
+use command_parts::file_refusal::FileRefusal;
 use dfa_loading::FileFlaw;
 use digit_tuple::name::Name;
 use script_runs::LOAD_LIMIT;

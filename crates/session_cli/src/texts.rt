@@ -3,16 +3,16 @@
 ghost use Rattle.std.specs.Prelude.{ℕ, Bool, List};
 ghost use Rattle.definitions.specs.Trees.{Ledger, custom_of};
 ghost use Rattle.system_files.specs.SystemFiles.{Custom};
-ghost use Rattle.session_cli.specs.FileChanges.{Makes, ChangesFile};
+ghost use Rattle.command_parts.specs.FileChanges.{Makes, ChangesFile};
 ghost use Rattle.session_cli.specs.TextOutcomes.{after_rules_head, macro_checks, morphism_checks};
-ghost use Rattle.session_cli.specs.TextChanges.{StoresText};
+ghost use Rattle.command_parts.specs.TextChanges.{StoresText};
 
-use crate::fault::Fault;
-use crate::file_change::{FileChange, Made};
-use crate::printed::Printed;
-use crate::refusal::Refusal;
-use crate::text_refusal::TextRefusal;
 use command_head::{NamedParts, named_parts};
+use command_parts::fault::Fault;
+use command_parts::file_change::{FileChange, Made};
+use command_parts::printed::Printed;
+use command_parts::refusal::Refusal;
+use command_parts::text_refusal::TextRefusal;
 use morph_words::Morphism;
 use std::alloc::Global;
 use wal_outside::{Folder, TEXT_LIMIT};

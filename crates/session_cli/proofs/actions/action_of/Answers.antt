@@ -7,24 +7,24 @@ use Rattle.definitions.proofs.CustomTexts.{stored_custom}
 use Rattle.language_steps.specs.declared.op.LanguageOp.TheVariants.{Pair, One}
 use Rattle.language_steps.specs.declared.op.OneOp.TheVariants.{Star, Reversal}
 use Rattle.language_steps.specs.declared.op.PairOp.TheVariants.{Union, Intersection, Concatenation}
-use Rattle.session_cli.specs.declared.fault.Fault.{Fault}
-use Rattle.session_cli.specs.declared.file_change.FileChange.{FileChange}
+use Rattle.command_parts.specs.declared.fault.Fault.{Fault}
+use Rattle.command_parts.specs.declared.file_change.FileChange.{FileChange}
 use Rattle.session_cli.specs.declared.command_word.CommandWord.TheVariants as words
-use Rattle.session_cli.specs.CombineOutcomes.{combine_checks}
-use Rattle.session_cli.specs.ConvertOutcomes.{convert_checks}
-use Rattle.session_cli.specs.FormulaOutcomes.{formula_checks}
-use Rattle.session_cli.specs.ImageOutcomes.{image_checks}
-use Rattle.session_cli.specs.LanguageOutcomes.{language_checks}
-use Rattle.session_cli.specs.ListingOutcomes.{inf_checks, test_checks}
+use Rattle.word_commands.specs.CombineOutcomes.{combine_checks}
+use Rattle.word_commands.specs.ConvertOutcomes.{convert_checks}
+use Rattle.formula_commands.specs.FormulaOutcomes.{formula_checks}
+use Rattle.word_commands.specs.ImageOutcomes.{image_checks}
+use Rattle.language_commands.specs.LanguageOutcomes.{language_checks}
+use Rattle.listing_commands.specs.ListingOutcomes.{inf_checks, test_checks}
 use Rattle.session_cli.specs.Outcomes.{word_text}
-use Rattle.session_cli.specs.FileChanges.{ChangesFile, printing, writing}
-use Rattle.session_cli.specs.PromoteOutcomes.{promote_checks}
-use Rattle.session_cli.specs.RegOutcomes.{reg_checks}
+use Rattle.command_parts.specs.FileChanges.{ChangesFile, printing, writing}
+use Rattle.word_commands.specs.PromoteOutcomes.{promote_checks}
+use Rattle.language_commands.specs.RegOutcomes.{reg_checks}
 use Rattle.session_cli.specs.TextOutcomes.{macro_checks, morphism_checks}
-use Rattle.session_cli.specs.TransduceOutcomes.{transduce_checks}
+use Rattle.word_commands.specs.TransduceOutcomes.{transduce_checks}
 use Rattle.session_cli.proofs.ActionSteps.{from_change, from_said, stores_change, tells_action}
-use Rattle.session_cli.proofs.StoreReads.{from_none, own_change}
-use Rattle.session_cli.proofs.TextReads.{files_of_texts}
+use Rattle.command_parts.proofs.StoreReads.{from_none, own_change}
+use Rattle.command_parts.proofs.TextReads.{files_of_texts}
 use Rattle.session_cli.proofs.TextSteps.{macro_reads_none, morphism_reads_none}
 use Rattle.session_cli.proofs.WordSteps.{acted_by_word, change_of_formula, too_long, no_word}
 use Rattle.session_cli.proofs.actions.action_of.Goals as goal

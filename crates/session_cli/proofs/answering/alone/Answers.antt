@@ -1,5 +1,5 @@
 use Rattle.command_head.specs.Grammar.{DerivesAlone}
-use Rattle.session_cli.proofs.HeadSteps.{head_unread}
+use Rattle.command_parts.proofs.HeadSteps.{head_unread}
 use Rattle.session_cli.proofs.answering.alone.Goals as goal
 
 pub returns-in-Err : goal.returns-in-Err

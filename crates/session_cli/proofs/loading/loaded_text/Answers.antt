@@ -1,7 +1,7 @@
 use Rattle.std.proofs.Common.{refl}
 use Rattle.session_cli.specs.RunOutcomes.{IsLoadedText}
-use Rattle.session_cli.proofs.HeadSteps.{own_head}
-use Rattle.session_cli.proofs.StoreReads.{from_none, from_part}
+use Rattle.command_parts.proofs.HeadSteps.{own_head}
+use Rattle.command_parts.proofs.StoreReads.{from_none, from_part}
 use Rattle.session_cli.proofs.LoadedTexts.{load_reads, load_deep, load_unread}
 use Rattle.session_cli.proofs.loading.loaded_text.Goals as goal
 

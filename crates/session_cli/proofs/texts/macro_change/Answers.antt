@@ -1,8 +1,8 @@
 use Rattle.std.proofs.Common.{codes, refl}
 use Rattle.command_head.specs.Grammar.{DerivesNamed}
 use Rattle.command_head.specs.HeadViews.{named_view}
-use Rattle.session_cli.specs.HeadAnswers.{fault_of_head}
-use Rattle.session_cli.proofs.HeadSteps.{head_unread}
+use Rattle.command_parts.specs.HeadAnswers.{fault_of_head}
+use Rattle.command_parts.proofs.HeadSteps.{head_unread}
 use Rattle.session_cli.proofs.TextSteps.{macro_changed, macro_failed, macro_unread}
 use Rattle.session_cli.proofs.texts.macro_change.Goals as goal
 

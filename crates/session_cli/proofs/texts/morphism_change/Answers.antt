@@ -2,8 +2,8 @@ use Rattle.std.proofs.Common.{codes, refl}
 use Rattle.command_head.specs.Grammar.{DerivesNamed}
 use Rattle.command_head.specs.HeadViews.{named_view}
 use Rattle.definitions.specs.Trees.{custom_of}
-use Rattle.session_cli.specs.HeadAnswers.{fault_of_head}
-use Rattle.session_cli.proofs.HeadSteps.{head_unread}
+use Rattle.command_parts.specs.HeadAnswers.{fault_of_head}
+use Rattle.command_parts.proofs.HeadSteps.{head_unread}
 use Rattle.session_cli.proofs.TextSteps.{morphism_changed, morphism_failed, morphism_unread}
 use Rattle.session_cli.proofs.texts.morphism_change.Goals as goal
 

@@ -1,7 +1,7 @@
 use Rattle.std.proofs.Common.{ℕ, List, subst}
 use Rattle.std.proofs.lemmas.Result.{err_from_is_err_and}
-use Rattle.session_cli.specs.MorphismFaults.{fault_of_rules}
-use Rattle.session_cli.specs.TextChanges.{StoresText}
+use Rattle.command_parts.specs.MorphismFaults.{fault_of_rules}
+use Rattle.command_parts.specs.TextChanges.{StoresText}
 use Rattle.session_cli.proofs.TextSteps.{rules_refused, rules_stored, rules_unread}
 use Rattle.session_cli.proofs.texts.rules_made.Goals as goal
 

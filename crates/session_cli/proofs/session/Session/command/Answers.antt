@@ -2,9 +2,9 @@ use Rattle.std.proofs.Common.{◌≡◌, ℕ, subst, rules}
 use Rattle.std.proofs.lemmas.Result.{err_from_is_err_and}
 use Rattle.definitions.specs.Texts.{Stores}
 use Rattle.definitions.specs.Trees.{Ledger, custom_of}
-use Rattle.session_cli.specs.Checks.{Fails}
+use Rattle.command_parts.specs.Checks.{Fails}
 use Rattle.session_cli.specs.Outcomes.{checks_of}
-use Rattle.session_cli.specs.FileChanges.{IsAction}
+use Rattle.command_parts.specs.FileChanges.{IsAction}
 use Rattle.session_cli.proofs.CommandSteps.{answering, refused_command, done_command, undone_command}
 use Rattle.session_cli.proofs.session.Session.command.Goals as goal
 

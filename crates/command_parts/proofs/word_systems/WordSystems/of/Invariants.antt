@@ -1,0 +1,6 @@
+use Rattle.std.proofs.Common.{◌≡◌, take}
+use Rattle.command_parts.proofs.word_systems.WordSystems.of.Given as goal
+
+-- the names so far were copied
+abbrev pub invariant-loop-name : goal.invariant-loop-name
+invariant-loop-name l = l.copies.items ≡ take l.name-index l.names

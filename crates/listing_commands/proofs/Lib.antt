@@ -1,0 +1,8 @@
+-- Lemmas, in reading order.
+pub mod ListingWords
+pub mod ListingChains
+pub mod ListingHeads
+pub mod ListingMaking
+pub mod ListingReady
+pub mod ListingSteps
+pub mod ListingReading

@@ -1,0 +1,2 @@
+pub mod ListingOutcomes
+pub mod ListingMakes

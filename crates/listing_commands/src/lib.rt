@@ -1,0 +1,7 @@
+//! The commands about the words that an automaton lists: `test` and `inf`. They store nothing.
+//!
+//! `specs/ListingOutcomes.antt` has their checks in order, `listing.rt` the code.
+#![tactic(auto)]
+
+/// The commands about the words that an automaton lists.
+pub mod listing;

@@ -1,9 +1,0 @@
--- Whether a fault is the store's.
-use Rattle.std.specs.Prelude.{Bool}
-use Rattle.std.specs.Option.{is_some}
-use Rattle.session_cli.specs.declared.fault.Fault.{Fault}
-use Rattle.session_cli.specs.StoreFailures.{failed_at}
-
--- whether a fault is the store's
-abbrev pub is_store_fault : Fault → Bool
-is_store_fault fault = is_some (failed_at fault)

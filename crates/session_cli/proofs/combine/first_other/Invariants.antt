@@ -1,7 +1,0 @@
-use Rattle.std.proofs.Common.{take}
-use Rattle.session_cli.proofs.ListedChecks.{AreOver}
-use Rattle.session_cli.proofs.combine.first_other.Given as goal
-
--- those before it have the systems
-abbrev pub invariant-loop-other : goal.invariant-loop-other
-invariant-loop-other l = AreOver l.headers l.tracks (take l.other-index l.automata)

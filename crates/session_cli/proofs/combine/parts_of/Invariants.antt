@@ -1,8 +1,0 @@
-use Rattle.std.proofs.Common.{take}
-use Rattle.session_cli.specs.CombineMakes.{automata_in}
-use Rattle.session_cli.specs.CombineSteps.{ArePartsFrom}
-use Rattle.session_cli.proofs.combine.parts_of.Given as goal
-
--- those before it have their relations
-abbrev pub invariant-loop-place : goal.invariant-loop-place
-invariant-loop-place l = ArePartsFrom l.library.relations 0 (automata_in (take l.place l.automata)) l.parts.items

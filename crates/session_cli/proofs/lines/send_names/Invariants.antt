@@ -1,8 +1,0 @@
-use Rattle.std.proofs.Common.{take}
-use Rattle.wal_outside.specs.Sending.{HasSent}
-use Rattle.session_cli.specs.Lines.{names_text}
-use Rattle.session_cli.proofs.lines.send_names.Given as goal
-
--- the names so far were handed over
-abbrev pub invariant-loop-name : goal.invariant-loop-name
-invariant-loop-name g l = HasSent (g.K.Sink.view l.initial.out) (names_text (take l.name-index l.names)) (g.K.Sink.view l.out)

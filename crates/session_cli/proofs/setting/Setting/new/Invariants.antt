@@ -1,7 +1,0 @@
-use Rattle.std.proofs.Common.{◌≡◌, []}
-use Rattle.session_cli.specs.RecodedWords.{AreRecoded, image_headers}
-use Rattle.session_cli.proofs.setting.Setting.new.Given as goal
-
--- the words of the places so far, and their headers
-abbrev pub invariant-loop-place : goal.invariant-loop-place
-invariant-loop-place l = record { headers : l.headers ≡ image_headers l.system l.place; relations : l.words.relations ≡ []; words : AreRecoded l.morphism l.word l.place l.words.words }

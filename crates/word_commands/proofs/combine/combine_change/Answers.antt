@@ -1,0 +1,26 @@
+use Rattle.std.proofs.Common.{refl, ap, map}
+use Rattle.std.proofs.lemmas.Result.{err_from_is_err_and}
+use Rattle.command_head.specs.HeadViews.{valued_view, combine_view}
+use Rattle.word_commands.proofs.CombineChains.{list_broken, list_changed, list_failed}
+use Rattle.command_parts.proofs.StoreReads.{from_none, from_refused, from_read}
+use Rattle.command_parts.proofs.HeadSteps.{own_head}
+use Rattle.word_commands.proofs.combine.combine_change.Goals as goal
+
+pub returns-in_err-head : goal.returns-in_err-head
+returns-in_err-head g c =
+    let p = err_from_is_err_and c.from_residual.result c.from_residual.ensures.1 in
+    let fault = c.in_err-head.field-0.0 in
+    rw (p.1, p.2) (from_none _ _ _ (own_head fault) (λ found ledger stores. list_broken c.args.options.limit ledger c.args.text.now fault c.in_err-head.ensures.head))
+
+pub combine_made-requires-clause-some : goal.combine_made-requires-clause-some
+combine_made-requires-clause-some g c = λ none. c.in_ok-head.ensures.head.some (ap (map valued_view) none)
+
+pub returns-in-Ok : goal.returns-in-Ok
+returns-in-Ok g c =
+    from_read _ _ _ _ _ _ tt c.in-Ok.ensures
+    (λ found makes ledger stores. list_changed c.args.options.limit ledger c.args.text.now c.args.options.shown (combine_view c.in_ok-head.head) _ c.in_ok-head.ensures.head refl refl (makes ledger c.in_ok-head.head.word stores))
+
+pub returns-in-Err : goal.returns-in-Err
+returns-in-Err g c =
+    from_refused _ _ _ _ c.in-Err.fault c.in-Err.ensures
+    (λ found refused ledger stores. list_failed c.args.options.limit ledger c.args.text.now c.args.options.shown (combine_view c.in_ok-head.head) c.in-Err.fault c.in_ok-head.ensures.head (refused ledger c.in_ok-head.head.word stores))
