@@ -1,13 +1,15 @@
 //! What the commands of a session share.
 //!
 //! A command is answered by checks, one after another, and the first that refuses it decides (`specs/Checks.antt`). A check
-//! answers what it finds, or why it refuses. A store that fails at a file which a check reads, and want of memory, refuse a
-//! command as well. `fault.rt` has the faults and `lines.rt` their lines. `specs/Accepting.antt` says what an accepted command
-//! stores or says, and `specs/FileChanges.antt` which text and which lines that gives.
+//! answers what it finds, or a cause (`Refusal`, by families of causes). A store that fails at a file which a check reads, and
+//! want of memory, refuse a command as well: with these two, `fault.rt` has all faults, and `lines.rt` their lines.
+//! `specs/Accepting.antt` says what an accepted command stores or says, and `specs/FileChanges.antt` which text and which lines
+//! that gives.
 //!
-//! A command that names automata or words loads their files, each once (`table_loading.rt`). It admits the users' systems that
-//! it and these files mention (`user_systems.rt`), and makes a relation or a word of each table by steps (`table_reading.rt`).
-//! What the session keeps is taken instead where it was made of the same (`kept.rt`): no contract mentions it.
+//! A command that names automata or words begins with what it mentions (`mentioned_tables.rt`): the files are loaded, each once,
+//! and the systems that they and the command mention are sealed, users' systems by the first steps. Then a relation or a word is
+//! made of each table by steps (`table_reading.rt`). What the session keeps is taken instead where it was made of the same
+//! (`kept.rt`): no contract mentions it.
 //!
 //! Contracts speak of some files that were found. These are the store's files where the store reports them
 //! (`specs/StoreReads.antt`), so that a contract also holds over a store that reports nothing.
