@@ -59,7 +59,7 @@ fn chain_step(alloc: Global, less: &Dfa, steps: &mut Steps) -> Result<Tracked, S
     ensures chain { IfOk result (IsChain less.now) }
     ensures relation { IfOk result (λ chain. (direction : Direction) (s : System) → IsSystem s → IsOrderOf direction s less.now → HoldsOf direction (s ∷ s ∷ s ∷ []) IsInside chain.automaton) }
 {
-    match chain_of(alloc, less, steps.limit()) {
+    match chain_of(alloc, less, steps.begin(Kind::Product)) {
         Ok(Stepped { result, width }) => {
             steps.done(Kind::Product, width, result.dfa().states())?;
             Ok(result)
@@ -100,7 +100,7 @@ fn next_step(
     ensures steps { DoesStep (the_next less.now between.now) steps.old result steps.new }
     ensures relation { IfOk result (λ next. (direction : Direction) (s : System) → IsOrderOf direction s less.now → HoldsOf direction (s ∷ s ∷ []) HasInside between.now.automaton → IsSuccessorOf direction s next) }
 {
-    match next_of(alloc, less, between, steps.limit()) {
+    match next_of(alloc, less, between, steps.begin(Kind::Product)) {
         Ok(Stepped { result, width }) => {
             steps.done(Kind::Product, width, result.states())?;
             Ok(result)

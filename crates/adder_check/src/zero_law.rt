@@ -15,6 +15,7 @@ use crate::zero_sums::{keeps_zero_law, zero_sums};
 use digit_tuple::dfa::Dfa;
 use digit_tuple::direction::Direction;
 use digit_tuple::faults::OutOfMemory;
+use digit_tuple::limit::Limit;
 use digit_tuple::step_fault::StepFault;
 use digit_tuple::steps::Steps;
 use minimise::tracked::Tracked;
@@ -58,7 +59,7 @@ fn equal_numbers(alloc: Global, language: &Dfa, direction: Direction) -> Result<
     ensures sizes { IfOk result (λ equal. equal.sizes ≡ pair_sizes language.now) }
     ensures canonical { IfOk result (λ equal. IsCanonical equal) }
 {
-    match equality_of(alloc, language, direction, u32::MAX) {
+    match equality_of(alloc, language, direction, Limit::none()) {
         Ok(equality) => Ok(equality.result),
         Err(_) => Err(OutOfMemory),
     }

@@ -33,7 +33,7 @@ pub fn complement_step(
     ensures { DoesStep (the_step (map rc_value languages.now) argument.now) steps.old result steps.new }
 {
     let _ = argument.dfa().alphabet().tracks();
-    match complement_in(alloc, argument, languages, steps.limit()) {
+    match complement_in(alloc, argument, languages, steps.begin(Kind::Complement)) {
         Ok(Stepped { result, width }) => {
             steps.done(Kind::Complement, width, result.dfa().states())?;
             Ok(result)

@@ -47,7 +47,7 @@ pub fn join_step(
     ensures { DoesStep (the_step joining.entry.op (map rc_value joining.entry.languages.now) a.now b.now) steps.old result steps.new }
 {
     let Joining { op, languages } = joining;
-    match product(alloc, a, b, op, languages, steps.limit()) {
+    match product(alloc, a, b, op, languages, steps.begin(Kind::Product)) {
         Ok(Stepped { result, width }) => {
             steps.done(Kind::Product, width, result.dfa().states())?;
             Ok(result)

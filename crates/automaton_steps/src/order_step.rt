@@ -32,7 +32,7 @@ pub fn order_step(
     requires canonical { IsCanonical language.now }
     ensures { DoesStep (the_step direction language.now) steps.old result steps.new }
 {
-    match order_of(alloc, language, direction, steps.limit()) {
+    match order_of(alloc, language, direction, steps.begin(Kind::Order)) {
         Ok(Stepped { result, width }) => {
             steps.done(Kind::Order, width, result.states())?;
             Ok(result)

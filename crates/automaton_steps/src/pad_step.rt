@@ -29,7 +29,7 @@ pub fn pad_step(
     ensures { DoesStep (the_step direction argument.now) steps.old result steps.new }
 {
     let _ = argument.alphabet().tracks();
-    match pad(alloc, argument, direction, steps.limit()) {
+    match pad(alloc, argument, direction, steps.begin(Kind::Pad)) {
         Ok(Stepped { result, width }) => {
             steps.done(Kind::Pad, width, result.states())?;
             Ok(result)

@@ -32,7 +32,13 @@ pub fn project_step(
     requires there { Contains argument.now.names track.now }
     ensures { DoesStep (the_step direction track.now argument.now) steps.old result steps.new }
 {
-    match project(alloc, argument, track, direction, steps.limit()) {
+    match project(
+        alloc,
+        argument,
+        track,
+        direction,
+        steps.begin(Kind::Project),
+    ) {
         Ok(Stepped { result, width }) => {
             steps.done(Kind::Project, width, result.dfa().states())?;
             Ok(result)

@@ -24,7 +24,7 @@ pub fn read_step(alloc: Global, listed: &Nfa, steps: &mut Steps) -> Result<Dfa, 
     ensures { DoesStep (the_step listed.now) steps.old result steps.new }
 {
     let _ = listed.alphabet().tracks();
-    match determinise(alloc, listed, steps.limit()) {
+    match determinise(alloc, listed, steps.begin(Kind::Read)) {
         Ok(Stepped { result, width }) => {
             let read = canonical(alloc, &result)?;
             steps.done(Kind::Read, width, read.states())?;

@@ -23,7 +23,7 @@ pub fn reverse_step(alloc: Global, argument: &Dfa, steps: &mut Steps) -> Result<
     ensures { DoesStep (the_step argument.now) steps.old result steps.new }
 {
     let _ = argument.alphabet().tracks();
-    match reverse(alloc, argument, steps.limit()) {
+    match reverse(alloc, argument, steps.begin(Kind::Reverse)) {
         Ok(Stepped { result, width }) => {
             let reversed = canonical(alloc, &result)?;
             steps.done(Kind::Reverse, width, reversed.states())?;

@@ -33,7 +33,7 @@ pub fn valid_step(
     ensures { DoesStep (the_step (map rc_value languages.now) argument.now) steps.old result steps.new }
 {
     let _ = argument.dfa().alphabet().tracks();
-    match valid_part(alloc, argument, languages, steps.limit()) {
+    match valid_part(alloc, argument, languages, steps.begin(Kind::Valid)) {
         Ok(Stepped { result, width }) => {
             steps.done(Kind::Valid, width, result.dfa().states())?;
             Ok(result)

@@ -14,6 +14,7 @@ use digit_tuple::alphabet::Alphabet;
 use digit_tuple::exploration::{Explored, explore_keys};
 use digit_tuple::faults::OpFault;
 use digit_tuple::kind::Kind;
+use digit_tuple::limit::Limit;
 use digit_tuple::step_fault::StepFault;
 use digit_tuple::stepped::Stepped;
 use digit_tuple::steps::Steps;
@@ -40,7 +41,7 @@ pub fn join_letters(
     ensures { DoesStep (join_step root digits function.now) steps.old result steps.new }
 {
     let _ = function.dfa().alphabet().tracks();
-    match join(alloc, function, root, digits, steps.limit()) {
+    match join(alloc, function, root, digits, steps.begin(Kind::Join)) {
         Ok(Stepped { result, width }) => {
             steps.done(Kind::Join, width, result.dfa().states())?;
             Ok(result)
@@ -56,7 +57,7 @@ fn join(
     function: &LetterFunction,
     root: u32,
     digits: u32,
-    limit: u32,
+    limit: Limit<'_>,
 ) -> Result<Stepped<LetterFunction>, OpFault>
     requires root { 2 ≤ root }
     requires base { function.now.automaton.sizes ≡ root ∷ [] }
@@ -64,8 +65,8 @@ fn join(
     ensures join { IfOk result (λ stepped. IsJoin root digits function.now stepped.result) }
     ensures width { IfOk result (λ stepped. HasWidth (JoinAlike root digits function.now) (product (root ^ digits ∷ [])) stepped.width) }
     ensures size { IfOk result (λ stepped. states_of stepped.result.automaton ≤ stepped.width) }
-    ensures within { IfOk result (λ stepped. stepped.width ≤ limit) }
-    ensures states { IsErrOf result OpFault.States → HasApart (JoinAlike root digits function.now) (product (root ^ digits ∷ [])) (limit + 1) }
+    ensures within { IfOk result (λ stepped. stepped.width ≤ limit.entry.most) }
+    ensures states { IsErrOf result OpFault.States → HasApart (JoinAlike root digits function.now) (product (root ^ digits ∷ [])) (limit.entry.most + 1) }
 {
     let dfa = function.dfa();
     let _ = dfa.alphabet().tracks();

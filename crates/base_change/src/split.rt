@@ -14,6 +14,7 @@ use digit_tuple::alphabet::Alphabet;
 use digit_tuple::exploration::{Explored, explore_keys};
 use digit_tuple::faults::OpFault;
 use digit_tuple::kind::Kind;
+use digit_tuple::limit::Limit;
 use digit_tuple::step_fault::StepFault;
 use digit_tuple::stepped::Stepped;
 use digit_tuple::steps::Steps;
@@ -39,7 +40,7 @@ pub fn split_letters(
     ensures { DoesStep (split_step root digits function.now) steps.old result steps.new }
 {
     let _ = function.dfa().alphabet().tracks();
-    match split(alloc, function, root, digits, steps.limit()) {
+    match split(alloc, function, root, digits, steps.begin(Kind::Split)) {
         Ok(Stepped { result, width }) => {
             steps.done(Kind::Split, width, result.dfa().states())?;
             Ok(result)
@@ -55,7 +56,7 @@ fn split(
     function: &LetterFunction,
     root: u32,
     digits: u32,
-    limit: u32,
+    limit: Limit<'_>,
 ) -> Result<Stepped<LetterFunction>, OpFault>
     requires root { 2 ≤ root }
     requires digits { 1 ≤ digits }
@@ -63,8 +64,8 @@ fn split(
     ensures split { IfOk result (λ stepped. IsSplit root digits function.now stepped.result) }
     ensures width { IfOk result (λ stepped. HasWidth (SplitAlike root digits function.now) (product (root ∷ [])) stepped.width) }
     ensures size { IfOk result (λ stepped. states_of stepped.result.automaton ≤ stepped.width) }
-    ensures within { IfOk result (λ stepped. stepped.width ≤ limit) }
-    ensures states { IsErrOf result OpFault.States → HasApart (SplitAlike root digits function.now) (product (root ∷ [])) (limit + 1) }
+    ensures within { IfOk result (λ stepped. stepped.width ≤ limit.entry.most) }
+    ensures states { IsErrOf result OpFault.States → HasApart (SplitAlike root digits function.now) (product (root ∷ [])) (limit.entry.most + 1) }
 {
     let dfa = function.dfa();
     let _ = dfa.alphabet().tracks();

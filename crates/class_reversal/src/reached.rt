@@ -15,6 +15,7 @@ use digit_tuple::alphabet::Alphabet;
 use digit_tuple::dfa::Dfa;
 use digit_tuple::exploration::{Explored, explore_keys};
 use digit_tuple::faults::{OpFault, OutOfMemory};
+use digit_tuple::limit::Limit;
 use digit_tuple::no_words::no_words_within;
 use digit_tuple::numbering::Numbering;
 use digit_tuple::stepped::Stepped;
@@ -28,7 +29,7 @@ pub fn reverse_reached(
     alloc: Global,
     d: &Dfa,
     classes: &[u32],
-    limit: u32,
+    limit: Limit<'_>,
 ) -> Result<Stepped<(Dfa, Vec<u32>)>, OpFault>
     requires count { length classes.now ≡ states_of d.now }
     requires reached { (firsts : List (List ℕ)) × IsNumberedByFirsts d.now firsts }
@@ -37,8 +38,8 @@ pub fn reverse_reached(
     ensures function { IfOk result (λ stepped. GivesReversedClasses d.now classes.now stepped.result.0 stepped.result.1.items) }
     ensures width { IfOk result (λ stepped. HasWidth (SameReversedClassAfter d.now classes.now) (letters_of d.now) stepped.width) }
     ensures size { IfOk result (λ stepped. states_of stepped.result.0 ≤ stepped.width) }
-    ensures within { IfOk result (λ stepped. stepped.width ≤ limit) }
-    ensures states { IsErrOf result OpFault.States → HasApart (SameReversedClassAfter d.now classes.now) (letters_of d.now) (limit + 1) }
+    ensures within { IfOk result (λ stepped. stepped.width ≤ limit.entry.most) }
+    ensures states { IsErrOf result OpFault.States → HasApart (SameReversedClassAfter d.now classes.now) (letters_of d.now) (limit.entry.most + 1) }
     ensures letters { ¬ IsErrOf result OpFault.Letters }
 {
     let alphabet = d.alphabet().copy(alloc)?;
@@ -62,7 +63,7 @@ fn no_classes(
     d: &Dfa,
     classes: &[u32],
     alphabet: Alphabet,
-    limit: u32,
+    limit: Limit<'_>,
 ) -> Result<Stepped<(Dfa, Vec<u32>)>, OpFault>
     requires alphabet { alphabet ≡ d.now.sizes }
     requires count { length classes.now ≡ states_of d.now }
@@ -72,8 +73,8 @@ fn no_classes(
     ensures function { IfOk result (λ stepped. GivesReversedClasses d.now classes.now stepped.result.0 stepped.result.1.items) }
     ensures width { IfOk result (λ stepped. HasWidth (SameReversedClassAfter d.now classes.now) (letters_of d.now) stepped.width) }
     ensures size { IfOk result (λ stepped. states_of stepped.result.0 ≤ stepped.width) }
-    ensures within { IfOk result (λ stepped. stepped.width ≤ limit) }
-    ensures states { IsErrOf result OpFault.States → HasApart (SameReversedClassAfter d.now classes.now) (letters_of d.now) (limit + 1) }
+    ensures within { IfOk result (λ stepped. stepped.width ≤ limit.entry.most) }
+    ensures states { IsErrOf result OpFault.States → HasApart (SameReversedClassAfter d.now classes.now) (letters_of d.now) (limit.entry.most + 1) }
     ensures letters { ¬ IsErrOf result OpFault.Letters }
 {
     let Stepped { result, width } = no_words_within(alloc, alphabet, limit)?;
@@ -90,7 +91,7 @@ fn explore_backwards(
     d: &Dfa,
     classes: &[u32],
     alphabet: Alphabet,
-    limit: u32,
+    limit: Limit<'_>,
 ) -> Result<Stepped<(Dfa, Vec<u32>)>, OpFault>
     requires alphabet { alphabet ≡ d.now.sizes }
     requires count { length classes.now ≡ states_of d.now }
@@ -101,8 +102,8 @@ fn explore_backwards(
     ensures function { IfOk result (λ stepped. GivesReversedClasses d.now classes.now stepped.result.0 stepped.result.1.items) }
     ensures width { IfOk result (λ stepped. HasWidth (SameReversedClassAfter d.now classes.now) (letters_of d.now) stepped.width) }
     ensures size { IfOk result (λ stepped. states_of stepped.result.0 ≤ stepped.width) }
-    ensures within { IfOk result (λ stepped. stepped.width ≤ limit) }
-    ensures states { IsErrOf result OpFault.States → HasApart (SameReversedClassAfter d.now classes.now) (letters_of d.now) (limit + 1) }
+    ensures within { IfOk result (λ stepped. stepped.width ≤ limit.entry.most) }
+    ensures states { IsErrOf result OpFault.States → HasApart (SameReversedClassAfter d.now classes.now) (letters_of d.now) (limit.entry.most + 1) }
     ensures letters { ¬ IsErrOf result OpFault.Letters }
 {
     let targets = targets(alloc, d)?;

@@ -10,6 +10,7 @@ ghost use Rattle.class_reversal.specs.ReversedClasses.{GivesReversedClasses, Sam
 use crate::reached::reverse_reached;
 use digit_tuple::dfa::Dfa;
 use digit_tuple::faults::OpFault;
+use digit_tuple::limit::Limit;
 use digit_tuple::stepped::Stepped;
 use minimise::canonical_classes::canonical_classes;
 use std::alloc::Global;
@@ -29,7 +30,7 @@ pub fn reverse_classes(
     alloc: Global,
     d: &Dfa,
     classes: &[u32],
-    limit: u32,
+    limit: Limit<'_>,
 ) -> Result<Stepped<(Dfa, Vec<u32>)>, OpFault>
     requires { length classes.now ≡ states_of d.now }
     ensures sizes { IfOk result (λ stepped. stepped.result.0.sizes ≡ d.now.sizes) }
@@ -37,8 +38,8 @@ pub fn reverse_classes(
     ensures function { IfOk result (λ stepped. GivesReversedClasses d.now classes.now stepped.result.0 stepped.result.1.items) }
     ensures width { IfOk result (λ stepped. HasWidth (SameReversedClassAfter d.now classes.now) (letters_of d.now) stepped.width) }
     ensures size { IfOk result (λ stepped. states_of stepped.result.0 ≤ stepped.width) }
-    ensures within { IfOk result (λ stepped. stepped.width ≤ limit) }
-    ensures states { IsErrOf result OpFault.States → HasApart (SameReversedClassAfter d.now classes.now) (letters_of d.now) (limit + 1) }
+    ensures within { IfOk result (λ stepped. stepped.width ≤ limit.entry.most) }
+    ensures states { IsErrOf result OpFault.States → HasApart (SameReversedClassAfter d.now classes.now) (letters_of d.now) (limit.entry.most + 1) }
     ensures letters { ¬ IsErrOf result OpFault.Letters }
 {
     let (reached, reached_classes) = canonical_classes(alloc, d, classes)?;

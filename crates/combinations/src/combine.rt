@@ -22,6 +22,7 @@ use digit_tuple::alphabet::Alphabet;
 use digit_tuple::exploration::Explored;
 use digit_tuple::faults::OpFault;
 use digit_tuple::kind::Kind;
+use digit_tuple::limit::Limit;
 use digit_tuple::step_fault::StepFault;
 use digit_tuple::stepped::Stepped;
 use digit_tuple::steps::Steps;
@@ -74,7 +75,7 @@ fn combine_step(
     ensures { DoesStep (the_step rest parts.now (map rc_value systems.now)) steps.old result steps.new }
 {
     let kept = shared(alloc, systems)?;
-    match combined(alloc, parts, systems, rest, steps.limit()) {
+    match combined(alloc, parts, systems, rest, steps.begin(Kind::Combine)) {
         Ok(Stepped { result, width }) => {
             steps.done(Kind::Combine, width, result.dfa().states())?;
             Ok(Word::from_parts(result, kept))
@@ -91,7 +92,7 @@ fn combined(
     parts: &[Part],
     systems: &[Rc<System>],
     rest: Option<i32>,
-    limit: u32,
+    limit: Limit<'_>,
 ) -> Result<Stepped<LetterFunction>, OpFault>
     requires systems { AreSystemsFor parts.now (map rc_value systems.now) }
     requires shape { HaveOneShape parts.now }
@@ -99,9 +100,9 @@ fn combined(
     ensures alphabet { OnOk result (IsAlphabet (sizes_of (systems_of (map rc_value systems.now)))) }
     ensures width { IfOk result (λ stepped. HasWidth (CombineAlike parts.now (map rc_value systems.now)) (letters_in (systems_of (map rc_value systems.now))) stepped.width) }
     ensures size { IfOk result (λ stepped. states_of stepped.result.automaton ≤ stepped.width) }
-    ensures within { IfOk result (λ stepped. stepped.width ≤ limit) }
+    ensures within { IfOk result (λ stepped. stepped.width ≤ limit.entry.most) }
     ensures letters { IsErrOf result OpFault.Letters → IsTooLarge (sizes_of (systems_of (map rc_value systems.now))) }
-    ensures states { IsErrOf result OpFault.States → ExceedsWidth limit (the_step rest parts.now (map rc_value systems.now)).step }
+    ensures states { IsErrOf result OpFault.States → ExceedsWidth limit.entry.most (the_step rest parts.now (map rc_value systems.now)).step }
 {
     are_sealed(systems);
     are_relations(parts);

@@ -14,6 +14,7 @@ use crate::word_automaton::paddings_of;
 use digit_tuple::dfa::Dfa;
 use digit_tuple::direction::Direction;
 use digit_tuple::faults::OpFault;
+use digit_tuple::limit::Limit;
 use digit_tuple::stepped::Stepped;
 use minimise::canonical::canonical;
 use std::alloc::Global;
@@ -27,21 +28,21 @@ pub fn constant(
     language: &Dfa,
     direction: Direction,
     number: u64,
-    limit: u32,
+    limit: Limit<'_>,
 ) -> Result<Stepped<Dfa>, OpFault>
     requires system { (s : System) × IsSystem s × IsLanguageOf direction s language.now }
     ensures constant { IfOk result (λ stepped. (s : System) → IsSystem s → IsLanguageOf direction s language.now → IsConstantOf direction s number stepped.result) }
     ensures canonical { IfOk result (λ stepped. IsCanonical stepped.result) }
     ensures width { IfOk result (λ stepped. (s : System) → IsSystem s → IsLanguageOf direction s language.now → HasWidth (ConstantAlike direction s number) s.digits stepped.width) }
     ensures size { IfOk result (λ stepped. states_of stepped.result ≤ stepped.width) }
-    ensures within { IfOk result (λ stepped. stepped.width ≤ limit) }
-    ensures states { IsErrOf result OpFault.States → (s : System) → IsSystem s → IsLanguageOf direction s language.now → HasApart (ConstantAlike direction s number) s.digits (limit + 1) }
+    ensures within { IfOk result (λ stepped. stepped.width ≤ limit.entry.most) }
+    ensures states { IsErrOf result OpFault.States → (s : System) → IsSystem s → IsLanguageOf direction s language.now → HasApart (ConstantAlike direction s number) s.digits (limit.entry.most + 1) }
     ensures no_letters { ¬ IsErrOf result OpFault.Letters }
 {
-    if limit < 2 {
+    if limit.most < 2 {
         return Err(OpFault::States);
     }
-    let word = representation(alloc, language, direction, number, limit - 2)?;
+    let word = representation(alloc, language, direction, number, limit.most - 2)?;
     let alphabet = language.alphabet().copy(alloc)?;
     let paddings = paddings_of(alloc, alphabet, &word, direction)?;
     Ok(Stepped {

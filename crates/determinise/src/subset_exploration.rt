@@ -20,6 +20,7 @@ use digit_tuple::alphabet::Alphabet;
 use digit_tuple::dfa::Dfa;
 use digit_tuple::exploration::explore;
 use digit_tuple::faults::OpFault;
+use digit_tuple::limit::Limit;
 use digit_tuple::nfa::Nfa;
 use digit_tuple::stepped::Stepped;
 use std::alloc::Global;
@@ -38,7 +39,7 @@ pub fn explore_subsets(
     nfa: &Nfa,
     first: &[u32],
     alphabet: Alphabet,
-    limit: u32,
+    limit: Limit<'_>,
 ) -> Result<Stepped<Dfa>, OpFault>
     requires first { IsStateSet nfa.now first.now }
     requires letters { letters_of nfa.now ≡ product alphabet }
@@ -49,8 +50,8 @@ pub fn explore_subsets(
         → accepts_of stepped.result word ≡ key_accepts (set_after nfa.now) (has_accepting nfa.now) first.now word) }
     ensures width { IfOk result (λ stepped. HasWidth (LeadAlike (set_after nfa.now) first.now) (letters_of nfa.now) stepped.width) }
     ensures size { IfOk result (λ stepped. det.states_of stepped.result ≤ stepped.width) }
-    ensures within { IfOk result (λ stepped. stepped.width ≤ limit) }
-    ensures states { IsErrOf result OpFault.States → HasApart (LeadAlike (set_after nfa.now) first.now) (letters_of nfa.now) (limit + 1) }
+    ensures within { IfOk result (λ stepped. stepped.width ≤ limit.entry.most) }
+    ensures states { IsErrOf result OpFault.States → HasApart (LeadAlike (set_after nfa.now) first.now) (letters_of nfa.now) (limit.entry.most + 1) }
     ensures no_letters { ¬ IsErrOf result OpFault.Letters }
 {
     if !has_few_words(nfa) {
@@ -69,7 +70,7 @@ fn explore_bits(
     alloc: Global,
     subsets: &BitSubsets<'_>,
     alphabet: Alphabet,
-    limit: u32,
+    limit: Limit<'_>,
 ) -> Result<Stepped<Dfa>, OpFault>
     requires few { states_of subsets.now.nfa.now ≤ 512 }
     requires first { IsStateSet subsets.now.nfa.now subsets.now.first.now }
@@ -83,9 +84,9 @@ fn explore_bits(
     ensures width { IfOk result (λ stepped.
         HasWidth (LeadAlike (set_after subsets.now.nfa.now) subsets.now.first.now) (letters_of subsets.now.nfa.now) stepped.width) }
     ensures size { IfOk result (λ stepped. det.states_of stepped.result ≤ stepped.width) }
-    ensures within { IfOk result (λ stepped. stepped.width ≤ limit) }
+    ensures within { IfOk result (λ stepped. stepped.width ≤ limit.entry.most) }
     ensures states { IsErrOf result OpFault.States
-        → HasApart (LeadAlike (set_after subsets.now.nfa.now) subsets.now.first.now) (letters_of subsets.now.nfa.now) (limit + 1) }
+        → HasApart (LeadAlike (set_after subsets.now.nfa.now) subsets.now.first.now) (letters_of subsets.now.nfa.now) (limit.entry.most + 1) }
     ensures no_letters { ¬ IsErrOf result OpFault.Letters }
 {
     explore(alloc, subsets, alphabet, limit)

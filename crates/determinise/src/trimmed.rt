@@ -11,6 +11,7 @@ use digit_tuple::exploration::explore;
 use digit_tuple::faults::OutOfMemory;
 use digit_tuple::key_graph::KeyGraph;
 use digit_tuple::key_transitions::KeyTransitions;
+use digit_tuple::limit::Limit;
 use std::alloc::Global;
 
 /// The states that words lead to, each alone.
@@ -68,7 +69,7 @@ pub fn trimmed(alloc: Global, d: &Dfa) -> Result<Dfa, OutOfMemory>
     ensures language { IfOk result (λ dfa. (word : List ℕ) → IsWord (letters_of d.now) word → accepts_of dfa word ≡ accepts_of d.now word) }
 {
     let alphabet = d.alphabet().copy(alloc)?;
-    match explore(alloc, &States { dfa: d }, alphabet, u32::MAX) {
+    match explore(alloc, &States { dfa: d }, alphabet, Limit::none()) {
         Ok(stepped) => Ok(stepped.result),
         Err(_) => Err(OutOfMemory),
     }

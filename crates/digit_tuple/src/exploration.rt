@@ -17,6 +17,7 @@ use crate::faults::{OpFault, OutOfMemory};
 use crate::growing_dfa::GrowingDfa;
 use crate::key_graph::KeyGraph;
 use crate::key_transitions::KeyTransitions;
+use crate::limit::Limit;
 use crate::numbering::{Lookup, Numbering};
 use crate::stepped::Stepped;
 use crate::transitions::Transition;
@@ -41,7 +42,7 @@ pub fn explore<G: KeyGraph>(
     alloc: Global,
     graph: &G,
     alphabet: Alphabet,
-    limit: u32,
+    limit: Limit<'_>,
 ) -> Result<Stepped<Dfa>, OpFault>
     requires graph { G.is_graph graph.now }
     requires letters { G.letters graph.now ≡ product alphabet }
@@ -56,9 +57,9 @@ pub fn explore<G: KeyGraph>(
     ensures width { IfOk result (λ stepped.
         HasWidth (LeadAlike (G.after graph.now) (G.start graph.now)) (G.letters graph.now) stepped.width) }
     ensures size { IfOk result (λ stepped. states_of stepped.result ≤ stepped.width) }
-    ensures within { IfOk result (λ stepped. stepped.width ≤ limit) }
+    ensures within { IfOk result (λ stepped. stepped.width ≤ limit.entry.most) }
     ensures states { IsErrOf result OpFault.States
-        → HasApart (LeadAlike (G.after graph.now) (G.start graph.now)) (G.letters graph.now) (limit + 1) }
+        → HasApart (LeadAlike (G.after graph.now) (G.start graph.now)) (G.letters graph.now) (limit.entry.most + 1) }
     ensures no_letters { ¬ IsErrOf result OpFault.Letters }
 {
     let Stepped { result, width } = explore_keys(alloc, graph, alphabet, limit)?;
@@ -74,7 +75,7 @@ pub fn explore_keys<G: KeyGraph>(
     alloc: Global,
     graph: &G,
     alphabet: Alphabet,
-    limit: u32,
+    limit: Limit<'_>,
 ) -> Result<Stepped<Explored>, OpFault>
     requires graph { G.is_graph graph.now }
     requires letters { G.letters graph.now ≡ product alphabet }
@@ -88,14 +89,14 @@ pub fn explore_keys<G: KeyGraph>(
     ensures width { IfOk result (λ stepped.
         HasWidth (LeadAlike (G.after graph.now) (G.start graph.now)) (G.letters graph.now) stepped.width) }
     ensures size { IfOk result (λ stepped. states_of stepped.result.dfa ≤ stepped.width) }
-    ensures within { IfOk result (λ stepped. stepped.width ≤ limit) }
+    ensures within { IfOk result (λ stepped. stepped.width ≤ limit.entry.most) }
     ensures states { IsErrOf result OpFault.States
-        → HasApart (LeadAlike (G.after graph.now) (G.start graph.now)) (G.letters graph.now) (limit + 1) }
+        → HasApart (LeadAlike (G.after graph.now) (G.start graph.now)) (G.letters graph.now) (limit.entry.most + 1) }
     ensures no_letters { ¬ IsErrOf result OpFault.Letters }
 {
     let mut keys = Numbering::new(alloc);
     keys.number_of(&graph.first_key(alloc)?)?;
-    if limit == 0 {
+    if limit.most == 0 {
         return Err(OpFault::States);
     }
     let letters = alphabet.letters() as usize;
@@ -106,6 +107,7 @@ pub fn explore_keys<G: KeyGraph>(
     let mut transitions = Vec::with_capacity(alloc, room)?;
     let mut gap = false;
     'explore: while states.len() < keys.len() {
+        show_count(limit, &keys);
         let key = keys.key(states.len());
         let accepting = graph.is_accepting(key);
         key_transitions.clear();
@@ -121,7 +123,7 @@ pub fn explore_keys<G: KeyGraph>(
             gap = true;
         }
         states.add_state(accepting, &transitions)?;
-        if gap && keys.len() == limit as usize {
+        if gap && keys.len() == limit.most as usize {
             return Err(OpFault::States);
         }
     }
@@ -133,27 +135,32 @@ pub fn explore_keys<G: KeyGraph>(
     })
 }
 
+// Says how many states there are so far.
+fn show_count(limit: Limit<'_>, keys: &Numbering) {
+    limit.states(keys.len());
+}
+
 // Writes the transitions that the key transitions become in place of what the buffer held, as the keys that they lead
 // to are numbered in turn. All are looked up before the first is numbered, so that the reads of their slots do not wait
 // for one another. `States` comes where the keys are too many.
 fn number_transitions(
     keys: &mut Numbering,
     key_transitions: &KeyTransitions,
-    limit: u32,
+    limit: Limit<'_>,
     lookups: &mut Vec<Lookup>,
     transitions: &mut Vec<Transition>,
 ) -> Result<(), OpFault>
-    requires { length keys.old ≤ limit }
+    requires { length keys.old ≤ limit.most }
     ensures transitions { OnOk result (AreNumbered key_transitions.now transitions.new.items keys.old keys.new) }
-    ensures few { OnOk result (length keys.new ≤ limit) }
-    ensures states { IsErrOf result OpFault.States → NumbersSome key_transitions.now keys.old keys.new (limit + 1) }
+    ensures few { OnOk result (length keys.new ≤ limit.entry.most) }
+    ensures states { IsErrOf result OpFault.States → NumbersSome key_transitions.now keys.old keys.new (limit.entry.most + 1) }
     ensures letters { ¬ IsErrOf result OpFault.Letters }
 {
     look_up_keys(keys, key_transitions, lookups)?;
     transitions.clear();
     for place in 0..key_transitions.len() {
         let target = keys.number_by(key_transitions.key(place), lookups[place])?;
-        if keys.len() > limit as usize {
+        if keys.len() > limit.most as usize {
             return Err(OpFault::States);
         }
         transitions.push(Transition {

@@ -135,6 +135,9 @@ pub mod exploration;
 /// Kinds of steps.
 pub mod kind;
 
+/// Limits on the widths of steps.
+pub mod limit;
+
 /// The steps that were done under a limit.
 pub mod steps;
 

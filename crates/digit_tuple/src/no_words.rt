@@ -8,6 +8,7 @@ use crate::alphabet::Alphabet;
 use crate::dfa::Dfa;
 use crate::dfa_builder::DfaBuilder;
 use crate::faults::{OpFault, OutOfMemory};
+use crate::limit::Limit;
 use crate::stepped::Stepped;
 use std::alloc::Global;
 
@@ -25,15 +26,15 @@ pub fn no_words(alloc: Global, alphabet: Alphabet) -> Result<Dfa, OutOfMemory>
 pub fn no_words_within(
     alloc: Global,
     alphabet: Alphabet,
-    limit: u32,
+    limit: Limit<'_>,
 ) -> Result<Stepped<Dfa>, OpFault>
     ensures no_words { IfOk result (λ stepped. stepped.result ≡ bare_automaton alphabet) }
     ensures width { IfOk result (λ stepped. stepped.width ≡ 1) }
-    ensures within { IfOk result (λ stepped. 1 ≤ limit) }
-    ensures states { IsErrOf result OpFault.States ↔ (limit ≡ 0) }
+    ensures within { IfOk result (λ stepped. 1 ≤ limit.entry.most) }
+    ensures states { IsErrOf result OpFault.States ↔ (limit.entry.most ≡ 0) }
     ensures letters { ¬ IsErrOf result OpFault.Letters }
 {
-    if limit == 0 {
+    if limit.most == 0 {
         return Err(OpFault::States);
     }
     Ok(Stepped {

@@ -5,8 +5,11 @@ ghost use Rattle.digit_tuple.specs.Steps.{StepLog, with_line};
 
 use crate::faults::OutOfMemory;
 use crate::kind::Kind;
+use crate::limit::Limit;
+use monitor::Monitor;
 use std::alloc::Global;
 use std::marker::Model;
+use std::rc::Rc;
 
 /// A step that was done: its kind, its width, and the number of states of its result.
 #[derive(Clone, Copy, Debug, PartialEq, Eq)]
@@ -16,11 +19,13 @@ pub struct StepLine {
     pub size: u32,
 }
 
-/// The limit on the width of a step, and the steps that were done, in order.
+/// The limit on the width of a step, and the steps that were done, in order. The step that is being made may be shown on a
+/// monitor, of which no clause says anything.
 #[derive(Drop)]
 pub struct Steps {
     most: u32,
     done_lines: Vec<StepLine>,
+    monitor: Option<Rc<Monitor>>,
 }
 
 impl Model for Steps {
@@ -39,7 +44,33 @@ impl Steps {
         Steps {
             most: limit,
             done_lines: Vec::new(alloc),
+            monitor: None,
         }
+    }
+
+    /// Shows the steps that follow on this monitor, if there is one.
+    pub fn show_on(&mut self, monitor: Option<Rc<Monitor>>)
+        ensures { self.new ≡ self.old }
+    {
+        self.monitor = monitor;
+    }
+
+    /// Says which part of a formula the steps that follow make, counted from 1, of how many.
+    pub fn part(&self, part: u64, parts: u64) {
+        if let Some(monitor) = &self.monitor {
+            monitor.part(part, parts);
+        }
+    }
+
+    /// Says of which kind the next step is, and gives the limit under which it is made.
+    pub fn begin(&self, kind: Kind) -> Limit<'_>
+        ensures { result.most ≡ self.now.limit }
+    {
+        let monitor = self.monitor.as_deref();
+        if let Some(monitor) = monitor {
+            monitor.step(self.next_number(), kind.name());
+        }
+        Limit::shown(self.most, monitor)
     }
 
     /// The most that a step's width may be.

@@ -14,6 +14,7 @@ use digit_tuple::dfa_builder::DfaBuilder;
 use digit_tuple::direction::Direction;
 use digit_tuple::exploration::explore;
 use digit_tuple::faults::OutOfMemory;
+use digit_tuple::limit::Limit;
 use std::alloc::Global;
 
 /// The automaton of the words without 11, in either direction. Its second state is that after a 1.
@@ -48,7 +49,7 @@ fn msd_adder(alloc: Global) -> Result<Dfa, OutOfMemory>
     ensures { IfOk result (λ dfa. IsAdderOf Msd fibonacci dfa) }
 {
     let alphabet = Alphabet::fitting(alloc, &[2, 2, 2])?;
-    match explore(alloc, &Additions, alphabet, u32::MAX) {
+    match explore(alloc, &Additions, alphabet, Limit::none()) {
         Ok(stepped) => Ok(stepped.result),
         Err(_) => Err(OutOfMemory),
     }
@@ -60,7 +61,7 @@ fn reversed_adder(alloc: Global, adder: &Dfa) -> Result<Dfa, OutOfMemory>
     requires { IsAdderOf Msd fibonacci adder.now }
     ensures { IfOk result (λ dfa. IsAdderOf Lsd fibonacci dfa) }
 {
-    match reverse(alloc, adder, u32::MAX) {
+    match reverse(alloc, adder, Limit::none()) {
         Ok(stepped) => Ok(stepped.result),
         Err(_) => Err(OutOfMemory),
     }

@@ -17,6 +17,7 @@ use base_k::laws::rank_is_positional;
 use digit_tuple::alphabet::Alphabet;
 use digit_tuple::exploration::{Explored, explore_keys};
 use digit_tuple::faults::{OpFault, OutOfMemory};
+use digit_tuple::limit::Limit;
 use digit_tuple::numbering::Numbering;
 use digit_tuple::stepped::Stepped;
 use morph_words::Morphism;
@@ -32,7 +33,7 @@ pub(crate) fn fixed_letters(
     alloc: Global,
     morphism: &Morphism,
     base: u32,
-    limit: u32,
+    limit: Limit<'_>,
 ) -> Result<Stepped<LetterFunction>, OpFault>
     requires { HasFixedPoint morphism.now base }
     ensures sizes { IfOk result (λ stepped. stepped.result.automaton.sizes ≡ base ∷ []) }
@@ -40,8 +41,8 @@ pub(crate) fn fixed_letters(
     ensures letters { IfOk result (λ stepped. (w : List ℕ) → IsWord base w → letter_after stepped.result w ≡ Some (reached morphism.now (pos 0) w)) }
     ensures width { IfOk result (λ stepped. HasWidth (SamePlaceLetter morphism.now base) (product (base ∷ [])) stepped.width) }
     ensures size { IfOk result (λ stepped. states_of stepped.result.automaton ≤ stepped.width) }
-    ensures within { IfOk result (λ stepped. stepped.width ≤ limit) }
-    ensures states { IsErrOf result OpFault.States → ExceedsWidth limit (promote_step morphism.now base).step }
+    ensures within { IfOk result (λ stepped. stepped.width ≤ limit.entry.most) }
+    ensures states { IsErrOf result OpFault.States → ExceedsWidth limit.entry.most (promote_step morphism.now base).step }
 {
     rank_is_positional();
     let _image = morphism.image(0);

@@ -32,7 +32,7 @@ pub fn promote(alloc: Global, morphism: &Morphism, steps: &mut Steps) -> Result<
     let letters = morphism.letters(alloc)?;
     let base = fixed_base(morphism, &letters)?;
     let systems = msd_base(alloc, base)?;
-    match fixed_letters(alloc, morphism, base, steps.limit()) {
+    match fixed_letters(alloc, morphism, base, steps.begin(Kind::Promote)) {
         Ok(Stepped { result, width }) => {
             steps.done(Kind::Promote, width, result.dfa().states())?;
             Ok(Word::from_parts(result, systems))

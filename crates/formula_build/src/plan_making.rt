@@ -40,6 +40,7 @@ pub(crate) fn make_plans(
     let mut made = Vec::new(alloc);
     for (place, making) in makings.iter().enumerate() {
         let relation = if needed[place] {
+            steps.part(place as u64 + 1, makings.len() as u64);
             make(alloc, making, &made, known, steps)?
         } else {
             Relation::truth(alloc, false)?

@@ -15,6 +15,7 @@ use determinise::subset_exploration::explore_subsets;
 use digit_tuple::alphabet::Alphabet;
 use digit_tuple::dfa::Dfa;
 use digit_tuple::faults::OpFault;
+use digit_tuple::limit::Limit;
 use digit_tuple::nfa::Nfa;
 use digit_tuple::stepped::Stepped;
 use minimise::canonical::canonical_of_numbered;
@@ -29,7 +30,7 @@ pub fn canonical_sets(
     table: Nfa,
     first: &[u32],
     alphabet: Alphabet,
-    limit: u32,
+    limit: Limit<'_>,
 ) -> Result<Stepped<Dfa>, OpFault>
     requires first { IsStateSet table first.now }
     requires letters { branching.letters_of table ≡ product alphabet }
@@ -39,8 +40,8 @@ pub fn canonical_sets(
         → accepts_of stepped.result w ≡ key_accepts (set_after table) (has_accepting table) first.now w) }
     ensures width { IfOk result (λ stepped. HasWidth (LeadAlike (set_after table) first.now) (product alphabet) stepped.width) }
     ensures size { IfOk result (λ stepped. states_of stepped.result ≤ stepped.width) }
-    ensures within { IfOk result (λ stepped. stepped.width ≤ limit) }
-    ensures states { IsErrOf result OpFault.States → HasApart (LeadAlike (set_after table) first.now) (product alphabet) (limit + 1) }
+    ensures within { IfOk result (λ stepped. stepped.width ≤ limit.entry.most) }
+    ensures states { IsErrOf result OpFault.States → HasApart (LeadAlike (set_after table) first.now) (product alphabet) (limit.entry.most + 1) }
     ensures no_letters { ¬ IsErrOf result OpFault.Letters }
 {
     let explored = explored_sets(alloc, table, first, alphabet, limit)?;
@@ -55,7 +56,7 @@ fn explored_sets(
     table: Nfa,
     first: &[u32],
     alphabet: Alphabet,
-    limit: u32,
+    limit: Limit<'_>,
 ) -> Result<Stepped<Dfa>, OpFault>
     requires first { IsStateSet table first.now }
     requires letters { branching.letters_of table ≡ product alphabet }
@@ -64,8 +65,8 @@ fn explored_sets(
     ensures language { IfOk result (λ stepped. (w : List ℕ) → IsWord (product alphabet) w
         → accepts_of stepped.result w ≡ key_accepts (set_after table) (has_accepting table) first.now w) }
     ensures width { IfOk result (λ stepped. HasWidth (LeadAlike (set_after table) first.now) (product alphabet) stepped.width) }
-    ensures within { IfOk result (λ stepped. stepped.width ≤ limit) }
-    ensures states { IsErrOf result OpFault.States → HasApart (LeadAlike (set_after table) first.now) (product alphabet) (limit + 1) }
+    ensures within { IfOk result (λ stepped. stepped.width ≤ limit.entry.most) }
+    ensures states { IsErrOf result OpFault.States → HasApart (LeadAlike (set_after table) first.now) (product alphabet) (limit.entry.most + 1) }
     ensures no_letters { ¬ IsErrOf result OpFault.Letters }
 {
     explore_subsets(alloc, &table, first, alphabet, limit)

@@ -17,6 +17,7 @@ use crate::shifted_rows::add_shifted;
 use digit_tuple::alphabet::Alphabet;
 use digit_tuple::dfa::Dfa;
 use digit_tuple::faults::{OpFault, OutOfMemory};
+use digit_tuple::limit::Limit;
 use digit_tuple::nfa::Nfa;
 use digit_tuple::no_words::no_words_within;
 use digit_tuple::stepped::Stepped;
@@ -33,7 +34,7 @@ use std::alloc::Global;
 /// Words lead to sets of states of a nondeterministic automaton, as in Michael Rabin and Dana Scott, "Finite automata and
 /// their decision problems": what leads to an accepting state of the first automaton leads to the initial state of the
 /// second too.
-pub fn concat(alloc: Global, a: &Dfa, b: &Dfa, limit: u32) -> Result<Stepped<Dfa>, OpFault>
+pub fn concat(alloc: Global, a: &Dfa, b: &Dfa, limit: Limit<'_>) -> Result<Stepped<Dfa>, OpFault>
     requires first { IsCanonical a.now }
     requires second { IsCanonical b.now }
     requires sizes { b.now.sizes ≡ a.now.sizes }
@@ -43,8 +44,8 @@ pub fn concat(alloc: Global, a: &Dfa, b: &Dfa, limit: u32) -> Result<Stepped<Dfa
         → IsTrue (accepts_of stepped.result w) ↔ IsConcatenated a.now b.now w) }
     ensures width { IfOk result (λ stepped. HasWidth (ConcatAlike a.now b.now) (letters_of a.now) stepped.width) }
     ensures size { IfOk result (λ stepped. states_of stepped.result ≤ stepped.width) }
-    ensures within { IfOk result (λ stepped. stepped.width ≤ limit) }
-    ensures states { IsErrOf result OpFault.States → HasApart (ConcatAlike a.now b.now) (letters_of a.now) (limit + 1) }
+    ensures within { IfOk result (λ stepped. stepped.width ≤ limit.entry.most) }
+    ensures states { IsErrOf result OpFault.States → HasApart (ConcatAlike a.now b.now) (letters_of a.now) (limit.entry.most + 1) }
     ensures letters { ¬ IsErrOf result OpFault.Letters }
 {
     let alphabet = a.alphabet().copy(alloc)?;
@@ -61,7 +62,7 @@ fn live_concat(
     a: &Dfa,
     b: &Dfa,
     alphabet: Alphabet,
-    limit: u32,
+    limit: Limit<'_>,
 ) -> Result<Stepped<Dfa>, OpFault>
     requires first { IsCanonical a.now }
     requires second { IsCanonical b.now }
@@ -74,8 +75,8 @@ fn live_concat(
         → IsTrue (accepts_of stepped.result w) ↔ IsConcatenated a.now b.now w) }
     ensures width { IfOk result (λ stepped. HasWidth (ConcatAlike a.now b.now) (letters_of a.now) stepped.width) }
     ensures size { IfOk result (λ stepped. states_of stepped.result ≤ stepped.width) }
-    ensures within { IfOk result (λ stepped. stepped.width ≤ limit) }
-    ensures states { IsErrOf result OpFault.States → HasApart (ConcatAlike a.now b.now) (letters_of a.now) (limit + 1) }
+    ensures within { IfOk result (λ stepped. stepped.width ≤ limit.entry.most) }
+    ensures states { IsErrOf result OpFault.States → HasApart (ConcatAlike a.now b.now) (letters_of a.now) (limit.entry.most + 1) }
     ensures letters { ¬ IsErrOf result OpFault.Letters }
 {
     let link = concat_link(a, b);

@@ -26,7 +26,7 @@ pub fn concat_step(alloc: Global, a: &Dfa, b: &Dfa, steps: &mut Steps) -> Result
     ensures { DoesStep (the_step a.now b.now) steps.old result steps.new }
 {
     let _ = a.alphabet().tracks();
-    match concat(alloc, a, b, steps.limit()) {
+    match concat(alloc, a, b, steps.begin(Kind::Concat)) {
         Ok(Stepped { result, width }) => {
             steps.done(Kind::Concat, width, result.states())?;
             Ok(result)

@@ -15,6 +15,7 @@ ghost use Rattle.lang_ops.specs.Pairs.{PairAlike};
 use digit_tuple::dfa::Dfa;
 use digit_tuple::exploration::Explored;
 use digit_tuple::faults::{OpFault, OutOfMemory};
+use digit_tuple::limit::Limit;
 use digit_tuple::numbering::Numbering;
 use digit_tuple::stepped::Stepped;
 use minimise::canonical::canonical;
@@ -35,7 +36,7 @@ pub fn combined(
     a: &Dfa,
     b: &Dfa,
     op: Op,
-    limit: u32,
+    limit: Limit<'_>,
 ) -> Result<Stepped<Dfa>, OpFault>
     requires first { IsCanonical a.now }
     requires second { IsCanonical b.now }
@@ -46,8 +47,8 @@ pub fn combined(
     ensures language { IfOk result (λ stepped. (w : List ℕ) → IsWord (letters_of a.now) w
         → accepts_of stepped.result w ≡ connective op (accepts_of a.now w) (accepts_of b.now w)) }
     ensures width { IfOk result (λ stepped. HasWidth (PairAlike a.now b.now) (letters_of a.now) stepped.width) }
-    ensures within { IfOk result (λ stepped. stepped.width ≤ limit) }
-    ensures states { IsErrOf result OpFault.States → HasApart (PairAlike a.now b.now) (letters_of a.now) (limit + 1) }
+    ensures within { IfOk result (λ stepped. stepped.width ≤ limit.entry.most) }
+    ensures states { IsErrOf result OpFault.States → HasApart (PairAlike a.now b.now) (letters_of a.now) (limit.entry.most + 1) }
     ensures no_letters { ¬ IsErrOf result OpFault.Letters }
 {
     let alphabet = a.alphabet().copy(alloc)?;

@@ -36,7 +36,7 @@ pub fn product_step(
     ensures { DoesStep (the_step op a.now b.now) steps.old result steps.new }
 {
     let _ = a.alphabet().tracks();
-    match combined(alloc, a, b, op, steps.limit()) {
+    match combined(alloc, a, b, op, steps.begin(Kind::Product)) {
         Ok(Stepped { result, width }) => {
             steps.done(Kind::Product, width, result.states())?;
             Ok(result)

@@ -14,6 +14,7 @@ use crate::canonical_sets::canonical_sets;
 use crate::linked_rows::{linked_rows, linked_transitions};
 use digit_tuple::dfa::Dfa;
 use digit_tuple::faults::{OpFault, OutOfMemory};
+use digit_tuple::limit::Limit;
 use digit_tuple::nfa::Nfa;
 use digit_tuple::stepped::Stepped;
 use digit_tuple::transitions::NfaState;
@@ -30,7 +31,7 @@ use std::alloc::Global;
 /// Words lead to sets of states of a nondeterministic automaton, as in Michael Rabin and Dana Scott, "Finite automata and
 /// their decision problems": what leads to an accepting state leads to the initial one too. Where that does not accept,
 /// words begin at a state of their own, so that the empty word is distinguished from others that lead to the initial state alone.
-pub fn star(alloc: Global, a: &Dfa, limit: u32) -> Result<Stepped<Dfa>, OpFault>
+pub fn star(alloc: Global, a: &Dfa, limit: Limit<'_>) -> Result<Stepped<Dfa>, OpFault>
     requires { IsCanonical a.now }
     ensures sizes { IfOk result (λ stepped. stepped.result.sizes ≡ a.now.sizes) }
     ensures canonical { IfOk result (λ stepped. IsCanonical stepped.result) }
@@ -38,8 +39,8 @@ pub fn star(alloc: Global, a: &Dfa, limit: u32) -> Result<Stepped<Dfa>, OpFault>
         → IsTrue (accepts_of stepped.result w) ↔ IsStarred a.now w) }
     ensures width { IfOk result (λ stepped. HasWidth (StarAlike a.now) (letters_of a.now) stepped.width) }
     ensures size { IfOk result (λ stepped. states_of stepped.result ≤ stepped.width) }
-    ensures within { IfOk result (λ stepped. stepped.width ≤ limit) }
-    ensures states { IsErrOf result OpFault.States → HasApart (StarAlike a.now) (letters_of a.now) (limit + 1) }
+    ensures within { IfOk result (λ stepped. stepped.width ≤ limit.entry.most) }
+    ensures states { IsErrOf result OpFault.States → HasApart (StarAlike a.now) (letters_of a.now) (limit.entry.most + 1) }
     ensures letters { ¬ IsErrOf result OpFault.Letters }
 {
     if a.accepting(0) {
@@ -50,7 +51,7 @@ pub fn star(alloc: Global, a: &Dfa, limit: u32) -> Result<Stepped<Dfa>, OpFault>
 }
 
 // The star of a language with the empty word: words begin at its initial state.
-fn star_with_empty(alloc: Global, a: &Dfa, limit: u32) -> Result<Stepped<Dfa>, OpFault>
+fn star_with_empty(alloc: Global, a: &Dfa, limit: Limit<'_>) -> Result<Stepped<Dfa>, OpFault>
     requires canonical { IsCanonical a.now }
     requires empty { accepting_of a.now 0 ≡ true }
     ensures sizes { IfOk result (λ stepped. stepped.result.sizes ≡ a.now.sizes) }
@@ -59,8 +60,8 @@ fn star_with_empty(alloc: Global, a: &Dfa, limit: u32) -> Result<Stepped<Dfa>, O
         → IsTrue (accepts_of stepped.result w) ↔ IsStarred a.now w) }
     ensures width { IfOk result (λ stepped. HasWidth (StarAlike a.now) (letters_of a.now) stepped.width) }
     ensures size { IfOk result (λ stepped. states_of stepped.result ≤ stepped.width) }
-    ensures within { IfOk result (λ stepped. stepped.width ≤ limit) }
-    ensures states { IsErrOf result OpFault.States → HasApart (StarAlike a.now) (letters_of a.now) (limit + 1) }
+    ensures within { IfOk result (λ stepped. stepped.width ≤ limit.entry.most) }
+    ensures states { IsErrOf result OpFault.States → HasApart (StarAlike a.now) (letters_of a.now) (limit.entry.most + 1) }
     ensures letters { ¬ IsErrOf result OpFault.Letters }
 {
     let alphabet = a.alphabet().copy(alloc)?;
@@ -69,7 +70,7 @@ fn star_with_empty(alloc: Global, a: &Dfa, limit: u32) -> Result<Stepped<Dfa>, O
 }
 
 // The star of a language without the empty word: words begin at a state of their own.
-fn star_without_empty(alloc: Global, a: &Dfa, limit: u32) -> Result<Stepped<Dfa>, OpFault>
+fn star_without_empty(alloc: Global, a: &Dfa, limit: Limit<'_>) -> Result<Stepped<Dfa>, OpFault>
     requires canonical { IsCanonical a.now }
     requires empty { accepting_of a.now 0 ≡ false }
     ensures sizes { IfOk result (λ stepped. stepped.result.sizes ≡ a.now.sizes) }
@@ -78,8 +79,8 @@ fn star_without_empty(alloc: Global, a: &Dfa, limit: u32) -> Result<Stepped<Dfa>
         → IsTrue (accepts_of stepped.result w) ↔ IsStarred a.now w) }
     ensures width { IfOk result (λ stepped. HasWidth (StarAlike a.now) (letters_of a.now) stepped.width) }
     ensures size { IfOk result (λ stepped. states_of stepped.result ≤ stepped.width) }
-    ensures within { IfOk result (λ stepped. stepped.width ≤ limit) }
-    ensures states { IsErrOf result OpFault.States → HasApart (StarAlike a.now) (letters_of a.now) (limit + 1) }
+    ensures within { IfOk result (λ stepped. stepped.width ≤ limit.entry.most) }
+    ensures states { IsErrOf result OpFault.States → HasApart (StarAlike a.now) (letters_of a.now) (limit.entry.most + 1) }
     ensures letters { ¬ IsErrOf result OpFault.Letters }
 {
     let alphabet = a.alphabet().copy(alloc)?;

@@ -23,7 +23,7 @@ pub fn star_step(alloc: Global, argument: &Dfa, steps: &mut Steps) -> Result<Dfa
     ensures { DoesStep (the_step argument.now) steps.old result steps.new }
 {
     let _ = argument.alphabet().tracks();
-    match star(alloc, argument, steps.limit()) {
+    match star(alloc, argument, steps.begin(Kind::Star)) {
         Ok(Stepped { result, width }) => {
             steps.done(Kind::Star, width, result.states())?;
             Ok(result)

@@ -12,6 +12,7 @@ ghost use Rattle.letter_reversal.specs.LetterReversals.{IsLetterReversal, Revers
 use class_reversal::reached::reverse_reached;
 use digit_tuple::faults::{OpFault, OutOfMemory};
 use digit_tuple::kind::Kind;
+use digit_tuple::limit::Limit;
 use digit_tuple::step_fault::StepFault;
 use digit_tuple::stepped::Stepped;
 use digit_tuple::steps::Steps;
@@ -33,7 +34,7 @@ pub fn reverse_letters(
     ensures { DoesStep (letter_reversal_step function.now) steps.old result steps.new }
 {
     let _ = function.dfa().alphabet().tracks();
-    match reversed(alloc, function, steps.limit()) {
+    match reversed(alloc, function, steps.begin(Kind::Reverse)) {
         Ok(Stepped { result, width }) => {
             steps.done(Kind::Reverse, width, result.dfa().states())?;
             Ok(result)
@@ -47,13 +48,13 @@ pub fn reverse_letters(
 fn reversed(
     alloc: Global,
     function: &LetterFunction,
-    limit: u32,
+    limit: Limit<'_>,
 ) -> Result<Stepped<LetterFunction>, OpFault>
     ensures reversal { IfOk result (λ stepped. IsLetterReversal function.now stepped.result) }
     ensures width { IfOk result (λ stepped. HasWidth (ReversedLettersAlike function.now) (letters_of function.now.automaton) stepped.width) }
     ensures size { IfOk result (λ stepped. states_of stepped.result.automaton ≤ stepped.width) }
-    ensures within { IfOk result (λ stepped. stepped.width ≤ limit) }
-    ensures states { IsErrOf result OpFault.States → HasApart (ReversedLettersAlike function.now) (letters_of function.now.automaton) (limit + 1) }
+    ensures within { IfOk result (λ stepped. stepped.width ≤ limit.entry.most) }
+    ensures states { IsErrOf result OpFault.States → HasApart (ReversedLettersAlike function.now) (letters_of function.now.automaton) (limit.entry.most + 1) }
 {
     let Stepped { result, width } = reverse_reached(
         alloc,

@@ -14,6 +14,7 @@ use digit_tuple::dfa::Dfa;
 use digit_tuple::exploration::explore;
 use digit_tuple::faults::OpFault;
 use digit_tuple::key_graph::KeyGraph;
+use digit_tuple::limit::Limit;
 use digit_tuple::stepped::Stepped;
 use std::alloc::Global;
 
@@ -25,7 +26,7 @@ pub fn explore_canonical<G: KeyGraph>(
     alloc: Global,
     graph: &G,
     alphabet: Alphabet,
-    limit: u32,
+    limit: Limit<'_>,
 ) -> Result<Stepped<Dfa>, OpFault>
     requires graph { G.is_graph graph.now }
     requires letters { G.letters graph.now ≡ product alphabet }
@@ -36,9 +37,9 @@ pub fn explore_canonical<G: KeyGraph>(
     ensures width { IfOk result (λ stepped.
         HasWidth (LeadAlike (G.after graph.now) (G.start graph.now)) (product alphabet) stepped.width) }
     ensures size { IfOk result (λ stepped. states_of stepped.result ≤ stepped.width) }
-    ensures within { IfOk result (λ stepped. stepped.width ≤ limit) }
+    ensures within { IfOk result (λ stepped. stepped.width ≤ limit.entry.most) }
     ensures states { IsErrOf result OpFault.States
-        → HasApart (LeadAlike (G.after graph.now) (G.start graph.now)) (product alphabet) (limit + 1) }
+        → HasApart (LeadAlike (G.after graph.now) (G.start graph.now)) (product alphabet) (limit.entry.most + 1) }
     ensures no_letters { ¬ IsErrOf result OpFault.Letters }
 {
     let explored = explore(alloc, graph, alphabet, limit)?;

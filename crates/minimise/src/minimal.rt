@@ -14,6 +14,7 @@ use crate::quotient::Quotient;
 use digit_tuple::dfa::Dfa;
 use digit_tuple::exploration::{Explored, explore_keys};
 use digit_tuple::faults::OutOfMemory;
+use digit_tuple::limit::Limit;
 use digit_tuple::numbering::Numbering;
 use std::alloc::Global;
 
@@ -39,7 +40,7 @@ pub fn minimal(
         classes,
         leaders: &leaders,
     };
-    match explore_keys(alloc, &quotient, alphabet, u32::MAX) {
+    match explore_keys(alloc, &quotient, alphabet, Limit::none()) {
         Ok(stepped) => {
             let Explored { dfa, keys } = stepped.result;
             let outputs = outputs_of(alloc, &quotient, &keys)?;

@@ -18,6 +18,7 @@ use crate::without_limit::without_limit;
 use digit_tuple::dfa::Dfa;
 use digit_tuple::direction::Direction;
 use digit_tuple::faults::{OpFault, OutOfMemory};
+use digit_tuple::limit::Limit;
 use number_order::order::{equality_of, order_of};
 use number_order::zero::zero_of;
 use std::alloc::Global;
@@ -62,13 +63,13 @@ pub(crate) fn relations_of(
     alloc: Global,
     language: &Dfa,
     direction: Direction,
-    limit: u32,
+    limit: Limit<'_>,
 ) -> Result<Relations, OpFault>
     requires { (s : System) × IsSystem s × IsMinimalLanguage direction s language.now }
     ensures relations { IfOk result (λ r. (s : System) → IsSystem s → IsLanguageOf direction s language.now → AreRelationsOf direction s r.equal r.less r.successor r.zero) }
-    ensures within { IfOk result (λ r. IsSealedWithin direction language.now r.less limit) }
-    ensures letters { IsErrOf result OpFault.Letters → (s : System) → IsSystem s → IsMinimalLanguage direction s language.now → ExceedsByLetters direction s limit }
-    ensures states { IsErrOf result OpFault.States → (s : System) → IsSystem s → IsMinimalLanguage direction s language.now → ExceedsByStates direction s limit }
+    ensures within { IfOk result (λ r. IsSealedWithin direction language.now r.less limit.entry.most) }
+    ensures letters { IsErrOf result OpFault.Letters → (s : System) → IsSystem s → IsMinimalLanguage direction s language.now → ExceedsByLetters direction s limit.entry.most }
+    ensures states { IsErrOf result OpFault.States → (s : System) → IsSystem s → IsMinimalLanguage direction s language.now → ExceedsByStates direction s limit.entry.most }
 {
     let relations = order_relations(alloc, language, direction, limit)?;
     let successor = successor_of(alloc, &relations.less, direction, limit)?;
@@ -87,7 +88,7 @@ pub(crate) fn relations_without_limit(
     requires fits { IsAlphabet adder.now.sizes }
     ensures { IfOk result (λ r. (s : System) → IsSystem s → IsLanguageOf direction s language.now → IsAdderOf direction s adder.now → AreRelationsOf direction s r.equal r.less r.successor r.zero) }
 {
-    let relations = without_limit(order_relations(alloc, language, direction, u32::MAX))?;
+    let relations = without_limit(order_relations(alloc, language, direction, Limit::none()))?;
     let successor = successor_without_limit(alloc, &relations, adder, direction)?;
     Ok(relations.with_successor(successor))
 }
@@ -108,7 +109,7 @@ fn successor_without_limit(
     ensures canonical { IfOk result (λ next. IsCanonical next) }
 {
     if adder.alphabet().letters() <= FEW_LETTERS {
-        return without_limit(successor_of(alloc, &relations.less, direction, u32::MAX));
+        return without_limit(successor_of(alloc, &relations.less, direction, Limit::none()));
     }
     successor_by_sums(alloc, &relations.less, &relations.zero, adder, direction)
 }
@@ -119,13 +120,13 @@ fn order_relations(
     alloc: Global,
     language: &Dfa,
     direction: Direction,
-    limit: u32,
+    limit: Limit<'_>,
 ) -> Result<OrderRelations, OpFault>
     requires { (s : System) × IsSystem s × IsMinimalLanguage direction s language.now }
     ensures relations { IfOk result (λ r. (s : System) → IsSystem s → IsLanguageOf direction s language.now → AreOrderRelationsOf direction s r.equal r.less r.zero) }
-    ensures within { OnOk result (IsOrderWithin direction language.now limit) }
+    ensures within { OnOk result (IsOrderWithin direction language.now limit.entry.most) }
     ensures letters { IsErrOf result OpFault.Letters → IsTooLarge (pair_sizes language.now) }
-    ensures states { IsErrOf result OpFault.States → HasApart (OrderAlike direction language.now) (pair_letters language.now) (limit + 1) }
+    ensures states { IsErrOf result OpFault.States → HasApart (OrderAlike direction language.now) (pair_letters language.now) (limit.entry.most + 1) }
     ensures letters_first { IsErrOf result OpFault.States → IsAlphabet (pair_sizes language.now) }
 {
     let order = order_of(alloc, language, direction, limit)?;
@@ -143,11 +144,11 @@ fn equality_within(
     alloc: Global,
     language: &Dfa,
     direction: Direction,
-    limit: u32,
+    limit: Limit<'_>,
 ) -> Result<Dfa, OutOfMemory>
     requires track { length language.now.sizes ≡ 1 }
     requires canonical { IsCanonical language.now }
-    requires within { IsOrderWithin direction language.now limit }
+    requires within { IsOrderWithin direction language.now limit.most }
     ensures equality { IfOk result (λ equal. (s : System) → IsSystem s → IsLanguageOf direction s language.now → IsEqualityOf direction s equal) }
     ensures canonical { IfOk result (λ equal. IsCanonical equal) }
 {

@@ -12,6 +12,7 @@ use crate::relations::{Relations, relations_of, relations_without_limit};
 use crate::system::System;
 use digit_tuple::dfa::Dfa;
 use digit_tuple::faults::{OpFault, OutOfMemory};
+use digit_tuple::limit::Limit;
 use minimise::canonical::canonical;
 use numeration::num_system::NumSystem;
 use std::alloc::Global;
@@ -23,12 +24,12 @@ use std::rc::Rc;
 /// automata of the language and of the order. The first of them that has too many letters gives
 /// `Letters`, and the first whose width passes the limit `States`; of one step the letters are looked at
 /// first. Memory may also run out where 2^32 - 1 states are not enough.
-pub fn seal<N: NumSystem>(alloc: Global, system: &N, limit: u32) -> Result<System, OpFault>
+pub fn seal<N: NumSystem>(alloc: Global, system: &N, limit: Limit<'_>) -> Result<System, OpFault>
     ensures system { IfOk result (λ sealed. system_of sealed ≡ N.system system.now) }
     ensures direction { IfOk result (λ sealed. sealed.direction ≡ N.first_digit system.now) }
-    ensures within { IfOk result (λ sealed. IsSealedWithin sealed.direction sealed.language sealed.less limit) }
-    ensures letters { IsErrOf result OpFault.Letters → ExceedsByLetters (N.first_digit system.now) (N.system system.now) limit }
-    ensures states { IsErrOf result OpFault.States → ExceedsByStates (N.first_digit system.now) (N.system system.now) limit }
+    ensures within { IfOk result (λ sealed. IsSealedWithin sealed.direction sealed.language sealed.less limit.entry.most) }
+    ensures letters { IsErrOf result OpFault.Letters → ExceedsByLetters (N.first_digit system.now) (N.system system.now) limit.entry.most }
+    ensures states { IsErrOf result OpFault.States → ExceedsByStates (N.first_digit system.now) (N.system system.now) limit.entry.most }
 {
     let language = minimal_language(alloc, system)?;
     let adder = minimal_adder(alloc, system)?;

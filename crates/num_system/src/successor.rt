@@ -19,6 +19,7 @@ ghost use Rattle.product_op.specs.declared.op.Op.TheVariants.{AndNot};
 use digit_tuple::dfa::Dfa;
 use digit_tuple::direction::Direction;
 use digit_tuple::faults::{OpFault, OutOfMemory};
+use digit_tuple::limit::Limit;
 use digit_tuple::name::Name;
 use digit_tuple::stepped::Stepped;
 use minimise::tracked::Tracked;
@@ -38,17 +39,17 @@ pub fn successor_of(
     alloc: Global,
     less: &Dfa,
     direction: Direction,
-    limit: u32,
+    limit: Limit<'_>,
 ) -> Result<Dfa, OpFault>
     requires canonical { IsCanonical less.now }
     requires tracks { (digits : ℕ) × (less.now.sizes ≡ digits ∷ digits ∷ []) }
     ensures sizes { IfOk result (λ next. next.sizes ≡ less.now.sizes) }
     ensures canonical { IfOk result (λ next. IsCanonical next) }
     ensures successor { IfOk result (λ next. (s : System) → IsSystem s → IsOrderOf direction s less.now → IsSuccessorOf direction s next) }
-    ensures within { OnOk result (AreWithin direction less.now limit) }
+    ensures within { OnOk result (AreWithin direction less.now limit.entry.most) }
     ensures fits { OnOk result (IsAlphabet (chain_sizes less.now)) }
     ensures letters { IsErrOf result OpFault.Letters → IsTooLarge (chain_sizes less.now) }
-    ensures states { IsErrOf result OpFault.States → Exceeds direction less.now limit }
+    ensures states { IsErrOf result OpFault.States → Exceeds direction less.now limit.entry.most }
     ensures letters_first { IsErrOf result OpFault.States → IsAlphabet (chain_sizes less.now) }
 {
     let chain = chain_of(alloc, less, limit)?;
@@ -59,17 +60,17 @@ pub fn successor_of(
 
 /// The first step: the triples of numbers u, x and y with x < u and u < y, for each system whose order
 /// the canonical automaton of two tracks of one size holds of. The width is that of the product.
-pub fn chain_of(alloc: Global, less: &Dfa, limit: u32) -> Result<Stepped<Tracked>, OpFault>
+pub fn chain_of(alloc: Global, less: &Dfa, limit: Limit<'_>) -> Result<Stepped<Tracked>, OpFault>
     requires canonical { IsCanonical less.now }
     requires tracks { (digits : ℕ) × (less.now.sizes ≡ digits ∷ digits ∷ []) }
     ensures chain { IfOk result (λ stepped. IsChain less.now stepped.result) }
     ensures relation { IfOk result (λ stepped. (direction : Direction) (s : System) → IsSystem s → IsOrderOf direction s less.now → HoldsOf direction (s ∷ s ∷ s ∷ []) IsInside stepped.result.automaton) }
     ensures width { IfOk result (λ stepped. HasWidth (ChainAlike less.now) (letter_count (chain_sizes less.now)) stepped.width) }
     ensures size { IfOk result (λ stepped. states_of stepped.result.automaton ≤ stepped.width) }
-    ensures within { IfOk result (λ stepped. stepped.width ≤ limit) }
+    ensures within { IfOk result (λ stepped. stepped.width ≤ limit.entry.most) }
     ensures fits { OnOk result (IsAlphabet (chain_sizes less.now)) }
     ensures letters { IsErrOf result OpFault.Letters → IsTooLarge (chain_sizes less.now) }
-    ensures states { IsErrOf result OpFault.States → HasApart (ChainAlike less.now) (letter_count (chain_sizes less.now)) (limit + 1) }
+    ensures states { IsErrOf result OpFault.States → HasApart (ChainAlike less.now) (letter_count (chain_sizes less.now)) (limit.entry.most + 1) }
     ensures letters_first { IsErrOf result OpFault.States → IsAlphabet (chain_sizes less.now) }
 {
     let below = order_on(alloc, less, "x", "u")?;
@@ -83,7 +84,7 @@ pub fn between_of(
     alloc: Global,
     chain: &Tracked,
     direction: Direction,
-    limit: u32,
+    limit: Limit<'_>,
 ) -> Result<Stepped<Tracked>, OpFault>
     requires names { chain.now.names ≡ name_u ∷ name_x ∷ name_y ∷ [] }
     requires tracks { (digits : ℕ) × (chain.now.automaton.sizes ≡ digits ∷ digits ∷ digits ∷ []) }
@@ -92,9 +93,9 @@ pub fn between_of(
     ensures relation { IfOk result (λ stepped. (s : System) → IsSystem s → HoldsOf direction (s ∷ s ∷ s ∷ []) IsInside chain.now.automaton → HoldsOf direction (s ∷ s ∷ []) HasInside stepped.result.automaton) }
     ensures width { IfOk result (λ stepped. HasWidth (BetweenAlike direction chain.now) (letter_count (staying_sizes chain.now name_u)) stepped.width) }
     ensures size { IfOk result (λ stepped. states_of stepped.result.automaton ≤ stepped.width) }
-    ensures within { IfOk result (λ stepped. stepped.width ≤ limit) }
+    ensures within { IfOk result (λ stepped. stepped.width ≤ limit.entry.most) }
     ensures no_letters { ¬ IsErrOf result OpFault.Letters }
-    ensures states { IsErrOf result OpFault.States → HasApart (BetweenAlike direction chain.now) (letter_count (staying_sizes chain.now name_u)) (limit + 1) }
+    ensures states { IsErrOf result OpFault.States → HasApart (BetweenAlike direction chain.now) (letter_count (staying_sizes chain.now name_u)) (limit.entry.most + 1) }
 {
     let u = Name::new(alloc, "u")?;
     project(alloc, chain, &u, direction, limit)
@@ -106,7 +107,7 @@ pub fn next_of(
     alloc: Global,
     less: &Dfa,
     between: &Tracked,
-    limit: u32,
+    limit: Limit<'_>,
 ) -> Result<Stepped<Dfa>, OpFault>
     requires canonical { IsCanonical less.now }
     requires tracks { (digits : ℕ) × (less.now.sizes ≡ digits ∷ digits ∷ []) }
@@ -118,9 +119,9 @@ pub fn next_of(
     ensures sizes { IfOk result (λ stepped. stepped.result.sizes ≡ less.now.sizes) }
     ensures width { IfOk result (λ stepped. HasWidth (NextAlike less.now between.now) (letter_count (joint_sizes (order_under less.now name_x name_y) between.now)) stepped.width) }
     ensures size { IfOk result (λ stepped. states_of stepped.result ≤ stepped.width) }
-    ensures within { IfOk result (λ stepped. stepped.width ≤ limit) }
+    ensures within { IfOk result (λ stepped. stepped.width ≤ limit.entry.most) }
     ensures no_letters { ¬ IsErrOf result OpFault.Letters }
-    ensures states { IsErrOf result OpFault.States → HasApart (NextAlike less.now between.now) (letter_count (joint_sizes (order_under less.now name_x name_y) between.now)) (limit + 1) }
+    ensures states { IsErrOf result OpFault.States → HasApart (NextAlike less.now between.now) (letter_count (joint_sizes (order_under less.now name_x name_y) between.now)) (limit.entry.most + 1) }
 {
     let order = order_on(alloc, less, "x", "y")?;
     let next = product(alloc, &order, between, Op::AndNot, &[], limit)?;

@@ -17,6 +17,7 @@ use crate::without_limit::without_limit;
 use digit_tuple::dfa::Dfa;
 use digit_tuple::direction::Direction;
 use digit_tuple::faults::OutOfMemory;
+use digit_tuple::limit::Limit;
 use digit_tuple::name::Name;
 use minimise::tracked::Tracked;
 use product_op::op::Op;
@@ -86,7 +87,7 @@ fn one_from(alloc: Global, positive: &Dfa, above_one: &Dfa) -> Result<Dfa, OutOf
 {
     let first = on_u(alloc, positive)?;
     let second = on_u(alloc, above_one)?;
-    let one = without_limit(product(alloc, &first, &second, Op::AndNot, &[], u32::MAX))?;
+    let one = without_limit(product(alloc, &first, &second, Op::AndNot, &[], Limit::none()))?;
     Ok(one.result.into_dfa())
 }
 
@@ -124,8 +125,8 @@ fn both_for_some_u(
     ensures { IfOk result (λ some. IsBothForSome direction a.now b.now some) }
 {
     let u = Name::new(alloc, "u")?;
-    let both = without_limit(product(alloc, a, b, Op::And, &[], u32::MAX))?;
-    let some = without_limit(project(alloc, &both.result, &u, direction, u32::MAX))?;
+    let both = without_limit(product(alloc, a, b, Op::And, &[], Limit::none()))?;
+    let some = without_limit(project(alloc, &both.result, &u, direction, Limit::none()))?;
     Ok(some.result)
 }
 

@@ -14,6 +14,7 @@ use crate::pairs::compared;
 use digit_tuple::dfa::Dfa;
 use digit_tuple::direction::Direction;
 use digit_tuple::faults::OpFault;
+use digit_tuple::limit::Limit;
 use digit_tuple::stepped::Stepped;
 use std::alloc::Global;
 use std::cmp::Ordering;
@@ -30,7 +31,7 @@ pub fn order_of(
     alloc: Global,
     language: &Dfa,
     direction: Direction,
-    limit: u32,
+    limit: Limit<'_>,
 ) -> Result<Stepped<Dfa>, OpFault>
     requires track { length language.now.sizes ≡ 1 }
     requires canonical { IsCanonical language.now }
@@ -39,10 +40,10 @@ pub fn order_of(
     ensures canonical { IfOk result (λ stepped. IsCanonical stepped.result) }
     ensures width { IfOk result (λ stepped. HasWidth (OrderAlike direction language.now) (pair_letters language.now) stepped.width) }
     ensures size { IfOk result (λ stepped. states_of stepped.result ≤ stepped.width) }
-    ensures within { IfOk result (λ stepped. stepped.width ≤ limit) }
+    ensures within { IfOk result (λ stepped. stepped.width ≤ limit.entry.most) }
     ensures fits { OnOk result (IsAlphabet (pair_sizes language.now)) }
     ensures letters { IsErrOf result OpFault.Letters ↔ IsTooLarge (pair_sizes language.now) }
-    ensures states { IsErrOf result OpFault.States → HasApart (OrderAlike direction language.now) (pair_letters language.now) (limit + 1) }
+    ensures states { IsErrOf result OpFault.States → HasApart (OrderAlike direction language.now) (pair_letters language.now) (limit.entry.most + 1) }
     ensures letters_first { IsErrOf result OpFault.States → IsAlphabet (pair_sizes language.now) }
 {
     compared(alloc, language, direction, Ordering::Less, limit)
@@ -53,7 +54,7 @@ pub fn equality_of(
     alloc: Global,
     language: &Dfa,
     direction: Direction,
-    limit: u32,
+    limit: Limit<'_>,
 ) -> Result<Stepped<Dfa>, OpFault>
     requires track { length language.now.sizes ≡ 1 }
     requires canonical { IsCanonical language.now }
@@ -62,10 +63,10 @@ pub fn equality_of(
     ensures canonical { IfOk result (λ stepped. IsCanonical stepped.result) }
     ensures width { IfOk result (λ stepped. HasWidth (OrderAlike direction language.now) (pair_letters language.now) stepped.width) }
     ensures size { IfOk result (λ stepped. states_of stepped.result ≤ stepped.width) }
-    ensures within { IfOk result (λ stepped. stepped.width ≤ limit) }
+    ensures within { IfOk result (λ stepped. stepped.width ≤ limit.entry.most) }
     ensures fits { OnOk result (IsAlphabet (pair_sizes language.now)) }
     ensures letters { IsErrOf result OpFault.Letters ↔ IsTooLarge (pair_sizes language.now) }
-    ensures states { IsErrOf result OpFault.States → HasApart (OrderAlike direction language.now) (pair_letters language.now) (limit + 1) }
+    ensures states { IsErrOf result OpFault.States → HasApart (OrderAlike direction language.now) (pair_letters language.now) (limit.entry.most + 1) }
     ensures letters_first { IsErrOf result OpFault.States → IsAlphabet (pair_sizes language.now) }
 {
     compared(alloc, language, direction, Ordering::Equal, limit)

@@ -19,6 +19,7 @@ use digit_tuple::direction::Direction;
 use digit_tuple::faults::{OpFault, OutOfMemory};
 use digit_tuple::key_graph::KeyGraph;
 use digit_tuple::key_transitions::KeyTransitions;
+use digit_tuple::limit::Limit;
 use digit_tuple::stepped::Stepped;
 use minimise::canonical_exploration::explore_canonical;
 use minimise::sink::{initial_state, is_accepting, next_state};
@@ -159,7 +160,7 @@ pub fn compared(
     language: &Dfa,
     direction: Direction,
     wanted: Ordering,
-    limit: u32,
+    limit: Limit<'_>,
 ) -> Result<Stepped<Dfa>, OpFault>
     requires track { length language.now.sizes ≡ 1 }
     requires canonical { IsCanonical language.now }
@@ -168,10 +169,10 @@ pub fn compared(
     ensures canonical { IfOk result (λ stepped. IsCanonical stepped.result) }
     ensures width { IfOk result (λ stepped. HasWidth (OrderAlike direction language.now) (pair_letters language.now) stepped.width) }
     ensures size { IfOk result (λ stepped. states_of stepped.result ≤ stepped.width) }
-    ensures within { IfOk result (λ stepped. stepped.width ≤ limit) }
+    ensures within { IfOk result (λ stepped. stepped.width ≤ limit.entry.most) }
     ensures fits { OnOk result (IsAlphabet (pair_sizes language.now)) }
     ensures letters { IsErrOf result OpFault.Letters ↔ IsTooLarge (pair_sizes language.now) }
-    ensures states { IsErrOf result OpFault.States → HasApart (OrderAlike direction language.now) (pair_letters language.now) (limit + 1) }
+    ensures states { IsErrOf result OpFault.States → HasApart (OrderAlike direction language.now) (pair_letters language.now) (limit.entry.most + 1) }
     ensures letters_first { IsErrOf result OpFault.States → IsAlphabet (pair_sizes language.now) }
 {
     let digits = language.alphabet().size(0);

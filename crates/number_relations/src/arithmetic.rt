@@ -10,6 +10,7 @@ ghost use Rattle.number_relations.specs.Comparisons.{IsAnyNumber, IsComparison, 
 use crate::relation::Relation;
 use digit_tuple::dfa::Dfa;
 use digit_tuple::faults::OutOfMemory;
+use digit_tuple::limit::Limit;
 use digit_tuple::name::Name;
 use minimise::tracked::Tracked;
 use num_system::comparison::Comparison;
@@ -147,7 +148,7 @@ fn other_pairs(alloc: Global, system: &Rc<System>, dfa: &Dfa) -> Result<Dfa, Out
     let second = language.clone()?;
     let languages = vec![in alloc; first, second]?;
     let pairs = named_pairs(alloc, dfa)?;
-    match complement_in(alloc, &pairs, &languages, u32::MAX) {
+    match complement_in(alloc, &pairs, &languages, Limit::none()) {
         Ok(stepped) => Ok(stepped.result.into_dfa()),
         Err(_) => Err(OutOfMemory),
     }

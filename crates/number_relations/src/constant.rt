@@ -38,7 +38,7 @@ pub fn constant_step(
     let direction = sealed.direction();
     let language = sealed.language().as_ref();
     let _ = language.alphabet().tracks();
-    match constant(alloc, language, direction, number, steps.limit()) {
+    match constant(alloc, language, direction, number, steps.begin(Kind::Const)) {
         Ok(Stepped { result, width }) => {
             steps.done(Kind::Const, width, result.states())?;
             Ok(Relation::from_parts(Tracked::of_canonical(result, names), systems))

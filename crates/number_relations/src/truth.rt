@@ -10,6 +10,7 @@ ghost use Rattle.number_relations.specs.Comparisons.{IsTruth};
 use crate::relation::Relation;
 use digit_tuple::alphabet::Alphabet;
 use digit_tuple::faults::OutOfMemory;
+use digit_tuple::limit::Limit;
 use digit_tuple::no_words::no_words;
 use minimise::tracked::Tracked;
 use product_op::validity::complement_in;
@@ -36,7 +37,7 @@ fn sentence(alloc: Global, holds: bool) -> Result<Tracked, OutOfMemory>
     if !holds {
         return Ok(none);
     }
-    match complement_in(alloc, &none, &[], u32::MAX) {
+    match complement_in(alloc, &none, &[], Limit::none()) {
         Ok(stepped) => Ok(stepped.result),
         Err(_) => Err(OutOfMemory),
     }

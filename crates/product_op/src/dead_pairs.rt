@@ -13,6 +13,7 @@ use crate::dead_exits::dead_exits;
 use crate::live_pairs::LivePairs;
 use crate::next_row::{next_rows, next_states_by};
 use digit_tuple::faults::OpFault;
+use digit_tuple::limit::Limit;
 use digit_tuple::numbering::Numbering;
 use digit_tuple::transitions::Transition;
 use std::alloc::Global;
@@ -23,15 +24,15 @@ pub fn add_dead_pairs(
     alloc: Global,
     graph: &LivePairs<'_>,
     keys: &mut Numbering,
-    limit: u32,
+    limit: Limit<'_>,
 ) -> Result<(), OpFault>
     requires pair { ArePair graph.now.letters graph.now.op (readings_in graph.now.readers.now) }
     requires tables { graph.now.tables.now ≡ automata_in (readings_in graph.now.readers.now) }
     requires live { HoldLive graph.now.letters graph.now.op (readings_in graph.now.readers.now) keys.old }
-    requires few { length keys.old ≤ limit }
+    requires few { length keys.old ≤ limit.most }
     ensures width { OnOk result (HasWidth (LeadToOne (readings_in graph.now.readers.now)) graph.now.letters (length keys.new)) }
-    ensures within { OnOk result (length keys.new ≤ limit) }
-    ensures states { IsErrOf result OpFault.States → HasApart (LeadToOne (readings_in graph.now.readers.now)) graph.now.letters (limit + 1) }
+    ensures within { OnOk result (length keys.new ≤ limit.entry.most) }
+    ensures states { IsErrOf result OpFault.States → HasApart (LeadToOne (readings_in graph.now.readers.now)) graph.now.letters (limit.entry.most + 1) }
     ensures no_letters { ¬ IsErrOf result OpFault.Letters }
 {
     let mut row = Vec::new(alloc);
@@ -52,18 +53,18 @@ fn add_dead_after(
     key: &[u32],
     row: &mut Vec<Transition>,
     keys: &mut Numbering,
-    limit: u32,
+    limit: Limit<'_>,
 ) -> Result<(), OpFault>
     requires pair { ArePair graph.now.letters graph.now.op (readings_in graph.now.readers.now) }
     requires tables { graph.now.tables.now ≡ automata_in (readings_in graph.now.readers.now) }
     requires live { HoldLive graph.now.letters graph.now.op (readings_in graph.now.readers.now) keys.old }
-    requires few { length keys.old ≤ limit }
+    requires few { length keys.old ≤ limit.most }
     requires key { Contains keys.old key.now }
     ensures live { OnOk result (HoldLive graph.now.letters graph.now.op (readings_in graph.now.readers.now) keys.new) }
     ensures begins { OnOk result (BeginsWith keys.old keys.new) }
     ensures after { OnOk result (HoldAfter graph.now.letters (readings_in graph.now.readers.now) key.now keys.new) }
-    ensures few { OnOk result (length keys.new ≤ limit) }
-    ensures states { IsErrOf result OpFault.States → HasApart (LeadToOne (readings_in graph.now.readers.now)) graph.now.letters (limit + 1) }
+    ensures few { OnOk result (length keys.new ≤ limit.entry.most) }
+    ensures states { IsErrOf result OpFault.States → HasApart (LeadToOne (readings_in graph.now.readers.now)) graph.now.letters (limit.entry.most + 1) }
     ensures no_letters { ¬ IsErrOf result OpFault.Letters }
 {
     let alloc = *row.allocator();
@@ -83,24 +84,24 @@ fn add_if_dead(
     graph: &LivePairs<'_>,
     pair: &[u32],
     keys: &mut Numbering,
-    limit: u32,
+    limit: Limit<'_>,
 ) -> Result<(), OpFault>
     requires pair { ArePair graph.now.letters graph.now.op (readings_in graph.now.readers.now) }
     requires live { HoldLive graph.now.letters graph.now.op (readings_in graph.now.readers.now) keys.old }
-    requires few { length keys.old ≤ limit }
+    requires few { length keys.old ≤ limit.most }
     requires after { IsAfter graph.now.letters (readings_in graph.now.readers.now) keys.old pair.now }
     ensures live { OnOk result (HoldLive graph.now.letters graph.now.op (readings_in graph.now.readers.now) keys.new) }
     ensures begins { OnOk result (BeginsWith keys.old keys.new) }
     ensures there { OnOk result (is_dead_pair graph.now.op (readings_in graph.now.readers.now) pair.now ≡ true → Contains keys.new pair.now) }
-    ensures few { OnOk result (length keys.new ≤ limit) }
-    ensures states { IsErrOf result OpFault.States → HasApart (LeadToOne (readings_in graph.now.readers.now)) graph.now.letters (limit + 1) }
+    ensures few { OnOk result (length keys.new ≤ limit.entry.most) }
+    ensures states { IsErrOf result OpFault.States → HasApart (LeadToOne (readings_in graph.now.readers.now)) graph.now.letters (limit.entry.most + 1) }
     ensures no_letters { ¬ IsErrOf result OpFault.Letters }
 {
     if !graph.is_dead(pair) {
         return Ok(());
     }
     keys.number_of(pair)?;
-    if keys.len() > limit as usize {
+    if keys.len() > limit.most as usize {
         return Err(OpFault::States);
     }
     Ok(())

@@ -18,6 +18,7 @@ use digit_tuple::alphabet::Alphabet;
 use digit_tuple::dfa::Dfa;
 use digit_tuple::exploration::{Explored, explore_keys};
 use digit_tuple::faults::OpFault;
+use digit_tuple::limit::Limit;
 use digit_tuple::stepped::Stepped;
 use minimise::canonical::canonical_of_numbered;
 use std::alloc::Global;
@@ -32,7 +33,7 @@ pub fn pairs_needing_first(
     alloc: Global,
     graph: &LivePairs<'_>,
     alphabet: Alphabet,
-    limit: u32,
+    limit: Limit<'_>,
 ) -> Result<Stepped<Dfa>, OpFault>
     requires pair { ArePair graph.now.letters graph.now.op (readings_in graph.now.readers.now) }
     requires few { AreFewLetters graph.now.letters graph.now.few.now }
@@ -45,8 +46,8 @@ pub fn pairs_needing_first(
         → accepts_of stepped.result w ≡ combined (Both graph.now.op) (flags_of (readings_in graph.now.readers.now) w)) }
     ensures width { IfOk result (λ stepped. HasWidth (LeadToOne (readings_in graph.now.readers.now)) (product alphabet) stepped.width) }
     ensures size { IfOk result (λ stepped. states_of stepped.result ≤ stepped.width) }
-    ensures within { IfOk result (λ stepped. stepped.width ≤ limit) }
-    ensures states { IsErrOf result OpFault.States → HasApart (LeadToOne (readings_in graph.now.readers.now)) (product alphabet) (limit + 1) }
+    ensures within { IfOk result (λ stepped. stepped.width ≤ limit.entry.most) }
+    ensures states { IsErrOf result OpFault.States → HasApart (LeadToOne (readings_in graph.now.readers.now)) (product alphabet) (limit.entry.most + 1) }
     ensures no_letters { ¬ IsErrOf result OpFault.Letters }
 {
     let live = explore_keys(alloc, graph, alphabet, limit)?;

@@ -23,6 +23,7 @@ use crate::rule::Rule;
 use crate::side_by_side::tracked_side_by_side;
 use digit_tuple::dfa::Dfa;
 use digit_tuple::faults::{OpFault, OutOfMemory};
+use digit_tuple::limit::Limit;
 use digit_tuple::stepped::Stepped;
 use minimise::tracked::Tracked;
 use std::alloc::Global;
@@ -49,7 +50,7 @@ pub fn product(
     b: &Tracked,
     op: Op,
     valid: &[Rc<Dfa>],
-    limit: u32,
+    limit: Limit<'_>,
 ) -> Result<Stepped<Tracked>, OpFault>
     requires agree { AgreeOnShared a.now b.now }
     requires languages { IsTrue (among_valid op) → AreLanguages (joint_sizes a.now b.now) (map rc_value valid.now) }
@@ -61,10 +62,10 @@ pub fn product(
         → accepts_of stepped.result.automaton w ≡ in_product op a.now b.now (map rc_value valid.now) w) }
     ensures width { IfOk result (λ stepped. HasWidth (ProductAlike op a.now b.now (map rc_value valid.now)) (letter_count (joint_sizes a.now b.now)) stepped.width) }
     ensures size { IfOk result (λ stepped. states_of stepped.result.automaton ≤ stepped.width) }
-    ensures within { IfOk result (λ stepped. stepped.width ≤ limit) }
+    ensures within { IfOk result (λ stepped. stepped.width ≤ limit.entry.most) }
     ensures fits { OnOk result (IsAlphabet (joint_sizes a.now b.now)) }
     ensures letters { IsErrOf result OpFault.Letters → IsTooLarge (joint_sizes a.now b.now) }
-    ensures states { IsErrOf result OpFault.States → HasApart (ProductAlike op a.now b.now (map rc_value valid.now)) (letter_count (joint_sizes a.now b.now)) (limit + 1) }
+    ensures states { IsErrOf result OpFault.States → HasApart (ProductAlike op a.now b.now (map rc_value valid.now)) (letter_count (joint_sizes a.now b.now)) (limit.entry.most + 1) }
     ensures letters_first { IsErrOf result OpFault.States → IsAlphabet (joint_sizes a.now b.now) }
 {
     let joint = joint_tracks(alloc, a, b)?;

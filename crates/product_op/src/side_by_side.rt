@@ -21,6 +21,7 @@ use crate::rule::Rule;
 use digit_tuple::alphabet::Alphabet;
 use digit_tuple::dfa::Dfa;
 use digit_tuple::faults::OpFault;
+use digit_tuple::limit::Limit;
 use digit_tuple::name::Name;
 use digit_tuple::no_words::no_words_within;
 use digit_tuple::stepped::Stepped;
@@ -38,7 +39,7 @@ pub fn tracked_side_by_side(
     names: Vec<Name>,
     readers: &[Reader<'_>],
     rule: Rule,
-    limit: u32,
+    limit: Limit<'_>,
 ) -> Result<Stepped<Tracked>, OpFault>
     requires readers { AreSideBySide (product alphabet) (readings_in readers.now) rule }
     requires canonical { AreCanonical (readings_in readers.now) }
@@ -51,8 +52,8 @@ pub fn tracked_side_by_side(
         → accepts_of stepped.result.automaton w ≡ combined rule (flags_of (readings_in readers.now) w)) }
     ensures width { IfOk result (λ stepped. HasWidth (AreAlike (readings_in readers.now)) (product alphabet) stepped.width) }
     ensures size { IfOk result (λ stepped. states_of stepped.result.automaton ≤ stepped.width) }
-    ensures within { IfOk result (λ stepped. stepped.width ≤ limit) }
-    ensures states { IsErrOf result OpFault.States → HasApart (AreAlike (readings_in readers.now)) (product alphabet) (limit + 1) }
+    ensures within { IfOk result (λ stepped. stepped.width ≤ limit.entry.most) }
+    ensures states { IsErrOf result OpFault.States → HasApart (AreAlike (readings_in readers.now)) (product alphabet) (limit.entry.most + 1) }
     ensures no_letters { ¬ IsErrOf result OpFault.Letters }
 {
     let explored = combined_side_by_side(alloc, alphabet, readers, rule, limit)?;
@@ -68,7 +69,7 @@ fn combined_side_by_side(
     alphabet: Alphabet,
     readers: &[Reader<'_>],
     rule: Rule,
-    limit: u32,
+    limit: Limit<'_>,
 ) -> Result<Stepped<Dfa>, OpFault>
     requires readers { AreSideBySide (product alphabet) (readings_in readers.now) rule }
     requires canonical { AreCanonical (readings_in readers.now) }
@@ -78,8 +79,8 @@ fn combined_side_by_side(
         → accepts_of stepped.result w ≡ combined rule (flags_of (readings_in readers.now) w)) }
     ensures width { IfOk result (λ stepped. HasWidth (AreAlike (readings_in readers.now)) (product alphabet) stepped.width) }
     ensures size { IfOk result (λ stepped. states_of stepped.result ≤ stepped.width) }
-    ensures within { IfOk result (λ stepped. stepped.width ≤ limit) }
-    ensures states { IsErrOf result OpFault.States → HasApart (AreAlike (readings_in readers.now)) (product alphabet) (limit + 1) }
+    ensures within { IfOk result (λ stepped. stepped.width ≤ limit.entry.most) }
+    ensures states { IsErrOf result OpFault.States → HasApart (AreAlike (readings_in readers.now)) (product alphabet) (limit.entry.most + 1) }
     ensures no_letters { ¬ IsErrOf result OpFault.Letters }
 {
     if let Rule::Both(op) = rule {
@@ -97,7 +98,7 @@ fn pair_by_pair(
     alphabet: Alphabet,
     readers: &[Reader<'_>],
     op: Op,
-    limit: u32,
+    limit: Limit<'_>,
 ) -> Result<Stepped<Dfa>, OpFault>
     requires pair { ArePair (product alphabet) op (readings_in readers.now) }
     requires canonical { AreCanonical (readings_in readers.now) }
@@ -107,8 +108,8 @@ fn pair_by_pair(
         → accepts_of stepped.result w ≡ combined (Both op) (flags_of (readings_in readers.now) w)) }
     ensures width { IfOk result (λ stepped. HasWidth (AreAlike (readings_in readers.now)) (product alphabet) stepped.width) }
     ensures size { IfOk result (λ stepped. states_of stepped.result ≤ stepped.width) }
-    ensures within { IfOk result (λ stepped. stepped.width ≤ limit) }
-    ensures states { IsErrOf result OpFault.States → HasApart (AreAlike (readings_in readers.now)) (product alphabet) (limit + 1) }
+    ensures within { IfOk result (λ stepped. stepped.width ≤ limit.entry.most) }
+    ensures states { IsErrOf result OpFault.States → HasApart (AreAlike (readings_in readers.now)) (product alphabet) (limit.entry.most + 1) }
     ensures no_letters { ¬ IsErrOf result OpFault.Letters }
 {
     let letters = alphabet.letters();
@@ -134,7 +135,7 @@ fn side_by_side(
     alphabet: Alphabet,
     readers: &[Reader<'_>],
     rule: Rule,
-    limit: u32,
+    limit: Limit<'_>,
 ) -> Result<Stepped<Dfa>, OpFault>
     requires readers { AreSideBySide (product alphabet) (readings_in readers.now) rule }
     requires canonical { AreCanonical (readings_in readers.now) }
@@ -144,8 +145,8 @@ fn side_by_side(
         → accepts_of stepped.result w ≡ combined rule (flags_of (readings_in readers.now) w)) }
     ensures width { IfOk result (λ stepped. HasWidth (AreAlike (readings_in readers.now)) (product alphabet) stepped.width) }
     ensures size { IfOk result (λ stepped. states_of stepped.result ≤ stepped.width) }
-    ensures within { IfOk result (λ stepped. stepped.width ≤ limit) }
-    ensures states { IsErrOf result OpFault.States → HasApart (AreAlike (readings_in readers.now)) (product alphabet) (limit + 1) }
+    ensures within { IfOk result (λ stepped. stepped.width ≤ limit.entry.most) }
+    ensures states { IsErrOf result OpFault.States → HasApart (AreAlike (readings_in readers.now)) (product alphabet) (limit.entry.most + 1) }
     ensures no_letters { ¬ IsErrOf result OpFault.Letters }
 {
     let letters = alphabet.letters();

@@ -17,6 +17,7 @@ use crate::rule::Rule;
 use digit_tuple::alphabet::Alphabet;
 use digit_tuple::exploration::{Explored, explore_keys};
 use digit_tuple::faults::{OpFault, OutOfMemory};
+use digit_tuple::limit::Limit;
 use digit_tuple::no_words::no_words_within;
 use digit_tuple::numbering::Numbering;
 use digit_tuple::stepped::Stepped;
@@ -32,7 +33,7 @@ pub fn explore_tuples(
     alloc: Global,
     alphabet: Alphabet,
     readers: &[Reader<'_>],
-    limit: u32,
+    limit: Limit<'_>,
 ) -> Result<Stepped<Explored>, OpFault>
     requires { AreReadings (product alphabet) (readings_in readers.now) }
     ensures sizes { IfOk result (λ stepped. stepped.result.dfa.sizes ≡ alphabet) }
@@ -40,8 +41,8 @@ pub fn explore_tuples(
     ensures numbered { IfOk result (λ stepped. (firsts : List (List ℕ)) × IsNumberedByFirsts stepped.result.dfa firsts) }
     ensures width { IfOk result (λ stepped. HasWidth (LeadToOne (readings_in readers.now)) (product alphabet) stepped.width) }
     ensures size { IfOk result (λ stepped. states_of stepped.result.dfa ≤ stepped.width) }
-    ensures within { IfOk result (λ stepped. stepped.width ≤ limit) }
-    ensures states { IsErrOf result OpFault.States → HasApart (LeadToOne (readings_in readers.now)) (product alphabet) (limit + 1) }
+    ensures within { IfOk result (λ stepped. stepped.width ≤ limit.entry.most) }
+    ensures states { IsErrOf result OpFault.States → HasApart (LeadToOne (readings_in readers.now)) (product alphabet) (limit.entry.most + 1) }
     ensures no_letters { ¬ IsErrOf result OpFault.Letters }
 {
     let letters = alphabet.letters();
@@ -67,13 +68,13 @@ fn explore_none(
     alloc: Global,
     alphabet: Alphabet,
     first: &[u32],
-    limit: u32,
+    limit: Limit<'_>,
 ) -> Result<Stepped<Explored>, OpFault>
     ensures only { IfOk result (λ stepped. stepped.result.dfa ≡ bare_automaton alphabet) }
     ensures keys { IfOk result (λ stepped. stepped.result.keys ≡ first.now ∷ []) }
     ensures width { IfOk result (λ stepped. stepped.width ≡ 1) }
-    ensures within { IfOk result (λ stepped. stepped.width ≤ limit) }
-    ensures states { IsErrOf result OpFault.States → limit ≡ 0 }
+    ensures within { IfOk result (λ stepped. stepped.width ≤ limit.entry.most) }
+    ensures states { IsErrOf result OpFault.States → limit.entry.most ≡ 0 }
     ensures no_letters { ¬ IsErrOf result OpFault.Letters }
 {
     let Stepped { result, width } = no_words_within(alloc, alphabet, limit)?;

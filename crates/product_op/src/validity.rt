@@ -19,6 +19,7 @@ use crate::side_by_side::tracked_side_by_side;
 use digit_tuple::alphabet::Alphabet;
 use digit_tuple::dfa::Dfa;
 use digit_tuple::faults::{OpFault, OutOfMemory};
+use digit_tuple::limit::Limit;
 use digit_tuple::name::Name;
 use digit_tuple::stepped::Stepped;
 use minimise::tracked::Tracked;
@@ -38,7 +39,7 @@ pub fn complement_in(
     alloc: Global,
     a: &Tracked,
     valid: &[Rc<Dfa>],
-    limit: u32,
+    limit: Limit<'_>,
 ) -> Result<Stepped<Tracked>, OpFault>
     requires { AreLanguages a.now.automaton.sizes (map rc_value valid.now) }
     ensures names { IfOk result (λ stepped. stepped.result.names ≡ a.now.names) }
@@ -48,8 +49,8 @@ pub fn complement_in(
         → accepts_of stepped.result.automaton w ≡ in_complement a.now (map rc_value valid.now) w) }
     ensures width { IfOk result (λ stepped. HasWidth (ValidityAlike a.now (map rc_value valid.now)) (letters_of a.now.automaton) stepped.width) }
     ensures size { IfOk result (λ stepped. states_of stepped.result.automaton ≤ stepped.width) }
-    ensures within { IfOk result (λ stepped. stepped.width ≤ limit) }
-    ensures states { IsErrOf result OpFault.States → HasApart (ValidityAlike a.now (map rc_value valid.now)) (letters_of a.now.automaton) (limit + 1) }
+    ensures within { IfOk result (λ stepped. stepped.width ≤ limit.entry.most) }
+    ensures states { IsErrOf result OpFault.States → HasApart (ValidityAlike a.now (map rc_value valid.now)) (letters_of a.now.automaton) (limit.entry.most + 1) }
     ensures no_letters { ¬ IsErrOf result OpFault.Letters }
 {
     among_valid(alloc, a, valid, Rule::NotFirst, limit)
@@ -61,7 +62,7 @@ pub fn valid_part(
     alloc: Global,
     a: &Tracked,
     valid: &[Rc<Dfa>],
-    limit: u32,
+    limit: Limit<'_>,
 ) -> Result<Stepped<Tracked>, OpFault>
     requires { AreLanguages a.now.automaton.sizes (map rc_value valid.now) }
     ensures names { IfOk result (λ stepped. stepped.result.names ≡ a.now.names) }
@@ -71,8 +72,8 @@ pub fn valid_part(
         → accepts_of stepped.result.automaton w ≡ in_valid_part a.now (map rc_value valid.now) w) }
     ensures width { IfOk result (λ stepped. HasWidth (ValidityAlike a.now (map rc_value valid.now)) (letters_of a.now.automaton) stepped.width) }
     ensures size { IfOk result (λ stepped. states_of stepped.result.automaton ≤ stepped.width) }
-    ensures within { IfOk result (λ stepped. stepped.width ≤ limit) }
-    ensures states { IsErrOf result OpFault.States → HasApart (ValidityAlike a.now (map rc_value valid.now)) (letters_of a.now.automaton) (limit + 1) }
+    ensures within { IfOk result (λ stepped. stepped.width ≤ limit.entry.most) }
+    ensures states { IsErrOf result OpFault.States → HasApart (ValidityAlike a.now (map rc_value valid.now)) (letters_of a.now.automaton) (limit.entry.most + 1) }
     ensures no_letters { ¬ IsErrOf result OpFault.Letters }
 {
     among_valid(alloc, a, valid, Rule::All, limit)
@@ -84,7 +85,7 @@ fn among_valid(
     a: &Tracked,
     valid: &[Rc<Dfa>],
     rule: Rule,
-    limit: u32,
+    limit: Limit<'_>,
 ) -> Result<Stepped<Tracked>, OpFault>
     requires languages { AreLanguages a.now.automaton.sizes (map rc_value valid.now) }
     requires enough { arguments_of rule ≤ 1 }
@@ -95,8 +96,8 @@ fn among_valid(
         → accepts_of stepped.result.automaton w ≡ combined rule (flags_of (validity_readings a.now.automaton (map rc_value valid.now)) w)) }
     ensures width { IfOk result (λ stepped. HasWidth (ValidityAlike a.now (map rc_value valid.now)) (letters_of a.now.automaton) stepped.width) }
     ensures size { IfOk result (λ stepped. states_of stepped.result.automaton ≤ stepped.width) }
-    ensures within { IfOk result (λ stepped. stepped.width ≤ limit) }
-    ensures states { IsErrOf result OpFault.States → HasApart (ValidityAlike a.now (map rc_value valid.now)) (letters_of a.now.automaton) (limit + 1) }
+    ensures within { IfOk result (λ stepped. stepped.width ≤ limit.entry.most) }
+    ensures states { IsErrOf result OpFault.States → HasApart (ValidityAlike a.now (map rc_value valid.now)) (letters_of a.now.automaton) (limit.entry.most + 1) }
     ensures no_letters { ¬ IsErrOf result OpFault.Letters }
 {
     let names = copied_names(alloc, a.names())?;

@@ -16,6 +16,7 @@ use determinise::subset_exploration::explore_subsets;
 use digit_tuple::alphabet::Alphabet;
 use digit_tuple::dfa::Dfa;
 use digit_tuple::faults::OpFault;
+use digit_tuple::limit::Limit;
 use digit_tuple::stepped::Stepped;
 use minimise::canonical::canonical_of_numbered;
 use std::alloc::Global;
@@ -28,7 +29,7 @@ pub fn canonical_sets(
     alloc: Global,
     reading: Reading,
     alphabet: Alphabet,
-    limit: u32,
+    limit: Limit<'_>,
 ) -> Result<Stepped<Dfa>, OpFault>
     requires first { IsStateSet reading.image reading.first.items }
     requires letters { branching.letters_of reading.image ≡ product alphabet }
@@ -38,8 +39,8 @@ pub fn canonical_sets(
         → accepts_of stepped.result w ≡ key_accepts (set_after reading.image) (has_accepting reading.image) reading.first.items w) }
     ensures width { IfOk result (λ stepped. HasWidth (LeadAlike (set_after reading.image) reading.first.items) (product alphabet) stepped.width) }
     ensures size { IfOk result (λ stepped. states_of stepped.result ≤ stepped.width) }
-    ensures within { IfOk result (λ stepped. stepped.width ≤ limit) }
-    ensures states { IsErrOf result OpFault.States → HasApart (LeadAlike (set_after reading.image) reading.first.items) (product alphabet) (limit + 1) }
+    ensures within { IfOk result (λ stepped. stepped.width ≤ limit.entry.most) }
+    ensures states { IsErrOf result OpFault.States → HasApart (LeadAlike (set_after reading.image) reading.first.items) (product alphabet) (limit.entry.most + 1) }
     ensures no_letters { ¬ IsErrOf result OpFault.Letters }
 {
     let explored = explored_sets(alloc, reading, alphabet, limit)?;
@@ -53,7 +54,7 @@ fn explored_sets(
     alloc: Global,
     reading: Reading,
     alphabet: Alphabet,
-    limit: u32,
+    limit: Limit<'_>,
 ) -> Result<Stepped<Dfa>, OpFault>
     requires first { IsStateSet reading.image reading.first.items }
     requires letters { branching.letters_of reading.image ≡ product alphabet }
@@ -62,8 +63,8 @@ fn explored_sets(
     ensures language { IfOk result (λ stepped. (w : List ℕ) → IsWord (product alphabet) w
         → accepts_of stepped.result w ≡ key_accepts (set_after reading.image) (has_accepting reading.image) reading.first.items w) }
     ensures width { IfOk result (λ stepped. HasWidth (LeadAlike (set_after reading.image) reading.first.items) (product alphabet) stepped.width) }
-    ensures within { IfOk result (λ stepped. stepped.width ≤ limit) }
-    ensures states { IsErrOf result OpFault.States → HasApart (LeadAlike (set_after reading.image) reading.first.items) (product alphabet) (limit + 1) }
+    ensures within { IfOk result (λ stepped. stepped.width ≤ limit.entry.most) }
+    ensures states { IsErrOf result OpFault.States → HasApart (LeadAlike (set_after reading.image) reading.first.items) (product alphabet) (limit.entry.most + 1) }
     ensures no_letters { ¬ IsErrOf result OpFault.Letters }
 {
     explore_subsets(alloc, &reading.image, &reading.first, alphabet, limit)

@@ -13,6 +13,7 @@ use crate::padding_msd::pad_msd;
 use digit_tuple::dfa::Dfa;
 use digit_tuple::direction::Direction;
 use digit_tuple::faults::OpFault;
+use digit_tuple::limit::Limit;
 use digit_tuple::stepped::Stepped;
 use std::alloc::Global;
 
@@ -33,7 +34,7 @@ pub fn pad(
     alloc: Global,
     a: &Dfa,
     direction: Direction,
-    limit: u32,
+    limit: Limit<'_>,
 ) -> Result<Stepped<Dfa>, OpFault>
     requires { IsCanonical a.now }
     ensures sizes { IfOk result (λ stepped. stepped.result.sizes ≡ a.now.sizes) }
@@ -42,8 +43,8 @@ pub fn pad(
         → IsTrue (accepts_of stepped.result w) ↔ IsPadded direction a.now w) }
     ensures width { IfOk result (λ stepped. HasWidth (PaddedAlike direction a.now) (letters_of a.now) stepped.width) }
     ensures size { IfOk result (λ stepped. states_of stepped.result ≤ stepped.width) }
-    ensures within { IfOk result (λ stepped. stepped.width ≤ limit) }
-    ensures states { IsErrOf result OpFault.States → HasApart (PaddedAlike direction a.now) (letters_of a.now) (limit + 1) }
+    ensures within { IfOk result (λ stepped. stepped.width ≤ limit.entry.most) }
+    ensures states { IsErrOf result OpFault.States → HasApart (PaddedAlike direction a.now) (letters_of a.now) (limit.entry.most + 1) }
     ensures no_letters { ¬ IsErrOf result OpFault.Letters }
 {
     match direction {

@@ -19,6 +19,7 @@ use digit_tuple::alphabet::Alphabet;
 use digit_tuple::dfa::Dfa;
 use digit_tuple::exploration::explore;
 use digit_tuple::faults::{OpFault, OutOfMemory};
+use digit_tuple::limit::Limit;
 use digit_tuple::no_words::no_words_within;
 use digit_tuple::reversed::reversed;
 use digit_tuple::stepped::Stepped;
@@ -37,7 +38,7 @@ fn final_flags(alloc: Global, a: &Dfa) -> Result<Vec<bool>, OutOfMemory>
 }
 
 /// The closure under trailing zeros. `pad` says more.
-pub fn pad_lsd(alloc: Global, a: &Dfa, limit: u32) -> Result<Stepped<Dfa>, OpFault>
+pub fn pad_lsd(alloc: Global, a: &Dfa, limit: Limit<'_>) -> Result<Stepped<Dfa>, OpFault>
     requires { IsCanonical a.now }
     ensures sizes { IfOk result (λ stepped. stepped.result.sizes ≡ a.now.sizes) }
     ensures canonical { IfOk result (λ stepped. IsCanonical stepped.result) }
@@ -45,8 +46,8 @@ pub fn pad_lsd(alloc: Global, a: &Dfa, limit: u32) -> Result<Stepped<Dfa>, OpFau
         → IsTrue (accepts_of stepped.result w) ↔ IsPadded Lsd a.now w) }
     ensures width { IfOk result (λ stepped. HasWidth (PaddedAlike Lsd a.now) (letters_of a.now) stepped.width) }
     ensures size { IfOk result (λ stepped. states_of stepped.result ≤ stepped.width) }
-    ensures within { IfOk result (λ stepped. stepped.width ≤ limit) }
-    ensures states { IsErrOf result OpFault.States → HasApart (PaddedAlike Lsd a.now) (letters_of a.now) (limit + 1) }
+    ensures within { IfOk result (λ stepped. stepped.width ≤ limit.entry.most) }
+    ensures states { IsErrOf result OpFault.States → HasApart (PaddedAlike Lsd a.now) (letters_of a.now) (limit.entry.most + 1) }
     ensures no_letters { ¬ IsErrOf result OpFault.Letters }
 {
     let alphabet = a.alphabet().copy(alloc)?;
@@ -78,7 +79,7 @@ fn pad_itself(
     alloc: Global,
     a: &Dfa,
     alphabet: Alphabet,
-    limit: u32,
+    limit: Limit<'_>,
 ) -> Result<Stepped<Dfa>, OpFault>
     requires canonical { IsCanonical a.now }
     requires live { ¬ IsDead a.now 0 }
@@ -90,8 +91,8 @@ fn pad_itself(
         → IsTrue (accepts_of stepped.result w) ↔ IsPadded Lsd a.now w) }
     ensures width { IfOk result (λ stepped. HasWidth (PaddedAlike Lsd a.now) (letters_of a.now) stepped.width) }
     ensures size { IfOk result (λ stepped. states_of stepped.result ≤ stepped.width) }
-    ensures within { IfOk result (λ stepped. stepped.width ≤ limit) }
-    ensures states { IsErrOf result OpFault.States → HasApart (PaddedAlike Lsd a.now) (letters_of a.now) (limit + 1) }
+    ensures within { IfOk result (λ stepped. stepped.width ≤ limit.entry.most) }
+    ensures states { IsErrOf result OpFault.States → HasApart (PaddedAlike Lsd a.now) (letters_of a.now) (limit.entry.most + 1) }
     ensures no_letters { ¬ IsErrOf result OpFault.Letters }
 {
     let pairs = PaddedPairs {
@@ -112,7 +113,7 @@ fn explore_pairs(
     alloc: Global,
     a: &Dfa,
     alphabet: Alphabet,
-    limit: u32,
+    limit: Limit<'_>,
 ) -> Result<Stepped<Dfa>, OpFault>
     requires canonical { IsCanonical a.now }
     requires live { ¬ IsDead a.now 0 }
@@ -123,8 +124,8 @@ fn explore_pairs(
         → IsTrue (accepts_of stepped.result w) ↔ IsPadded Lsd a.now w) }
     ensures width { IfOk result (λ stepped. HasWidth (PaddedAlike Lsd a.now) (letters_of a.now) stepped.width) }
     ensures size { IfOk result (λ stepped. states_of stepped.result ≤ stepped.width) }
-    ensures within { IfOk result (λ stepped. stepped.width ≤ limit) }
-    ensures states { IsErrOf result OpFault.States → HasApart (PaddedAlike Lsd a.now) (letters_of a.now) (limit + 1) }
+    ensures within { IfOk result (λ stepped. stepped.width ≤ limit.entry.most) }
+    ensures states { IsErrOf result OpFault.States → HasApart (PaddedAlike Lsd a.now) (letters_of a.now) (limit.entry.most + 1) }
     ensures no_letters { ¬ IsErrOf result OpFault.Letters }
 {
     let flags = final_flags(alloc, a)?;

@@ -25,6 +25,7 @@ use digit_tuple::dfa::Dfa;
 use digit_tuple::faults::{OpFault, OutOfMemory};
 use digit_tuple::key_graph::KeyGraph;
 use digit_tuple::key_transitions::KeyTransitions;
+use digit_tuple::limit::Limit;
 use digit_tuple::nfa::Nfa;
 use digit_tuple::stepped::Stepped;
 use minimise::canonical_exploration::explore_canonical;
@@ -162,7 +163,7 @@ fn first_set(alloc: Global, a: &Dfa, nfa: &Nfa) -> Result<Vec<u32>, OutOfMemory>
 }
 
 /// The closure under leading zeros. `pad` says more.
-pub fn pad_msd(alloc: Global, a: &Dfa, limit: u32) -> Result<Stepped<Dfa>, OpFault>
+pub fn pad_msd(alloc: Global, a: &Dfa, limit: Limit<'_>) -> Result<Stepped<Dfa>, OpFault>
     requires { IsCanonical a.now }
     ensures sizes { IfOk result (λ stepped. stepped.result.sizes ≡ a.now.sizes) }
     ensures canonical { IfOk result (λ stepped. IsCanonical stepped.result) }
@@ -170,8 +171,8 @@ pub fn pad_msd(alloc: Global, a: &Dfa, limit: u32) -> Result<Stepped<Dfa>, OpFau
         → IsTrue (accepts_of stepped.result w) ↔ IsPadded Msd a.now w) }
     ensures width { IfOk result (λ stepped. HasWidth (PaddedAlike Msd a.now) (letters_of a.now) stepped.width) }
     ensures size { IfOk result (λ stepped. states_of stepped.result ≤ stepped.width) }
-    ensures within { IfOk result (λ stepped. stepped.width ≤ limit) }
-    ensures states { IsErrOf result OpFault.States → HasApart (PaddedAlike Msd a.now) (letters_of a.now) (limit + 1) }
+    ensures within { IfOk result (λ stepped. stepped.width ≤ limit.entry.most) }
+    ensures states { IsErrOf result OpFault.States → HasApart (PaddedAlike Msd a.now) (letters_of a.now) (limit.entry.most + 1) }
     ensures no_letters { ¬ IsErrOf result OpFault.Letters }
 {
     if zeros_stay(a) {
@@ -182,7 +183,7 @@ pub fn pad_msd(alloc: Global, a: &Dfa, limit: u32) -> Result<Stepped<Dfa>, OpFau
 }
 
 // The closure of an automaton at whose initial state zeros need not stay.
-fn explore_sets(alloc: Global, a: &Dfa, limit: u32) -> Result<Stepped<Dfa>, OpFault>
+fn explore_sets(alloc: Global, a: &Dfa, limit: Limit<'_>) -> Result<Stepped<Dfa>, OpFault>
     requires { IsCanonical a.now }
     ensures sizes { IfOk result (λ stepped. stepped.result.sizes ≡ a.now.sizes) }
     ensures canonical { IfOk result (λ stepped. IsCanonical stepped.result) }
@@ -190,8 +191,8 @@ fn explore_sets(alloc: Global, a: &Dfa, limit: u32) -> Result<Stepped<Dfa>, OpFa
         → IsTrue (accepts_of stepped.result w) ↔ IsPadded Msd a.now w) }
     ensures width { IfOk result (λ stepped. HasWidth (PaddedAlike Msd a.now) (letters_of a.now) stepped.width) }
     ensures size { IfOk result (λ stepped. states_of stepped.result ≤ stepped.width) }
-    ensures within { IfOk result (λ stepped. stepped.width ≤ limit) }
-    ensures states { IsErrOf result OpFault.States → HasApart (PaddedAlike Msd a.now) (letters_of a.now) (limit + 1) }
+    ensures within { IfOk result (λ stepped. stepped.width ≤ limit.entry.most) }
+    ensures states { IsErrOf result OpFault.States → HasApart (PaddedAlike Msd a.now) (letters_of a.now) (limit.entry.most + 1) }
     ensures no_letters { ¬ IsErrOf result OpFault.Letters }
 {
     let nfa = same_branching(alloc, a)?;

@@ -22,6 +22,7 @@ use digit_tuple::alphabet::Alphabet;
 use digit_tuple::dfa::Dfa;
 use digit_tuple::direction::Direction;
 use digit_tuple::faults::OpFault;
+use digit_tuple::limit::Limit;
 use digit_tuple::name::Name;
 use digit_tuple::names::{names_without, places_in};
 use digit_tuple::no_words::no_words_within;
@@ -49,7 +50,7 @@ pub fn project(
     a: &Tracked,
     track: &Name,
     direction: Direction,
-    limit: u32,
+    limit: Limit<'_>,
 ) -> Result<Stepped<Tracked>, OpFault>
     requires there { Contains a.now.names track.now }
     ensures names { IfOk result (λ stepped. stepped.result.names ≡ names_without_of a.now.names track.now) }
@@ -60,11 +61,11 @@ pub fn project(
     ensures width { IfOk result (λ stepped.
         HasWidth (ProjectionAlike a.now.automaton (staying_places a.now track.now) direction) (product (staying_sizes a.now track.now)) stepped.width) }
     ensures size { IfOk result (λ stepped. states_of stepped.result.automaton ≤ stepped.width) }
-    ensures within { IfOk result (λ stepped. stepped.width ≤ limit) }
+    ensures within { IfOk result (λ stepped. stepped.width ≤ limit.entry.most) }
     ensures fits { OnOk result (IsAlphabet (staying_sizes a.now track.now)) }
     ensures letters { IsErrOf result OpFault.Letters → IsTooLarge (staying_sizes a.now track.now) }
     ensures states { IsErrOf result OpFault.States
-        → HasApart (ProjectionAlike a.now.automaton (staying_places a.now track.now) direction) (product (staying_sizes a.now track.now)) (limit + 1) }
+        → HasApart (ProjectionAlike a.now.automaton (staying_places a.now track.now) direction) (product (staying_sizes a.now track.now)) (limit.entry.most + 1) }
     ensures letters_first { IsErrOf result OpFault.States → IsAlphabet (staying_sizes a.now track.now) }
 {
     let StayingTracks {
@@ -117,7 +118,7 @@ fn projected(
     places: &[u32],
     alphabet: Alphabet,
     direction: Direction,
-    limit: u32,
+    limit: Limit<'_>,
 ) -> Result<Stepped<Dfa>, OpFault>
     requires canonical { IsCanonical d.now }
     requires places { All (λ place. place < length d.now.sizes) places.now }
@@ -128,8 +129,8 @@ fn projected(
         → IsTrue (accepts_of stepped.result w) ↔ InProjection d.now places.now direction w) }
     ensures width { IfOk result (λ stepped. HasWidth (ProjectionAlike d.now places.now direction) (product alphabet) stepped.width) }
     ensures size { IfOk result (λ stepped. states_of stepped.result ≤ stepped.width) }
-    ensures within { IfOk result (λ stepped. stepped.width ≤ limit) }
-    ensures states { IsErrOf result OpFault.States → HasApart (ProjectionAlike d.now places.now direction) (product alphabet) (limit + 1) }
+    ensures within { IfOk result (λ stepped. stepped.width ≤ limit.entry.most) }
+    ensures states { IsErrOf result OpFault.States → HasApart (ProjectionAlike d.now places.now direction) (product alphabet) (limit.entry.most + 1) }
     ensures letters { ¬ IsErrOf result OpFault.Letters }
 {
     if accepts_nothing(d) {
@@ -147,7 +148,7 @@ fn live_projection(
     places: &[u32],
     alphabet: Alphabet,
     direction: Direction,
-    limit: u32,
+    limit: Limit<'_>,
 ) -> Result<Stepped<Dfa>, OpFault>
     requires canonical { IsCanonical d.now }
     requires live { ¬ IsDead d.now 0 }
@@ -159,8 +160,8 @@ fn live_projection(
         → IsTrue (accepts_of stepped.result w) ↔ InProjection d.now places.now direction w) }
     ensures width { IfOk result (λ stepped. HasWidth (ProjectionAlike d.now places.now direction) (product alphabet) stepped.width) }
     ensures size { IfOk result (λ stepped. states_of stepped.result ≤ stepped.width) }
-    ensures within { IfOk result (λ stepped. stepped.width ≤ limit) }
-    ensures states { IsErrOf result OpFault.States → HasApart (ProjectionAlike d.now places.now direction) (product alphabet) (limit + 1) }
+    ensures within { IfOk result (λ stepped. stepped.width ≤ limit.entry.most) }
+    ensures states { IsErrOf result OpFault.States → HasApart (ProjectionAlike d.now places.now direction) (product alphabet) (limit.entry.most + 1) }
     ensures letters { ¬ IsErrOf result OpFault.Letters }
 {
     let reading = reading_on(alloc, d, places, &alphabet, direction)?;

@@ -13,6 +13,7 @@ ghost use Rattle.project_close.specs.ZerosStay.{AreEnds, ZerosStay};
 
 use digit_tuple::dfa::Dfa;
 use digit_tuple::faults::{OpFault, OutOfMemory};
+use digit_tuple::limit::Limit;
 use digit_tuple::stepped::Stepped;
 use digit_tuple::transitions::Transition;
 use std::alloc::Global;
@@ -28,7 +29,7 @@ pub fn zeros_stay(a: &Dfa) -> bool
 
 /// The closure of a canonical automaton under leading zeros, where zeros stay at its initial state: the automaton
 /// itself, of which each transition is looked at once. `pad` says more.
-pub fn pad_itself(alloc: Global, a: &Dfa, limit: u32) -> Result<Stepped<Dfa>, OpFault>
+pub fn pad_itself(alloc: Global, a: &Dfa, limit: Limit<'_>) -> Result<Stepped<Dfa>, OpFault>
     requires canonical { IsCanonical a.now }
     requires stay { ZerosStay a.now }
     ensures sizes { IfOk result (λ stepped. stepped.result.sizes ≡ a.now.sizes) }
@@ -37,15 +38,15 @@ pub fn pad_itself(alloc: Global, a: &Dfa, limit: u32) -> Result<Stepped<Dfa>, Op
         → IsTrue (accepts_of stepped.result w) ↔ IsPadded Msd a.now w) }
     ensures width { IfOk result (λ stepped. HasWidth (PaddedAlike Msd a.now) (letters_of a.now) stepped.width) }
     ensures size { IfOk result (λ stepped. states_of stepped.result ≤ stepped.width) }
-    ensures within { IfOk result (λ stepped. stepped.width ≤ limit) }
-    ensures states { IsErrOf result OpFault.States → HasApart (PaddedAlike Msd a.now) (letters_of a.now) (limit + 1) }
+    ensures within { IfOk result (λ stepped. stepped.width ≤ limit.entry.most) }
+    ensures states { IsErrOf result OpFault.States → HasApart (PaddedAlike Msd a.now) (letters_of a.now) (limit.entry.most + 1) }
     ensures no_letters { ¬ IsErrOf result OpFault.Letters }
 {
     let Ends { returns, gap } = find_ends(alloc, a)?;
     // Words of zeros alone are one kind, the others have one for each state that they lead to, and one
     // where they lead nowhere.
     let width = u64::from(a.states()) + u64::from(returns) + u64::from(gap);
-    if width > u64::from(limit) {
+    if width > u64::from(limit.most) {
         return Err(OpFault::States);
     }
     let result = a.copy(alloc)?;

@@ -23,7 +23,7 @@ use std::alloc::Global;
 pub fn regex_step(alloc: Global, regex: &Regex, steps: &mut Steps) -> Result<Dfa, StepFault>
     ensures { DoesStep (the_step regex.now.sets regex.now.tree) steps.old result steps.new }
 {
-    match build(alloc, regex, steps.limit()) {
+    match build(alloc, regex, steps.begin(Kind::Regex)) {
         Ok(Stepped { result, width }) => {
             steps.done(Kind::Regex, width, result.states())?;
             Ok(result)

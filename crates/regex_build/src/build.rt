@@ -18,6 +18,7 @@ use digit_tuple::alphabet::{MOST_LETTERS, MOST_TRACKS};
 use digit_tuple::dfa::Dfa;
 use digit_tuple::faults::OpFault;
 use digit_tuple::letter_set::LetterSet;
+use digit_tuple::limit::Limit;
 use digit_tuple::stepped::Stepped;
 use minimise::canonical::canonical;
 use std::alloc::Global;
@@ -32,16 +33,16 @@ use std::alloc::Global;
 ///
 /// The automaton of the expression's letters is that of V. M. Glushkov, "The abstract theory of
 /// automata".
-pub fn build(alloc: Global, regex: &Regex, limit: u32) -> Result<Stepped<Dfa>, OpFault>
+pub fn build(alloc: Global, regex: &Regex, limit: Limit<'_>) -> Result<Stepped<Dfa>, OpFault>
     ensures sizes { IfOk result (λ stepped. stepped.result.sizes ≡ sizes_of regex.now.sets) }
     ensures language { IfOk result (λ stepped. (tuples : List (List ℤ)) (word : List ℕ) → Codes regex.now.sets tuples word
         → IsTrue (accepts_of stepped.result word) ↔ Matches regex.now.tree tuples) }
     ensures canonical { IfOk result (λ stepped. IsCanonical stepped.result) }
     ensures width { IfOk result (λ stepped. HasWidth (SameLastMarks (IsLetterOf regex.now.sets) regex.now.tree) (product (sizes_of regex.now.sets)) stepped.width) }
     ensures size { IfOk result (λ stepped. states_of stepped.result ≤ stepped.width) }
-    ensures within { IfOk result (λ stepped. stepped.width ≤ limit) }
+    ensures within { IfOk result (λ stepped. stepped.width ≤ limit.entry.most) }
     ensures letters { IsErrOf result OpFault.Letters ↔ ¬ IsAlphabet (sizes_of regex.now.sets) }
-    ensures states { IsErrOf result OpFault.States → HasApart (SameLastMarks (IsLetterOf regex.now.sets) regex.now.tree) (product (sizes_of regex.now.sets)) (limit + 1) }
+    ensures states { IsErrOf result OpFault.States → HasApart (SameLastMarks (IsLetterOf regex.now.sets) regex.now.tree) (product (sizes_of regex.now.sets)) (limit.entry.most + 1) }
 {
     if !are_alphabet(regex.sets().as_slice()) {
         return Err(OpFault::Letters);

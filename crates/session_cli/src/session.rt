@@ -13,8 +13,10 @@ use command_parts::kept::Kept;
 use command_parts::printed::Printed;
 use command_parts::step_options::StepOptions;
 use digit_tuple::name::Name;
+use monitor::Monitor;
 use std::alloc::Global;
 use std::marker::Model;
+use std::rc::Rc;
 use wal_outside::{Folder, Store, WriteFault};
 
 /// Answers commands, each step of which may have so many values.
@@ -39,6 +41,13 @@ impl Session {
             limit,
             kept: Kept::new(alloc),
         }
+    }
+
+    /// Shows on this monitor which step is being made, while a command works.
+    pub fn show_on(&mut self, monitor: Rc<Monitor>)
+        ensures { self.new ≡ self.old }
+    {
+        self.kept.systems.show_on(monitor);
     }
 
     /// How many kept results were used so far: users' systems that an earlier command admitted, and relations and words that it made
@@ -69,8 +78,9 @@ impl Session {
             limit: self.limit,
             shown,
         };
-        let action = action_of(alloc, options, text, &mut self.kept, store)?;
-        let said = done(action, store)?;
+        let action = action_of(alloc, options, text, &mut self.kept, store);
+        self.kept.systems.clear_monitor();
+        let said = done(action?, store)?;
         *printed = said;
         Ok(())
     }

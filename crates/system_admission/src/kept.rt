@@ -10,6 +10,7 @@ use digit_tuple::direction::Direction;
 use digit_tuple::faults::OutOfMemory;
 use digit_tuple::name::Name;
 use digit_tuple::steps::{StepLine, Steps};
+use monitor::Monitor;
 use num_system::system::System;
 use std::alloc::Global;
 use std::marker::Model;
@@ -38,6 +39,7 @@ struct Entry {
 pub struct KeptSystems {
     entries: Vec<Entry>,
     used: u64,
+    monitor: Option<Rc<Monitor>>,
 }
 
 impl Model for KeptSystems {
@@ -58,6 +60,29 @@ impl KeptSystems {
         KeptSystems {
             entries: Vec::new(alloc),
             used: 0,
+            monitor: None,
+        }
+    }
+
+    /// Shows the steps of the commands that follow on this monitor.
+    pub fn show_on(&mut self, monitor: Rc<Monitor>)
+        ensures { self.new ≡ self.old }
+    {
+        self.monitor = Some(monitor);
+    }
+
+    /// The monitor on which steps are shown, if there is one.
+    pub fn monitor(&self) -> Option<Rc<Monitor>> {
+        match &self.monitor {
+            Some(monitor) => monitor.clone().ok(),
+            None => None,
+        }
+    }
+
+    /// Takes the line of the monitor away, as a command has ended.
+    pub fn clear_monitor(&self) {
+        if let Some(monitor) = &self.monitor {
+            monitor.clear();
         }
     }
 

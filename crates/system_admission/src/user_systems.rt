@@ -52,6 +52,7 @@ impl UserSystems {
             texts: SystemTexts::new(alloc),
             steps: Steps::new(alloc, limit),
         };
+        users.steps.show_on(kept.monitor());
         for name in names {
             if built_in(name.as_bytes()).is_none() {
                 users.admit(alloc, name, kept, store)?;

@@ -13,6 +13,7 @@ use crate::msd_letters::pad_msd;
 use digit_tuple::direction::Direction;
 use digit_tuple::faults::OpFault;
 use digit_tuple::kind::Kind;
+use digit_tuple::limit::Limit;
 use digit_tuple::step_fault::StepFault;
 use digit_tuple::stepped::Stepped;
 use digit_tuple::steps::Steps;
@@ -34,7 +35,7 @@ pub fn pad_letters(
     ensures { DoesStep (letter_pad_step direction function.now) steps.old result steps.new }
 {
     let _ = function.dfa().alphabet().tracks();
-    match padded(alloc, function, direction, steps.limit()) {
+    match padded(alloc, function, direction, steps.begin(Kind::Pad)) {
         Ok(Stepped { result, width }) => {
             steps.done(Kind::Pad, width, result.dfa().states())?;
             Ok(result)
@@ -49,13 +50,13 @@ fn padded(
     alloc: Global,
     function: &LetterFunction,
     direction: Direction,
-    limit: u32,
+    limit: Limit<'_>,
 ) -> Result<Stepped<LetterFunction>, OpFault>
     ensures padding { IfOk result (λ stepped. IsLetterPadding direction function.now stepped.result) }
     ensures width { IfOk result (λ stepped. HasWidth (PaddedLettersAlike direction function.now) (letters_of function.now.automaton) stepped.width) }
     ensures size { IfOk result (λ stepped. states_of stepped.result.automaton ≤ stepped.width) }
-    ensures within { IfOk result (λ stepped. stepped.width ≤ limit) }
-    ensures states { IsErrOf result OpFault.States → HasApart (PaddedLettersAlike direction function.now) (letters_of function.now.automaton) (limit + 1) }
+    ensures within { IfOk result (λ stepped. stepped.width ≤ limit.entry.most) }
+    ensures states { IsErrOf result OpFault.States → HasApart (PaddedLettersAlike direction function.now) (letters_of function.now.automaton) (limit.entry.most + 1) }
 {
     match direction {
         Direction::Msd => pad_msd(alloc, function, limit),

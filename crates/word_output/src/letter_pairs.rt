@@ -16,6 +16,7 @@ use crate::letter_set::compares;
 use digit_tuple::dfa::Dfa;
 use digit_tuple::exploration::Explored;
 use digit_tuple::faults::{OpFault, OutOfMemory};
+use digit_tuple::limit::Limit;
 use digit_tuple::numbering::Numbering;
 use digit_tuple::stepped::Stepped;
 use minimise::canonical::canonical;
@@ -32,7 +33,7 @@ pub(crate) fn compared(
     first: &LetterFunction,
     comparison: Comparison,
     second: &LetterFunction,
-    limit: u32,
+    limit: Limit<'_>,
 ) -> Result<Stepped<Dfa>, OpFault>
     requires { second.now.automaton.sizes ≡ first.now.automaton.sizes }
     ensures sizes { IfOk result (λ stepped. stepped.result.sizes ≡ first.now.automaton.sizes) }
@@ -40,8 +41,8 @@ pub(crate) fn compared(
     ensures language { IfOk result (λ stepped. (w : List ℕ) → IsWord (letters_of first.now.automaton) w
         → IsTrue (accepts_of stepped.result w) ↔ BothCompare comparison (letter_after first.now w) (letter_after second.now w)) }
     ensures width { IfOk result (λ stepped. HasWidth (BothAlike first.now second.now) (letters_of first.now.automaton) stepped.width) }
-    ensures within { IfOk result (λ stepped. stepped.width ≤ limit) }
-    ensures states { IsErrOf result OpFault.States → HasApart (BothAlike first.now second.now) (letters_of first.now.automaton) (limit + 1) }
+    ensures within { IfOk result (λ stepped. stepped.width ≤ limit.entry.most) }
+    ensures states { IsErrOf result OpFault.States → HasApart (BothAlike first.now second.now) (letters_of first.now.automaton) (limit.entry.most + 1) }
     ensures no_letters { ¬ IsErrOf result OpFault.Letters }
 {
     let alphabet = first.dfa().alphabet().copy(alloc)?;

@@ -22,6 +22,7 @@ use digit_tuple::dfa::Dfa;
 use digit_tuple::exploration::Explored;
 use digit_tuple::faults::{OpFault, OutOfMemory};
 use digit_tuple::kind::Kind;
+use digit_tuple::limit::Limit;
 use digit_tuple::numbering::Numbering;
 use digit_tuple::step_fault::StepFault;
 use digit_tuple::stepped::Stepped;
@@ -48,7 +49,7 @@ pub fn read_letters(
     requires given { AreGiven listed.now.header digits.now }
     ensures { DoesStep (letter_read_step (sizes_in listed.now.header digits.now) listed.now) steps.old result steps.new }
 {
-    match listed_states(alloc, listed, digits, steps.limit()) {
+    match listed_states(alloc, listed, digits, steps.begin(Kind::Read)) {
         Ok(Stepped { result, width }) => {
             let Explored { dfa, keys } = result;
             let letters = listed_letters(alloc, &keys, listed.outputs())?;
@@ -67,7 +68,7 @@ fn listed_states(
     alloc: Global,
     listed: &Listed,
     digits: &[u32],
-    limit: u32,
+    limit: Limit<'_>,
 ) -> Result<Stepped<Explored>, OpFault>
     requires states { 0 < length listed.now.outputs }
     requires given { AreGiven listed.now.header digits.now }
@@ -77,8 +78,8 @@ fn listed_states(
     ensures numbered { IfOk result (λ stepped. (firsts : List (List ℕ)) × IsNumberedByFirsts stepped.result.dfa firsts) }
     ensures width { IfOk result (λ stepped. HasWidth (ListedAlike (sizes_in listed.now.header digits.now) listed.now) (product (sizes_in listed.now.header digits.now)) stepped.width) }
     ensures size { IfOk result (λ stepped. states_of stepped.result.dfa ≤ stepped.width) }
-    ensures within { IfOk result (λ stepped. stepped.width ≤ limit) }
-    ensures exceeds { IsErrOf result OpFault.States → ExceedsWidth limit (letter_read_step (sizes_in listed.now.header digits.now) listed.now).step }
+    ensures within { IfOk result (λ stepped. stepped.width ≤ limit.entry.most) }
+    ensures exceeds { IsErrOf result OpFault.States → ExceedsWidth limit.entry.most (letter_read_step (sizes_in listed.now.header digits.now) listed.now).step }
     ensures too_large { IsErrOf result OpFault.Letters → IsTooLarge (sizes_in listed.now.header digits.now) }
 {
     let table = listed.table(alloc, digits)?;
@@ -86,14 +87,14 @@ fn listed_states(
 }
 
 // The automaton whose states are those of a table that words lead to.
-fn table_states(alloc: Global, table: &Dfa, limit: u32) -> Result<Stepped<Explored>, OpFault>
+fn table_states(alloc: Global, table: &Dfa, limit: Limit<'_>) -> Result<Stepped<Explored>, OpFault>
     ensures sizes { IfOk result (λ stepped. stepped.result.dfa.sizes ≡ table.now.sizes) }
     ensures tuples { IfOk result (λ stepped. AreTuples (letters_of table.now) (whole_reading table.now ∷ []) stepped.result.keys stepped.result.dfa) }
     ensures numbered { IfOk result (λ stepped. (firsts : List (List ℕ)) × IsNumberedByFirsts stepped.result.dfa firsts) }
     ensures width { IfOk result (λ stepped. HasWidth (LeadToOne (whole_reading table.now ∷ [])) (letters_of table.now) stepped.width) }
     ensures size { IfOk result (λ stepped. states_of stepped.result.dfa ≤ stepped.width) }
-    ensures within { IfOk result (λ stepped. stepped.width ≤ limit) }
-    ensures states { IsErrOf result OpFault.States → HasApart (LeadToOne (whole_reading table.now ∷ [])) (letters_of table.now) (limit + 1) }
+    ensures within { IfOk result (λ stepped. stepped.width ≤ limit.entry.most) }
+    ensures states { IsErrOf result OpFault.States → HasApart (LeadToOne (whole_reading table.now ∷ [])) (letters_of table.now) (limit.entry.most + 1) }
     ensures no_letters { ¬ IsErrOf result OpFault.Letters }
 {
     let alphabet = table.alphabet().copy(alloc)?;

@@ -13,6 +13,7 @@ use crate::letter_function::LetterFunction;
 use digit_tuple::alphabet::Alphabet;
 use digit_tuple::exploration::{Explored, explore_keys};
 use digit_tuple::faults::OpFault;
+use digit_tuple::limit::Limit;
 use digit_tuple::no_words::no_words_within;
 use digit_tuple::stepped::Stepped;
 use minimise::sink::initial_state;
@@ -23,13 +24,13 @@ use std::alloc::Global;
 pub(crate) fn pad_lsd(
     alloc: Global,
     function: &LetterFunction,
-    limit: u32,
+    limit: Limit<'_>,
 ) -> Result<Stepped<LetterFunction>, OpFault>
     ensures padding { IfOk result (λ stepped. IsLetterPadding Lsd function.now stepped.result) }
     ensures width { IfOk result (λ stepped. HasWidth (PaddedLettersAlike Lsd function.now) (letters_of function.now.automaton) stepped.width) }
     ensures size { IfOk result (λ stepped. states_of stepped.result.automaton ≤ stepped.width) }
-    ensures within { IfOk result (λ stepped. stepped.width ≤ limit) }
-    ensures states { IsErrOf result OpFault.States → HasApart (PaddedLettersAlike Lsd function.now) (letters_of function.now.automaton) (limit + 1) }
+    ensures within { IfOk result (λ stepped. stepped.width ≤ limit.entry.most) }
+    ensures states { IsErrOf result OpFault.States → HasApart (PaddedLettersAlike Lsd function.now) (letters_of function.now.automaton) (limit.entry.most + 1) }
 {
     let dfa = function.dfa();
     let alphabet = dfa.alphabet().copy(alloc)?;
@@ -45,15 +46,15 @@ fn no_letters(
     alloc: Global,
     function: &LetterFunction,
     alphabet: Alphabet,
-    limit: u32,
+    limit: Limit<'_>,
 ) -> Result<Stepped<LetterFunction>, OpFault>
     requires alphabet { alphabet ≡ function.now.automaton.sizes }
     requires none { first_of function.now.automaton ≡ states_of function.now.automaton }
     ensures padding { IfOk result (λ stepped. IsLetterPadding Lsd function.now stepped.result) }
     ensures width { IfOk result (λ stepped. HasWidth (PaddedLettersAlike Lsd function.now) (letters_of function.now.automaton) stepped.width) }
     ensures size { IfOk result (λ stepped. states_of stepped.result.automaton ≤ stepped.width) }
-    ensures within { IfOk result (λ stepped. stepped.width ≤ limit) }
-    ensures states { IsErrOf result OpFault.States → HasApart (PaddedLettersAlike Lsd function.now) (letters_of function.now.automaton) (limit + 1) }
+    ensures within { IfOk result (λ stepped. stepped.width ≤ limit.entry.most) }
+    ensures states { IsErrOf result OpFault.States → HasApart (PaddedLettersAlike Lsd function.now) (letters_of function.now.automaton) (limit.entry.most + 1) }
 {
     let _letters = function.letters();
     let Stepped { result, width } = no_words_within(alloc, alphabet, limit)?;
@@ -67,15 +68,15 @@ fn explore_pairs(
     alloc: Global,
     function: &LetterFunction,
     alphabet: Alphabet,
-    limit: u32,
+    limit: Limit<'_>,
 ) -> Result<Stepped<LetterFunction>, OpFault>
     requires alphabet { alphabet ≡ function.now.automaton.sizes }
     requires some { first_of function.now.automaton ≢ states_of function.now.automaton }
     ensures padding { IfOk result (λ stepped. IsLetterPadding Lsd function.now stepped.result) }
     ensures width { IfOk result (λ stepped. HasWidth (PaddedLettersAlike Lsd function.now) (letters_of function.now.automaton) stepped.width) }
     ensures size { IfOk result (λ stepped. states_of stepped.result.automaton ≤ stepped.width) }
-    ensures within { IfOk result (λ stepped. stepped.width ≤ limit) }
-    ensures states { IsErrOf result OpFault.States → HasApart (PaddedLettersAlike Lsd function.now) (letters_of function.now.automaton) (limit + 1) }
+    ensures within { IfOk result (λ stepped. stepped.width ≤ limit.entry.most) }
+    ensures states { IsErrOf result OpFault.States → HasApart (PaddedLettersAlike Lsd function.now) (letters_of function.now.automaton) (limit.entry.most + 1) }
 {
     let pairs = PaddedPairs {
         dfa: function.dfa(),

@@ -15,6 +15,7 @@ use digit_tuple::exploration::{Explored, explore_keys};
 use digit_tuple::faults::{OpFault, OutOfMemory};
 use digit_tuple::key_graph::KeyGraph;
 use digit_tuple::key_transitions::KeyTransitions;
+use digit_tuple::limit::Limit;
 use digit_tuple::stepped::Stepped;
 use digit_tuple::transitions::Transition;
 use std::alloc::Global;
@@ -109,13 +110,13 @@ fn push_all(row: &[Transition], out: &mut KeyTransitions) -> Result<(), OutOfMem
 pub(crate) fn pad_msd(
     alloc: Global,
     function: &LetterFunction,
-    limit: u32,
+    limit: Limit<'_>,
 ) -> Result<Stepped<LetterFunction>, OpFault>
     ensures padding { IfOk result (λ stepped. IsLetterPadding Msd function.now stepped.result) }
     ensures width { IfOk result (λ stepped. HasWidth (PaddedLettersAlike Msd function.now) (letters_of function.now.automaton) stepped.width) }
     ensures size { IfOk result (λ stepped. states_of stepped.result.automaton ≤ stepped.width) }
-    ensures within { IfOk result (λ stepped. stepped.width ≤ limit) }
-    ensures states { IsErrOf result OpFault.States → HasApart (PaddedLettersAlike Msd function.now) (letters_of function.now.automaton) (limit + 1) }
+    ensures within { IfOk result (λ stepped. stepped.width ≤ limit.entry.most) }
+    ensures states { IsErrOf result OpFault.States → HasApart (PaddedLettersAlike Msd function.now) (letters_of function.now.automaton) (limit.entry.most + 1) }
 {
     let dfa = function.dfa();
     let alphabet = dfa.alphabet().copy(alloc)?;

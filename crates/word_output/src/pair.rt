@@ -18,6 +18,7 @@ use crate::placed_letters::letters_on;
 use digit_tuple::alphabet::Alphabet;
 use digit_tuple::faults::{OpFault, OutOfMemory};
 use digit_tuple::kind::Kind;
+use digit_tuple::limit::Limit;
 use digit_tuple::name::Name;
 use digit_tuple::names::{find_name, joint_names};
 use digit_tuple::step_fault::StepFault;
@@ -45,7 +46,7 @@ pub fn pair_step(
     requires { MayPair (record { function = first.function.now; under = first.under.now }) (record { function = second.function.now; under = second.under.now }) }
     ensures { DoesStep (the_step comparison (record { function = first.entry.function.now; under = first.entry.under.now }) (record { function = second.entry.function.now; under = second.entry.under.now })) steps.old result steps.new }
 {
-    match paired(alloc, first, comparison, second, steps.limit()) {
+    match paired(alloc, first, comparison, second, steps.begin(Kind::Product)) {
         Ok(Stepped { result, width }) => {
             steps.done(Kind::Product, width, result.dfa().states())?;
             Ok(result)
@@ -62,16 +63,16 @@ fn paired(
     first: Placed<'_>,
     comparison: Comparison,
     second: Placed<'_>,
-    limit: u32,
+    limit: Limit<'_>,
 ) -> Result<Stepped<Tracked>, OpFault>
     requires { MayPair (record { function = first.function.now; under = first.under.now }) (record { function = second.function.now; under = second.under.now }) }
     ensures pair { IfOk result (λ stepped. IsPair comparison (record { function = first.entry.function.now; under = first.entry.under.now }) (record { function = second.entry.function.now; under = second.entry.under.now }) stepped.result) }
     ensures alphabet { OnOk result (IsAlphabet (pair_sizes (record { function = first.entry.function.now; under = first.entry.under.now }) (record { function = second.entry.function.now; under = second.entry.under.now }))) }
     ensures width { IfOk result (λ stepped. HasWidth (PairAlike (record { function = first.entry.function.now; under = first.entry.under.now }) (record { function = second.entry.function.now; under = second.entry.under.now })) (product (pair_sizes (record { function = first.entry.function.now; under = first.entry.under.now }) (record { function = second.entry.function.now; under = second.entry.under.now }))) stepped.width) }
     ensures size { IfOk result (λ stepped. states_of stepped.result.automaton ≤ stepped.width) }
-    ensures within { IfOk result (λ stepped. stepped.width ≤ limit) }
+    ensures within { IfOk result (λ stepped. stepped.width ≤ limit.entry.most) }
     ensures letters { IsErrOf result OpFault.Letters → IsTooLarge (pair_sizes (record { function = first.entry.function.now; under = first.entry.under.now }) (record { function = second.entry.function.now; under = second.entry.under.now })) }
-    ensures states { IsErrOf result OpFault.States → ExceedsWidth limit (the_step comparison (record { function = first.entry.function.now; under = first.entry.under.now }) (record { function = second.entry.function.now; under = second.entry.under.now })).step }
+    ensures states { IsErrOf result OpFault.States → ExceedsWidth limit.entry.most (the_step comparison (record { function = first.entry.function.now; under = first.entry.under.now }) (record { function = second.entry.function.now; under = second.entry.under.now })).step }
 {
     let names = joint_names(alloc, first.under, second.under)?;
     let sizes = joint_sizes(alloc, first, second, &names)?;

@@ -13,6 +13,7 @@ use crate::letter_function::LetterFunction;
 use digit_tuple::alphabet::Alphabet;
 use digit_tuple::exploration::Explored;
 use digit_tuple::faults::OutOfMemory;
+use digit_tuple::limit::Limit;
 use digit_tuple::name::Name;
 use digit_tuple::names::places_in;
 use product_op::argument_readers::reader_on;
@@ -46,7 +47,7 @@ pub(crate) fn letters_on(
     let places = places_in(alloc, names, placed.under)?;
     let mut readers = Vec::new(alloc);
     readers.push(reader_on(alloc, tracks, &places, function.dfa())?)?;
-    match explore_tuples(alloc, tracks.copy(alloc)?, &readers, u32::MAX) {
+    match explore_tuples(alloc, tracks.copy(alloc)?, &readers, Limit::none()) {
         Ok(stepped) => {
             let Explored { dfa, keys } = stepped.result;
             let letters = head_letters(alloc, function, &keys)?;

@@ -44,7 +44,7 @@ pub fn valid_letters(
     let alphabet = dfa.alphabet().copy(alloc)?;
     let _ = alphabet.tracks();
     let readers = validity_readers(alloc, &alphabet, dfa, languages)?;
-    match explore_tuples(alloc, alphabet, &readers, steps.limit()) {
+    match explore_tuples(alloc, alphabet, &readers, steps.begin(Kind::Valid)) {
         Ok(Stepped { result, width }) => {
             let Explored { dfa, keys } = result;
             let letters = tuple_letters(alloc, function, &readers, &keys)?;

@@ -17,6 +17,7 @@ use class_reversal::targets::targets;
 use digit_tuple::exploration::{Explored, explore_keys};
 use digit_tuple::faults::OpFault;
 use digit_tuple::kind::Kind;
+use digit_tuple::limit::Limit;
 use digit_tuple::step_fault::StepFault;
 use digit_tuple::stepped::Stepped;
 use digit_tuple::steps::Steps;
@@ -45,7 +46,7 @@ pub fn transduce(
     ensures { DoesStep (transduce_step transducer.now function.now) steps.old result steps.new }
 {
     let _ = function.dfa().alphabet().tracks();
-    match transduced(alloc, transducer, function, steps.limit()) {
+    match transduced(alloc, transducer, function, steps.begin(Kind::Transduce)) {
         Ok(Stepped { result, width }) => {
             steps.done(Kind::Transduce, width, result.dfa().states())?;
             Ok(result)
@@ -60,13 +61,13 @@ fn transduced(
     alloc: Global,
     transducer: &Transducer,
     function: &LetterFunction,
-    limit: u32,
+    limit: Limit<'_>,
 ) -> Result<Stepped<LetterFunction>, OpFault>
     ensures transduction { IfOk result (λ stepped. IsTransduction transducer.now function.now stepped.result) }
     ensures width { IfOk result (λ stepped. HasWidth (TransduceAlike transducer.now function.now) (letters_of function.now.automaton) stepped.width) }
     ensures size { IfOk result (λ stepped. states_of stepped.result.automaton ≤ stepped.width) }
-    ensures within { IfOk result (λ stepped. stepped.width ≤ limit) }
-    ensures states { IsErrOf result OpFault.States → HasApart (TransduceAlike transducer.now function.now) (letters_of function.now.automaton) (limit + 1) }
+    ensures within { IfOk result (λ stepped. stepped.width ≤ limit.entry.most) }
+    ensures states { IsErrOf result OpFault.States → HasApart (TransduceAlike transducer.now function.now) (letters_of function.now.automaton) (limit.entry.most + 1) }
 {
     if !has_few_lines(transducer) {
         return Err(OpFault::Memory);

@@ -12,6 +12,7 @@ use digit_tuple::direction::Direction;
 use digit_tuple::faults::OutOfMemory;
 use digit_tuple::key_graph::KeyGraph;
 use digit_tuple::key_transitions::KeyTransitions;
+use digit_tuple::limit::Limit;
 use digit_tuple::transitions::Transition;
 use minimise::canonical_exploration::explore_canonical;
 use std::alloc::Global;
@@ -122,7 +123,7 @@ pub(crate) fn listed_words(
 {
     let alphabet = d.alphabet().copy(alloc)?;
     let words = ListedWords { dfa: d, skip };
-    match explore_canonical(alloc, &words, alphabet, u32::MAX) {
+    match explore_canonical(alloc, &words, alphabet, Limit::none()) {
         Ok(stepped) => Ok(stepped.result),
         Err(_) => Err(OutOfMemory),
     }

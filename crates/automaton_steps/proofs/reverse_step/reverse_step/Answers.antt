@@ -15,7 +15,7 @@ returns-in_ok-done-in-Ok c =
       line = _;
       step = record {
         made_is = is;
-        line_is = line_of (reverse_step d).step e alphabet is.canonical (ap product is.sizes) (IsEquivalence-reverse d) (reverse_kept d e is) c.args.steps.now.limit c.in-Ok.field-0.width c.states.result c.in-Ok.ensures.width (omega (arith, c.in-Ok.ensures.within, c.limit.ensures)) c.states.ensures.value;
+        line_is = line_of (reverse_step d).step e alphabet is.canonical (ap product is.sizes) (IsEquivalence-reverse d) (reverse_kept d e is) c.args.steps.now.limit c.in-Ok.field-0.width c.states.result c.in-Ok.ensures.width (omega (arith, c.in-Ok.ensures.within, c.begin.ensures)) c.states.ensures.value;
       };
       new_is = c.in_ok-done-in-Ok.ensures.ok;
     }

@@ -28,10 +28,10 @@ returns-in_err-result-clause-states c refused =
     let is_states : c.in_err-result.field-0.0 ≡ States = cc in
     let fault : IsErrOf c.explore_keys.result States = c.in_err-result.was ∙ ap Err is_states in
     let base : 1 ≤ r = omega arith in
-    HasApart-same (LeadAlike (join_after f.automaton r b) (first_of f.automaton ∷ [])) (JoinAlike r b f) (product (r ^ b ∷ [])) (c.args.limit + 1)
+    HasApart-same (LeadAlike (join_after f.automaton r b) (first_of f.automaton ∷ [])) (JoinAlike r b f) (product (r ^ b ∷ [])) (c.args.limit.most + 1)
     (λ w v over there. leads_from_alike f c.dfa-dfa.ensures.function r b base c.requires.base w v)
-    (subst (λ (x : Automaton). HasApart (LeadAlike (join_after x r b) (first_of x ∷ [])) (product (r ^ b ∷ [])) (c.args.limit + 1)) c.dfa-dfa.ensures.value
-    (subst (λ n. HasApart (LeadAlike (join_after c.dfa-dfa.result.now r b) (first_of c.dfa-dfa.result.now ∷ [])) n (c.args.limit + 1)) (c.power_of-letters.ensures ∙ (let unit : r ^ b ≡ r ^ b * 1 = omega arith in unit)) (c.explore_keys.ensures.states fault)))
+    (subst (λ (x : Automaton). HasApart (LeadAlike (join_after x r b) (first_of x ∷ [])) (product (r ^ b ∷ [])) (c.args.limit.most + 1)) c.dfa-dfa.ensures.value
+    (subst (λ n. HasApart (LeadAlike (join_after c.dfa-dfa.result.now r b) (first_of c.dfa-dfa.result.now ∷ [])) n (c.args.limit.most + 1)) (c.power_of-letters.ensures ∙ (let unit : r ^ b ≡ r ^ b * 1 = omega arith in unit)) (c.explore_keys.ensures.states fault)))
 
 pub returns-clause-join : goal.returns-clause-join
 returns-clause-join c =

@@ -27,10 +27,10 @@ returns-in_err-result-clause-states c refused =
     let is_states : c.in_err-result.field-0.0 ≡ States = cc in
     let fault : IsErrOf c.explore_keys.result States = c.in_err-result.was ∙ ap Err is_states in
     let base : 1 ≤ r = omega arith in
-    HasApart-same (LeadAlike (split_after f.automaton r b) (first_of f.automaton ∷ [])) (SplitAlike r b f) (product (r ∷ [])) (c.args.limit + 1)
+    HasApart-same (LeadAlike (split_after f.automaton r b) (first_of f.automaton ∷ [])) (SplitAlike r b f) (product (r ∷ [])) (c.args.limit.most + 1)
     (leads_from_alike f c.dfa-dfa.ensures.function r b base c.requires.digits c.requires.base)
-    (subst (λ (x : Automaton). HasApart (LeadAlike (split_after x r b) (first_of x ∷ [])) (product (r ∷ [])) (c.args.limit + 1)) c.dfa-dfa.ensures.value
-    (subst (λ n. HasApart (LeadAlike (split_after c.dfa-dfa.result.now r b) (first_of c.dfa-dfa.result.now ∷ [])) n (c.args.limit + 1)) (let unit : r ≡ r * 1 = omega arith in unit) (c.explore_keys.ensures.states fault)))
+    (subst (λ (x : Automaton). HasApart (LeadAlike (split_after x r b) (first_of x ∷ [])) (product (r ∷ [])) (c.args.limit.most + 1)) c.dfa-dfa.ensures.value
+    (subst (λ n. HasApart (LeadAlike (split_after c.dfa-dfa.result.now r b) (first_of c.dfa-dfa.result.now ∷ [])) n (c.args.limit.most + 1)) (let unit : r ≡ r * 1 = omega arith in unit) (c.explore_keys.ensures.states fault)))
 
 pub returns-clause-split : goal.returns-clause-split
 returns-clause-split c =

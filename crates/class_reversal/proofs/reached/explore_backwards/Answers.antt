@@ -23,7 +23,7 @@ returns-in_err-result-clause-states c refused =
     let wrong : c.from_residual-in_err-result.result ≡ Err States = refused in
     let is_states : c.in_err-result.field-0.0 ≡ States = cc in
     let fault : IsErrOf c.explore_keys.result States = c.in_err-result.was ∙ ap Err is_states in
-    HasApart-same (LeadAlike (classes_back d) classes) (SameReversedClassAfter d classes) (letters_of d) (c.args.limit + 1)
+    HasApart-same (LeadAlike (classes_back d) classes) (SameReversedClassAfter d classes) (letters_of d) (c.args.limit.most + 1)
     (λ w v over there alike. lead_from_alike d classes c.requires.count c.requires.some c.requires.reached.0 c.requires.reached.1 w v alike) (c.explore_keys.ensures.states fault)
 
 pub returns-clause-canonical : goal.returns-clause-canonical

@@ -33,6 +33,6 @@ returns-clause-states c refused =
     let sizes = c.in_ok-reached.ensures.sizes in
     let same = subst (SameClassFunction d classes e) (sym c.deref.ensures.value) c.in_ok-reached.ensures.function in
     let letters : letters_of e ≡ letters_of d = ap product sizes in
-    HasApart-same (SameReversedClassAfter e ones) (SameReversedClassAfter d classes) (letters_of d) (c.args.limit + 1)
+    HasApart-same (SameReversedClassAfter e ones) (SameReversedClassAfter d classes) (letters_of d) (c.args.limit.most + 1)
     (λ w v over there. reversed_same d e classes ones sizes same w v over there)
-    (subst (λ l. HasApart (SameReversedClassAfter e ones) l (c.args.limit + 1)) letters (c.reverse_reached.ensures.states refused))
+    (subst (λ l. HasApart (SameReversedClassAfter e ones) l (c.args.limit.most + 1)) letters (c.reverse_reached.ensures.states refused))

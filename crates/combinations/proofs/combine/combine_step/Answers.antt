@@ -31,7 +31,7 @@ returns-in-Ok c =
           width = c.in-Ok.ensures.width;
           size_is = size;
           small = omega (arith, c.states.ensures.value ∙ ap states_of c.dfa.ensures.value, c.in-Ok.ensures.size);
-          within = omega (arith, c.in-Ok.ensures.within, c.limit.ensures);
+          within = omega (arith, c.in-Ok.ensures.within, c.begin.ensures);
         };
       };
       new_is = c.in_ok-done-in-Ok.ensures.ok;
@@ -47,4 +47,4 @@ pub returns-in-Err-States : goal.returns-in-Err-States
 returns-in-Err-States c =
     let is_states : c.in-Err-States.field-0 ≡ States = c.in-Err-States.field-0-is in
     let fault : IsErrOf c.combined.result States = c.in-Err-States.is ∙ ap Err is_states in
-    ((c.next_number-in-Err-States.ensures, subst (λ n. ExceedsWidth n (combine_step c.args.rest c.args.parts.now (map rc_value c.args.systems.now)).step) c.limit.ensures (c.combined.ensures.states fault)), refl)
+    ((c.next_number-in-Err-States.ensures, subst (λ n. ExceedsWidth n (combine_step c.args.rest c.args.parts.now (map rc_value c.args.systems.now)).step) c.begin.ensures (c.combined.ensures.states fault)), refl)

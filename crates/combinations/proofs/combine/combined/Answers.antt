@@ -59,12 +59,12 @@ returns-in_err-result-clause-states c =
     let read : readings_in c.deref-3.result.now ≡ beside parts systems c.are_sealed.ensures =
     ap readings_in c.deref-3.ensures.value ∙ c.in_ok-readers.ensures ∙ ap (λ (ss : List ℕ). combined_readings parts ss (map rc_value c.deref-2.result.now)) sizes
     ∙ ap (λ (ls : List Automaton). combined_readings parts (sizes_of (systems_of systems)) ls) languages in
-    handed_on (λ r. IsErrOf r faults.States → ExceedsWidth c.args.limit (combine_step c.args.rest parts systems).step) c.from_residual-in_err-result.result c.in_err-result.field-0.0 c.from_residual-in_err-result.ensures.1
+    handed_on (λ r. IsErrOf r faults.States → ExceedsWidth c.args.limit.most (combine_step c.args.rest parts systems).step) c.from_residual-in_err-result.result c.in_err-result.field-0.0 c.from_residual-in_err-result.ensures.1
     (λ refused. record {
       alphabet = subst (λ (ss : List ℕ). IsAlphabet ss) digits c.in_ok-alphabet.ensures.fits;
-      apart = apart_combine parts systems c.are_sealed.ensures c.requires.systems c.requires.shape c.are_relations.ensures (c.args.limit + 1)
-          (subst (λ (rs : List Reading). HasApart (LeadToOne rs) (product (sizes_of (systems_of systems))) (c.args.limit + 1)) read
-          (subst (λ (ss : List ℕ). HasApart (LeadToOne (readings_in c.deref-3.result.now)) (product ss) (c.args.limit + 1)) sizes
+      apart = apart_combine parts systems c.are_sealed.ensures c.requires.systems c.requires.shape c.are_relations.ensures (c.args.limit.most + 1)
+          (subst (λ (rs : List Reading). HasApart (LeadToOne rs) (product (sizes_of (systems_of systems))) (c.args.limit.most + 1)) read
+          (subst (λ (ss : List ℕ). HasApart (LeadToOne (readings_in c.deref-3.result.now)) (product ss) (c.args.limit.most + 1)) sizes
           (c.in_err-result.ensures.states (same_fault c.in_err-result.field-0.0 faults.States refused))));
     })
 

@@ -11,14 +11,14 @@ use Rattle.constants.proofs.ConstantWidthLemmas.{constant_size}
 use Rattle.constants.proofs.constant.constant.Goals as goal
 
 pub returns-then-limit-lt2-clause-states : goal.returns-then-limit-lt2-clause-states
-returns-then-limit-lt2-clause-states c refused s laws language = two_apart c.args.direction s c.args.number c.args.limit laws c.if-limit-lt2.true
+returns-then-limit-lt2-clause-states c refused s laws language = two_apart c.args.direction s c.args.number c.args.limit.most laws c.if-limit-lt2.true
 
 pub returns-in_err-word-clause-states : goal.returns-in_err-word-clause-states
 returns-in_err-word-clause-states c refused s laws language =
     let e = c.from_residual.ensures in
     let k = c.in_err-word.ensures.states in
-    let long : (word : List ℕ) × IsRep s.digits s.test c.args.number word × (c.args.limit - 2 < length word) = k (search rules) s laws language in
-    constant_apart c.args.direction s c.args.number long.0 laws long.1 (c.args.limit + 1) (omega (arith, long.2))
+    let long : (word : List ℕ) × IsRep s.digits s.test c.args.number word × (c.args.limit.most - 2 < length word) = k (search rules) s laws language in
+    constant_apart c.args.direction s c.args.number long.0 laws long.1 (c.args.limit.most + 1) (omega (arith, long.2))
 
 pub returns-clause-constant : goal.returns-clause-constant
 returns-clause-constant c s laws language =

@@ -74,10 +74,10 @@ returns-clause-states c h =
     let numbered = c.in_ok-reachable.ensures.numbered in
     let more : vec_len c.in_ok-first.first ≢ 0 = eqb-false (vec_len c.in_ok-first.first) 0 (sym c.is_empty.ensures ∙ c.if-is_empty.false) in
     let some : 0 < length c.deref.result.now = omega (arith, more, c.in_ok-first.first.ok, c.deref.ensures.len) in
-    HasApart-same (LeadAlike (set_after n) first) (SameReversedResidual d) (letters_of d) (c.args.limit + 1)
+    HasApart-same (LeadAlike (set_after n) first) (SameReversedResidual d) (letters_of d) (c.args.limit.most + 1)
     (LeadAlike-residual t c.in_ok-reachable.ensures.table n turned first accepting c.in_ok-nfa.ensures.table d c.in_ok-reachable.ensures.sizes c.in_ok-reachable.ensures.language numbered.0 numbered.1
     (IsStateSet-accepting t n turned first accepting some))
-    (subst (λ l. HasApart (LeadAlike (set_after n) first) l (c.args.limit + 1)) (sym letters) (c.explore_subsets.ensures.states h))
+    (subst (λ l. HasApart (LeadAlike (set_after n) first) l (c.args.limit.most + 1)) (sym letters) (c.explore_subsets.ensures.states h))
 
 pub returns-then-is_empty-clause-language : goal.returns-then-is_empty-clause-language
 returns-then-is_empty-clause-language c =
@@ -105,6 +105,6 @@ returns-then-is_empty-clause-width c =
 
 pub returns-then-is_empty-clause-states : goal.returns-then-is_empty-clause-states
 returns-then-is_empty-clause-states c h =
-    let none : c.args.limit ≡ 0 = c.no_words_within.ensures.states.0 h in
-    let count : 1 ≡ c.args.limit + 1 = omega (arith, none) in
+    let none : c.args.limit.most ≡ 0 = c.no_words_within.ensures.states.0 h in
+    let count : 1 ≡ c.args.limit.most + 1 = omega (arith, none) in
     subst (HasApart (SameReversedResidual c.args.d.now) (letters_of c.args.d.now)) count (HasApart-one (SameReversedResidual c.args.d.now) (letters_of c.args.d.now))

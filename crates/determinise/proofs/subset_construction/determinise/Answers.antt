@@ -31,4 +31,4 @@ returns-clause-width c =
 pub returns-clause-states : goal.returns-clause-states
 returns-clause-states c h =
     let n = c.args.n.now in
-    HasApart-same (LeadAlike (set_after n) (0 ∷ [])) (Alike n) (letters_of n) (c.args.limit + 1) (LeadAlike-states n c.alphabet.ensures.table) (c.explore_subsets.ensures.states h)
+    HasApart-same (LeadAlike (set_after n) (0 ∷ [])) (Alike n) (letters_of n) (c.args.limit.most + 1) (LeadAlike-states n c.alphabet.ensures.table) (c.explore_subsets.ensures.states h)

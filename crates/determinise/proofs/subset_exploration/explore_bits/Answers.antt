@@ -38,6 +38,6 @@ returns-clause-states c h =
     let n = c.args.subsets.now.nfa.now in
     let first = c.args.subsets.now.first.now in
     let table = c.requires.rows.table in
-    HasApart-same (LeadAlike (bits_after n) (state_bits n first)) (LeadAlike (set_after n) first) (letters_of n) (c.args.limit + 1)
+    HasApart-same (LeadAlike (bits_after n) (state_bits n first)) (LeadAlike (set_after n) first) (letters_of n) (c.args.limit.most + 1)
     (LeadAlike-viewed (IsStateSet n) (letters_of n) (set_after n) (λ key a is small. after_is_state_set n key a) (state_bits n) (states_in n) (states_in-bits n table) first c.requires.first)
     (c.explore.ensures.states h)

@@ -41,7 +41,7 @@ returns-then-limit-eq0-clause-states g c h =
     let s = c.args.graph.now in
     let one : HasApart (LeadAlike (g.G.KeyGraph.after s) (g.G.KeyGraph.start s)) (g.G.KeyGraph.letters s) 1 =
     HasApart-firsts (g.G.KeyGraph.letters s) (g.G.KeyGraph.start s) (g.G.KeyGraph.after s) (g.G.KeyGraph.start s ∷ []) ([] ∷ []) 0 0 (IsFrontier-start (g.G.KeyGraph.letters s) (g.G.KeyGraph.start s) (g.G.KeyGraph.after s)) in
-    let count : 1 ≡ c.args.limit + 1 = omega arith in
+    let count : 1 ≡ c.args.limit.most + 1 = omega arith in
     subst (HasApart (LeadAlike (g.G.KeyGraph.after s) (g.G.KeyGraph.start s)) (g.G.KeyGraph.letters s)) count one
 
 pub explore-init : goal.explore-init
@@ -65,10 +65,10 @@ returns-in_err-number_transitions-clause-states g c h =
     let s = c.args.graph.now in
     let states = c.explore.states.states in
     let e = c.from_residual-in_err-number_transitions.ensures in
-    let some : NumbersSome c.transitions.new.out c.explore.keys c.number_transitions.new.keys (c.args.limit + 1) = search rules in
-    IsExploring-overflows (g.G.KeyGraph.letters s) (g.G.KeyGraph.start s) (g.G.KeyGraph.after s) (g.G.KeyGraph.accepts s) c.explore.keys c.number_transitions.new.keys states c.explore.gap (c.args.limit + 1)
+    let some : NumbersSome c.transitions.new.out c.explore.keys c.number_transitions.new.keys (c.args.limit.most + 1) = search rules in
+    IsExploring-overflows (g.G.KeyGraph.letters s) (g.G.KeyGraph.start s) (g.G.KeyGraph.after s) (g.G.KeyGraph.accepts s) c.explore.keys c.number_transitions.new.keys states c.explore.gap (c.args.limit.most + 1)
     c.explore.invariant.exploring (omega (arith, c.len-in-explore-2.ensures))
-    (Overflows-written (g.G.KeyGraph.letters s) (g.G.KeyGraph.after s) c.explore.keys c.number_transitions.new.keys (key_at c.explore.keys (length states)) c.key-key.result.now c.transitions.new.out (c.args.limit + 1)
+    (Overflows-written (g.G.KeyGraph.letters s) (g.G.KeyGraph.after s) c.explore.keys c.number_transitions.new.keys (key_at c.explore.keys (length states)) c.key-key.result.now c.transitions.new.out (c.args.limit.most + 1)
     (c.key-key.ensures ∙ ap (key_at c.explore.keys) c.len-in-explore-2.ensures) c.in_ok-transitions-2.ensures some)
 
 pub add_state-requires-clause-in_range : goal.add_state-requires-clause-in_range
@@ -84,7 +84,7 @@ returns-then-len-limit-clause-states g c h =
     let s = c.args.graph.now in
     let at = (goal.at.returns-then-len-limit-clause-states g c).After-deref-in-explore in
     let states = c.explore.states.states ++ state_in g at ∷ [] in
-    IsExploring-gap (g.G.KeyGraph.letters s) (g.G.KeyGraph.start s) (g.G.KeyGraph.after s) (g.G.KeyGraph.accepts s) c.number_transitions.new.keys states c.args.limit
+    IsExploring-gap (g.G.KeyGraph.letters s) (g.G.KeyGraph.start s) (g.G.KeyGraph.after s) (g.G.KeyGraph.accepts s) c.number_transitions.new.keys states c.args.limit.most
     (subst (IsExploring (g.G.KeyGraph.letters s) (g.G.KeyGraph.start s) (g.G.KeyGraph.after s) (g.G.KeyGraph.accepts s) c.number_transitions.new.keys states) c.if-gap.true (round g at).exploring) (omega arith)
 
 pub explore-preserved : goal.explore-preserved

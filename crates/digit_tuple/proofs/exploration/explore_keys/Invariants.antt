@@ -5,8 +5,8 @@ use Rattle.digit_tuple.proofs.exploration.explore_keys.Given as goal
 
 abbrev pub invariant-explore : goal.invariant-explore
 invariant-explore g l = record {
-  few : length l.keys ≤ l.limit;
-  room : l.gap ≡ true → length l.keys < l.limit;
+  few : length l.keys ≤ l.limit.most;
+  room : l.gap ≡ true → length l.keys < l.limit.most;
   valid : All (g.G.KeyGraph.is_key l.graph) l.keys;
   sizes : l.states.sizes ≡ l.fn.alphabet;
   explored : length l.states.states ≤ length l.keys;
@@ -14,4 +14,4 @@ invariant-explore g l = record {
 }
 
 abbrev pub decreases-explore : goal.decreases-explore
-decreases-explore g l = l.limit - length l.states.states
+decreases-explore g l = l.limit.most - length l.states.states

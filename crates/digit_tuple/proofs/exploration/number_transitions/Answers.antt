@@ -26,7 +26,7 @@ returns-then-len-limit-clause-states c _ =
     let numbered : IsNumbered c.loop-place.keys c.number_by.new.self (transition_at c.args.key_transitions.now c.loop-place.place).key c.in_ok-target.target =
     subst (λ (key : List ℕ). IsNumbered c.loop-place.keys c.number_by.new.self key c.in_ok-target.target) c.key.ensures c.in_ok-target.ensures.number in
     let size = length-numbered c.loop-place.keys c.number_by.new.self _ c.in_ok-target.target numbered in
-    NumbersSome-at c.args.key_transitions.now c.loop-place.place c.loop-place.transitions.items c.args.keys.now c.loop-place.keys c.number_by.new.self no_transition c.in_ok-target.target (c.args.limit + 1)
+    NumbersSome-at c.args.key_transitions.now c.loop-place.place c.loop-place.transitions.items c.args.keys.now c.loop-place.keys c.number_by.new.self no_transition c.in_ok-target.target (c.args.limit.most + 1)
     (omega arith) c.loop-place.invariant.numbered numbered (omega arith)
 
 pub loop-place-preserved : goal.loop-place-preserved

@@ -5,5 +5,5 @@ use Rattle.digit_tuple.proofs.exploration.number_transitions.Given as goal
 abbrev pub invariant-loop-place : goal.invariant-loop-place
 invariant-loop-place l = record {
   numbered : AreNumbered (take l.place l.key_transitions) l.transitions.items l.fn.keys l.keys;
-  few : length l.keys ≤ l.limit;
+  few : length l.keys ≤ l.limit.most;
 }

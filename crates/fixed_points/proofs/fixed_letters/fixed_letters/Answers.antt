@@ -43,7 +43,7 @@ returns-in_err-result-clause-states c refused =
     let fault : IsErrOf c.explore_keys.result States = c.in_err-result.was ∙ ap Err is_states in
     record {
       alphabet = one_alphabet c.args.base c.requires.base.1;
-      apart = place_apart c.args.morphism.now c.args.base (graph_of c.args.morphism.now c.args.base c.image-image.ensures.morphism c.requires) (c.args.limit + 1) (c.explore_keys.ensures.states fault);
+      apart = place_apart c.args.morphism.now c.args.base (graph_of c.args.morphism.now c.args.base c.image-image.ensures.morphism c.requires) (c.args.limit.most + 1) (c.explore_keys.ensures.states fault);
     }
 
 pub returns-clause-sizes : goal.returns-clause-sizes

@@ -34,7 +34,7 @@ returns-in-Ok c =
             width = c.in-Ok.ensures.width;
             size_is = size ∙ ap (λ (w : WordValue). states_of w.function.automaton) made;
             small = omega (arith, size, c.in-Ok.ensures.size);
-            within = omega (arith, c.in-Ok.ensures.within, c.limit.ensures);
+            within = omega (arith, c.in-Ok.ensures.within, c.begin.ensures);
           };
         };
         new_is = c.in_ok-done-in-Ok.ensures.ok;

@@ -36,8 +36,8 @@ pub returns-then-accepts_nothing-clause-states : goal.returns-then-accepts_nothi
 returns-then-accepts_nothing-clause-states c refused =
     let a = c.args.a.now in
     let b = c.args.b.now in
-    let none : c.args.limit ≡ 0 = c.no_words_within.ensures.states.0 refused in
-    let count : 1 ≡ c.args.limit + 1 = omega (arith, none) in
+    let none : c.args.limit.most ≡ 0 = c.no_words_within.ensures.states.0 refused in
+    let count : 1 ≡ c.args.limit.most + 1 = omega (arith, none) in
     subst (HasApart (ConcatAlike a b) (letters_of a)) count (HasApart-one (ConcatAlike a b) (letters_of a))
 
 pub returns-then-accepts_nothing-clause-canonical : goal.returns-then-accepts_nothing-clause-canonical

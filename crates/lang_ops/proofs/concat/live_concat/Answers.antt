@@ -53,5 +53,5 @@ returns-clause-states c refused =
     let n = c.in_ok-table.table in
     let first = c.deref.result.now in
     let starts : AreConcatStarts a link n first = subst (λ (fs : List ℕ). AreConcatStarts a link n fs) (sym c.deref.ensures.value) c.in_ok-first.ensures in
-    concat_apart a b c.requires.first c.requires.second c.requires.sizes c.requires.live link c.concat_link-link.ensures n c.in_ok-table.ensures first starts (c.args.limit + 1)
-    (subst (λ (ss : List ℕ). HasApart (LeadAlike (set_after n) first) (product ss) (c.args.limit + 1)) c.requires.alphabet (c.canonical_sets.ensures.states refused))
+    concat_apart a b c.requires.first c.requires.second c.requires.sizes c.requires.live link c.concat_link-link.ensures n c.in_ok-table.ensures first starts (c.args.limit.most + 1)
+    (subst (λ (ss : List ℕ). HasApart (LeadAlike (set_after n) first) (product ss) (c.args.limit.most + 1)) c.requires.alphabet (c.canonical_sets.ensures.states refused))

@@ -34,10 +34,10 @@ returns-in_err-result-clause-states c =
     let items = c.deref.ensures.value ∙ c.in_ok-push-2.ensures.items ∙ ap (λ (rs : List Reader). rs ++ two ∷ []) (c.in_ok-push.ensures.items ∙ ap (λ (rs : List Reader). rs ++ one ∷ []) c.new-readers.ensures.items) in
     let tie = two_readings c.deref.result.now one two a b items c.in_ok-whole_reader.ensures c.in_ok-whole_reader-2.ensures in
     let sizes = c.in_ok-alphabet.ensures ∙ c.alphabet.ensures.sizes in
-    handed_on (λ r. IsErrOf r faults.States → HasApart (PairAlike a b) (letters_of a) (c.args.limit + 1)) c.from_residual-in_err-result.result c.in_err-result.field-0.0 c.from_residual-in_err-result.ensures.1
-    (λ refused. pair_apart a b c.requires.first c.requires.second c.requires.sizes (c.args.limit + 1)
-    (subst (λ (rs : List Reading). HasApart (LeadToOne rs) (letters_of a) (c.args.limit + 1)) tie
-    (subst (λ (ss : List ℕ). HasApart (LeadToOne (readings_in c.deref.result.now)) (product ss) (c.args.limit + 1)) sizes (c.in_err-result.ensures.states (same_fault c.in_err-result.field-0.0 faults.States refused)))))
+    handed_on (λ r. IsErrOf r faults.States → HasApart (PairAlike a b) (letters_of a) (c.args.limit.most + 1)) c.from_residual-in_err-result.result c.in_err-result.field-0.0 c.from_residual-in_err-result.ensures.1
+    (λ refused. pair_apart a b c.requires.first c.requires.second c.requires.sizes (c.args.limit.most + 1)
+    (subst (λ (rs : List Reading). HasApart (LeadToOne rs) (letters_of a) (c.args.limit.most + 1)) tie
+    (subst (λ (ss : List ℕ). HasApart (LeadToOne (readings_in c.deref.result.now)) (product ss) (c.args.limit.most + 1)) sizes (c.in_err-result.ensures.states (same_fault c.in_err-result.field-0.0 faults.States refused)))))
 
 pub returns-clause-language : goal.returns-clause-language
 returns-clause-language c =

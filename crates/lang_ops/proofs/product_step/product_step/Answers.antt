@@ -18,7 +18,7 @@ returns-in_ok-done-in-Ok c =
       step = record {
         made_is = is;
         line_is = line_of (product_step c.args.op a b).step made alphabet is.canonical (ap product is.sizes) (IsEquivalence-pair a b) (combined_kept c.args.op a b c.requires.sizes made is.language)
-            c.args.steps.now.limit c.in-Ok.field-0.width c.states.result c.in-Ok.ensures.width (omega (arith, c.in-Ok.ensures.within, c.limit.ensures)) c.states.ensures.value;
+            c.args.steps.now.limit c.in-Ok.field-0.width c.states.result c.in-Ok.ensures.width (omega (arith, c.in-Ok.ensures.within, c.begin.ensures)) c.states.ensures.value;
       };
       new_is = c.in_ok-done-in-Ok.ensures.ok;
     }

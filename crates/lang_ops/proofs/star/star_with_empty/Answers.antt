@@ -37,5 +37,5 @@ pub returns-clause-states : goal.returns-clause-states
 returns-clause-states c refused =
     let a = c.args.a.now in
     let sizes : c.in_ok-alphabet.alphabet ≡ a.sizes = c.in_ok-alphabet.ensures ∙ c.alphabet.ensures.sizes in
-    returning_apart a c.requires.canonical c.requires.empty c.in_ok-table.table c.in_ok-table.ensures (c.args.limit + 1)
-    (subst (λ (ss : List ℕ). HasApart (LeadAlike (set_after c.in_ok-table.table) (0 ∷ [])) (product ss) (c.args.limit + 1)) sizes (c.canonical_sets.ensures.states refused))
+    returning_apart a c.requires.canonical c.requires.empty c.in_ok-table.table c.in_ok-table.ensures (c.args.limit.most + 1)
+    (subst (λ (ss : List ℕ). HasApart (LeadAlike (set_after c.in_ok-table.table) (0 ∷ [])) (product ss) (c.args.limit.most + 1)) sizes (c.canonical_sets.ensures.states refused))

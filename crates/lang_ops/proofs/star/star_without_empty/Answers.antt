@@ -42,6 +42,6 @@ pub returns-clause-states : goal.returns-clause-states
 returns-clause-states c refused =
     let a = c.args.a.now in
     let sizes : c.in_ok-alphabet.alphabet ≡ a.sizes = c.in_ok-alphabet.ensures ∙ c.alphabet.ensures.sizes in
-    started_apart a c.requires.canonical c.requires.empty c.in_ok-table.ensures.0 c.in_ok-table.table c.in_ok-table.ensures.1 c.in_ok-table.ensures.2 (c.args.limit + 1)
-    (subst (λ k. HasApart (LeadAlike (set_after c.in_ok-table.table) (k ∷ [])) (letters_of a) (c.args.limit + 1)) c.states.ensures.value
-    (subst (λ (ss : List ℕ). HasApart (LeadAlike (set_after c.in_ok-table.table) (c.states.result ∷ [])) (product ss) (c.args.limit + 1)) sizes (c.canonical_sets.ensures.states refused)))
+    started_apart a c.requires.canonical c.requires.empty c.in_ok-table.ensures.0 c.in_ok-table.table c.in_ok-table.ensures.1 c.in_ok-table.ensures.2 (c.args.limit.most + 1)
+    (subst (λ k. HasApart (LeadAlike (set_after c.in_ok-table.table) (k ∷ [])) (letters_of a) (c.args.limit.most + 1)) c.states.ensures.value
+    (subst (λ (ss : List ℕ). HasApart (LeadAlike (set_after c.in_ok-table.table) (c.states.result ∷ [])) (product ss) (c.args.limit.most + 1)) sizes (c.canonical_sets.ensures.states refused)))

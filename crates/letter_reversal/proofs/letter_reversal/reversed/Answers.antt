@@ -22,10 +22,10 @@ returns-in_err-result-clause-states c refused =
     let wrong : c.from_residual.result ≡ Err States = refused in
     let is_states : c.in_err-result.field-0.0 ≡ States = cc in
     let fault : IsErrOf c.reverse_reached.result States = c.in_err-result.was ∙ ap Err is_states in
-    HasApart-same (SameReversedClassAfter f.automaton f.classes) (ReversedLettersAlike f) (letters_of f.automaton) (c.args.limit + 1)
+    HasApart-same (SameReversedClassAfter f.automaton f.classes) (ReversedLettersAlike f) (letters_of f.automaton) (c.args.limit.most + 1)
     (λ w v over there alike. classes_from_letters f c.dfa.ensures.function w v alike)
-    (subst (λ (d : Automaton). HasApart (SameReversedClassAfter d f.classes) (letters_of d) (c.args.limit + 1)) c.dfa.ensures.value
-    (subst (λ (classes : List ℕ). HasApart (SameReversedClassAfter c.dfa.result.now classes) (letters_of c.dfa.result.now) (c.args.limit + 1)) c.classes.ensures.value (c.reverse_reached.ensures.states fault)))
+    (subst (λ (d : Automaton). HasApart (SameReversedClassAfter d f.classes) (letters_of d) (c.args.limit.most + 1)) c.dfa.ensures.value
+    (subst (λ (classes : List ℕ). HasApart (SameReversedClassAfter c.dfa.result.now classes) (letters_of c.dfa.result.now) (c.args.limit.most + 1)) c.classes.ensures.value (c.reverse_reached.ensures.states fault)))
 
 pub class_letters-requires : goal.class_letters-requires
 class_letters-requires c =

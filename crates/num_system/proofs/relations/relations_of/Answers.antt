@@ -25,7 +25,7 @@ returns-in_err-relations-clause-states c refused s is minimal =
     let k = c.in_err-relations.ensures.states in
     let f = c.in_err-relations.ensures.letters_first in
     let fits : IsAlphabet (pair_sizes c.args.language.now) = search rules in
-    let apart : HasApart (OrderAlike c.args.direction c.args.language.now) (pair_letters c.args.language.now) (c.args.limit + 1) = search rules in
+    let apart : HasApart (OrderAlike c.args.direction c.args.language.now) (pair_letters c.args.language.now) (c.args.limit.most + 1) = search rules in
     states_at_order c.args.language.now minimal fits apart
 
 pub successor_of-requires-clause-canonical : goal.successor_of-requires-clause-canonical
@@ -50,7 +50,7 @@ returns-in_err-successor-clause-states c refused s is minimal =
     let so_far = c.in_ok-relations.ensures.relations s is minimal.accepts in
     let order : IsMinimalOrder c.args.direction s less = record { holds = so_far.order; canonical = so_far.order_canonical } in
     let p = err_from_is_err_and c.from_residual-in_err-successor.result c.from_residual-in_err-successor.ensures.1 in
-    let exceeds : Exceeds c.args.direction less c.args.limit = c.in_err-successor.ensures.states (same_fault c.in_err-successor.field-0.0 States (rw (p.1, p.2) at refused)) in
+    let exceeds : Exceeds c.args.direction less c.args.limit.most = c.in_err-successor.ensures.states (same_fault c.in_err-successor.field-0.0 States (rw (p.1, p.2) at refused)) in
     let fits : IsAlphabet (chain_sizes less) = c.in_err-successor.ensures.letters_first (same_fault c.in_err-successor.field-0.0 States (rw (p.1, p.2) at refused)) in
     states_at_successor c.args.language.now less minimal c.in_ok-relations.ensures.within order fits exceeds
 

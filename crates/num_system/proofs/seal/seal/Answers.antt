@@ -18,7 +18,7 @@ returns-in_err-relations-clause-letters g c refused =
     let direction = c.direction-direction.ensures in
     let minimal = subst (λ (m : Direction). IsMinimalLanguage m s c.in_ok-language.language) (sym direction) c.in_ok-language.ensures in
     let p = err_from_is_err_and c.from_residual-in_err-relations.result c.from_residual-in_err-relations.ensures.1 in
-    subst (λ (m : Direction). ExceedsByLetters m s c.args.limit) direction
+    subst (λ (m : Direction). ExceedsByLetters m s c.args.limit.most) direction
     (c.in_err-relations.ensures.letters (same_fault c.in_err-relations.field-0.0 Letters (rw (p.1, p.2) at refused)) s (g.met.N.NumSystem.laws c.args.system.now) minimal)
 
 pub returns-in_err-relations-clause-states : goal.returns-in_err-relations-clause-states
@@ -27,7 +27,7 @@ returns-in_err-relations-clause-states g c refused =
     let direction = c.direction-direction.ensures in
     let minimal = subst (λ (m : Direction). IsMinimalLanguage m s c.in_ok-language.language) (sym direction) c.in_ok-language.ensures in
     let p = err_from_is_err_and c.from_residual-in_err-relations.result c.from_residual-in_err-relations.ensures.1 in
-    subst (λ (m : Direction). ExceedsByStates m s c.args.limit) direction
+    subst (λ (m : Direction). ExceedsByStates m s c.args.limit.most) direction
     (c.in_err-relations.ensures.states (same_fault c.in_err-relations.field-0.0 States (rw (p.1, p.2) at refused)) s (g.met.N.NumSystem.laws c.args.system.now) minimal)
 
 pub system_from-requires-clause-relations : goal.system_from-requires-clause-relations
@@ -45,4 +45,4 @@ pub returns-clause-within : goal.returns-clause-within
 returns-clause-within g c =
     let r = c.in_ok-relations.relations in
     rw c.in_ok-sealed.ensures.parts
-    (subst (λ (m : Direction). IsSealedWithin m c.in_ok-language.language r.less c.args.limit) c.direction-direction.ensures c.in_ok-relations.ensures.within)
+    (subst (λ (m : Direction). IsSealedWithin m c.in_ok-language.language r.less c.args.limit.most) c.direction-direction.ensures c.in_ok-relations.ensures.within)

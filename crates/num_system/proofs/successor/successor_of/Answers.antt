@@ -10,14 +10,14 @@ pub returns-in_err-between-clause-states : goal.returns-in_err-between-clause-st
 returns-in_err-between-clause-states c refused =
     let e = c.from_residual-in_err-between.ensures in
     let k = c.in_err-between.ensures.states in
-    let apart : HasApart (BetweenAlike c.args.direction c.in_ok-chain.chain.result) (product (staying_sizes c.in_ok-chain.chain.result name_u)) (c.args.limit + 1) = search rules in
+    let apart : HasApart (BetweenAlike c.args.direction c.in_ok-chain.chain.result) (product (staying_sizes c.in_ok-chain.chain.result name_u)) (c.args.limit.most + 1) = search rules in
     at_between c.in_ok-chain.chain.result c.in_ok-chain.ensures.chain apart
 
 pub returns-in_err-next-clause-states : goal.returns-in_err-next-clause-states
 returns-in_err-next-clause-states c refused =
     let e = c.from_residual-in_err-next.ensures in
     let k = c.in_err-next.ensures.states in
-    let apart : HasApart (NextAlike c.args.less.now c.in_ok-between.between.result) (product (joint_sizes (order_on c.args.less.now name_x name_y) c.in_ok-between.between.result)) (c.args.limit + 1) = search rules in
+    let apart : HasApart (NextAlike c.args.less.now c.in_ok-between.between.result) (product (joint_sizes (order_on c.args.less.now name_x name_y) c.in_ok-between.between.result)) (c.args.limit.most + 1) = search rules in
     at_next c.in_ok-between.between.result (c.in_ok-chain.chain.result, c.in_ok-chain.ensures.chain, c.in_ok-between.ensures.projection) apart
 
 pub returns-clause-successor : goal.returns-clause-successor

@@ -53,7 +53,7 @@ returns-clause-states c refused =
     let n = c.size-digits.result in
     let sizes : d.sizes ≡ n ∷ [] = one_size d.sizes n c.requires.track (c.size-digits.ensures ∙ ap (λ ss. get_or ss 0 0) c.alphabet.ensures.sizes) in
     let letters : product c.in_ok-alphabet.alphabet ≡ n * n = ap product c.in_ok-alphabet.ensures.value ∙ ap (λ m. n * m) (mul-one n) in
-    subst (λ m. HasApart (OrderAlike direction d) m (c.args.limit + 1)) (pair_letters-are direction d n sizes)
-    (HasApart-same (LeadAlike (pair_after direction d n) (first_pair d)) (OrderAlike direction d) (n * n) (c.args.limit + 1)
+    subst (λ m. HasApart (OrderAlike direction d) m (c.args.limit.most + 1)) (pair_letters-are direction d n sizes)
+    (HasApart-same (LeadAlike (pair_after direction d n) (first_pair d)) (OrderAlike direction d) (n * n) (c.args.limit.most + 1)
     (λ w v over there same. keys_from_alike direction d n sizes w v c.requires.canonical over there same)
-    (subst (λ m. HasApart (LeadAlike (pair_after direction d n) (first_pair d)) m (c.args.limit + 1)) letters (c.explore_canonical.ensures.states refused)))
+    (subst (λ m. HasApart (LeadAlike (pair_after direction d n) (first_pair d)) m (c.args.limit.most + 1)) letters (c.explore_canonical.ensures.states refused)))

@@ -65,7 +65,7 @@ returns-in-Ok c =
           canonical = c.in-Ok.ensures.canonical;
         };
         line_is = constant_line system number name c.direction-direction.result direction alphabet c.args.steps.now.limit c.in-Ok.field-0.width c.states.result _ (c.in-Ok.ensures.width (system_of system) sealed.laws language) c.in-Ok.ensures.size
-            (omega (arith, c.in-Ok.ensures.within, c.limit.ensures)) c.states.ensures.value;
+            (omega (arith, c.in-Ok.ensures.within, c.begin.ensures)) c.states.ensures.value;
       };
       new_is = c.in_ok-done-in-Ok.ensures.ok;
     })
@@ -81,5 +81,5 @@ returns-in-Err-States c =
     let fault : IsErrOf c.constant.result States = c.in-Err-States.is ∙ ap Err is_states in
     let apart = c.constant.ensures.states fault (system_of system) sealed.laws language in
     let most : HasApart (ConstantAlike c.direction-direction.result (system_of system) c.args.number) system.digits (c.args.steps.now.limit + 1) =
-    subst (λ (n : ℕ). HasApart (ConstantAlike c.direction-direction.result (system_of system) c.args.number) system.digits (n + 1)) c.limit.ensures apart in
+    subst (λ (n : ℕ). HasApart (ConstantAlike c.direction-direction.result (system_of system) c.args.number) system.digits (n + 1)) c.begin.ensures apart in
     ((c.next_number.ensures, constant_exceeds system c.args.number c.args.name.now c.direction-direction.result direction alphabet c.args.steps.now.limit most), refl)

@@ -10,7 +10,7 @@ returns-then-len-limit-clause-states c refused =
     let rs = readings_in g.readers.now in
     let dead : is_dead_pair g.op rs c.args.pair.now ≡ true = sym c.is_dead.ensures ∙ c.if-not-is_dead.false in
     let more = IsNumbered-dead g.letters rs g.op c.requires.pair c.args.keys.now c.number_of.new.self c.args.pair.now c.in_ok-number_of.field-0 c.in_ok-number_of.ensures.number c.requires.live c.requires.after dead in
-    HasApart-reached g.letters rs c.number_of.new.self (c.args.limit + 1) c.len.ensures.apart more.0.reached (omega (arith, c.len.ensures.len, c.if-len-limit.true, more.3, c.requires.few))
+    HasApart-reached g.letters rs c.number_of.new.self (c.args.limit.most + 1) c.len.ensures.apart more.0.reached (omega (arith, c.len.ensures.len, c.if-len-limit.true, more.3, c.requires.few))
 
 pub returns-clause-live : goal.returns-clause-live
 returns-clause-live c =

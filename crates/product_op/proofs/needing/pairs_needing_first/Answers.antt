@@ -45,5 +45,5 @@ returns-in_err-live-clause-states c refused =
     let g = c.args.graph.now in
     let rs = readings_in g.readers.now in
     let from = c.from_residual.ensures in
-    let some : HasApart (LeadAlike (live_pair_after g.op rs) (first_key rs)) g.letters (c.args.limit + 1) = search rules in
-    subst (λ n. HasApart (LeadToOne rs) n (c.args.limit + 1)) c.requires.letters (apart_pairs g.letters g.op rs c.requires.pair c.requires.live (c.args.limit + 1) some)
+    let some : HasApart (LeadAlike (live_pair_after g.op rs) (first_key rs)) g.letters (c.args.limit.most + 1) = search rules in
+    subst (λ n. HasApart (LeadToOne rs) n (c.args.limit.most + 1)) c.requires.letters (apart_pairs g.letters g.op rs c.requires.pair c.requires.live (c.args.limit.most + 1) some)

@@ -75,4 +75,4 @@ returns-clause-states c refused =
     let a = c.args.a.now in
     let b = c.args.b.now in
     let are = ap readings_in c.deref.ensures.value ∙ c.in_ok-readers.ensures ∙ ap (λ (ls : List Automaton). argument_reading a b a ∷ argument_reading a b b ∷ track_readings (joint_sizes a b) ls) c.counted.ensures in
-    product-apart c.args.op a b (map rc_value c.args.valid.now) (readings_in c.deref.result.now) c.in_ok-joint.joint.alphabet are c.in_ok-joint.ensures.sizes (c.args.limit + 1) (c.tracked_side_by_side.ensures.states refused)
+    product-apart c.args.op a b (map rc_value c.args.valid.now) (readings_in c.deref.result.now) c.in_ok-joint.joint.alphabet are c.in_ok-joint.ensures.sizes (c.args.limit.most + 1) (c.tracked_side_by_side.ensures.states refused)

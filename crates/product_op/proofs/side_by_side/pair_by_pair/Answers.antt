@@ -20,4 +20,4 @@ pub returns-clause-states : goal.returns-clause-states
 returns-clause-states c refused =
     let rs = readings_in c.args.readers.now in
     let letters = product c.args.alphabet in
-    HasApart-same (LeadToOne rs) (AreAlike rs) letters (c.args.limit + 1) (one_from_alike rs letters c.requires.pair.readings_are c.requires.canonical) (c.pairs_needing_first.ensures.states refused)
+    HasApart-same (LeadToOne rs) (AreAlike rs) letters (c.args.limit.most + 1) (one_from_alike rs letters c.requires.pair.readings_are c.requires.canonical) (c.pairs_needing_first.ensures.states refused)

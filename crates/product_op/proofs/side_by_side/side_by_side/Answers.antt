@@ -38,7 +38,7 @@ pub returns-then-is_dead-clause-states : goal.returns-then-is_dead-clause-states
 returns-then-is_dead-clause-states c refused =
     let alike = AreAlike (readings_in c.args.readers.now) in
     let letters = product c.args.alphabet in
-    let one : 1 ≡ c.args.limit + 1 = omega (arith, c.no_words_within.ensures.states.0 refused) in
+    let one : 1 ≡ c.args.limit.most + 1 = omega (arith, c.no_words_within.ensures.states.0 refused) in
     subst (HasApart alike letters) one (HasApart-one alike letters)
 
 pub returns-clause-language : goal.returns-clause-language
@@ -65,4 +65,4 @@ returns-clause-states c refused =
     let rule = c.args.rule in
     let letters = product c.args.alphabet in
     let live : is_dead_key rule rs (first_key rs) ≡ false = ap (is_dead_key rule rs) (sym (c.deref.ensures.value ∙ c.in_ok-first.ensures)) ∙ sym c.is_dead.ensures ∙ c.if-is_dead.false in
-    HasApart-same (LeadAlike (live_key_after rule rs) (first_key rs)) (AreAlike rs) letters (c.args.limit + 1) (keys_from_alike rs letters c.requires.readers.readings_are rule live c.requires.canonical) (c.explore_canonical.ensures.states refused)
+    HasApart-same (LeadAlike (live_key_after rule rs) (first_key rs)) (AreAlike rs) letters (c.args.limit.most + 1) (keys_from_alike rs letters c.requires.readers.readings_are rule live c.requires.canonical) (c.explore_canonical.ensures.states refused)

@@ -43,7 +43,7 @@ returns-then-is_dead-clause-width c =
 pub returns-then-is_dead-clause-states : goal.returns-then-is_dead-clause-states
 returns-then-is_dead-clause-states c refused =
     let alike = LeadToOne (readings_in c.args.readers.now) in
-    let one : 1 ≡ c.args.limit + 1 = omega (arith, c.explore_none.ensures.states refused) in
+    let one : 1 ≡ c.args.limit.most + 1 = omega (arith, c.explore_none.ensures.states refused) in
     subst (HasApart alike (product c.args.alphabet)) one (HasApart-one alike (product c.args.alphabet))
 
 pub returns-clause-tuples : goal.returns-clause-tuples
@@ -71,5 +71,5 @@ returns-clause-states c refused =
     let rs = readings_in c.args.readers.now in
     let first = c.deref.ensures.value ∙ c.in_ok-first.ensures in
     let live : is_dead_key rules.All rs (first_key rs) ≡ false = ap (is_dead_key rules.All rs) (sym first) ∙ sym c.is_dead.ensures ∙ c.if-is_dead.false in
-    apart-live rs rules.All live (product c.args.alphabet) (c.args.limit + 1)
-    (subst (λ n. HasApart (LeadAlike (live_key_after rules.All rs) (first_key rs)) n (c.args.limit + 1)) c.letters-letters.ensures.value (c.explore_keys.ensures.states refused))
+    apart-live rs rules.All live (product c.args.alphabet) (c.args.limit.most + 1)
+    (subst (λ n. HasApart (LeadAlike (live_key_after rules.All rs) (first_key rs)) n (c.args.limit.most + 1)) c.letters-letters.ensures.value (c.explore_keys.ensures.states refused))

@@ -60,4 +60,4 @@ returns-clause-states c refused =
     let languages = map rc_value c.args.valid.now in
     let are = ap readings_in c.deref.ensures.value ∙ c.in_ok-readers.ensures ∙ ap (λ (x : Automaton). validity_readings x languages) c.dfa-dfa.ensures.value in
     let sizes = c.in_ok-alphabet.ensures ∙ c.alphabet.ensures.sizes ∙ ap (λ (x : Automaton). x.sizes) c.dfa-dfa.ensures.value in
-    validity-apart c.args.a.now languages c.args.rule (readings_in c.deref.result.now) c.in_ok-alphabet.alphabet are sizes (c.args.limit + 1) (c.tracked_side_by_side.ensures.states refused)
+    validity-apart c.args.a.now languages c.args.rule (readings_in c.deref.result.now) c.in_ok-alphabet.alphabet are sizes (c.args.limit.most + 1) (c.tracked_side_by_side.ensures.states refused)

@@ -40,5 +40,5 @@ returns-clause-states c refused =
     let d = c.args.a.now in
     let live : first_of d ≢ states_of d = λ sink. c.requires.live (dead_from_sink d sink) in
     let letters : product c.args.alphabet ≡ letters_of d = ap product c.requires.alphabet in
-    HasApart-same (LeadAlike (pair_after d) (twice (first_of d))) (LsdPaddedAlike d) (letters_of d) (c.args.limit + 1) (pairs_from_alike d c.requires.canonical live)
-    (subst (λ n. HasApart (LeadAlike (pair_after d) (twice (first_of d))) n (c.args.limit + 1)) letters (c.explore_canonical.ensures.states refused))
+    HasApart-same (LeadAlike (pair_after d) (twice (first_of d))) (LsdPaddedAlike d) (letters_of d) (c.args.limit.most + 1) (pairs_from_alike d c.requires.canonical live)
+    (subst (λ n. HasApart (LeadAlike (pair_after d) (twice (first_of d))) n (c.args.limit.most + 1)) letters (c.explore_canonical.ensures.states refused))

@@ -53,5 +53,5 @@ returns-in_err-explored-clause-states c refused =
     let out = err_from_is_err_and c.from_residual.result c.from_residual.ensures.1 in
     let same : c.from_residual.result ≡ Err c.in_err-explored.field-0.0 = out.1 ∙ ap Err out.2 in
     let fault : IsErrOf c.explore.result States = subst (λ (r : Result (Stepped Dfa) OpFault). IsErrOf r States) (sym c.in_err-explored.was) (subst (λ (r : Result (Stepped Dfa) OpFault). IsErrOf r States) same refused) in
-    HasApart-same (LeadAlike (pair_after d) (twice (first_of d))) (LsdPaddedAlike d) (letters_of d) (c.args.limit + 1) (pairs_from_alike d c.requires.canonical live)
-    (subst (λ n. HasApart (LeadAlike (pair_after d) (twice (first_of d))) n (c.args.limit + 1)) letters (c.explore.ensures.states fault))
+    HasApart-same (LeadAlike (pair_after d) (twice (first_of d))) (LsdPaddedAlike d) (letters_of d) (c.args.limit.most + 1) (pairs_from_alike d c.requires.canonical live)
+    (subst (λ n. HasApart (LeadAlike (pair_after d) (twice (first_of d))) n (c.args.limit.most + 1)) letters (c.explore.ensures.states fault))

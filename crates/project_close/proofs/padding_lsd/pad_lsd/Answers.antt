@@ -37,6 +37,6 @@ returns-then-accepts_nothing-clause-width c =
 
 pub returns-then-accepts_nothing-clause-states : goal.returns-then-accepts_nothing-clause-states
 returns-then-accepts_nothing-clause-states c refused =
-    let none : c.args.limit ≡ 0 = c.no_words_within.ensures.states.0 refused in
-    let count : 1 ≡ c.args.limit + 1 = omega (arith, none) in
+    let none : c.args.limit.most ≡ 0 = c.no_words_within.ensures.states.0 refused in
+    let count : 1 ≡ c.args.limit.most + 1 = omega (arith, none) in
     subst (HasApart (PaddedAlike Lsd c.args.a.now) (letters_of c.args.a.now)) count (HasApart-one (PaddedAlike Lsd c.args.a.now) (letters_of c.args.a.now))

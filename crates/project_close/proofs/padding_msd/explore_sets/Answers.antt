@@ -58,6 +58,6 @@ returns-clause-states c refused =
     let first = c.deref.result.now in
     let letters : product c.in_ok-alphabet.alphabet ≡ letters_of d = ap product (c.in_ok-alphabet.ensures ∙ c.alphabet.ensures.sizes) in
     let are : AreFirst d first = subst (λ (set : List ℕ). AreFirst d set) (sym c.deref.ensures.value) c.in_ok-first.ensures in
-    HasApart-same (LeadAlike (padded_after (branching_as d) first) []) (MsdPaddedAlike d) (letters_of d) (c.args.limit + 1) (sets_from_alike d c.requires first are)
-    (subst (λ (n : Branching). HasApart (LeadAlike (padded_after n first) []) (letters_of d) (c.args.limit + 1)) c.in_ok-nfa.ensures
-    (subst (λ n. HasApart (LeadAlike (padded_after c.in_ok-nfa.nfa first) []) n (c.args.limit + 1)) letters (c.explore_canonical.ensures.states refused)))
+    HasApart-same (LeadAlike (padded_after (branching_as d) first) []) (MsdPaddedAlike d) (letters_of d) (c.args.limit.most + 1) (sets_from_alike d c.requires first are)
+    (subst (λ (n : Branching). HasApart (LeadAlike (padded_after n first) []) (letters_of d) (c.args.limit.most + 1)) c.in_ok-nfa.ensures
+    (subst (λ n. HasApart (LeadAlike (padded_after c.in_ok-nfa.nfa first) []) n (c.args.limit.most + 1)) letters (c.explore_canonical.ensures.states refused)))

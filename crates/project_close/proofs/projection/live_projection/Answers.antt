@@ -50,4 +50,4 @@ returns-clause-states c refused =
     let n = c.in_ok-reading.reading.image in
     let first = c.in_ok-reading.reading.first.items in
     let reads = c.in_ok-reading.ensures in
-    reads_apart d places direction n first reads c.requires.canonical c.requires.live (product c.args.alphabet) (reads_letters d places direction n first reads c.args.alphabet c.requires.alphabet) (c.args.limit + 1) (c.canonical_sets.ensures.states refused)
+    reads_apart d places direction n first reads c.requires.canonical c.requires.live (product c.args.alphabet) (reads_letters d places direction n first reads c.args.alphabet c.requires.alphabet) (c.args.limit.most + 1) (c.canonical_sets.ensures.states refused)

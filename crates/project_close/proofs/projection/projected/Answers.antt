@@ -35,8 +35,8 @@ returns-then-accepts_nothing-clause-width c =
 pub returns-then-accepts_nothing-clause-states : goal.returns-then-accepts_nothing-clause-states
 returns-then-accepts_nothing-clause-states c refused =
     let alike = ProjectionAlike c.args.d.now c.args.places.now c.args.direction in
-    let none : c.args.limit ≡ 0 = c.no_words_within.ensures.states.0 refused in
-    let count : 1 ≡ c.args.limit + 1 = omega (arith, none) in
+    let none : c.args.limit.most ≡ 0 = c.no_words_within.ensures.states.0 refused in
+    let count : 1 ≡ c.args.limit.most + 1 = omega (arith, none) in
     subst (HasApart alike (product c.args.alphabet)) count (HasApart-one alike (product c.args.alphabet))
 
 pub returns-then-accepts_nothing-clause-canonical : goal.returns-then-accepts_nothing-clause-canonical

@@ -31,6 +31,6 @@ returns-then-width-from-clause-states c refused =
     let d = c.args.a.now in
     let returns = c.in_ok-returns.field-0.returns in
     let gap = c.in_ok-returns.field-0.gap in
-    let more : c.args.limit + 1 ≤ states_of d + one_if returns + one_if gap =
+    let more : c.args.limit.most + 1 ≤ states_of d + one_if returns + one_if gap =
     omega (arith, c.if-width-from.true, c.from-4.ensures, c.from.ensures, c.states.ensures.value, c.from-2.ensures ∙ one_if-byte returns, c.from-3.ensures ∙ one_if-byte gap) in
-    HasApart-ends d c.requires.canonical c.requires.stay returns gap c.in_ok-returns.ensures (c.args.limit + 1) more
+    HasApart-ends d c.requires.canonical c.requires.stay returns gap c.in_ok-returns.ensures (c.args.limit.most + 1) more

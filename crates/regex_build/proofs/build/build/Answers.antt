@@ -6,7 +6,7 @@ use Rattle.regex_build.proofs.build.build.Goals as goal
 pub returns-in_err-stepped-clause-states : goal.returns-in_err-stepped-clause-states
 returns-in_err-stepped-clause-states c h =
     let pattern = c.args.regex.now in
-    apart_by_marks pattern.sets pattern.tree c.in_ok-table.table c.in_ok-table.ensures.sizes (c.args.limit + 1) c.in_ok-table.ensures.table
+    apart_by_marks pattern.sets pattern.tree c.in_ok-table.table c.in_ok-table.ensures.sizes (c.args.limit.most + 1) c.in_ok-table.ensures.table
     (c.determinise.ensures.states (search rules))
 
 pub returns-clause-language : goal.returns-clause-language

@@ -42,10 +42,10 @@ returns-in_err-result-clause-states c =
     let tie = two_readings c.deref.result.now one two f.automaton g.automaton items
     (c.in_ok-whole_reader.ensures ∙ ap whole_reading c.dfa-2.ensures.value) (c.in_ok-whole_reader-2.ensures ∙ ap whole_reading c.dfa-3.ensures.value) in
     let sizes = c.in_ok-alphabet.ensures ∙ c.alphabet.ensures.sizes ∙ ap (λ (d : Automaton). d.sizes) c.dfa.ensures.value in
-    handed_on (λ r. IsErrOf r faults.States → HasApart (BothAlike f g) (letters_of f.automaton) (c.args.limit + 1)) c.from_residual-in_err-result.result c.in_err-result.field-0.0 c.from_residual-in_err-result.ensures.1
-    (λ refused. apart_pairs f g is_f is_g c.requires (c.args.limit + 1)
-    (subst (λ (rs : List Reading). HasApart (LeadToOne rs) (letters_of f.automaton) (c.args.limit + 1)) tie
-    (subst (λ (ss : List ℕ). HasApart (LeadToOne (readings_in c.deref.result.now)) (product ss) (c.args.limit + 1)) sizes (c.in_err-result.ensures.states (same_fault c.in_err-result.field-0.0 faults.States refused)))))
+    handed_on (λ r. IsErrOf r faults.States → HasApart (BothAlike f g) (letters_of f.automaton) (c.args.limit.most + 1)) c.from_residual-in_err-result.result c.in_err-result.field-0.0 c.from_residual-in_err-result.ensures.1
+    (λ refused. apart_pairs f g is_f is_g c.requires (c.args.limit.most + 1)
+    (subst (λ (rs : List Reading). HasApart (LeadToOne rs) (letters_of f.automaton) (c.args.limit.most + 1)) tie
+    (subst (λ (ss : List ℕ). HasApart (LeadToOne (readings_in c.deref.result.now)) (product ss) (c.args.limit.most + 1)) sizes (c.in_err-result.ensures.states (same_fault c.in_err-result.field-0.0 faults.States refused)))))
 
 pub returns-clause-language : goal.returns-clause-language
 returns-clause-language c =

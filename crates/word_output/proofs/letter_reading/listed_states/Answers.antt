@@ -35,5 +35,5 @@ returns-clause-exceeds c refused =
     let is = c.in_ok-table.ensures.table_of in
     record {
       alphabet = c.in_ok-table.ensures.fits;
-      apart = apart-listed sizes listed table is c.in_ok-table.ensures.table (letters_of table) (c.args.limit + 1) (ap product is.sizes_are) (c.table_states.ensures.states refused);
+      apart = apart-listed sizes listed table is c.in_ok-table.ensures.table (letters_of table) (c.args.limit.most + 1) (ap product is.sizes_are) (c.table_states.ensures.states refused);
     }

@@ -38,7 +38,7 @@ returns-in_ok-done-in-Ok c =
           width = c.in-Ok.ensures.width;
           size_is = size;
           small = omega (arith, size, c.in_ok-read-in-Ok.ensures.size, c.in-Ok.ensures.size);
-          within = omega (arith, c.in-Ok.ensures.within, c.limit.ensures);
+          within = omega (arith, c.in-Ok.ensures.within, c.begin.ensures);
         };
       };
       new_is = c.in_ok-done-in-Ok.ensures.ok;

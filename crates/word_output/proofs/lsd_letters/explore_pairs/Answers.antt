@@ -26,9 +26,9 @@ returns-in_err-result-clause-states c refused =
     let wrong : c.from_residual.result ≡ Err States = refused in
     let is_states : c.in_err-result.field-0.0 ≡ States = cc in
     let fault : IsErrOf c.explore_keys.result States = c.in_err-result.was ∙ ap Err is_states in
-    HasApart-same (LeadAlike (pair_after d) (twice (first_of d))) (LsdLettersAlike f) (letters_of d) (c.args.limit + 1) (pairs_from_alike f c.dfa.ensures.function c.requires.some)
-    (subst (λ (x : Automaton). HasApart (LeadAlike (pair_after x) (twice (first_of x))) (letters_of d) (c.args.limit + 1)) dfa
-    (subst (λ n. HasApart (LeadAlike (pair_after c.dfa.result.now) (twice (first_of c.dfa.result.now))) n (c.args.limit + 1)) letters (c.explore_keys.ensures.states fault)))
+    HasApart-same (LeadAlike (pair_after d) (twice (first_of d))) (LsdLettersAlike f) (letters_of d) (c.args.limit.most + 1) (pairs_from_alike f c.dfa.ensures.function c.requires.some)
+    (subst (λ (x : Automaton). HasApart (LeadAlike (pair_after x) (twice (first_of x))) (letters_of d) (c.args.limit.most + 1)) dfa
+    (subst (λ n. HasApart (LeadAlike (pair_after c.dfa.result.now) (twice (first_of c.dfa.result.now))) n (c.args.limit.most + 1)) letters (c.explore_keys.ensures.states fault)))
 
 pub returns-clause-padding : goal.returns-clause-padding
 returns-clause-padding c =

@@ -23,7 +23,7 @@ returns-in_err-result-clause-states c refused =
     let wrong : c.from_residual.result ≡ Err States = refused in
     let is_states : c.in_err-result.field-0.0 ≡ States = cc in
     let fault : IsErrOf c.no_words_within.result States = c.in_err-result.was ∙ ap Err is_states in
-    let one : 1 ≡ c.args.limit + 1 = omega (arith, c.no_words_within.ensures.states.0 fault) in
+    let one : 1 ≡ c.args.limit.most + 1 = omega (arith, c.no_words_within.ensures.states.0 fault) in
     subst (HasApart (LsdLettersAlike f) (letters_of f.automaton)) one (HasApart-one (LsdLettersAlike f) (letters_of f.automaton))
 
 pub of_states-requires-clause-reached : goal.of_states-requires-clause-reached

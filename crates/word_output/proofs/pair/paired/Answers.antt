@@ -59,10 +59,10 @@ returns-in_err-result-clause-states c =
     let g_sizes : g.automaton.sizes ≡ pair_sizes a b = c.in_ok-other.ensures.sizes ∙ tracks in
     let reads_f = reads_over a b a f c.deref-3.result.now c.in_ok-tracks.tracks (c.deref-3.ensures.value ∙ c.in_ok-names.ensures.names) tracks c.in_ok-one.ensures.letters in
     let reads_g = reads_over a b b g c.deref-4.result.now c.in_ok-tracks.tracks (c.deref-4.ensures.value ∙ c.in_ok-names.ensures.names) tracks c.in_ok-other.ensures.letters in
-    handed_on (λ r. IsErrOf r faults.States → ExceedsWidth c.args.limit (pair_step c.args.comparison a b).step) c.from_residual-in_err-result.result c.in_err-result.field-0.0 c.from_residual-in_err-result.ensures.1
+    handed_on (λ r. IsErrOf r faults.States → ExceedsWidth c.args.limit.most (pair_step c.args.comparison a b).step) c.from_residual-in_err-result.result c.in_err-result.field-0.0 c.from_residual-in_err-result.ensures.1
     (λ refused. record {
       alphabet = subst (λ (ss : List ℕ). IsAlphabet ss) sizes c.in_ok-tracks.ensures.fits;
-      apart = pair_apart a b f g f_sizes g_sizes reads_f reads_g (c.args.limit + 1) (c.in_err-result.ensures.states (same_fault c.in_err-result.field-0.0 faults.States refused));
+      apart = pair_apart a b f g f_sizes g_sizes reads_f reads_g (c.args.limit.most + 1) (c.in_err-result.ensures.states (same_fault c.in_err-result.field-0.0 faults.States refused));
     })
 
 pub of_canonical-requires-clause-distinct : goal.of_canonical-requires-clause-distinct

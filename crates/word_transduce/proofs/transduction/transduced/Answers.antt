@@ -22,7 +22,7 @@ returns-in_err-result-clause-states c refused =
     let wrong : c.from_residual-in_err-result.result ≡ Err States = refused in
     let is_states : c.in_err-result.field-0.0 ≡ States = cc in
     let fault : IsErrOf c.explore_keys.result States = c.in_err-result.was ∙ ap Err is_states in
-    HasApart-same (LeadAlike (key_after t f list) (first_block_key t f list)) (TransduceAlike t f) (letters_of f.automaton) (c.args.limit + 1)
+    HasApart-same (LeadAlike (key_after t f list) (first_block_key t f list)) (TransduceAlike t f) (letters_of f.automaton) (c.args.limit.most + 1)
     (λ w v over there alike. lead_from_alike t f c.has_few_lines.ensures.transducer c.dfa-dfa.ensures.function list w v over there alike) (c.explore_keys.ensures.states fault)
 
 pub returns-clause-transduction : goal.returns-clause-transduction
