@@ -69,7 +69,7 @@ def letter_text(rng, letter):
 
 
 def atom(rng, made, depth):
-    """The text of a part that stands as it is, with its first and last place."""
+    """The text of a part without change, with its first and last place."""
     one, other = made.place(), made.place()
     draw = rng.random()
     if depth > 0 and draw < 0.4:

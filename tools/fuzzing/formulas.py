@@ -1,12 +1,12 @@
 """Formulas as trees: their text for the program, and their truth as an expression of Python.
 
-A variable has a track, which stands for one of the systems of a world: the same tree is written over several systems.
+A variable has a track, which means one of the systems of a world: the same tree is written over several systems.
 """
 from typing import NamedTuple
 
 OPERAND = {"atom", "not"}
 CHAINS = {*OPERAND, "&", "|", "^"}
-# What may stand without parentheses left and right of a connective.
+# What may be without parentheses left and right of a connective.
 LEFT = {"&": {*OPERAND, "&"}, "|": {*OPERAND, "&", "|"}, "^": {*OPERAND, "&", "^"}, "=>": CHAINS, "<=>": {*CHAINS, "=>", "<=>"}}
 RIGHT = {"&": OPERAND, "|": OPERAND, "^": OPERAND, "=>": CHAINS, "<=>": {*CHAINS, "=>"}}
 IN_PYTHON = {"=": "==", "&": "({}) and ({})", "|": "({}) or ({})", "^": "({}) != ({})", "=>": "not ({}) or ({})", "<=>": "({}) == ({})"}
@@ -106,8 +106,8 @@ class Quotient(NamedTuple):
 
     def text(self, to):
         inner = self.term.text(to)
-        stands = not isinstance(self.term, (Sum, Product, Quotient)) or not isinstance(self.term, Sum) and to.toss()
-        return f"{inner if stands else f'({inner})'}/{self.divisor}"
+        is_bare = not isinstance(self.term, (Sum, Product, Quotient)) or not isinstance(self.term, Sum) and to.toss()
+        return f"{inner if is_bare else f'({inner})'}/{self.divisor}"
 
     def code(self):
         return f"({self.term.code()}//{self.divisor})"

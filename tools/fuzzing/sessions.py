@@ -69,8 +69,8 @@ class Printer:
     def put(self, formula, allowed, is_last):
         if self.wants_macros and self.in_macro is None and self.rng.random() < 0.3:
             return f"({self.call_of_macro(formula)})"
-        stands = formula.level in allowed or formula.level == "quantifier" and is_last
-        return formula.text(self, is_last) if stands and self.rng.random() < 0.8 else f"({formula.text(self, True)})"
+        is_bare = formula.level in allowed or formula.level == "quantifier" and is_last
+        return formula.text(self, is_last) if is_bare and self.rng.random() < 0.8 else f"({formula.text(self, True)})"
 
     def call_of_macro(self, formula):
         names = [it.name for it in variables(formula)]
@@ -245,7 +245,7 @@ class Session:
                 self.takes_word(name, track, *library_word(name))
 
     def takes_word(self, name, track, table, letter):
-        """Takes a word whose table stands in a file. A ready-made word over no base lacks only transitions that no number follows."""
+        """Takes a word whose table is in a file. A ready-made word over no base lacks only transitions that no number follows."""
         self.space[name] = letter
         self.fixed.add(name)
         lacks_some = len(table.targets) < len(table.states) * systems.digits_of(table.tracks[0])
@@ -450,9 +450,9 @@ class Session:
         formula = parts[0]
         for part in parts[1:]:
             formula = Join(formula, "|", part)
-        asked, told = self.fresh("q"), self.command("eval", "e", f'"{self.printers[0].whole(formula)}"', "", True)
+        asked, answered = self.fresh("q"), self.command("eval", "e", f'"{self.printers[0].whole(formula)}"', "", True)
         self.commands.append(Command("inf", asked, f"inf {name}", True))
-        self.check("infinity", [asked, told], lambda a, b: "" if a.verdict == b.verdict else f"`inf` says {a.verdict}")
+        self.check("infinity", [asked, answered], lambda a, b: "" if a.verdict == b.verdict else f"`inf` says {a.verdict}")
 
 
 def held_in_python(formula, used, bound, space):
@@ -468,7 +468,7 @@ def first_of(stored, tools, bound, count):
     if stored == tools:
         return ""
     numbers = itertools.product(range(bound), repeat=count)
-    return next(f"at {at} the tool says {bool(told)}" for at, held, told in zip(numbers, stored, tools) if held != told)
+    return next(f"at {at} the tool says {bool(listed)}" for at, held, listed in zip(numbers, stored, tools) if held != listed)
 
 
 def only_letters(images):

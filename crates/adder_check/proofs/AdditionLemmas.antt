@@ -22,5 +22,5 @@ module _ (adds : ℕ → ℕ → ℕ → Type 0) where
     (λ found. (is x (suc y) z).1 (omega (arith, (is x y found.0).0 found.1, found.2))),
   )
 
-  pub laws_tell : (ZeroLaw adds × SuccessorLaw adds) ↔ IsAddition adds
-  laws_tell = ((λ both x y z. addition_from_laws both.0 both.1 y x z), (λ is. (zero_law is, successor_law is)))
+  pub laws_are_addition : (ZeroLaw adds × SuccessorLaw adds) ↔ IsAddition adds
+  laws_are_addition = ((λ both x y z. addition_from_laws both.0 both.1 y x z), (λ is. (zero_law is, successor_law is)))

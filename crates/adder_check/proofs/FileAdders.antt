@@ -20,7 +20,7 @@ use Rattle.adder_check.specs.declared.admit_fault.Law.TheVariants as laws
 use Rattle.adder_check.specs.AdderLaws.{ZeroLaw, SuccessorLaw, IsAddition}
 use Rattle.adder_check.specs.AdderRelation.{adds_in_file, three_of}
 use Rattle.adder_check.specs.Admission.{IsFirstAdderFault, IsFirstFault, FaultsExclude}
-use Rattle.adder_check.proofs.AdditionLemmas.{laws_tell}
+use Rattle.adder_check.proofs.AdditionLemmas.{laws_are_addition}
 
 -- laws of relations that are the same
 module _ (adds other : ℕ → ℕ → ℕ → Type 0) (same : (x y z : ℕ) → adds x y z ↔ other x y z) where
@@ -38,7 +38,7 @@ turned both = (both.1, both.0)
 
 adder_fault_same : (adds other : ℕ → ℕ → ℕ → Type 0) → ((x y z : ℕ) → adds x y z ↔ other x y z) → (fault : AdmitFault) → IsFirstAdderFault adds fault → IsFirstAdderFault other fault
 adder_fault_same adds other same (faults.NotAdmitted laws.NoZero) wrong = wrong
-adder_fault_same adds other same (faults.NotAdmitted laws.Finite) wrong = wrong
+adder_fault_same adds other same (faults.NotAdmitted laws.Endless) wrong = wrong
 adder_fault_same adds other same (faults.NotAdmitted laws.ZeroLaw) wrong = λ law. wrong (zero_law_same other adds (λ x y z. turned (same x y z)) law)
 adder_fault_same adds other same (faults.NotAdmitted laws.SuccessorLaw) wrong = (zero_law_same adds other same wrong.0, λ law. wrong.1 (successor_law_same other adds (λ x y z. turned (same x y z)) law))
 adder_fault_same adds other same (faults.Letters step) wrong = tt
@@ -48,7 +48,7 @@ adder_fault_same adds other same faults.Memory wrong = tt
 -- what is wrong with the adder of a system
 pub first_fault : (s : System) (adds : ℕ → ℕ → ℕ → Type 0) → IsSystem s → (fault : AdmitFault) → IsFirstAdderFault adds fault → IsFirstFault s adds fault
 first_fault s adds system (faults.NotAdmitted laws.NoZero) wrong = absurd wrong
-first_fault s adds system (faults.NotAdmitted laws.Finite) wrong = absurd wrong
+first_fault s adds system (faults.NotAdmitted laws.Endless) wrong = absurd wrong
 first_fault s adds system (faults.NotAdmitted laws.ZeroLaw) wrong = (system, wrong)
 first_fault s adds system (faults.NotAdmitted laws.SuccessorLaw) wrong = (system, wrong.0, wrong.1)
 first_fault s adds system (faults.Letters step) wrong = tt
@@ -58,9 +58,9 @@ first_fault s adds system faults.Memory wrong = tt
 -- excludes that it is addition
 excludes : (s : System) (adds : ℕ → ℕ → ℕ → Type 0) (law : Law) → IsFirstFault s adds (faults.NotAdmitted law) → IsSystem s → IsAddition adds → ⊥
 excludes s adds laws.NoZero wrong system is = wrong (record { empty = system.empty; zeros = system.zeros })
-excludes s adds laws.Finite wrong system is = wrong.1 system.endless
-excludes s adds laws.ZeroLaw wrong system is = wrong.1 ((laws_tell adds).1 is).0
-excludes s adds laws.SuccessorLaw wrong system is = wrong.2 ((laws_tell adds).1 is).1
+excludes s adds laws.Endless wrong system is = wrong.1 system.endless
+excludes s adds laws.ZeroLaw wrong system is = wrong.1 ((laws_are_addition adds).1 is).0
+excludes s adds laws.SuccessorLaw wrong system is = wrong.2 ((laws_are_addition adds).1 is).1
 
 pub faults_exclude : FaultsExclude
 faults_exclude direction s adder reversed law wrong both = excludes s (adds_in_file direction s adder reversed) law wrong both.0 both.1
@@ -109,22 +109,22 @@ module _ (direction : Direction) (s : System) (system : IsSystem s) (holds : Lis
   abbrev adds : ℕ → ℕ → ℕ → Type 0
   adds x y z = holds (x ∷ y ∷ z ∷ [])
 
-  abbrev tells : (List ℕ → Bool) → ℕ → ℕ → ℕ → Type 0
-  tells test x y z = IsTrue (test (x ∷ y ∷ z ∷ []))
+  abbrev adds_by : (List ℕ → Bool) → ℕ → ℕ → ℕ → Type 0
+  adds_by test x y z = IsTrue (test (x ∷ y ∷ z ∷ []))
 
   -- what the laws of its test are is what its own are
   pub adder_found : {A : Type 0} (r : Result A AdmitFault)
-      → ((test : List ℕ → Bool) → HoldsOf direction (three_of s) (Passes test) d → MatchResult r (λ a. ZeroLaw (tells test) × SuccessorLaw (tells test)) (IsFirstAdderFault (tells test)))
+      → ((test : List ℕ → Bool) → HoldsOf direction (three_of s) (Passes test) d → MatchResult r (λ a. ZeroLaw (adds_by test) × SuccessorLaw (adds_by test)) (IsFirstAdderFault (adds_by test)))
       → MatchResult r (λ a. ZeroLaw adds × SuccessorLaw adds) (IsFirstAdderFault adds)
   adder_found r found = by r (found decides (holds_same direction (three_of s) holds (Passes decides) d decided is))
     where
-      same : (x y z : ℕ) → tells decides x y z ↔ adds x y z
+      same : (x y z : ℕ) → adds_by decides x y z ↔ adds x y z
       same x y z = turned (decided (x ∷ y ∷ z ∷ []) refl)
 
-      by : {A : Type 0} (r : Result A AdmitFault) → MatchResult r (λ a. ZeroLaw (tells decides) × SuccessorLaw (tells decides)) (IsFirstAdderFault (tells decides))
+      by : {A : Type 0} (r : Result A AdmitFault) → MatchResult r (λ a. ZeroLaw (adds_by decides) × SuccessorLaw (adds_by decides)) (IsFirstAdderFault (adds_by decides))
           → MatchResult r (λ a. ZeroLaw adds × SuccessorLaw adds) (IsFirstAdderFault adds)
-      by (Ok a) both = (zero_law_same (tells decides) adds same both.0, successor_law_same (tells decides) adds same both.1)
-      by (Err fault) wrong = adder_fault_same (tells decides) adds same fault wrong
+      by (Ok a) both = (zero_law_same (adds_by decides) adds same both.0, successor_law_same (adds_by decides) adds same both.1)
+      by (Err fault) wrong = adder_fault_same (adds_by decides) adds same fault wrong
 
   -- where it is addition, the automaton is the adder
   pub adder_is : IsAddition adds → IsAdderOf direction s d

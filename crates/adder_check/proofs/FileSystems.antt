@@ -72,7 +72,7 @@ module _ (direction : Direction) (listed : Branching) (reversed : Bool) (d : Aut
   -- what is wrong with the automaton's language is wrong with the file's system
   pub language_fault : (fault : AdmitFault) → IsFirstLanguageFault direction d fault → (adder : Branching) → IsFirstFaultOfFiles direction listed adder reversed fault
   language_fault (faults.NotAdmitted laws.NoZero) wrong adder s of = λ keeps. wrong (subst (λ (t : System). KeepsZeros t.test) (is_only s of) keeps)
-  language_fault (faults.NotAdmitted laws.Finite) wrong adder s of =
+  language_fault (faults.NotAdmitted laws.Endless) wrong adder s of =
       let same = is_only s of in
       (subst (λ (t : System). KeepsZeros t.test) (sym same) wrong.0, λ endless. wrong.1 (subst (λ (t : System). IsEndless t.test) same endless))
   language_fault (faults.NotAdmitted laws.ZeroLaw) wrong adder s of = absurd wrong

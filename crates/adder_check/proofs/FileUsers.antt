@@ -16,7 +16,7 @@ use Rattle.adder_check.specs.AdderRelation.{HoldsInFile, adds_in_file, three_of}
 use Rattle.adder_check.specs.Admission.{Where, IsSystemOfFile, IsFirstAdderFault, IsFirstFault, IsFirstFaultOfFiles}
 use Rattle.endless.specs.LanguageLaws.{system_in, system_of}
 use Rattle.adder_check.specs.LanguageSteps.{IsOfFile}
-use Rattle.adder_check.proofs.AdditionLemmas.{laws_tell}
+use Rattle.adder_check.proofs.AdditionLemmas.{laws_are_addition}
 use Rattle.adder_check.proofs.FileAdders.{adder_found, adder_is, first_fault}
 use Rattle.adder_check.proofs.FileSystems.{own_size, is_of_file, is_only, sizes_of_one}
 
@@ -48,17 +48,17 @@ module _ (direction : Direction) (listed adder : Branching) (reversed : Bool) (d
   abbrev adds : ℕ → ℕ → ℕ → Type 0
   adds = adds_in_file direction (system_of direction d) adder reversed
 
-  abbrev tells : (List ℕ → Bool) → ℕ → ℕ → ℕ → Type 0
-  tells test x y z = IsTrue (test (x ∷ y ∷ z ∷ []))
+  abbrev adds_by : (List ℕ → Bool) → ℕ → ℕ → ℕ → Type 0
+  adds_by test x y z = IsTrue (test (x ∷ y ∷ z ∷ []))
 
   -- what is wrong with the adder is wrong with the files
-  pub adder_fault : (fault : AdmitFault) → ((test : List ℕ → Bool) → HoldsOf direction (three_of (system_of direction d)) (Passes test) a → IsFirstAdderFault (tells test) fault) → IsFirstFaultOfFiles direction listed adder reversed fault
+  pub adder_fault : (fault : AdmitFault) → ((test : List ℕ → Bool) → HoldsOf direction (three_of (system_of direction d)) (Passes test) a → IsFirstAdderFault (adds_by test) fault) → IsFirstFaultOfFiles direction listed adder reversed fault
   adder_fault fault wrong = λ s of.
       subst (λ (t : System). IsFirstFault t (adds_in_file direction t adder reversed) fault) (sym (is_only direction listed reversed d file k one s of))
       (first_fault (system_of direction d) adds system fault (adder_found direction (system_of direction d) system (HoldsInFile direction (system_of direction d) adder reversed) a holds {A = Unit {0}} (Err fault) wrong))
 
   pub are_parts : (n : ℕ) (e : Automaton) → n ≡ get_or d.sizes 0 0 → e ≡ a
-      → ((test : List ℕ → Bool) → HoldsOf direction (three_of (system_of direction d)) (Passes test) a → ZeroLaw (tells test) × SuccessorLaw (tells test)) → AreParts direction listed adder reversed n d e
+      → ((test : List ℕ → Bool) → HoldsOf direction (three_of (system_of direction d)) (Passes test) a → ZeroLaw (adds_by test) × SuccessorLaw (adds_by test)) → AreParts direction listed adder reversed n d e
   are_parts n e digits same laws =
       subst (λ (m : ℕ). AreParts direction listed adder reversed m d e) (sym digits)
       (subst (λ (x : Automaton). AreParts direction listed adder reversed (get_or d.sizes 0 0) d x) (sym same) record {
@@ -70,4 +70,4 @@ module _ (direction : Direction) (listed adder : Branching) (reversed : Bool) (d
       })
     where
       law : IsAddition adds
-      law = (laws_tell adds).0 (adder_found direction (system_of direction d) system (HoldsInFile direction (system_of direction d) adder reversed) a holds {A = Unit {0}} (Ok tt) laws)
+      law = (laws_are_addition adds).0 (adder_found direction (system_of direction d) system (HoldsInFile direction (system_of direction d) adder reversed) a holds {A = Unit {0}} (Ok tt) laws)

@@ -52,7 +52,7 @@ module _ (direction : Direction) (d : Automaton) where
 
   only_memory : (fault : AdmitFault) → keeps → endless → is_first fault → fault ≡ faults.Memory
   only_memory (faults.NotAdmitted laws.NoZero) zeros long wrong = absurd (wrong zeros)
-  only_memory (faults.NotAdmitted laws.Finite) zeros long wrong = absurd (wrong.1 long)
+  only_memory (faults.NotAdmitted laws.Endless) zeros long wrong = absurd (wrong.1 long)
   only_memory (faults.NotAdmitted laws.ZeroLaw) zeros long wrong = absurd wrong
   only_memory (faults.NotAdmitted laws.SuccessorLaw) zeros long wrong = absurd wrong
   only_memory (faults.Letters step) zeros long wrong = absurd wrong
@@ -64,16 +64,16 @@ module _ (direction : Direction) (d : Automaton) where
 
   beside_zeros : (f : AdmitFault) → ¬ keeps → is_first f → (f ≡ faults.Memory) ⊎ (faults.NotAdmitted laws.NoZero ≡ f)
   beside_zeros (faults.NotAdmitted laws.NoZero) none wrong = inr refl
-  beside_zeros (faults.NotAdmitted laws.Finite) none wrong = absurd (none wrong.0)
+  beside_zeros (faults.NotAdmitted laws.Endless) none wrong = absurd (none wrong.0)
   beside_zeros (faults.NotAdmitted laws.ZeroLaw) none wrong = absurd wrong
   beside_zeros (faults.NotAdmitted laws.SuccessorLaw) none wrong = absurd wrong
   beside_zeros (faults.Letters step) none wrong = absurd wrong
   beside_zeros (faults.States step) none wrong = absurd wrong
   beside_zeros faults.Memory none wrong = inl refl
 
-  beside_end : (f : AdmitFault) → keeps → is_first f → (f ≡ faults.Memory) ⊎ (faults.NotAdmitted laws.Finite ≡ f)
+  beside_end : (f : AdmitFault) → keeps → is_first f → (f ≡ faults.Memory) ⊎ (faults.NotAdmitted laws.Endless ≡ f)
   beside_end (faults.NotAdmitted laws.NoZero) zeros wrong = absurd (wrong zeros)
-  beside_end (faults.NotAdmitted laws.Finite) zeros wrong = inr refl
+  beside_end (faults.NotAdmitted laws.Endless) zeros wrong = inr refl
   beside_end (faults.NotAdmitted laws.ZeroLaw) zeros wrong = absurd wrong
   beside_end (faults.NotAdmitted laws.SuccessorLaw) zeros wrong = absurd wrong
   beside_end (faults.Letters step) zeros wrong = absurd wrong
@@ -82,7 +82,7 @@ module _ (direction : Direction) (d : Automaton) where
 
   one_fault : (e f : AdmitFault) → is_first e → is_first f → one_of e f
   one_fault (faults.NotAdmitted laws.NoZero) f wrong also = inr (beside_zeros f wrong also)
-  one_fault (faults.NotAdmitted laws.Finite) f wrong also = inr (beside_end f wrong.0 also)
+  one_fault (faults.NotAdmitted laws.Endless) f wrong also = inr (beside_end f wrong.0 also)
   one_fault (faults.NotAdmitted laws.ZeroLaw) f wrong also = absurd wrong
   one_fault (faults.NotAdmitted laws.SuccessorLaw) f wrong also = absurd wrong
   one_fault (faults.Letters step) f wrong also = absurd wrong

@@ -65,7 +65,7 @@ pub record IsSystemOfFile (read_direction : Direction) (listed : Branching) (rev
 -- the first law of an adder that does not hold
 abbrev pub IsFirstAdderFault : (ℕ → ℕ → ℕ → Type 0) → AdmitFault → Type 0
 IsFirstAdderFault adds (faults.NotAdmitted laws.NoZero) = ⊥
-IsFirstAdderFault adds (faults.NotAdmitted laws.Finite) = ⊥
+IsFirstAdderFault adds (faults.NotAdmitted laws.Endless) = ⊥
 IsFirstAdderFault adds (faults.NotAdmitted laws.ZeroLaw) = ¬ ZeroLaw adds
 IsFirstAdderFault adds (faults.NotAdmitted laws.SuccessorLaw) = ZeroLaw adds × ¬ SuccessorLaw adds
 IsFirstAdderFault adds (faults.Letters step) = ⊤
@@ -75,7 +75,7 @@ IsFirstAdderFault adds faults.Memory = ⊤
 -- the first law of a system and its adder that does not hold
 abbrev pub IsFirstFault : System → (ℕ → ℕ → ℕ → Type 0) → AdmitFault → Type 0
 IsFirstFault s adds (faults.NotAdmitted laws.NoZero) = ¬ KeepsZeros s.test
-IsFirstFault s adds (faults.NotAdmitted laws.Finite) = KeepsZeros s.test × ¬ IsEndless s.test
+IsFirstFault s adds (faults.NotAdmitted laws.Endless) = KeepsZeros s.test × ¬ IsEndless s.test
 IsFirstFault s adds (faults.NotAdmitted laws.ZeroLaw) = IsSystem s × ¬ ZeroLaw adds
 IsFirstFault s adds (faults.NotAdmitted laws.SuccessorLaw) = IsSystem s × ZeroLaw adds × ¬ SuccessorLaw adds
 IsFirstFault s adds (faults.Letters step) = ⊤

@@ -39,7 +39,7 @@ DoesFile listed reversed = Then (DoesStep (read_step listed)) (DoesReversal reve
 -- the first law of a language that does not hold
 abbrev pub IsFirstLanguageFault : Direction → Automaton → AdmitFault → Type 0
 IsFirstLanguageFault direction d (faults.NotAdmitted laws.NoZero) = ¬ KeepsZeros (language_in direction d)
-IsFirstLanguageFault direction d (faults.NotAdmitted laws.Finite) = KeepsZeros (language_in direction d) × ¬ IsEndless (language_in direction d)
+IsFirstLanguageFault direction d (faults.NotAdmitted laws.Endless) = KeepsZeros (language_in direction d) × ¬ IsEndless (language_in direction d)
 IsFirstLanguageFault direction d (faults.NotAdmitted laws.ZeroLaw) = ⊥
 IsFirstLanguageFault direction d (faults.NotAdmitted laws.SuccessorLaw) = ⊥
 IsFirstLanguageFault direction d (faults.Letters step) = ⊥

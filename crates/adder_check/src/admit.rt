@@ -45,7 +45,7 @@ pub struct SystemFiles<'a> {
 /// words are of the other direction; `order`, `product`, `project` and `product` for the successor; `read`,
 /// `reverse`, `pad` and `valid` for the adder; `product` and `project` for the sums with 0; and `product`
 /// and `project` for the sums with one more, and again for one more than the sums. The laws `NoZero` and
-/// `Finite` are looked at after the steps of the language's file, `ZeroLaw` and `SuccessorLaw` after their
+/// `Endless` are looked at after the steps of the language's file, `ZeroLaw` and `SuccessorLaw` after their
 /// own. The widths and the costs are those of the steps.
 ///
 /// # Errors

@@ -15,7 +15,7 @@ pub enum Law {
     /// The empty word is in the language, and leading zeros change nothing.
     NoZero,
     /// Words without leading zeros are longer than any bound.
-    Finite,
+    Endless,
     /// With 0 the sum of a number is the number itself, and nothing else.
     ZeroLaw,
     /// With one more the sums are those that are one more.

@@ -43,7 +43,7 @@ pub fn file_steps(
 /// direction. The time follows the number of transitions.
 ///
 /// # Errors
-/// `NotAdmitted` with the first law that does not hold, of `NoZero` and `Finite`, if and only if one does not.
+/// `NotAdmitted` with the first law that does not hold, of `NoZero` and `Endless`, if and only if one does not.
 pub fn check_language(alloc: Global, language: &Dfa, direction: Direction) -> Result<(), AdmitFault>
     requires canonical { IsCanonical language.now }
     ensures { ChecksLanguage direction language.now result }
@@ -52,7 +52,7 @@ pub fn check_language(alloc: Global, language: &Dfa, direction: Direction) -> Re
         return Err(AdmitFault::NotAdmitted(Law::NoZero));
     }
     if !is_endless(alloc, language, direction)? {
-        return Err(AdmitFault::NotAdmitted(Law::Finite));
+        return Err(AdmitFault::NotAdmitted(Law::Endless));
     }
     Ok(())
 }

@@ -2,7 +2,7 @@
 //! it has no end, and whether the adder's relation meets the laws of zero and of the successor, by steps.
 //!
 //! `admit` gives a `UserSystem`, or the first of four laws (`Law`) that does not hold. The language has the empty word,
-//! and leading zeros change nothing (`NoZero`); it has words without leading zeros longer than any bound (`Finite`).
+//! and leading zeros change nothing (`NoZero`); it has words without leading zeros longer than any bound (`Endless`).
 //! The adder's laws are the recursive definition of addition: x + 0 = z if and only if z = x (`ZeroLaw`), and
 //! x + (y + 1) = z if and only if z is one more than some w with x + y = w (`SuccessorLaw`).
 //!

@@ -52,7 +52,7 @@ pub record AreRelated (systems : List SystemValue) (system : SystemValue) (commo
   pub new_is : system_of system ≡ base new_base
   pub root : IsLeastRoot old_base new_base common
 
--- the new word has at each place the letter of the old one
+-- the new word has at each position the letter of the old one
 abbrev pub ConversionsKeepLetters : Type 0
 ConversionsKeepLetters = (old new : StepLog) (word made : WordValue) (system : SystemValue) (common : CommonRoot) → IsWordValue word → IsWordValue made → AreRelated word.systems system common
     → DoesConversion word system common old (Ok made) new → (n : ℕ) (letter : ℤ) → HasLetter made (n ∷ []) letter ↔ HasLetter word (n ∷ []) letter

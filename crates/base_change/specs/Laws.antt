@@ -8,7 +8,7 @@ use Rattle.base_change.specs.Joins.{IsJoin, JoinAlike, join_step}
 use Rattle.base_change.specs.Places.{HasLettersOfPlaces, KeepsPlaces}
 use Rattle.base_change.specs.Splits.{IsSplit, SplitAlike, split_step}
 
--- the step `split` keeps the letters of places
+-- the step `split` keeps the letters of positions
 abbrev pub SplitsKeepPlaces : Type 0
 SplitsKeepPlaces = (r b : ℕ) (f g : LetterFunctionValue) → 2 ≤ r → 1 ≤ b → HasLettersOfPlaces Lsd (r ^ b) f → IsSplit r b f g → KeepsPlaces Lsd (r ^ b) f Lsd r g
 

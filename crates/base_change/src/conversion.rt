@@ -23,7 +23,7 @@ use std::rc::Rc;
 use word_output::letter_function::LetterFunction;
 use word_output::word::Word;
 
-/// The word over the system that has at each place the letter of a word over one track, whose base is a power of the
+/// The word over the system that has at each position the letter of a word over one track, whose base is a power of the
 /// same integer. It is made by the steps `reverse`, if the old word has the most significant digit first, `split`, if
 /// its base is not the root, `join`, if the new base is not the root, and `reverse`, if the new word has the most
 /// significant digit first. The widths and the costs are those of the steps.

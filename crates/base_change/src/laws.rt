@@ -23,8 +23,8 @@ pub fn words_are_padded_groups()
     ensures { WordsArePaddedGroups }
 {}
 
-/// By the step `split` the letter at each place stays: that of the words over the base whose positional value is the
-/// place.
+/// By the step `split` the letter at each position stays: that of the words over the base whose positional value is the
+/// position.
 pub fn splits_keep_places()
     ensures { SplitsKeepPlaces }
 {}
@@ -46,7 +46,7 @@ pub fn join_has_one_outcome()
     ensures outcome { JoinHasOneOutcome }
 {}
 
-/// A conversion of a word gives one that has the same letter at each place.
+/// A conversion of a word gives one that has the same letter at each position.
 pub fn conversions_keep_letters()
     ensures { ConversionsKeepLetters }
 {

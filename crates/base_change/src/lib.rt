@@ -1,5 +1,5 @@
 //! Automatic words over a base that is another power of the same integer: the least root of two bases, and the steps
-//! `split` and `join` on letter functions, which have the same letters at the same places. Both read the least
+//! `split` and `join` on letter functions, which have the same letters at the same positions. Both read the least
 //! significant digit first.
 #![tactic(auto)]
 

@@ -239,8 +239,8 @@ one_valued part valued other a b =
     let text = value_text_of a.suffix valued.value a.value in
     let text' = value_text_of b.suffix other.value b.value in
     let names : valued.name ≡ other.name = sym (name_prefix part valued.name a.suffix a.part_is a.name text) ∙ name_prefix part other.name b.suffix b.part_is b.name text' in
-    let behinds : a.suffix ≡ b.suffix = sym (name_back part valued.name a.suffix a.part_is a.name text) ∙ name_back part other.name b.suffix b.part_is b.name text' in
-    let values = value_is b.suffix valued.value other.value (subst (λ (l : List ℕ). DerivesValue l valued.value) behinds a.value) b.value in
+    let suffixes : a.suffix ≡ b.suffix = sym (name_back part valued.name a.suffix a.part_is a.name text) ∙ name_back part other.name b.suffix b.part_is b.name text' in
+    let values = value_is b.suffix valued.value other.value (subst (λ (l : List ℕ). DerivesValue l valued.value) suffixes a.value) b.value in
     ap (λ (n : List ℕ). record { name = n; value = valued.value }) names ∙ ap (λ (v : Option ℤ). record { name = other.name; value = v }) values
 
 one_each : (parts : List (List ℕ)) (automata others : List ValuedName) → DeriveEach parts automata → DeriveEach parts others → automata ≡ others

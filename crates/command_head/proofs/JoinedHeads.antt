@@ -12,7 +12,7 @@ use Rattle.command_head.specs.Heads.{ValuedName, PromoteHead, ImageHead, Convert
 use Rattle.command_head.specs.Grammar.{DerivesValue, DerivesValued, DeriveEach, DerivesPromote, DerivesImage, DerivesConvert, DerivesCombine, DerivesLanguages, DerivesLanguage, DerivesName, DerivesAfter, DerivesTest}
 use Rattle.command_head.proofs.PrefixSteps.{prefix_len-append, after_prefix-append}
 use Rattle.command_head.proofs.PartShape.{all_in-all, name_bytes, word_name}
-use Rattle.command_head.proofs.JoinedParts.{Stands, stands_name, stands_system, stands_digits, stands_quoted, letter_solid, letter_len, text_of, word_bytes, word_first}
+use Rattle.command_head.proofs.JoinedParts.{IsWholePart, whole_name, whole_system, whole_digits, whole_quoted, letter_solid, letter_len, text_of, word_bytes, word_first}
 
 -- digits before a blank
 digits_prefix : (digits rest : List ℕ) → (not (length digits == 0) && all_in Digit digits) ≡ true → (begins_in Digit (digits ++ 32 ∷ rest) ≡ true) × (prefix_len Digit (digits ++ 32 ∷ rest) ≡ length digits)
@@ -58,9 +58,9 @@ valued_len b bs number rest named digits =
     ∙ (let sum : prefix_len NameByte ((b ∷ bs) ++ suffix) + ending_len suffix ≡ length ((b ∷ bs) ++ 61 ∷ number) = omega arith in sum)
 
 -- a name with a number
-stands_number_after : (name number : List ℕ) → is_name name ≡ true → is_number number ≡ true → Stands (name ++ 61 ∷ number)
-stands_number_after [] number named digits = absurd (false≢true named)
-stands_number_after (b ∷ bs) number named digits = record {
+whole_integer_after : (name number : List ℕ) → is_name name ≡ true → is_number number ≡ true → IsWholePart (name ++ 61 ∷ number)
+whole_integer_after [] number named digits = absurd (false≢true named)
+whole_integer_after (b ∷ bs) number named digits = record {
   first = b;
   others = bs ++ 61 ∷ number;
   is = refl;
@@ -69,63 +69,63 @@ stands_number_after (b ∷ bs) number named digits = record {
 }
 
 -- a name, alone or with a value
-stands_valued : (part : List ℕ) (valued : ValuedName) → DerivesValued part valued → Stands part
-stands_valued part valued s = by_value valued.value s.value
+whole_valued : (part : List ℕ) (valued : ValuedName) → DerivesValued part valued → IsWholePart part
+whole_valued part valued s = by_value valued.value s.value
   where
-    by_value : (value : Option ℤ) → DerivesValue s.suffix value → Stands part
-    by_value None e = subst Stands (sym (s.part_is ∙ ap (λ (l : List ℕ). valued.name ++ l) e ∙ append-nil valued.name)) (stands_name valued.name s.name)
-    by_value (Some n) v = subst Stands (sym (s.part_is ∙ ap (λ (l : List ℕ). valued.name ++ l) v.1)) (stands_number_after valued.name v.0 s.name v.2.number)
+    by_value : (value : Option ℤ) → DerivesValue s.suffix value → IsWholePart part
+    by_value None e = subst IsWholePart (sym (s.part_is ∙ ap (λ (l : List ℕ). valued.name ++ l) e ∙ append-nil valued.name)) (whole_name valued.name s.name)
+    by_value (Some n) v = subst IsWholePart (sym (s.part_is ∙ ap (λ (l : List ℕ). valued.name ++ l) v.1)) (whole_integer_after valued.name v.0 s.name v.2.number)
 
-stand_each : (parts : List (List ℕ)) (automata : List ValuedName) → DeriveEach parts automata → AllByRecursion Stands parts
-stand_each [] automata each = tt
-stand_each (part ∷ parts) [] each = absurd each
-stand_each (part ∷ parts) (valued ∷ automata) each = (stands_valued part valued each.0, stand_each parts automata each.1)
+whole_each : (parts : List (List ℕ)) (automata : List ValuedName) → DeriveEach parts automata → AllByRecursion IsWholePart parts
+whole_each [] automata each = tt
+whole_each (part ∷ parts) [] each = absurd each
+whole_each (part ∷ parts) (valued ∷ automata) each = (whole_valued part valued each.0, whole_each parts automata each.1)
 
 pub promote_text : (parts : List (List ℕ)) (head : PromoteHead) → DerivesPromote parts head → (text : List ℕ) × (texts_of (parts_of text) ≡ parts)
 promote_text parts head s =
     let others = head.word ∷ head.morphism ∷ [] in
-    (text_of (codes "promote") others, word_first (codes "promote") others (word_bytes (codes "promote") refl) (stands_name head.word (word_name head.word s.word), (stands_name head.morphism s.morphism, tt)) ∙ sym s.parts_are)
+    (text_of (codes "promote") others, word_first (codes "promote") others (word_bytes (codes "promote") refl) (whole_name head.word (word_name head.word s.word), (whole_name head.morphism s.morphism, tt)) ∙ sym s.parts_are)
 
 pub image_text : (word : List ℕ) (parts : List (List ℕ)) (head : ImageHead) → is_name word ≡ true → DerivesImage word parts head → (text : List ℕ) × (texts_of (parts_of text) ≡ parts)
 image_text word parts head h s =
     let others = head.word ∷ head.mapping ∷ head.old ∷ [] in
-    let all : AllByRecursion Stands others = (stands_name head.word (word_name head.word s.new), (stands_name head.mapping s.mapping, (stands_name head.old (word_name head.old s.old), tt))) in
+    let all : AllByRecursion IsWholePart others = (whole_name head.word (word_name head.word s.new), (whole_name head.mapping s.mapping, (whole_name head.old (word_name head.old s.old), tt))) in
     (text_of word others, word_first word others (word_bytes word h) all ∙ sym s.parts_are)
 
 pub convert_text : (parts : List (List ℕ)) (head : ConvertHead) → DerivesConvert parts head → (text : List ℕ) × (texts_of (parts_of text) ≡ parts)
 convert_text parts head s =
     let others = head.word ∷ head.system ∷ head.old ∷ [] in
-    let all : AllByRecursion Stands others = (stands_name head.word (word_name head.word s.word), (stands_system head.system s.system, (stands_name head.old (word_name head.old s.old), tt))) in
+    let all : AllByRecursion IsWholePart others = (whole_name head.word (word_name head.word s.word), (whole_system head.system s.system, (whole_name head.old (word_name head.old s.old), tt))) in
     (text_of (codes "convert") others, word_first (codes "convert") others (word_bytes (codes "convert") refl) all ∙ sym s.parts_are)
 
 pub combine_text : (parts : List (List ℕ)) (head : CombineHead) → DerivesCombine parts head → (text : List ℕ) × (texts_of (parts_of text) ≡ parts)
 combine_text parts head s =
     let others = head.word ∷ s.automata in
-    (text_of (codes "combine") others, word_first (codes "combine") others (word_bytes (codes "combine") refl) (stands_name head.word (word_name head.word s.word), stand_each s.automata head.automata s.each) ∙ sym s.parts_are)
+    (text_of (codes "combine") others, word_first (codes "combine") others (word_bytes (codes "combine") refl) (whole_name head.word (word_name head.word s.word), whole_each s.automata head.automata s.each) ∙ sym s.parts_are)
 
-stand_names : (parts : List (List ℕ)) → AllByRecursion (λ part. is_name part ≡ true) parts → AllByRecursion Stands parts
-stand_names [] each = tt
-stand_names (part ∷ parts) each = (stands_name part each.0, stand_names parts each.1)
+whole_names : (parts : List (List ℕ)) → AllByRecursion (λ part. is_name part ≡ true) parts → AllByRecursion IsWholePart parts
+whole_names [] each = tt
+whole_names (part ∷ parts) each = (whole_name part each.0, whole_names parts each.1)
 
 pub languages_text : (word : List ℕ) (parts : List (List ℕ)) (head : LanguagesHead) → is_name word ≡ true → DerivesLanguages word parts head → (text : List ℕ) × (texts_of (parts_of text) ≡ parts)
 languages_text word parts head h s =
     let others = head.name ∷ head.languages in
-    (text_of word others, word_first word others (word_bytes word h) (stands_name head.name s.name, stand_names head.languages s.each) ∙ sym s.parts_are)
+    (text_of word others, word_first word others (word_bytes word h) (whole_name head.name s.name, whole_names head.languages s.each) ∙ sym s.parts_are)
 
 pub language_text : (word : List ℕ) (parts : List (List ℕ)) (head : LanguagesHead) → is_name word ≡ true → DerivesLanguage word parts head → (text : List ℕ) × (texts_of (parts_of text) ≡ parts)
 language_text word parts head h s =
     let others = head.name ∷ s.language ∷ [] in
-    (text_of word others, word_first word others (word_bytes word h) (stands_name head.name s.name, (stands_name s.language s.is_named, tt)) ∙ sym s.parts_are)
+    (text_of word others, word_first word others (word_bytes word h) (whole_name head.name s.name, (whole_name s.language s.is_named, tt)) ∙ sym s.parts_are)
 
 pub name_text : (word : List ℕ) (parts : List (List ℕ)) (name : List ℕ) → is_name word ≡ true → DerivesName word parts name → (text : List ℕ) × (texts_of (parts_of text) ≡ parts)
 name_text word parts name h s =
     let others = name ∷ [] in
-    (text_of word others, word_first word others (word_bytes word h) (stands_name name s.named, tt) ∙ sym s.parts_are)
+    (text_of word others, word_first word others (word_bytes word h) (whole_name name s.named, tt) ∙ sym s.parts_are)
 
-stands_count : (part : List ℕ) → are_digits part ≡ true → Stands part
-stands_count part digits =
+whole_count : (part : List ℕ) → are_digits part ≡ true → IsWholePart part
+whole_count part digits =
     let p = and_parts (not (length part == 0)) (all_in Digit part) digits in
-    stands_digits part (some p.0) (all_in-all Digit part p.1)
+    whole_digits part (some p.0) (all_in-all Digit part p.1)
   where
     not_true : (t : Bool) → not t ≡ true → t ≡ false
     not_true true e = sym e
@@ -134,13 +134,13 @@ stands_count part digits =
     some : not (length part == 0) ≡ true → (length part == 0) ≡ false
     some h = not_true (length part == 0) h
 
-stand_after : (others : List (List ℕ)) (place : Option (List (List ℤ))) → DerivesAfter others place → AllByRecursion Stands others
-stand_after others None after = subst (AllByRecursion Stands) (sym after) tt
-stand_after others (Some letters) after =
+whole_after : (others : List (List ℕ)) (place : Option (List (List ℤ))) → DerivesAfter others place → AllByRecursion IsWholePart others
+whole_after others None after = subst (AllByRecursion IsWholePart) (sym after) tt
+whole_after others (Some letters) after =
     let s = after.2 in
-    subst (AllByRecursion Stands) (sym after.1) (subst Stands (sym s.part_is) (stands_quoted s.body s.unquoted), tt)
+    subst (AllByRecursion IsWholePart) (sym after.1) (subst IsWholePart (sym s.part_is) (whole_quoted s.body s.unquoted), tt)
 
 pub test_text : (parts : List (List ℕ)) (head : TestHead) → DerivesTest parts head → (text : List ℕ) × (texts_of (parts_of text) ≡ parts)
 test_text parts head s =
     let others = head.name ∷ s.count ∷ s.others in
-    (text_of (codes "test") others, word_first (codes "test") others (word_bytes (codes "test") refl) (stands_name head.name s.name, (stands_count s.count s.counted.digits, stand_after s.others head.place s.after)) ∙ sym s.parts_are)
+    (text_of (codes "test") others, word_first (codes "test") others (word_bytes (codes "test") refl) (whole_name head.name s.name, (whole_count s.count s.counted.digits, whole_after s.others head.place s.after)) ∙ sym s.parts_are)

@@ -20,7 +20,7 @@ join [] = []
 join (part ∷ parts) = part ++ 32 ∷ join parts
 
 -- a part that is one also where a blank comes after it
-pub record Stands (part : List ℕ) : Type 0 where
+pub record IsWholePart (part : List ℕ) : Type 0 where
   pub first : ℕ
   pub others : List ℕ
   pub is : part ≡ first ∷ others
@@ -52,7 +52,7 @@ no_part zero whole blank = refl
 no_part (suc count) whole blank = refl
 
 -- after a blank the parts follow
-solid_join : (parts : List (List ℕ)) → AllByRecursion Stands parts → after_blanks (32 ∷ join parts) ≡ join parts
+solid_join : (parts : List (List ℕ)) → AllByRecursion IsWholePart parts → after_blanks (32 ∷ join parts) ≡ join parts
 unfolding join
 solid_join [] all = refl
 solid_join (part ∷ parts) all =
@@ -60,12 +60,12 @@ solid_join (part ∷ parts) all =
     let stops : Stops Blank (part ++ 32 ∷ join parts) = subst (λ (l : List ℕ). Stops Blank (l ++ 32 ∷ join parts)) (sym s.is) s.solid in
     after_prefix-append Blank (32 ∷ []) (part ++ 32 ∷ join parts) (refl, tt) stops
 
-parts_join : (parts : List (List ℕ)) (count whole : ℕ) → AllByRecursion Stands parts → length (join parts) ≤ count → texts_of (parts_of_rest count whole true (join parts)) ≡ parts
+parts_join : (parts : List (List ℕ)) (count whole : ℕ) → AllByRecursion IsWholePart parts → length (join parts) ≤ count → texts_of (parts_of_rest count whole true (join parts)) ≡ parts
 unfolding join
 parts_join [] count whole all room = no_part count whole true
 parts_join ([] ∷ parts) count whole all room = absurd (none (all.0))
   where
-    none : Stands [] → ⊥
+    none : IsWholePart [] → ⊥
     none s = cc s.is
 parts_join ((b ∷ bs) ∷ parts) zero whole all room = absurd (omega arith)
 parts_join ((b ∷ bs) ∷ parts) (suc count) whole all room =
@@ -91,8 +91,8 @@ letter_len b bs h = taken (is_letter b) _ _ h
     taken a x y h = rw h refl
 
 -- a letter and bytes of names
-stands_letter : (b : ℕ) (bs : List ℕ) → is_letter b ≡ true → AllByRecursion (λ c. is_in NameByte c ≡ true) (b ∷ bs) → Stands (b ∷ bs)
-stands_letter b bs letter all = record {
+whole_letter : (b : ℕ) (bs : List ℕ) → is_letter b ≡ true → AllByRecursion (λ c. is_in NameByte c ≡ true) (b ∷ bs) → IsWholePart (b ∷ bs)
+whole_letter b bs letter all = record {
   first = b;
   others = bs;
   is = refl;
@@ -103,34 +103,34 @@ stands_letter b bs letter all = record {
       ∙ (let n = prefix_len-append NameByte (b ∷ bs) (32 ∷ rest) all refl in omega arith);
 }
 
-pub stands_name : (part : List ℕ) → is_name part ≡ true → Stands part
-stands_name [] h = absurd (false≢true h)
-stands_name (b ∷ bs) h =
-    stands_letter b bs (and_parts (is_letter b) (all_in NameByte (b ∷ bs) && nat_le (length (b ∷ bs)) 64) h).0 (name_bytes (b ∷ bs) h)
+pub whole_name : (part : List ℕ) → is_name part ≡ true → IsWholePart part
+whole_name [] h = absurd (false≢true h)
+whole_name (b ∷ bs) h =
+    whole_letter b bs (and_parts (is_letter b) (all_in NameByte (b ∷ bs) && nat_le (length (b ∷ bs)) 64) h).0 (name_bytes (b ∷ bs) h)
 
-pub stands_system : (part : List ℕ) → is_system part ≡ true → Stands part
+pub whole_system : (part : List ℕ) → is_system part ≡ true → IsWholePart part
 unfolding is_system
-stands_system [] h = absurd (false≢true h)
-stands_system (b ∷ bs) h =
+whole_system [] h = absurd (false≢true h)
+whole_system (b ∷ bs) h =
     let direction = direction_is (take 4 (b ∷ bs)) (system_read (b ∷ bs) h).direction in
     let letter : is_letter b ≡ true = ⊎_elim (λ e. first_letter 109 (ap (λ (l : List ℕ). get_or l 0 0) e) refl) (λ e. first_letter 108 (ap (λ (l : List ℕ). get_or l 0 0) e) refl) direction in
-    stands_letter b bs letter (system_bytes (b ∷ bs) h)
+    whole_letter b bs letter (system_bytes (b ∷ bs) h)
   where
     first_letter : (c : ℕ) → b ≡ c → is_letter c ≡ true → is_letter b ≡ true
     first_letter c e h = subst (λ (x : ℕ). is_letter x ≡ true) (sym e) h
 
 -- braces and commas
-stands_open : Stands (codes "{")
+whole_open : IsWholePart (codes "{")
 unfolding part_len
-stands_open = record { first = 123; others = []; is = refl; solid = refl; len = λ rest. refl }
+whole_open = record { first = 123; others = []; is = refl; solid = refl; len = λ rest. refl }
 
-stands_close : Stands (codes "}")
+whole_close : IsWholePart (codes "}")
 unfolding part_len
-stands_close = record { first = 125; others = []; is = refl; solid = refl; len = λ rest. refl }
+whole_close = record { first = 125; others = []; is = refl; solid = refl; len = λ rest. refl }
 
-stands_comma : Stands (codes ",")
+whole_comma : IsWholePart (codes ",")
 unfolding part_len
-stands_comma = record { first = 44; others = []; is = refl; solid = refl; len = λ rest. refl }
+whole_comma = record { first = 44; others = []; is = refl; solid = refl; len = λ rest. refl }
 
 -- digits, and digits after a sign
 signed_len : (d : ℕ) (ds rest : List ℕ) → AllByRecursion (λ c. is_in Digit c ≡ true) (d ∷ ds) → part_len (45 ∷ ((d ∷ ds) ++ 32 ∷ rest)) ≡ length (45 ∷ d ∷ ds)
@@ -147,35 +147,35 @@ digits_len d ds rest from to all =
 digit_range : (b : ℕ) → is_digit b ≡ true → (48 ≤ b) × (b ≤ 57)
 digit_range b h = let p = and_parts (nat_le 48 b) (nat_le b 57) h in (leb-true 48 b p.0, leb-true b 57 p.1)
 
-stands_signed : (bs : List ℕ) → (length bs == 0) ≡ false → AllByRecursion (λ c. is_in Digit c ≡ true) bs → Stands (45 ∷ bs)
-stands_signed [] some all = absurd (false≢true (sym some))
-stands_signed (d ∷ ds) some all = record { first = 45; others = d ∷ ds; is = refl; solid = refl; len = λ rest. signed_len d ds rest all }
+whole_signed : (bs : List ℕ) → (length bs == 0) ≡ false → AllByRecursion (λ c. is_in Digit c ≡ true) bs → IsWholePart (45 ∷ bs)
+whole_signed [] some all = absurd (false≢true (sym some))
+whole_signed (d ∷ ds) some all = record { first = 45; others = d ∷ ds; is = refl; solid = refl; len = λ rest. signed_len d ds rest all }
 
-pub stands_digits : (bs : List ℕ) → (length bs == 0) ≡ false → AllByRecursion (λ c. is_in Digit c ≡ true) bs → Stands bs
-stands_digits [] some all = absurd (false≢true (sym some))
-stands_digits (d ∷ ds) some all =
+pub whole_digits : (bs : List ℕ) → (length bs == 0) ≡ false → AllByRecursion (λ c. is_in Digit c ≡ true) bs → IsWholePart bs
+whole_digits [] some all = absurd (false≢true (sym some))
+whole_digits (d ∷ ds) some all =
     let range = digit_range d all.0 in
     let from = range.0 in
     record { first = d; others = ds; is = refl; solid = high-blank d (omega arith); len = λ rest. digits_len d ds rest range.0 range.1 all }
 
-stands_number : (part : List ℕ) → is_number part ≡ true → Stands part
-stands_number [] h = absurd (false≢true h)
-stands_number (b ∷ bs) h = by_sign (b == 45) refl (unsigned (b ∷ bs)) refl h
+whole_integer : (part : List ℕ) → is_number part ≡ true → IsWholePart part
+whole_integer [] h = absurd (false≢true h)
+whole_integer (b ∷ bs) h = by_sign (b == 45) refl (unsigned (b ∷ bs)) refl h
   where
     not_true : (t : Bool) → not t ≡ true → t ≡ false
     not_true true e = sym e
     not_true false e = refl
 
-    by_sign : (t : Bool) → (b == 45) ≡ t → (suffix : List ℕ) → cond t bs (b ∷ bs) ≡ suffix → (not (length suffix == 0) && all_in Digit suffix) ≡ true → Stands (b ∷ bs)
+    by_sign : (t : Bool) → (b == 45) ≡ t → (suffix : List ℕ) → cond t bs (b ∷ bs) ≡ suffix → (not (length suffix == 0) && all_in Digit suffix) ≡ true → IsWholePart (b ∷ bs)
     by_sign true e suffix is g =
         let p = and_parts (not (length suffix == 0)) (all_in Digit suffix) g in
         let P : List ℕ → Type 0 = λ l. AllByRecursion (λ c. is_in Digit c ≡ true) l in
-        subst (λ (c : ℕ). Stands (c ∷ bs)) (sym (eqb-true b 45 e))
-        (stands_signed bs (subst (λ (l : List ℕ). (length l == 0) ≡ false) (sym is) (not_true (length suffix == 0) p.0)) (subst P (sym is) (all_in-all Digit suffix p.1)))
+        subst (λ (c : ℕ). IsWholePart (c ∷ bs)) (sym (eqb-true b 45 e))
+        (whole_signed bs (subst (λ (l : List ℕ). (length l == 0) ≡ false) (sym is) (not_true (length suffix == 0) p.0)) (subst P (sym is) (all_in-all Digit suffix p.1)))
     by_sign false e suffix is g =
         let p = and_parts (not (length suffix == 0)) (all_in Digit suffix) g in
         let P : List ℕ → Type 0 = λ l. AllByRecursion (λ c. is_in Digit c ≡ true) l in
-        stands_digits (b ∷ bs) (subst (λ (l : List ℕ). (length l == 0) ≡ false) (sym is) (not_true (length suffix == 0) p.0)) (subst P (sym is) (all_in-all Digit suffix p.1))
+        whole_digits (b ∷ bs) (subst (λ (l : List ℕ). (length l == 0) ≡ false) (sym is) (not_true (length suffix == 0) p.0)) (subst P (sym is) (all_in-all Digit suffix p.1))
 
 quoted_length : (body rest : List ℕ) → AreUnquoted body → part_len (quoted body ++ 32 ∷ rest) ≡ length (quoted body)
 unfolding part_len
@@ -184,40 +184,40 @@ quoted_length body rest all =
     let n : prefix_len Unquoted ((body ++ 34 ∷ []) ++ 32 ∷ rest) ≡ length body = ap (prefix_len Unquoted) (append_assoc body (34 ∷ []) (32 ∷ rest)) ∙ prefix_len-append Unquoted body (34 ∷ 32 ∷ rest) in_body refl in
     rw n (omega (arith, length-append body (34 ∷ []), length-append (body ++ 34 ∷ []) (32 ∷ rest)))
 
-pub stands_quoted : (body : List ℕ) → AreUnquoted body → Stands (quoted body)
-stands_quoted body all = record { first = 34; others = body ++ 34 ∷ []; is = refl; solid = refl; len = λ rest. quoted_length body rest all }
+pub whole_quoted : (body : List ℕ) → AreUnquoted body → IsWholePart (quoted body)
+whole_quoted body all = record { first = 34; others = body ++ 34 ∷ []; is = refl; solid = refl; len = λ rest. quoted_length body rest all }
 
 -- the parts of a head
 pub all_of : (P : List ℕ → Type 0) (xs ys : List (List ℕ)) → AllByRecursion P xs → AllByRecursion P ys → AllByRecursion P (xs ++ ys)
 all_of P [] ys a b = b
 all_of P (x ∷ xs) ys a b = (a.0, all_of P xs ys a.1 b)
 
-stand_mentions : (mentions : List ℤ) (parts : List (List ℕ)) → DerivesMentions parts mentions → AllByRecursion Stands parts
-stand_mentions [] parts derived = absurd derived
-stand_mentions (n ∷ []) parts derived = subst (AllByRecursion Stands) (sym derived.1) (stands_number derived.0 derived.2.number, tt)
-stand_mentions (n ∷ m ∷ ns) parts derived =
-    subst (AllByRecursion Stands) (sym derived.2) (stands_number derived.0 derived.3.number, (stands_comma, stand_mentions (m ∷ ns) derived.1 derived.4))
+whole_mentions : (mentions : List ℤ) (parts : List (List ℕ)) → DerivesMentions parts mentions → AllByRecursion IsWholePart parts
+whole_mentions [] parts derived = absurd derived
+whole_mentions (n ∷ []) parts derived = subst (AllByRecursion IsWholePart) (sym derived.1) (whole_integer derived.0 derived.2.number, tt)
+whole_mentions (n ∷ m ∷ ns) parts derived =
+    subst (AllByRecursion IsWholePart) (sym derived.2) (whole_integer derived.0 derived.3.number, (whole_comma, whole_mentions (m ∷ ns) derived.1 derived.4))
 
-stand_set : (set : List ℤ) (parts : List (List ℕ)) → DerivesSet parts set → AllByRecursion Stands parts
-stand_set set parts s = subst (AllByRecursion Stands) (sym s.parts_are) (stands_open, all_of Stands s.inside (codes "}" ∷ []) (stand_mentions s.mentions s.inside s.derived) (stands_close, tt))
+whole_set : (set : List ℤ) (parts : List (List ℕ)) → DerivesSet parts set → AllByRecursion IsWholePart parts
+whole_set set parts s = subst (AllByRecursion IsWholePart) (sym s.parts_are) (whole_open, all_of IsWholePart s.inside (codes "}" ∷ []) (whole_mentions s.mentions s.inside s.derived) (whole_close, tt))
 
-stand_sets : (sets : List (List ℤ)) (parts : List (List ℕ)) → DeriveSets parts sets → AllByRecursion Stands parts
-stand_sets [] parts derived = subst (AllByRecursion Stands) (sym derived) tt
-stand_sets (set ∷ sets) parts derived =
-    subst (AllByRecursion Stands) (sym derived.2) (all_of Stands derived.0 derived.1 (stand_set set derived.0 derived.3) (stand_sets sets derived.1 derived.4))
+whole_sets : (sets : List (List ℤ)) (parts : List (List ℕ)) → DeriveSets parts sets → AllByRecursion IsWholePart parts
+whole_sets [] parts derived = subst (AllByRecursion IsWholePart) (sym derived) tt
+whole_sets (set ∷ sets) parts derived =
+    subst (AllByRecursion IsWholePart) (sym derived.2) (all_of IsWholePart derived.0 derived.1 (whole_set set derived.0 derived.3) (whole_sets sets derived.1 derived.4))
 
-stand_systems : (names : List (List ℕ)) → AllByRecursion (λ n. is_system n ≡ true) names → AllByRecursion Stands names
-stand_systems [] all = tt
-stand_systems (n ∷ ns) all = (stands_system n all.0, stand_systems ns all.1)
+whole_systems : (names : List (List ℕ)) → AllByRecursion (λ n. is_system n ≡ true) names → AllByRecursion IsWholePart names
+whole_systems [] all = tt
+whole_systems (n ∷ ns) all = (whole_system n all.0, whole_systems ns all.1)
 
-stand_alphabets : (alphabets : Alphabets) (parts : List (List ℕ)) → DeriveAlphabets parts alphabets → AllByRecursion Stands parts
-stand_alphabets (Sets sets) parts derived = stand_sets sets parts derived.1
-stand_alphabets (Systems names) parts derived = subst (AllByRecursion Stands) (sym derived.1) (stand_systems names derived.2)
+whole_alphabets : (alphabets : Alphabets) (parts : List (List ℕ)) → DeriveAlphabets parts alphabets → AllByRecursion IsWholePart parts
+whole_alphabets (Sets sets) parts derived = whole_sets sets parts derived.1
+whole_alphabets (Systems names) parts derived = subst (AllByRecursion IsWholePart) (sym derived.1) (whole_systems names derived.2)
 
 unfoldable pub text_of : List ℕ → List (List ℕ) → List ℕ
 text_of word parts = word ++ 32 ∷ join parts
 
-pub word_first : (word : List ℕ) (parts : List (List ℕ)) → AllByRecursion (λ b. is_in Word b ≡ true) word → AllByRecursion Stands parts → texts_of (parts_of (text_of word parts)) ≡ word ∷ parts
+pub word_first : (word : List ℕ) (parts : List (List ℕ)) → AllByRecursion (λ b. is_in Word b ≡ true) word → AllByRecursion IsWholePart parts → texts_of (parts_of (text_of word parts)) ≡ word ∷ parts
 unfolding parts_of text_of
 word_first word parts of_word all =
     let rest = 32 ∷ join parts in
@@ -232,7 +232,7 @@ word_first word parts of_word all =
 pub reg_text : (parts : List (List ℕ)) (head : RegHead) → DerivesReg parts head → (text : List ℕ) × (texts_of (parts_of text) ≡ parts)
 reg_text parts head s =
     let others = head.name ∷ (s.alphabets ++ quoted head.body ∷ []) in
-    let all : AllByRecursion Stands others = (stands_name head.name s.name, all_of Stands s.alphabets (quoted head.body ∷ []) (stand_alphabets head.alphabets s.alphabets s.derived) (stands_quoted head.body s.body, tt)) in
+    let all : AllByRecursion IsWholePart others = (whole_name head.name s.name, all_of IsWholePart s.alphabets (quoted head.body ∷ []) (whole_alphabets head.alphabets s.alphabets s.derived) (whole_quoted head.body s.body, tt)) in
     (text_of (codes "reg") others, word_first (codes "reg") others (refl, (refl, (refl, tt))) all ∙ sym s.parts_are)
 
 name_byte-word : (b : ℕ) → is_in NameByte b ≡ true → is_in Word b ≡ true
@@ -247,4 +247,4 @@ word_bytes word h =
 pub named_text : (word : List ℕ) (parts : List (List ℕ)) (head : NamedHead) → is_name word ≡ true → DerivesNamed word parts head → (text : List ℕ) × (texts_of (parts_of text) ≡ parts)
 named_text word parts head h s =
     let others = head.name ∷ quoted head.body ∷ [] in
-    (text_of word others, word_first word others (word_bytes word h) (stands_name head.name s.name, (stands_quoted head.body s.body, tt)) ∙ sym s.parts_are)
+    (text_of word others, word_first word others (word_bytes word h) (whole_name head.name s.name, (whole_quoted head.body s.body, tt)) ∙ sym s.parts_are)

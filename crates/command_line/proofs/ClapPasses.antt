@@ -21,7 +21,7 @@ use Rattle.command_line.specs.declared.words.WordsFault.TheVariants as faults
 use Rattle.command_line.specs.WordReading.{ReadsNames}
 use Rattle.command_line.specs.Program.{walnut_app}
 use Rattle.command_line.specs.Words.{Given, states, stop, make, AreNameAndValue, AreWordsOfAll, IsEnd, states_in, seeds_in, stops_in, at_most_one, IsLimit, IsSeed, GivesOptions}
-use Rattle.command_line.proofs.ClapTurns.{shape, rules, stop_rule, Valued, of_states, of_make, id_of, rule_at, holds, stand, turn, or_else_nil, or_else_both, turn_at_mark, fault_at_value, turn_at_value, fault_at_name, turn_at_name, fault_at_stop, turn_at_stop, after_push, value_where_waiting}
+use Rattle.command_line.proofs.ClapTurns.{shape, rules, stop_rule, Valued, of_states, of_make, id_of, rule_at, holds, walk_at_start, turn, or_else_nil, or_else_both, turn_at_mark, fault_at_value, turn_at_value, fault_at_name, turn_at_name, fault_at_stop, turn_at_stop, after_push, value_where_waiting}
 use Rattle.command_line.proofs.ClapUses.{AreUsed, count_of, limits_counted, seeds_counted, stops_counted, once_used, argument_of, seen, defaults_pass}
 use Rattle.command_line.proofs.ClapWalks.{faults_from, end_of, at_idle, at_option}
 
@@ -136,7 +136,7 @@ unfolding walk_fault
 end_passes rows pending end (inl none) settles = let P : List Text → Type 0 = λ words. faults_from (at_idle rows pending) words ≡ [] in subst P (sym none) settles
 end_passes rows pending end (inr is) settles =
     let P : List Text → Type 0 = λ words. faults_from (at_idle rows pending) words ≡ [] in
-    subst P (sym is) (one_more (at_idle rows pending) (stand (holds rows pending) idle true) (45 ∷ 45 ∷ []) [] refl (turn_at_mark (holds rows pending) idle) settles)
+    subst P (sym is) (one_more (at_idle rows pending) (walk_at_start (holds rows pending) idle true) (45 ∷ 45 ∷ []) [] refl (turn_at_mark (holds rows pending) idle) settles)
 
 -- options that are used one after another pass
 passes : (given : List Given) (options end : List Text) → AreWordsOfAll given options → IsEnd end → ArePlain (states_in given) → ArePlain (seeds_in given)

@@ -37,11 +37,11 @@ rule_at of_make = unwrap_or (slice_get rules 2) make_arg
 abbrev pub holds : List Row → Option (Text × List Text) → Held
 holds rows pending = record { rows = rows; pending = pending; skip = 0 }
 
-abbrev pub stand : Held → Waiting → Bool → Walk
-stand held waiting trailing = record { held = held; waiting = waiting; position = 1; is_trailing = trailing; stopped = None }
+abbrev pub walk_at_start : Held → Waiting → Bool → Walk
+walk_at_start held waiting trailing = record { held = held; waiting = waiting; position = 1; is_trailing = trailing; stopped = None }
 
 abbrev pub turn : Held → Waiting → Text → Kinds
-turn held waiting word = turn_fault shape [] (stand held waiting false) word
+turn held waiting word = turn_fault shape [] (walk_at_start held waiting false) word
 
 pub or_else_nil : (a b : Kinds) → or_else a b ≡ [] → (a ≡ []) × (b ≡ [])
 or_else_nil [] b e = (refl, e)
@@ -123,11 +123,11 @@ option_word id word value is = spelled value (long_parts word (id, value) is)
     spelled (Some value) (rest, split, is) = split ∙ ap (λ (ys : Text). 45 ∷ 45 ∷ ys) is
 
 -- after the mark each word is a stray one
-pub stray_after_mark : (held : Held) (waiting : Waiting) (word : Text) → turn_fault shape [] (stand held waiting true) word ≡ [] → ⊥
+pub stray_after_mark : (held : Held) (waiting : Waiting) (word : Text) → turn_fault shape [] (walk_at_start held waiting true) word ≡ [] → ⊥
 stray_after_mark held waiting word e = cc
 
 -- the mark is no fault, and what is held stays
-pub turn_at_mark : (held : Held) (waiting : Waiting) → walked rules [] (stand held waiting false) (45 ∷ 45 ∷ []) ≡ stand held waiting true
+pub turn_at_mark : (held : Held) (waiting : Waiting) → walked rules [] (walk_at_start held waiting false) (45 ∷ 45 ∷ []) ≡ walk_at_start held waiting true
 unfolding walked
 turn_at_mark held idle = refl
 turn_at_mark held (option id) = refl
@@ -171,7 +171,7 @@ fault_at_value of_make held (option id) word value unlike is = rw (unlike, is) r
 fault_at_value of_make held positional word value unlike is = rw (unlike, is) refl
 
 pub turn_at_value : (v : Valued) (held : Held) (waiting : Waiting) (word value : Text) → bytes_eq word (45 ∷ 45 ∷ []) ≡ false → long_of word ≡ Some (id_of v, Some value)
-    → walked rules [] (stand held waiting false) word ≡ stand (reacted rules (rule_at v) (value ∷ []) held) idle false
+    → walked rules [] (walk_at_start held waiting false) word ≡ walk_at_start (reacted rules (rule_at v) (value ∷ []) held) idle false
 unfolding walked
 turn_at_value of_states held idle word value unlike is = rw (unlike, is) refl
 turn_at_value of_states held (option id) word value unlike is = rw (unlike, is) refl
@@ -190,7 +190,7 @@ fault_at_name of_make held (option id) word unlike is = rw (unlike, is) refl
 fault_at_name of_make held positional word unlike is = rw (unlike, is) refl
 
 pub turn_at_name : (v : Valued) (held : Held) (waiting : Waiting) (word : Text) → bytes_eq word (45 ∷ 45 ∷ []) ≡ false → long_of word ≡ Some (id_of v, None)
-    → walked rules [] (stand held waiting false) word ≡ stand (record (settled rules held) { pending = Some (id_of v, []) }) (option (id_of v)) false
+    → walked rules [] (walk_at_start held waiting false) word ≡ walk_at_start (record (settled rules held) { pending = Some (id_of v, []) }) (option (id_of v)) false
 unfolding walked
 turn_at_name of_states held idle word unlike is = rw (unlike, is) refl
 turn_at_name of_states held (option id) word unlike is = rw (unlike, is) refl
@@ -207,7 +207,7 @@ fault_at_stop held (option id) word unlike is = rw (unlike, is) refl
 fault_at_stop held positional word unlike is = rw (unlike, is) refl
 
 pub turn_at_stop : (held : Held) (waiting : Waiting) (word : Text) → bytes_eq word (45 ∷ 45 ∷ []) ≡ false → long_of word ≡ Some (codes "stop", None)
-    → walked rules [] (stand held waiting false) word ≡ stand (reacted rules stop_rule [] held) idle false
+    → walked rules [] (walk_at_start held waiting false) word ≡ walk_at_start (reacted rules stop_rule [] held) idle false
 unfolding walked
 turn_at_stop held idle word unlike is = rw (unlike, is) refl
 turn_at_stop held (option id) word unlike is = rw (unlike, is) refl
@@ -242,10 +242,10 @@ stray_where_idle rows pending word unlike none e = by_short (short_of word) refl
 
 -- where an option waits, it is the option's value
 abbrev pub after_push : Valued → List Row → Text → Walk
-after_push v rows word = stand (holds rows (Some (id_of v, word ∷ []))) idle false
+after_push v rows word = walk_at_start (holds rows (Some (id_of v, word ∷ []))) idle false
 
 pub value_where_waiting : (v : Valued) (rows : List Row) (word : Text) → bytes_eq word (45 ∷ 45 ∷ []) ≡ false → long_of word ≡ None → turn (holds rows (Some (id_of v, []))) (option (id_of v)) word ≡ []
-    → walked rules [] (stand (holds rows (Some (id_of v, []))) (option (id_of v)) false) word ≡ after_push v rows word
+    → walked rules [] (walk_at_start (holds rows (Some (id_of v, []))) (option (id_of v)) false) word ≡ after_push v rows word
 unfolding walked
 value_where_waiting v rows word unlike none e = by_short v (short_of word) refl e
   where
@@ -257,7 +257,7 @@ value_where_waiting v rows word unlike none e = by_short v (short_of word) refl 
         no_flags (length flags) flags held (or_else_nil (bundle_fault rules false flags held) (step_fault shape 1 (short_word rules waiting word flags held).0 (short_word rules waiting word flags held).1) both).0
 
     by_short : (v : Valued) (s : Option Text) → short_of word ≡ s → turn (holds rows (Some (id_of v, []))) (option (id_of v)) word ≡ []
-        → walked rules [] (stand (holds rows (Some (id_of v, []))) (option (id_of v)) false) word ≡ after_push v rows word
+        → walked rules [] (walk_at_start (holds rows (Some (id_of v, []))) (option (id_of v)) false) word ≡ after_push v rows word
     by_short of_states None is e = rw (unlike, none, is) refl
     by_short of_make None is e = rw (unlike, none, is) refl
     by_short of_states (Some flags) is e = rw (unlike, none, is, kept of_states flags is e) refl

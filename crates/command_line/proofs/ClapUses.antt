@@ -51,8 +51,8 @@ new_at_end id change missing [] none = refl
 new_at_end id change missing (r ∷ rs) none = by_test (bytes_eq r.id id) refl (new_at_end id change missing rs)
   where
     by_test : (v : Bool) → bytes_eq r.id id ≡ v → (has_row id rs ≡ false → at_row id change missing rs ≡ rs ++ missing) → at_row id change missing (r ∷ rs) ≡ r ∷ (rs ++ missing)
-    by_test true is behind = let wrong : true ≡ false = rw is at none in cc
-    by_test false is behind = let rest : has_row id rs ≡ false = rw is at none in rw is (ap (λ (xs : List Row). r ∷ xs) (behind rest))
+    by_test true is ending = let wrong : true ≡ false = rw is at none in cc
+    by_test false is ending = let rest : has_row id rs ≡ false = rw is at none in rw is (ap (λ (xs : List Row). r ∷ xs) (ending rest))
 
 abbrev row_with : Text → Reading → ValueSource → List Text → Row
 row_with id how source values = record { id = id; values = values; count = None; source = Some source; reading = how }

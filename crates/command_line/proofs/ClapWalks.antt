@@ -12,7 +12,7 @@ use Rattle.clap.specs.Kinds.{Kinds, or_else}
 use Rattle.clap.specs.Values.{bool_text}
 use Rattle.command_line.specs.Program.{walnut_app}
 use Rattle.command_line.specs.Words.{Given, states, stop, make, AreNameAndValue, AreWordsOfAll, IsEnd, states_in, seeds_in, stops_in, at_most_one, Names}
-use Rattle.command_line.proofs.ClapTurns.{shape, rules, stop_rule, Valued, of_states, of_make, id_of, rule_at, holds, stand, turn, or_else_nil, Looks, mark, long, other, looks, option_word, stray_after_mark, turn_at_mark, IsName, flag_named, fault_at_value, turn_at_value, fault_at_name, turn_at_name, fault_at_stop, turn_at_stop, no_value_at_stop, stray_where_idle, value_where_waiting}
+use Rattle.command_line.proofs.ClapTurns.{shape, rules, stop_rule, Valued, of_states, of_make, id_of, rule_at, holds, walk_at_start, turn, or_else_nil, Looks, mark, long, other, looks, option_word, stray_after_mark, turn_at_mark, IsName, flag_named, fault_at_value, turn_at_value, fault_at_name, turn_at_name, fault_at_stop, turn_at_stop, no_value_at_stop, stray_where_idle, value_where_waiting}
 use Rattle.command_line.proofs.ClapUses.{AreUsed, rows_with, used_once, limits_counted, seeds_counted, stops_counted, Found, found_of_uses}
 
 -- what is held after the words, and what fails until then and there
@@ -27,10 +27,10 @@ last_rows w words = (settled rules (end_of w words)).rows
 
 -- where nothing waits for a value, and where an option does
 abbrev pub at_idle : List Row → Option (Text × List Text) → Walk
-at_idle rows pending = stand (holds rows pending) idle false
+at_idle rows pending = walk_at_start (holds rows pending) idle false
 
 abbrev pub at_option : Valued → List Row → Walk
-at_option v rows = stand (holds rows (Some (id_of v, []))) (option (id_of v)) false
+at_option v rows = walk_at_start (holds rows (Some (id_of v, []))) (option (id_of v)) false
 
 -- one word more
 more : (w : Walk) (word : Text) (rest : List Text) → faults_from w (word ∷ rest) ≡ [] → (turn_fault shape [] w word ≡ []) × (faults_from (walked rules [] w word) rest ≡ [])
@@ -44,16 +44,16 @@ more w word rest e =
 moved : (w next : Walk) (rest : List Text) → w ≡ next → faults_from w rest ≡ [] → faults_from next rest ≡ []
 moved w next rest same e = let P : Walk → Type 0 = λ v. faults_from v rest ≡ [] in subst P same e
 
-after_mark : (held : Held) (waiting : Waiting) (words : List Text) → faults_from (stand held waiting true) words ≡ [] → (words ≡ []) × (settle_fault rules false held ≡ [])
+after_mark : (held : Held) (waiting : Waiting) (words : List Text) → faults_from (walk_at_start held waiting true) words ≡ [] → (words ≡ []) × (settle_fault rules false held ≡ [])
 unfolding walk_fault
 after_mark held waiting [] e = (refl, e)
-after_mark held waiting (word ∷ rest) e = absurd (stray_after_mark held waiting word (more (stand held waiting true) word rest e).0)
+after_mark held waiting (word ∷ rest) e = absurd (stray_after_mark held waiting word (more (walk_at_start held waiting true) word rest e).0)
 
 -- the mark is the last word
-marked : (held : Held) (waiting : Waiting) (word : Text) (rest : List Text) → word ≡ 45 ∷ 45 ∷ [] → faults_from (walked rules [] (stand held waiting false) word) rest ≡ [] → (rest ≡ []) × (settle_fault rules false held ≡ [])
+marked : (held : Held) (waiting : Waiting) (word : Text) (rest : List Text) → word ≡ 45 ∷ 45 ∷ [] → faults_from (walked rules [] (walk_at_start held waiting false) word) rest ≡ [] → (rest ≡ []) × (settle_fault rules false held ≡ [])
 marked held waiting word rest is e =
-    let P : Text → Type 0 = λ w. faults_from (walked rules [] (stand held waiting false) w) rest ≡ [] in
-    after_mark held waiting rest (moved (walked rules [] (stand held waiting false) (45 ∷ 45 ∷ [])) (stand held waiting true) rest (turn_at_mark held waiting) (subst P is e))
+    let P : Text → Type 0 = λ w. faults_from (walked rules [] (walk_at_start held waiting false) w) rest ≡ [] in
+    after_mark held waiting rest (moved (walked rules [] (walk_at_start held waiting false) (45 ∷ 45 ∷ [])) (walk_at_start held waiting true) rest (turn_at_mark held waiting) (subst P is e))
 
 -- a word is this flag
 renamed : (word name id : Text) (value : Option Text) → long_of word ≡ Some (name, value) → name ≡ id → long_of word ≡ Some (id, value)

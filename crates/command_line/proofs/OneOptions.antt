@@ -37,17 +37,17 @@ given_in for_make [] = []
 given_in for_make (word ∷ rest) = make word ∷ given_in for_none rest
 
 one_given : (given : List Given) (options end : List (List ℕ)) → AreWordsOfAll given options → IsEnd end → given_in for_none (options ++ end) ≡ given
-one_given [] options end none (inl nothing_behind) = rw (none, nothing_behind) refl
+one_given [] options end none (inl nothing_after) = rw (none, nothing_after) refl
 one_given [] options end none (inr mark) = rw (none, mark) refl
 one_given (given ∷ more) options end (first, rest, split, spelled, others) is_end =
     ap (λ (xs : List (List ℕ)). given_in for_none (xs ++ end)) split ∙ (ap (given_in for_none) (append_assoc first rest end) ∙ by_first given spelled (one_given more rest end others is_end))
   where
     by_first : (g : Given) → AreWordsOf g first → given_in for_none (rest ++ end) ≡ more → given_in for_none (first ++ (rest ++ end)) ≡ g ∷ more
-    by_first (states value) (inl two) behind = rw two (ap (λ (gs : List Given). states value ∷ gs) behind)
-    by_first (states value) (inr one) behind = rw one (ap (λ (gs : List Given). states value ∷ gs) behind)
-    by_first stop is behind = rw is (ap (λ (gs : List Given). stop ∷ gs) behind)
-    by_first (make value) (inl two) behind = rw two (ap (λ (gs : List Given). make value ∷ gs) behind)
-    by_first (make value) (inr one) behind = rw one (ap (λ (gs : List Given). make value ∷ gs) behind)
+    by_first (states value) (inl two) ending = rw two (ap (λ (gs : List Given). states value ∷ gs) ending)
+    by_first (states value) (inr one) ending = rw one (ap (λ (gs : List Given). states value ∷ gs) ending)
+    by_first stop is ending = rw is (ap (λ (gs : List Given). stop ∷ gs) ending)
+    by_first (make value) (inl two) ending = rw two (ap (λ (gs : List Given). make value ∷ gs) ending)
+    by_first (make value) (inr one) ending = rw one (ap (λ (gs : List Given). make value ∷ gs) ending)
 
 abbrev as_one : Bool → ℕ
 as_one has = if has then 1 else 0

@@ -26,7 +26,7 @@ AreWordsOfAll (given ∷ more) words = (first rest : List (List ℕ)) × (words 
 abbrev pub IsEnd : List (List ℕ) → Type 0
 IsEnd words = (words ≡ []) ⊎ (words ≡ codes "--" ∷ [])
 
--- the values that options name for `--states`, and for `--make`, and how often `--stop` stands
+-- the values that options name for `--states`, and for `--make`, and how often `--stop` is given
 abbrev pub states_in : List Given → List (List ℕ)
 states_in [] = []
 states_in (states value ∷ more) = value ∷ states_in more
@@ -50,7 +50,7 @@ abbrev pub at_most_one : Option (List ℕ) → List (List ℕ)
 at_most_one None = []
 at_most_one (Some value) = value ∷ []
 
--- The words name each option once or not at all, in any order: these values, where they have them, and whether `--stop` stands.
+-- The words name each option once or not at all, in any order: these values, where they have them, and whether `--stop` is given.
 pub record Names (words : List (List ℕ)) (limit : Option (List ℕ)) (is_stop : Bool) (seed : Option (List ℕ)) : Type 0 where
   pub given : List Given
   pub options : List (List ℕ)

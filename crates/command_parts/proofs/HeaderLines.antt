@@ -65,13 +65,13 @@ file_header (Automaton name) text listed lists = header_of_line (add_line Number
 file_header (Word name) text listed lists = header_of_line add_word_line word_line_headed text listed lists
 
 -- the first byte of a name says whether it begins with `lsd_`, of those that begin with a direction
-abbrev tells_lsd : List ℕ → Bool
-tells_lsd name = eqb (get_or name 0 0) 108
+abbrev begins_as_lsd : List ℕ → Bool
+begins_as_lsd name = eqb (get_or name 0 0) 108
 
 begun_so : (name begin : List ℕ) → bytes_eq (take 4 name) begin ≡ true → take 4 name ≡ begin
 begun_so name begin same = (bytes_eq-Decides (take 4 name) begin).0 same
 
-by_first : (name : List ℕ) → is_direction (take 4 name) ≡ true → is_lsd name ≡ tells_lsd name
+by_first : (name : List ℕ) → is_direction (take 4 name) ≡ true → is_lsd name ≡ begins_as_lsd name
 by_first name is = by (bytes_eq (take 4 name) (codes "msd_")) refl is
   where
     first_of : (xs : List ℕ) → get_or xs 0 0 ≡ get_or (take 4 xs) 0 0
@@ -81,16 +81,16 @@ by_first name is = by (bytes_eq (take 4 name) (codes "msd_")) refl is
     Says : List ℕ → Type 0
     Says begin = bytes_eq (codes "lsd_") begin ≡ eqb (get_or begin 0 0) 108
 
-    so : (begin : List ℕ) → take 4 name ≡ begin → Says begin → is_lsd name ≡ tells_lsd name
+    so : (begin : List ℕ) → take 4 name ≡ begin → Says begin → is_lsd name ≡ begins_as_lsd name
     so begin same says = ap (bytes_eq (codes "lsd_")) same ∙ says ∙ ap (λ b. eqb (get_or b 0 0) 108) (sym same) ∙ ap (λ n. eqb n 108) (sym (first_of name))
 
-    by : (b : Bool) → bytes_eq (take 4 name) (codes "msd_") ≡ b → (b || bytes_eq (take 4 name) (codes "lsd_")) ≡ true → is_lsd name ≡ tells_lsd name
+    by : (b : Bool) → bytes_eq (take 4 name) (codes "msd_") ≡ b → (b || bytes_eq (take 4 name) (codes "lsd_")) ≡ true → is_lsd name ≡ begins_as_lsd name
     by true same either = so (codes "msd_") (begun_so name (codes "msd_") same) refl
     by false apart either = so (codes "lsd_") (begun_so name (codes "lsd_") either) refl
 
 -- a system's name
-abbrev TellsDirection : List ℕ → Type 0
-TellsDirection name = is_lsd name ≡ tells_lsd name
+abbrev DecidesDirection : List ℕ → Type 0
+DecidesDirection name = is_lsd name ≡ begins_as_lsd name
 
 and_right : (a b : Bool) → (a && b) ≡ true → b ≡ true
 and_right true b h = h
@@ -100,19 +100,19 @@ and_left : (a b : Bool) → (a && b) ≡ true → a ≡ true
 and_left true b h = refl
 and_left false b h = absurd (cc)
 
-is_system_tells : (part : List ℕ) → is_system part ≡ true → TellsDirection part
+is_system_decides : (part : List ℕ) → is_system part ≡ true → DecidesDirection part
 unfolding is_system
-is_system_tells part is =
+is_system_decides part is =
     let short = and_right (nat_le 5 (length part)) (nat_le (length part) 62 && (is_direction (take 4 part) && list_all is_alphanumeric (drop 4 part))) is in
     let both = and_right (nat_le (length part) 62) (is_direction (take 4 part) && list_all is_alphanumeric (drop 4 part)) short in
     by_first part (and_left (is_direction (take 4 part)) (list_all is_alphanumeric (drop 4 part)) both)
 
 -- names that begin with the same byte
-all_lsd : (name : List ℕ) (names : List (List ℕ)) → list_all (directs_as name) names ≡ true → AllByRecursion TellsDirection names → AllByRecursion (λ other. is_lsd other ≡ tells_lsd name) names
-all_lsd name [] same tell = tt
-all_lsd name (other ∷ names) same tell =
+all_lsd : (name : List ℕ) (names : List (List ℕ)) → list_all (directs_as name) names ≡ true → AllByRecursion DecidesDirection names → AllByRecursion (λ other. is_lsd other ≡ begins_as_lsd name) names
+all_lsd name [] same direct = tt
+all_lsd name (other ∷ names) same direct =
     let first : get_or other 0 0 ≡ get_or name 0 0 = eqb-true (get_or other 0 0) (get_or name 0 0) (and_left (directs_as name other) (list_all (directs_as name) names) same) in
-    (tell.0 ∙ ap (λ n. eqb n 108) first, all_lsd name names (and_right (directs_as name other) (list_all (directs_as name) names) same) tell.1)
+    (direct.0 ∙ ap (λ n. eqb n 108) first, all_lsd name names (and_right (directs_as name other) (list_all (directs_as name) names) same) direct.1)
 
 -- what holds of all holds at each place
 pub all_at : {X : Type 0} (P : X → Type 0) (xs : List X) (i : ℕ) (d : X) → i < length xs → AllByRecursion P xs → P (get_or xs i d)
@@ -124,26 +124,26 @@ shared_direction_by : (lsd : Bool) (names : List Name) → AllByRecursion (λ na
 shared_direction_by lsd names all i j within also =
     ap (λ b. cond b Lsd Msd) (all_at (λ name. is_lsd name ≡ lsd) names i [] within all ∙ sym (all_at (λ name. is_lsd name ≡ lsd) names j [] also all))
 
-shared_direction_of : (read names : List (List ℕ)) → of_one_direction read ≡ Some names → AllByRecursion TellsDirection read → ShareDirection direction_named names
-shared_direction_of [] names h tell = absurd (cc)
-shared_direction_of (name ∷ rest) names h tell =
+shared_direction_of : (read names : List (List ℕ)) → of_one_direction read ≡ Some names → AllByRecursion DecidesDirection read → ShareDirection direction_named names
+shared_direction_of [] names h direct = absurd (cc)
+shared_direction_of (name ∷ rest) names h direct =
     let is = cond_some-then (list_all (directs_as name) rest) (Some (name ∷ rest)) names h in
     let same : name ∷ rest ≡ names = let e : Some (name ∷ rest) ≡ Some names = is.1 in cc in
-    subst (ShareDirection direction_named) same (shared_direction_by (tells_lsd name) (name ∷ rest) (tell.0, all_lsd name rest is.0 tell.1))
+    subst (ShareDirection direction_named) same (shared_direction_by (begins_as_lsd name) (name ∷ rest) (direct.0, all_lsd name rest is.0 direct.1))
 
 -- the names of a line of systems are of one direction
 systems_shared_direction : (line : List ℕ) (names : List (List ℕ)) → systems_of line ≡ Some names → ShareDirection direction_named names
 unfolding systems_of
 systems_shared_direction line names h =
     let read = bind_some (each_of system_of (parts_of line)) of_one_direction names h in
-    let tell : AllByRecursion TellsDirection read.0 = each_holds system_of TellsDirection (λ part name e. part_tells part name e) (parts_of line) read.0 read.1 in
-    shared_direction_of read.0 names read.2 tell
+    let direct : AllByRecursion DecidesDirection read.0 = each_holds system_of DecidesDirection (λ part name e. part_decides part name e) (parts_of line) read.0 read.1 in
+    shared_direction_of read.0 names read.2 direct
   where
-    part_tells : (part name : List ℕ) → system_of part ≡ Some name → TellsDirection name
-    part_tells part name e =
+    part_decides : (part name : List ℕ) → system_of part ≡ Some name → DecidesDirection name
+    part_decides part name e =
         let is = cond_some-then (is_system part) (Some part) name e in
         let same : part ≡ name = let s : Some part ≡ Some name = is.1 in cc in
-        subst TellsDirection same (is_system_tells part is.0)
+        subst DecidesDirection same (is_system_decides part is.0)
 
 some_of : (read names : List (List ℕ)) → of_one_direction read ≡ Some names → 0 < length names
 some_of [] names h = absurd (cc)

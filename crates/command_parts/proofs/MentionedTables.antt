@@ -45,14 +45,14 @@ module _ {X : Type 0} (P : X → Type 0) where
       by true = all
       by false = all_more seen x all others.0
 
-module _ {X : Type 0} (same : X → X → Bool) (tells : (x y : X) → same x y ≡ true → x ≡ y) (P : X → Type 0) where
+module _ {X : Type 0} (same : X → X → Bool) (decides_same : (x y : X) → same x y ≡ true → x ≡ y) (P : X → Type 0) where
   -- what holds of all holds of one that is among them
   of_one : (seen : List X) (x : X) → has same seen x ≡ true → AllByRecursion P seen → P x
   of_one [] x there all = absurd (cc)
   of_one (first ∷ seen) x there all = by (same first x) refl there (λ rest. of_one seen x rest all.1)
     where
       by : (b : Bool) → same first x ≡ b → (b || has same seen x) ≡ true → (has same seen x ≡ true → P x) → P x
-      by true is either among = subst P (tells first x is) all.0
+      by true is either among = subst P (decides_same first x is) all.0
       by false apart rest among = among rest
 
   -- what holds of some, each once, holds of all

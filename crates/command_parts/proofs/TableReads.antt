@@ -27,8 +27,8 @@ use Rattle.command_parts.specs.TableReads.{TableRead, ARelation, AWord, relation
 use Rattle.command_parts.specs.TableReading.{IsReadable, IsReadRelation, IsReadWord, IsTableFault, IsReadingFault, ReadsTables, with_read}
 
 -- the system is under the name
-abbrev pub StandsUnder : List NamedSystem → List ℕ → SystemValue → Type 0
-StandsUnder systems name s = system_named systems name ≡ Some s
+abbrev pub IsSystemUnder : List NamedSystem → List ℕ → SystemValue → Type 0
+IsSystemUnder systems name s = system_named systems name ≡ Some s
 
 -- one more pair after the others
 pub zip_push : {X Y : Type 0} (R : X → Y → Type 0) (xs : List X) (ys : List Y) (x : X) (y : Y) → AllZip R xs ys → R x y → AllZip R (xs ++ x ∷ []) (ys ++ y ∷ [])
@@ -52,7 +52,7 @@ zip_lengths R (a ∷ xs) (b ∷ ys) all = ap suc (zip_lengths R xs ys all.1)
 
 -- what is under a name in both is the same
 abbrev pub AreAlike : List NamedSystem → List NamedSystem → Type 0
-AreAlike systems others = (name : List ℕ) (s t : SystemValue) → StandsUnder systems name s → StandsUnder others name t → s ≡ t
+AreAlike systems others = (name : List ℕ) (s t : SystemValue) → IsSystemUnder systems name s → IsSystemUnder others name t → s ≡ t
 
 one_there : (o : Option SystemValue) (s t : SystemValue) → o ≡ Some s → o ≡ Some t → s ≡ t
 one_there o s t one other = cc
@@ -61,7 +61,7 @@ alike_self : (systems : List NamedSystem) → AreAlike systems systems
 alike_self systems name s t one other = one_there (system_named systems name) s t one other
 
 -- the systems under names are the same
-same_under_names : (systems others : List NamedSystem) (names : List (List ℕ)) (ss ts : List SystemValue) → AreAlike systems others → AllZip (StandsUnder systems) names ss → AllZip (StandsUnder others) names ts → ss ≡ ts
+same_under_names : (systems others : List NamedSystem) (names : List (List ℕ)) (ss ts : List SystemValue) → AreAlike systems others → AllZip (IsSystemUnder systems) names ss → AllZip (IsSystemUnder others) names ts → ss ≡ ts
 same_under_names systems others [] [] [] alike all also = refl
 same_under_names systems others [] [] (t ∷ ts) alike all also = absurd also
 same_under_names systems others [] (s ∷ ss) ts alike all also = absurd all
@@ -81,7 +81,7 @@ same_under systems others (Sets sets) ss ts alike is also = absurd is
 -- the systems under a header, of one direction, are for its tracks
 pub for_tracks : (systems : List NamedSystem) (header : Header) (tracks : List SystemValue) → AreSystemsUnder systems header tracks → ShareDirection tracks → AreForTracks header tracks
 for_tracks systems (Truth value) tracks under shared_direction = under
-for_tracks systems (Systems names) tracks under shared_direction = (zip_lengths (StandsUnder systems) names tracks under, shared_direction)
+for_tracks systems (Systems names) tracks under shared_direction = (zip_lengths (IsSystemUnder systems) names tracks under, shared_direction)
 for_tracks systems (Sets sets) tracks under shared_direction = under
 
 -- those of a table that is readable are
@@ -114,19 +114,19 @@ pushed {X} f new mid items x is push = ap (λ (v : Vec X Global). map f v.items)
 
 -- the systems under one name more
 pub under_more : (systems : List NamedSystem) (names : List (List ℕ)) (i : ℕ) (name asked : List ℕ) (tracks more : List SystemValue) (s t : SystemValue) → i < length names → name ≡ get_or names i name
-    → AllZip (StandsUnder systems) (take i names) tracks → asked ≡ name → system_named systems asked ≡ Some s → t ≡ s → more ≡ tracks ++ t ∷ [] → AllZip (StandsUnder systems) (take (i + 1) names) more
+    → AllZip (IsSystemUnder systems) (take i names) tracks → asked ≡ name → system_named systems asked ≡ Some s → t ≡ s → more ≡ tracks ++ t ∷ [] → AllZip (IsSystemUnder systems) (take (i + 1) names) more
 under_more systems names i name asked tracks more s t within is prefix same there one more_is =
     let names_are : take (i + 1) names ≡ take i names ++ name ∷ [] = take_more names i name within ∙ ap (λ (n : List ℕ). take i names ++ n ∷ []) (sym is) in
-    let here : StandsUnder systems name t = subst (λ (n : List ℕ). system_named systems n ≡ Some t) same (there ∙ ap Some (sym one)) in
-    subst (λ (ns : List (List ℕ)). AllZip (StandsUnder systems) ns more) (sym names_are)
-    (subst (AllZip (StandsUnder systems) (take i names ++ name ∷ [])) (sym more_is) (zip_push (StandsUnder systems) (take i names) tracks name t prefix here))
+    let here : IsSystemUnder systems name t = subst (λ (n : List ℕ). system_named systems n ≡ Some t) same (there ∙ ap Some (sym one)) in
+    subst (λ (ns : List (List ℕ)). AllZip (IsSystemUnder systems) ns more) (sym names_are)
+    (subst (AllZip (IsSystemUnder systems) (take i names ++ name ∷ [])) (sym more_is) (zip_push (IsSystemUnder systems) (take i names) tracks name t prefix here))
 
 -- under a name of a header, where systems are under all, one is
 pub none_missing : (systems : List NamedSystem) (header : Header) (names : List (List ℕ)) (tracks : List SystemValue) (i : ℕ) (name asked : List ℕ) → header ≡ Systems names → AreSystemsUnder systems header tracks → i < length names
     → name ≡ get_or names i name → asked ≡ name → system_named systems asked ≡ None → ⊥
 none_missing systems header names tracks i name asked header_is under within is same none =
-    let all : AllZip (StandsUnder systems) names tracks = subst (λ (h : Header). AreSystemsUnder systems h tracks) header_is under in
-    let (s, there) = zip_at (StandsUnder systems) names tracks i name all within is in
+    let all : AllZip (IsSystemUnder systems) names tracks = subst (λ (h : Header). AreSystemsUnder systems h tracks) header_is under in
+    let (s, there) = zip_at (IsSystemUnder systems) names tracks i name all within is in
     none-some s (sym none ∙ ap (system_named systems) same ∙ there)
 
 -- what was read, with one more

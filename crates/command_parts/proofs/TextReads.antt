@@ -19,19 +19,19 @@ abbrev pub no_texts : Custom
 no_texts = λ name. None
 
 pub texts_none : {X : Type 0} (Gives : Custom → Result X Fault → Type 0) (store : StoreView) (r : Result X Fault) → IsOwn r → ((custom : Custom) → Gives custom r) → FromTexts Gives store r store
-texts_none Gives store r own gives = record { found = []; stands = (no_texts, tt); reported = none_reported store.files; gives = λ custom all. gives custom; has_read = read_none store r own }
+texts_none Gives store r own gives = record { found = []; in_some_folder = (no_texts, tt); reported = none_reported store.files; gives = λ custom all. gives custom; has_read = read_none store r own }
 
 -- a part that reads refuses, and so does the whole
 pub texts_refused : {X Y : Type 0} (First : Custom → Result X Fault → Type 0) (Gives : Custom → Result Y Fault → Type 0) (old new : StoreView) (f : Fault) → FromTexts First old (Err f) new → ((custom : Custom) → First custom (Err f) → Gives custom (Err f)) → FromTexts Gives old (Err f) new
-texts_refused First Gives old new f first so = record { found = first.found; stands = first.stands; reported = first.reported; gives = λ custom all. so custom (first.gives custom all); has_read = record { files = first.has_read.files; later = first.has_read.later; cause = first.has_read.cause } }
+texts_refused First Gives old new f first so = record { found = first.found; in_some_folder = first.in_some_folder; reported = first.reported; gives = λ custom all. so custom (first.gives custom all); has_read = record { files = first.has_read.files; later = first.has_read.later; cause = first.has_read.cause } }
 
 -- a part that reads goes on to what reads nothing
 pub texts_read : {X Y : Type 0} (First : Custom → Result X Fault → Type 0) (Gives : Custom → Result Y Fault → Type 0) (old new : StoreView) (x : X) (r : Result Y Fault) → IsOwn r → FromTexts First old (Ok x) new → ((custom : Custom) → First custom (Ok x) → Gives custom r) → FromTexts Gives old r new
-texts_read First Gives old new x r own first so = record { found = first.found; stands = first.stands; reported = first.reported; gives = λ custom all. so custom (first.gives custom all); has_read = read_on old new x r own first.has_read }
+texts_read First Gives old new x r own first so = record { found = first.found; in_some_folder = first.in_some_folder; reported = first.reported; gives = λ custom all. so custom (first.gives custom all); has_read = read_on old new x r own first.has_read }
 
 -- what is given by a part is given by the whole
 pub texts_part : {X : Type 0} (First : Custom → Result X Fault → Type 0) (Gives : Custom → Result X Fault → Type 0) (old new : StoreView) (r : Result X Fault) → FromTexts First old r new → ((custom : Custom) → First custom r → Gives custom r) → FromTexts Gives old r new
-texts_part First Gives old new r first so = record { found = first.found; stands = first.stands; reported = first.reported; gives = λ custom all. so custom (first.gives custom all); has_read = first.has_read }
+texts_part First Gives old new r first so = record { found = first.found; in_some_folder = first.in_some_folder; reported = first.reported; gives = λ custom all. so custom (first.gives custom all); has_read = first.has_read }
 
 -- the files with these texts of users' systems
 abbrev pub with_bases : Files → Custom → Files
@@ -53,8 +53,8 @@ record AreChosen (P : Files → Type 0) (reported : Option Files) (texts : List 
 
 chosen : (P : Files → Type 0) (reported : Option Files) (texts : List FoundText) (files : Files) (custom : Custom) → IfSome reported (λ (t : Files). files ≡ t) → P files → P (with_bases files custom) → Agrees custom texts → IfSome reported (λ (t : Files). Agrees (t Bases) texts)
     → AreChosen P reported texts
-chosen P None texts files custom are here elsewhere stands there = record { found = with_bases files custom; reported_so = tt; has = elsewhere; agrees = stands }
-chosen P (Some t) texts files custom are here elsewhere stands there = record { found = files; reported_so = are; has = here; agrees = subst (λ (f : Files). Agrees (f Bases) texts) (sym are) there }
+chosen P None texts files custom are here elsewhere in_some_folder there = record { found = with_bases files custom; reported_so = tt; has = elsewhere; agrees = in_some_folder }
+chosen P (Some t) texts files custom are here elsewhere in_some_folder there = record { found = files; reported_so = are; has = here; agrees = subst (λ (f : Files). Agrees (f Bases) texts) (sym are) there }
 
 -- a later fault comes only where the count of faults rose
 fault_later : (f : Fault) (old mid new : StoreView) → old.faults ≤ mid.faults → mid.failed ≡ old.failed → IsReadFault f mid new → IsReadFault f old new
@@ -69,7 +69,7 @@ reads_both old mid new x (Err f) first second = record { files = second.files �
 -- what is given by the texts is given by all files that are found
 pub files_of_texts : {X : Type 0} (First : Custom → Result X Fault → Type 0) (Gives : Files → Result X Fault → Type 0) (old new : StoreView) (r : Result X Fault) → FromTexts First old r new → ((found : Files) → First (found Bases) r → Gives found r) → FromFiles Gives old r new
 files_of_texts First Gives old new r first so =
-    let c = chosen (λ (f : Files). ⊤) old.files first.found (found_in old.files) first.stands.0 (found_reported old.files) tt tt first.stands.1 first.reported in
+    let c = chosen (λ (f : Files). ⊤) old.files first.found (found_in old.files) first.in_some_folder.0 (found_reported old.files) tt tt first.in_some_folder.1 first.reported in
     record { found = c.found; reported = c.reported_so; gives = so c.found (first.gives (c.found Bases) c.agrees); has_read = first.has_read }
 
 -- files that are found where texts of users' systems are found after them are found with those
@@ -77,5 +77,5 @@ pub then_texts : {X Y : Type 0} (First : Files → Result X Fault → Type 0) (S
     → ((found : Files) (custom : Custom) → First found (Ok x) → First (with_bases found custom) (Ok x)) → ((found : Files) → First found (Ok x) → Second (found Bases) r → Gives found r) → FromFiles Gives old r new
 then_texts First Second Gives old mid new x r first second elsewhere so =
     let there : IfSome old.files (λ (files : Files). Agrees (files Bases) second.found) = subst (λ (o : Option Files). IfSome o (λ (files : Files). Agrees (files Bases) second.found)) first.has_read.files second.reported in
-    let c = chosen (λ (f : Files). First f (Ok x)) old.files second.found first.found second.stands.0 first.reported first.gives (elsewhere first.found second.stands.0 first.gives) second.stands.1 there in
+    let c = chosen (λ (f : Files). First f (Ok x)) old.files second.found first.found second.in_some_folder.0 first.reported first.gives (elsewhere first.found second.in_some_folder.0 first.gives) second.in_some_folder.1 there in
     record { found = c.found; reported = c.reported_so; gives = so c.found c.has (second.gives (c.found Bases) c.agrees); has_read = reads_both old mid new x r first.has_read second.has_read }

@@ -47,7 +47,7 @@ read_so X old new (systems.Step steps.Memory) h = record { files = h.files; late
 pub users_refused : (limit : ℕ) (names : List (List ℕ)) (old new : StoreView) (fault : SystemFault) → admissions.AdmitsUsers limit names old (Err fault) new → FromTexts (AdmitsUsers limit names) old (Err (fault_of_system fault)) new
 users_refused limit names old new fault admits = record {
   found = admits.found;
-  stands = admits.stands;
+  in_some_folder = admits.in_some_folder;
   reported = admits.reported;
   gives = λ custom all. fails_so limit custom names fault (admits.gives custom all);
   has_read = read_so UserSystems old new fault admits.has_read;
@@ -56,7 +56,7 @@ users_refused limit names old new fault admits = record {
 pub users_admitted : (limit : ℕ) (names : List (List ℕ)) (old new : StoreView) (users : UserSystems) → admissions.AdmitsUsers limit names old (Ok users) new → FromTexts (AdmitsUsers limit names) old (Ok users) new
 users_admitted limit names old new users admits = record {
   found = admits.found;
-  stands = admits.stands;
+  in_some_folder = admits.in_some_folder;
   reported = admits.reported;
   gives = admits.gives;
   has_read = record { files = admits.has_read.files; later = admits.has_read.later; cause = admits.has_read.cause };

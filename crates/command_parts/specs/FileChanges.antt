@@ -56,8 +56,8 @@ abbrev pub Acts : Custom → Check Accepted → Bool → Result Action Fault →
 Acts custom checks shown result = MatchResult result (IsAction custom checks shown) (Fails checks)
 
 -- what is printed is what a command says, or the fault is one by which its checks refuse
-abbrev pub Tells : Check Said → Bool → Result (List ℕ) Fault → Type 0
-Tells checks shown result = MatchResult result (λ printed. (said : Said) × checks.answers (Ok said) × (printed ≡ said_text shown said)) (Fails checks)
+abbrev pub PrintsChecked : Check Said → Bool → Result (List ℕ) Fault → Type 0
+PrintsChecked checks shown result = MatchResult result (λ printed. (said : Said) × checks.answers (Ok said) × (printed ≡ said_text shown said)) (Fails checks)
 
 -- the action of a command that stores
 abbrev pub writing : Result FileChange Fault → Result Action Fault

@@ -78,7 +78,7 @@ flaw_text flaws.TooLong = codes " too long"
 -- the law of a numeration system or of its adder
 abbrev pub law_name : Law → List ℕ
 law_name laws.NoZero = codes "NoZero"
-law_name laws.Finite = codes "Finite"
+law_name laws.Endless = codes "Finite"
 law_name laws.ZeroLaw = codes "ZeroLaw"
 law_name laws.SuccessorLaw = codes "SuccessorLaw"
 

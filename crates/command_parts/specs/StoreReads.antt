@@ -7,7 +7,7 @@ use Rattle.wal_outside.specs.Views.{StoreView}
 use Rattle.wal_outside.specs.declared.folder.Folder.TheVariants.{Bases}
 use Rattle.dfa_loading.specs.Places.{AreReported}
 use Rattle.system_files.specs.SystemFiles.{Custom}
-use Rattle.system_files.specs.SystemTexts.{FoundText, Agrees, CanStand}
+use Rattle.system_files.specs.SystemTexts.{FoundText, Agrees, AreInSomeFolder}
 use Rattle.command_parts.specs.declared.fault.Fault.{Fault}
 use Rattle.command_parts.specs.declared.fault.Fault.TheVariants as faults
 
@@ -33,7 +33,7 @@ pub record FromFiles {X : Type 0} (Gives : Files → Result X Fault → Type 0) 
 -- reports its files.
 pub record FromTexts {X : Type 0} (Gives : Custom → Result X Fault → Type 0) (old : StoreView) (result : Result X Fault) (new : StoreView) : Type 0 where
   pub found : List FoundText
-  pub stands : CanStand found
+  pub in_some_folder : AreInSomeFolder found
   pub reported : IfSome old.files (λ (files : Files). Agrees (files Bases) found)
   pub gives : (custom : Custom) → Agrees custom found → Gives custom result
   pub has_read : HasRead old result new

@@ -2,7 +2,7 @@
 //!
 //! A command is answered by checks, one after another, and the first that refuses it decides (`specs/Checks.antt`). A check
 //! answers what it finds, or a cause (`Refusal`, by families of causes). A store that fails at a file which a check reads, and
-//! want of memory, refuse a command as well: with these two, `fault.rt` has all faults, and `lines.rt` their lines.
+//! a call that is out of memory, refuse a command as well: with these two, `fault.rt` has all faults, and `lines.rt` their lines.
 //! `specs/Accepting.antt` says what an accepted command stores or says, and `specs/FileChanges.antt` which text and which lines
 //! that gives.
 //!

@@ -41,7 +41,7 @@ fn law_name(law: Law) -> &'static str
 {
     match law {
         Law::NoZero => "NoZero",
-        Law::Finite => "Finite",
+        Law::Endless => "Finite",
         Law::ZeroLaw => "ZeroLaw",
         Law::SuccessorLaw => "SuccessorLaw",
     }

@@ -48,22 +48,22 @@ record IsKindPart (part : List ℕ) : Type 0 where
   few : length part ≤ 3
   passes : list_all is_alphanumeric part ≡ true
 
-kind_stands : (kind : SystemKind) → IsSystemKind kind → IsKindPart (kind_part kind)
-kind_stands (Base k) is = record {
+kind_is_part : (kind : SystemKind) → IsSystemKind kind → IsKindPart (kind_part kind)
+kind_is_part (Base k) is = record {
   some = let h : 0 < length (decimal k) = decimal_nonempty k (omega (arith, is.most)) in omega (arith, h);
   few = length-decimal-le 3 k (omega arith) (omega (arith, is.most)) (omega (arith, is.most));
   passes = decimal_passes k (omega (arith, is.most));
 }
-kind_stands Fibonacci is = record { some = omega arith; few = omega arith; passes = refl }
+kind_is_part Fibonacci is = record { some = omega arith; few = omega arith; passes = refl }
 
 -- a name of a system is one in a file
-name_stands : (direction : Direction) (kind : SystemKind) → IsSystemKind kind → is_system (system_name direction kind) ≡ true
+name_is_system : (direction : Direction) (kind : SystemKind) → IsSystemKind kind → is_system (system_name direction kind) ≡ true
 unfolding is_system
-name_stands Msd kind is =
-    let part = kind_stands kind is in
+name_is_system Msd kind is =
+    let part = kind_is_part kind is in
     rw (le-leb 5 (length (system_name Msd kind)) (omega (arith, part.some)), le-leb (length (system_name Msd kind)) 62 (omega (arith, part.few)), part.passes) refl
-name_stands Lsd kind is =
-    let part = kind_stands kind is in
+name_is_system Lsd kind is =
+    let part = kind_is_part kind is in
     rw (le-leb 5 (length (system_name Lsd kind)) (omega (arith, part.some)), le-leb (length (system_name Lsd kind)) 62 (omega (arith, part.few)), part.passes) refl
 
 -- a built-in system has as many digits as its kind
@@ -87,7 +87,7 @@ named_track : (custom : Custom) (direction : Direction) (s : NamedSystem) → Is
 named_track custom direction s (inl (kind, built, is)) =
     let digits : s.system.digits ≡ digit_count kind = ap (λ (r : System). r.digits) is ∙ digits_by_kind kind in
     record {
-      name = ap is_system built.1 ∙ name_stands direction kind built.0;
+      name = ap is_system built.1 ∙ name_is_system direction kind built.0;
       count = named_digits custom s.name direction s.system (inl (kind, built, is));
       within = omega (arith, digits, digit_limit-built direction kind s.name built);
     }

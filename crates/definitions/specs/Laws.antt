@@ -5,7 +5,7 @@ use Rattle.wal_outside.specs.declared.folder.Folder.TheVariants.{Automata, Bases
 use Rattle.wal_outside.specs.Files.{Files}
 use Rattle.formula_parse.specs.Trees as trees
 use Rattle.formula_resolve.specs.declared.file.File as formula_file
-use Rattle.definitions.specs.Trees.{Variable, Tree, Formula, Bindings, MayStandIn, Entry, Ledger, ledger_of, entered, custom_of, bindings_of}
+use Rattle.definitions.specs.Trees.{Variable, Tree, Formula, Bindings, MayBeIn, Entry, Ledger, ledger_of, entered, custom_of, bindings_of}
 use Rattle.system_files.specs.SystemFiles.{Custom}
 use Rattle.dfa_text.specs.Meaning.{FileAccepts}
 use Rattle.definitions.specs.Files.{FileHolds}
@@ -19,15 +19,15 @@ OneText = (custom : Custom) (entry : Entry) (text other : List ℕ) → HasText 
 
 -- the text of a definition that may be among automata, read as a file, holds of the numbers of which the definition holds
 abbrev pub TextsMeanTheirTrees : Type 0
-TextsMeanTheirTrees = (custom : Custom) (tree : Tree) (text : List ℕ) → MayStandIn Automata tree → HasTreeText custom tree text → (ns : List ℕ) → FileHolds custom text ns ↔ tree_holds custom tree ns
+TextsMeanTheirTrees = (custom : Custom) (tree : Tree) (text : List ℕ) → MayBeIn Automata tree → HasTreeText custom tree text → (ns : List ℕ) → FileHolds custom text ns ↔ tree_holds custom tree ns
 
 -- the text of a definition that may be among words, read as a word's file, has the letters of the definition
 abbrev pub WordTextsMeanTheirTrees : Type 0
-WordTextsMeanTheirTrees = (custom : Custom) (tree : Tree) (text : List ℕ) → MayStandIn Words tree → HasTreeText custom tree text → (ns : List ℕ) (letter : ℤ) → FileLetter custom text ns letter ↔ tree_letter custom tree ns letter
+WordTextsMeanTheirTrees = (custom : Custom) (tree : Tree) (text : List ℕ) → MayBeIn Words tree → HasTreeText custom tree text → (ns : List ℕ) (letter : ℤ) → FileLetter custom text ns letter ↔ tree_letter custom tree ns letter
 
 -- the text of a definition that may be among automata, read as a file over sets, accepts the words of the definition
 abbrev pub LanguageTextsMeanTheirTrees : Type 0
-LanguageTextsMeanTheirTrees = (custom : Custom) (tree : Tree) (text : List ℕ) → MayStandIn Automata tree → HasTreeText custom tree text → (word : List (List ℤ)) → FileAccepts text word ↔ tree_words custom tree word
+LanguageTextsMeanTheirTrees = (custom : Custom) (tree : Tree) (text : List ℕ) → MayBeIn Automata tree → HasTreeText custom tree text → (word : List (List ℤ)) → FileAccepts text word ↔ tree_words custom tree word
 
 -- names of automata are bound to what holds of the same numbers, and names of words to what has the same letters
 pub record BindTheSame (custom : Custom) (bindings others : Bindings) : Type 0 where

@@ -9,7 +9,7 @@ use Rattle.num_system.specs.Tracks.{systems_of, direction_of}
 use Rattle.number_relations.specs.Relations.{RelationValue, IsRelation, RelationHolds}
 use Rattle.word_walk.specs.Listed.{is_listed}
 use Rattle.definitions.specs.Tracks.{Tracks, OverSets, OverSystems}
-use Rattle.definitions.specs.Trees.{Tree, File, MayStandIn}
+use Rattle.definitions.specs.Trees.{Tree, File, MayBeIn}
 use Rattle.definitions.specs.Texts.{HasTreeText}
 use Rattle.definitions.specs.TreeMeanings.{tree_holds, tree_words}
 use Rattle.definitions.specs.Listings.{IsListedOver, ListsNumbers}
@@ -17,7 +17,7 @@ use Rattle.system_files.specs.SystemFiles.{Custom}
 
 -- the text of a definition that may be among automata, read as a file, lists the words that the definition lists
 abbrev pub TextsListAsTheirTrees : Type 0
-TextsListAsTheirTrees = (custom : Custom) (tree : Tree) (text : List ℕ) → MayStandIn Automata tree → HasTreeText custom tree text → (tracks : Tracks) (w : List ℕ) → IsListedOver custom tracks (File text) w ↔ IsListedOver custom tracks tree w
+TextsListAsTheirTrees = (custom : Custom) (tree : Tree) (text : List ℕ) → MayBeIn Automata tree → HasTreeText custom tree text → (tracks : Tracks) (w : List ℕ) → IsListedOver custom tracks (File text) w ↔ IsListedOver custom tracks tree w
 
 -- the automaton of a relation that holds of the numbers of which a definition does lists, without the words whose most significant letter is zero, the words that the definition lists
 abbrev pub RelationsListShortestWords : Type 0

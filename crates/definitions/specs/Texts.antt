@@ -19,7 +19,7 @@ use Rattle.reg_steps.specs.Relations.{IsRelation}
 use Rattle.definitions.specs.Tracks.{NamedSystem, systems_of, Tracks, OverSets, OverSystems, letter_sets, header_of}
 use Rattle.morph_words.specs.MorphismKinds.{HasFixedPoint}
 use Rattle.morph_words.specs.Rules.{Rules}
-use Rattle.definitions.specs.Trees.{Tree, File, Regex, Formula, Fixed, Image, Combine, Language, Transduced, Converted, MayStandIn, Entry, Bytes, Defined, Ledger, tree_of, custom_of}
+use Rattle.definitions.specs.Trees.{Tree, File, Regex, Formula, Fixed, Image, Combine, Language, Transduced, Converted, MayBeIn, Entry, Bytes, Defined, Ledger, tree_of, custom_of}
 use Rattle.definitions.specs.TreeMeanings.{tree_letter, tree_words}
 use Rattle.definitions.specs.WordTexts.{IsWordText, msd_base}
 use Rattle.system_files.specs.SystemFiles.{Custom}
@@ -83,7 +83,7 @@ HasText custom (Defined tree) text = HasTreeText custom tree text
 
 -- the text of an entry that may be in the folder
 abbrev pub HasTextIn : Custom → Folder → Entry → List ℕ → Type 0
-HasTextIn custom folder entry text = MayStandIn folder (tree_of entry) × HasText custom entry text
+HasTextIn custom folder entry text = MayBeIn folder (tree_of entry) × HasText custom entry text
 
 -- a text where there is an entry, and no other
 abbrev pub HasTextAt : Custom → Folder → Option Entry → Option (List ℕ) → Type 0

@@ -31,7 +31,7 @@ abbrev pub RegexHolds : Tracks → Expression (List ℤ) → List ℕ → Type 0
 RegexHolds (OverSets sets) expression ns = ⊥
 RegexHolds (OverSystems direction named) expression ns = HasMatch direction (systems_of named) (letter_sets (OverSystems direction named)) expression ns
 
--- the place is one number, of which this holds
+-- the position is one number, of which this holds
 abbrev pub AtNumber : (ℕ → Type 0) → List ℕ → Type 0
 AtNumber Holds ns = (n : ℕ) × (ns ≡ n ∷ []) × Holds n
 
@@ -61,7 +61,7 @@ abbrev mutual
 
   -- A file has the letters that it lists; an expression, a formula and a language are no words. A fixed point has its letters, and the image of a word
   -- those of the images of the word's letters, with none where the word has none. Definitions in a list make their letter at each tuple of
-  -- numbers, one for each system. A transducer makes its outputs on the run over the word's letters, and none from the place on at which it
+  -- numbers, one for each system. A transducer makes its outputs on the run over the word's letters, and none from the position on at which it
   -- stops: where the word has no letter, or the state no line for it. Over another system a word has its letters.
   pub tree_letter : Custom → Tree → List ℕ → ℤ → Type 0
   tree_letter custom (File bytes) ns letter = FileLetter custom bytes ns letter
@@ -79,7 +79,7 @@ abbrev mutual
   first_letter custom no_parts ns letter = letter ≡ pos 0
   first_letter custom (part tree own parts) ns letter = (tree_holds custom tree ns × (letter ≡ own)) ⊎ ((¬ tree_holds custom tree ns) × first_letter custom parts ns letter)
 
-  -- what a name is bound to has this letter at the place
+  -- what a name is bound to has this letter at the position
   pub bound_letter : Custom → Bindings → Folder → List ℕ → List ℕ → ℤ → Type 0
   bound_letter custom unbound folder name ns letter = ⊥
   bound_letter custom (bound bindings at under tree) folder name ns letter = chosen (same_file at under folder name) (tree_letter custom tree ns letter) (bound_letter custom bindings folder name ns letter)

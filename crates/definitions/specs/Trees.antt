@@ -63,16 +63,16 @@ mutual
 
 -- A definition may be in the folder. An expression, a formula and a language are neither words nor files of a user's system, and are
 -- elsewhere; and a definition of a word is among words.
-abbrev pub MayStandIn : Folder → Tree → Type 0
-MayStandIn folder (File bytes) = ⊤
-MayStandIn folder (Regex tracks expression) = (folder ≢ Words) × (folder ≢ Bases)
-MayStandIn folder (Formula variables formula bindings) = (folder ≢ Words) × (folder ≢ Bases)
-MayStandIn folder (Fixed rules) = folder ≡ Words
-MayStandIn folder (Image direction system rules tree) = folder ≡ Words
-MayStandIn folder (Combine direction named parts) = folder ≡ Words
-MayStandIn folder (Language sets op trees) = (folder ≢ Words) × (folder ≢ Bases)
-MayStandIn folder (Transduced system transducer tree) = folder ≡ Words
-MayStandIn folder (Converted direction system tree) = folder ≡ Words
+abbrev pub MayBeIn : Folder → Tree → Type 0
+MayBeIn folder (File bytes) = ⊤
+MayBeIn folder (Regex tracks expression) = (folder ≢ Words) × (folder ≢ Bases)
+MayBeIn folder (Formula variables formula bindings) = (folder ≢ Words) × (folder ≢ Bases)
+MayBeIn folder (Fixed rules) = folder ≡ Words
+MayBeIn folder (Image direction system rules tree) = folder ≡ Words
+MayBeIn folder (Combine direction named parts) = folder ≡ Words
+MayBeIn folder (Language sets op trees) = (folder ≢ Words) × (folder ≢ Bases)
+MayBeIn folder (Transduced system transducer tree) = folder ≡ Words
+MayBeIn folder (Converted direction system tree) = folder ≡ Words
 
 -- what is under a name: bytes, or a definition
 pub data Entry : Type 0 where

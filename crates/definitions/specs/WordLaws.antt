@@ -29,7 +29,7 @@ pub record NamesMean (custom : Custom) (names : List (List ℕ)) (systems : List
   pub are : AreNamed custom (direction_of systems) named
   pub systems_are : systems_of named ≡ tracks.systems_of systems
 
--- a word that is read of a file, over the systems that the names of its header mean, has at each place the letter of the file
+-- a word that is read of a file, over the systems that the names of its header mean, has at each position the letter of the file
 abbrev pub WordsHaveFileLetters : Type 0
 WordsHaveFileLetters = (custom : Custom) (text : List ℕ) (listed : Listed) (names : List (List ℕ)) (old new : StepLog) (v : WordValue) → word_of text ≡ Ok listed → listed.header ≡ Systems names
     → NamesMean custom names v.systems → IsWordValue v → DoesWordSteps v.systems listed old (Ok v.function) new → (ns : List ℕ) (letter : ℤ) → HasLetter v ns letter ↔ FileLetter custom text ns letter

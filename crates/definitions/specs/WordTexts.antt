@@ -1,4 +1,4 @@
--- The texts of words: the automaton that gives each representation of a place its letter, if it has one.
+-- The texts of words: the automaton that gives each representation of a position its letter, if it has one.
 use Rattle.std.specs.Prelude.{◌≡◌, ◌↔◌, ℕ, ◌<◌, ℤ, FitsSigned, List, length, Some}
 use Rattle.std.specs.Int.{w32}
 use Rattle.std.specs.List.{All}

@@ -3,7 +3,7 @@
 //! A definition (`Tree` in `specs/Trees.antt`) is the bytes of a file, an expression over tracks, a formula with the
 //! definitions that its names mean, a word that a command makes, or a language that an operation makes of others.
 //! `tree_holds` (`specs/TreeMeanings.antt`) says of which numbers it holds, `tree_words` which words over sets it has,
-//! `tree_letter` which letter it has at a place as a word, and `HasText` (`specs/Texts.antt`) which text stores it. The text
+//! `tree_letter` which letter it has at a position as a word, and `HasText` (`specs/Texts.antt`) which text stores it. The text
 //! of a definition, read as a file, holds of what the definition holds of, accepts the words that it has, and has its
 //! letters, so that a command means the same under the definitions of names and under the files that store them. Among
 //! users' systems are files alone, and among words files and words that commands make. `IsListedOver` (`specs/Listings.antt`)

@@ -9,7 +9,7 @@ pub fn files_are_words()
     ensures { FilesAreWords }
 {}
 
-/// A word that is read of a file, over the systems that the names of its header mean, has at each place the letter of the file.
+/// A word that is read of a file, over the systems that the names of its header mean, has at each position the letter of the file.
 pub fn words_have_file_letters()
     ensures { WordsHaveFileLetters }
 {

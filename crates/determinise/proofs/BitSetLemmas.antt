@@ -19,11 +19,11 @@ use Rattle.determinise.proofs.BitLemmas.{HasBit-or, HasBit-replicate, HasBit-wit
 use Rattle.determinise.proofs.SubsetLemmas.{Contains-range}
 
 -- the bit of a number is at the place
-abbrev pub StandsAt : ℕ → ℕ → ℕ → Type 0
-StandsAt number place bit = (number / 32 ≡ place) × (number % 32 ≡ bit)
+abbrev pub IsBitAt : ℕ → ℕ → ℕ → Type 0
+IsBitAt number place bit = (number / 32 ≡ place) × (number % 32 ≡ bit)
 
-same_number : (x y : ℕ) → StandsAt x (y / 32) (y % 32) → x ≡ y
-same_number x y stands = omega (arith, stands.0, stands.1, div-add-mod' x 32, div-add-mod' y 32)
+same_number : (x y : ℕ) → IsBitAt x (y / 32) (y % 32) → x ≡ y
+same_number x y bit_is = omega (arith, bit_is.0, bit_is.1, div-add-mod' x 32, div-add-mod' y 32)
 
 pub only_bit : (k b : ℕ) → (bit_at (2 ^ k) b ≡ 1) ↔ (k ≡ b)
 only_bit k b = ((λ is. forth is (cases_eq b k)), (λ same. subst (λ i. bit_at (2 ^ k) i ≡ 1) same (bit_at-pow_same k)))
@@ -32,17 +32,17 @@ only_bit k b = ((λ is. forth is (cases_eq b k)), (λ same. subst (λ i. bit_at 
     forth is (inl same) = sym same
     forth is (inr other) = absurd (omega (arith, is, bit_at-pow_other k b other))
 
-HasBit-with_bit : (words : List ℕ) (number : ℕ) → number / 32 < length words → (place bit : ℕ) → HasBit (with_bit words number) place bit ↔ (HasBit words place bit ⊎ StandsAt number place bit)
+HasBit-with_bit : (words : List ℕ) (number : ℕ) → number / 32 < length words → (place bit : ℕ) → HasBit (with_bit words number) place bit ↔ (HasBit words place bit ⊎ IsBitAt number place bit)
 HasBit-with_bit words number within place bit = ((λ is. forth (one.0 is)), (λ is. one.1 (back is)))
   where
     one : HasBit (with_bit words number) place bit ↔ (HasBit words place bit ⊎ ((number / 32 ≡ place) × (bit_at (2 ^ (number % 32)) bit ≡ 1)))
     one = HasBit-or words (number / 32) (2 ^ (number % 32)) within place bit
 
-    forth : HasBit words place bit ⊎ ((number / 32 ≡ place) × (bit_at (2 ^ (number % 32)) bit ≡ 1)) → HasBit words place bit ⊎ StandsAt number place bit
+    forth : HasBit words place bit ⊎ ((number / 32 ≡ place) × (bit_at (2 ^ (number % 32)) bit ≡ 1)) → HasBit words place bit ⊎ IsBitAt number place bit
     forth (inl is) = inl is
     forth (inr here) = inr (here.0, (only_bit (number % 32) bit).0 here.1)
 
-    back : HasBit words place bit ⊎ StandsAt number place bit → HasBit words place bit ⊎ ((number / 32 ≡ place) × (bit_at (2 ^ (number % 32)) bit ≡ 1))
+    back : HasBit words place bit ⊎ IsBitAt number place bit → HasBit words place bit ⊎ ((number / 32 ≡ place) × (bit_at (2 ^ (number % 32)) bit ≡ 1))
     back (inl is) = inl is
     back (inr here) = inr (here.0, (only_bit (number % 32) bit).1 here.1)
 
@@ -54,10 +54,10 @@ pub length-bits_of : (width : ℕ) (numbers : List ℕ) → length (bits_of widt
 length-bits_of width numbers = length-with_bits (replicate width 0) numbers ∙ length-replicate {A = ℕ} width 0
 
 HasBit-with_bits : (words numbers : List ℕ) → All (λ x. x / 32 < length words) numbers → (place bit : ℕ)
-    → HasBit (with_bits words numbers) place bit ↔ (HasBit words place bit ⊎ ((x : ℕ) × Contains numbers x × StandsAt x place bit))
+    → HasBit (with_bits words numbers) place bit ↔ (HasBit words place bit ⊎ ((x : ℕ) × Contains numbers x × IsBitAt x place bit))
 HasBit-with_bits words [] inside place bit = ((λ is. inl is), back)
   where
-    back : HasBit words place bit ⊎ ((x : ℕ) × Contains [] x × StandsAt x place bit) → HasBit words place bit
+    back : HasBit words place bit ⊎ ((x : ℕ) × Contains [] x × IsBitAt x place bit) → HasBit words place bit
     back (inl is) = is
     back (inr there) = absurd (Contains-none there.0 there.1)
 HasBit-with_bits words (x ∷ xs) inside place bit =
@@ -65,23 +65,23 @@ HasBit-with_bits words (x ∷ xs) inside place bit =
     let rest = HasBit-with_bits (with_bit words x) xs (All-weaker (λ y. y / 32 < length words) (λ y. y / 32 < length (with_bit words x)) (λ y low. subst (λ l. y / 32 < l) (sym size) low) xs (All-tail (λ y. y / 32 < length words) x xs inside)) place bit in
     ((λ is. forth (rest.0 is)), (λ is. rest.1 (back is)))
   where
-    one : HasBit (with_bit words x) place bit ↔ (HasBit words place bit ⊎ StandsAt x place bit)
+    one : HasBit (with_bit words x) place bit ↔ (HasBit words place bit ⊎ IsBitAt x place bit)
     one = HasBit-with_bit words x (All-head (λ y. y / 32 < length words) x xs inside) place bit
 
-    forth : HasBit (with_bit words x) place bit ⊎ ((y : ℕ) × Contains xs y × StandsAt y place bit) → HasBit words place bit ⊎ ((y : ℕ) × Contains (x ∷ xs) y × StandsAt y place bit)
+    forth : HasBit (with_bit words x) place bit ⊎ ((y : ℕ) × Contains xs y × IsBitAt y place bit) → HasBit words place bit ⊎ ((y : ℕ) × Contains (x ∷ xs) y × IsBitAt y place bit)
     forth (inr later) = inr (later.0, Contains-tail x xs later.0 later.1, later.2)
     forth (inl is) = by (one.0 is)
       where
-        by : HasBit words place bit ⊎ StandsAt x place bit → HasBit words place bit ⊎ ((y : ℕ) × Contains (x ∷ xs) y × StandsAt y place bit)
+        by : HasBit words place bit ⊎ IsBitAt x place bit → HasBit words place bit ⊎ ((y : ℕ) × Contains (x ∷ xs) y × IsBitAt y place bit)
         by (inl was) = inl was
         by (inr here) = inr (x, Contains-head x xs, here)
 
-    back : HasBit words place bit ⊎ ((y : ℕ) × Contains (x ∷ xs) y × StandsAt y place bit) → HasBit (with_bit words x) place bit ⊎ ((y : ℕ) × Contains xs y × StandsAt y place bit)
+    back : HasBit words place bit ⊎ ((y : ℕ) × Contains (x ∷ xs) y × IsBitAt y place bit) → HasBit (with_bit words x) place bit ⊎ ((y : ℕ) × Contains xs y × IsBitAt y place bit)
     back (inl was) = inl (one.1 (inl was))
     back (inr there) = by (Contains-cases x xs there.0 there.1)
       where
-        by : (x ≡ there.0) ⊎ Contains xs there.0 → HasBit (with_bit words x) place bit ⊎ ((y : ℕ) × Contains xs y × StandsAt y place bit)
-        by (inl same) = inl (one.1 (inr (subst (λ y. StandsAt y place bit) (sym same) there.2)))
+        by : (x ≡ there.0) ⊎ Contains xs there.0 → HasBit (with_bit words x) place bit ⊎ ((y : ℕ) × Contains xs y × IsBitAt y place bit)
+        by (inl same) = inl (one.1 (inr (subst (λ y. IsBitAt y place bit) (sym same) there.2)))
         by (inr later) = inr (there.0, later, there.2)
 
 -- the members are the numbers whose bits are set
@@ -94,14 +94,14 @@ members_of-iff n words q = (
 
 module _ (width : ℕ) (numbers : List ℕ) (small : All (λ x. x < 32 * width) numbers) where
   -- the bits are those of the numbers
-  pub HasBit-bits_of : (place bit : ℕ) → HasBit (bits_of width numbers) place bit ↔ ((x : ℕ) × Contains numbers x × StandsAt x place bit)
+  pub HasBit-bits_of : (place bit : ℕ) → HasBit (bits_of width numbers) place bit ↔ ((x : ℕ) × Contains numbers x × IsBitAt x place bit)
   HasBit-bits_of place bit = ((λ is. forth (all.0 is)), (λ there. all.1 (inr there)))
     where
-      all : HasBit (bits_of width numbers) place bit ↔ (HasBit (replicate width 0) place bit ⊎ ((x : ℕ) × Contains numbers x × StandsAt x place bit))
+      all : HasBit (bits_of width numbers) place bit ↔ (HasBit (replicate width 0) place bit ⊎ ((x : ℕ) × Contains numbers x × IsBitAt x place bit))
       all = HasBit-with_bits (replicate width 0) numbers
           (All-weaker (λ x. x < 32 * width) (λ x. x / 32 < length {A = ℕ} (replicate width 0)) (λ x low. let below = div_below x 32 width (omega arith) (omega (arith, low)) in omega (arith, below, length-replicate {A = ℕ} width 0)) numbers small) place bit
 
-      forth : HasBit (replicate width 0) place bit ⊎ ((x : ℕ) × Contains numbers x × StandsAt x place bit) → (x : ℕ) × Contains numbers x × StandsAt x place bit
+      forth : HasBit (replicate width 0) place bit ⊎ ((x : ℕ) × Contains numbers x × IsBitAt x place bit) → (x : ℕ) × Contains numbers x × IsBitAt x place bit
       forth (inl none) = absurd (HasBit-replicate width place bit none)
       forth (inr there) = there
 

@@ -21,7 +21,7 @@ use Rattle.determinise.specs.BitSubsets.{IsStateBits, state_bits, states_in, bit
 use Rattle.determinise.specs.SubsetLaws.{All-range, AllPairs-range}
 use Rattle.determinise.specs.Subsets.{IsStateSet, leads_to, targets_of, set_after}
 use Rattle.determinise.proofs.BitLemmas.{HasBit-within}
-use Rattle.determinise.proofs.BitSetLemmas.{StandsAt, only_bit, length-bits_of, HasBit-bits_of, HasMember-bits_of, members_of-bits_of, members_of-iff, same_bits, some_nonzero-bits_of}
+use Rattle.determinise.proofs.BitSetLemmas.{IsBitAt, only_bit, length-bits_of, HasBit-bits_of, HasMember-bits_of, members_of-bits_of, members_of-iff, same_bits, some_nonzero-bits_of}
 use Rattle.determinise.proofs.ReversalLemmas.{same_bool}
 use Rattle.determinise.proofs.SubsetLemmas.{Contains-range, targets_of-iff}
 
@@ -102,7 +102,7 @@ module _ (n : Branching) (table : IsBranchTable (letters_of n) n.states) where
             (HasBit-bits_of w (targets_of n set a) (small_set (targets_of n set a) (targets_in_range set a)) place bit).1
             (transition.0.target, (targets_of-iff n table set a transition.0.target).1 (there.0, member, subst (λ l. Leads n there.0 l transition.0.target) same.0 transition.1), (same.1, transition.3))
 
-        back : (place bit : ℕ) → (x : ℕ) × Contains (targets_of n set a) x × StandsAt x place bit → HasBit (part_of words (words_of (states_of n)) a) place bit
+        back : (place bit : ℕ) → (x : ℕ) × Contains (targets_of n set a) x × IsBitAt x place bit → HasBit (part_of words (words_of (states_of n)) a) place bit
         back place bit there =
             let w = words_of (states_of n) in
             let from = (targets_of-iff n table set a there.0).0 there.1 in

@@ -173,11 +173,11 @@ word_listed draft header listed there h is = by header there h
         let placed = then_ok (placed_lines draft.numbers draft.lines) (λ lines. Ok (record { header = Systems names; outputs = draft.outputs; lines = lines })) listed read in
         let made : Listed = record { header = Systems names; outputs = draft.outputs; lines = placed.0 } in
         let same : made ≡ listed = let f : Ok made ≡ Ok listed = placed.2 in cc in
-        let (line, stands) = is.headed (Systems names) e in
+        let (line, header_found) = is.headed (Systems names) e in
         subst IsWordListed same (record {
           names = names;
           header = refl;
-          some = some_system line names (line_of_systems line names stands);
+          some = some_system line names (line_of_systems line names header_found);
           functional = functional_lines draft.numbers draft.lines (Systems names) draft.outputs placed.0 parts.1 placed.1;
         })
 

@@ -99,7 +99,7 @@ no_headed_draft may_be = record { may = refl; line = λ header none. let e : Non
 record IsHeadedListed (may_be : Header → Bool) (listed : Listed) : Type 0 where
   may : may_be listed.header ≡ true
   line : List ℕ
-  stands : header_of line ≡ Some listed.header
+  header_found : header_of line ≡ Some listed.header
   some_state : has_states listed.header ≡ true → 0 < length listed.outputs
 
 headed_finished : (may_be : Header → Bool) (after : ℕ) (draft : Draft) (header : Option Header) (listed : Listed) → draft.header ≡ header → finish_with after header draft ≡ Ok listed → IsHeadedDraft may_be draft → IsHeadedListed may_be listed
@@ -116,11 +116,11 @@ headed_finished may_be after draft (Some header) listed there h is = by (has_sta
         let placed = then_ok (placed_lines draft.numbers draft.lines) (λ lines. Ok (record { header = header; outputs = draft.outputs; lines = lines })) listed read in
         let made : Listed = record { header = header; outputs = draft.outputs; lines = placed.0 } in
         let same : made ≡ listed = let f : Ok made ≡ Ok listed = placed.2 in cc in
-        let (line, stands) = is.line header there in
+        let (line, header_found) = is.line header there in
         subst (IsHeadedListed may_be) same (record {
           may = sym (ap (is_headed may_be) there) ∙ is.may;
           line = line;
-          stands = stands;
+          header_found = header_found;
           some_state = some_state (has_states header) refl e;
         })
 
@@ -211,7 +211,7 @@ language_listed (Systems names) outputs lines is = absurd (true≢false (sym is.
 language_listed (Sets []) outputs lines is = absurd (true≢false (sym is.may))
 language_listed (Sets (set ∷ [])) outputs lines is = record {
   digits = length set;
-  some_digit = (some_in_line is.line (set ∷ []) (line_of_sets is.line (set ∷ []) is.stands)).0;
+  some_digit = (some_in_line is.line (set ∷ []) (line_of_sets is.line (set ∷ []) is.header_found)).0;
   header = ap (λ l. Sets (l ∷ [])) (same_list set (digit_set (length set)) is.may);
   some_state = is.some_state refl;
 }

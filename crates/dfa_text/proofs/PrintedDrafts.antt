@@ -53,11 +53,11 @@ module _ (o : Outputs) (header : Header) where
   -- transitions of the last state
   pub read_entry : (ns : List ℕ) (os : List (Option ℤ)) (q : ℕ) (lines : List (ℕ × ListedLine)) (at : ℕ) (text : List ℕ) (digits : List (Option ℕ)) (targets : List ℕ) (rest : List (List ℕ)) → has_states header ≡ true → length os ≡ suc q → is_passed text ≡ false → entry_of o (digits_in header) text ≡ Some (Line digits targets)
       → HasRead o header ns os lines at (text ∷ []) rest ns os (record { state = q; digits = digits; targets = targets } ∷ [])
-  read_entry ns os q lines at text digits targets rest some long stands is =
+  read_entry ns os q lines at text digits targets rest some long not_skipped is =
       let line : ListedLine = record { state = q; digits = digits; targets = targets } in
       let place : length os - 1 ≡ q = omega arith in
       let added : add_line o at (draft header ns os lines) text ≡ Some (draft header ns os (lines ++ (at, line) ∷ [])) =
-      entry_line o at header ns os lines text (Line digits targets) some stands is
+      entry_line o at header ns os lines text (Line digits targets) some not_skipped is
       ∙ ap (λ b. cond b None (Some (draft header ns os (lines ++ (at, record { state = length os - 1; digits = digits; targets = targets }) ∷ [])))) (ne_eqb (length os) 0 (λ e. absurd (omega arith)))
       ∙ ap (λ (s : ℕ). Some (draft header ns os (lines ++ (at, (let l : ListedLine = record { state = s; digits = digits; targets = targets } in l)) ∷ []))) place in
       record { numbered = (at, line) ∷ []; next = at + 1; read = add_lines-step o at (draft header ns os lines) (draft header ns os (lines ++ (at, line) ∷ [])) text rest added; lists = refl }

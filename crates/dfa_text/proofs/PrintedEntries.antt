@@ -43,8 +43,8 @@ parts_of-state o q z h f =
     parts_of-append (decimal q) 32 (output_text z) refl ∙ ap (λ t. t ++ parts_of (output_text z)) (parts_of-one (decimal q) (part_decimal q (fits_wide q h)))
     ∙ ap (λ t. decimal q ∷ t) (parts_of-one (output_text z) (part_output o z f))
 
-pub state_stands : (q : ℕ) (z : Option ℤ) → q < 2 ^ 32 → is_passed (state_text q z) ≡ false
-state_stands q z h = not_passed_part (decimal q) (codes " " ++ output_text z) (part_decimal q (fits_wide q h)) (avoids_decimal (λ c. eqb c 35) (spares_byte 35 refl refl) q (fits_wide q h))
+pub state_is_read : (q : ℕ) (z : Option ℤ) → q < 2 ^ 32 → is_passed (state_text q z) ≡ false
+state_is_read q z h = not_passed_part (decimal q) (codes " " ++ output_text z) (part_decimal q (fits_wide q h)) (avoids_decimal (λ c. eqb c 35) (spares_byte 35 refl refl) q (fits_wide q h))
 
 pub state_avoids : (p : ℕ → Bool) → Spares p → p 32 ≡ false → (o : Outputs) (q : ℕ) (z : Option ℤ) → q < 2 ^ 32 → IsOutput o z → Avoids p (state_text q z)
 state_avoids p s blank o q z h f = Avoids-append p (decimal q) (codes " " ++ output_text z) (avoids_decimal p s q (fits_wide q h)) (blank, output_avoids p s o z f)
@@ -77,8 +77,8 @@ targets_avoid p s blank (t ∷ ts) h = (blank, Avoids-append p (decimal t) (flat
 abbrev pub tuple_text : List ℤ → List ℕ → List ℕ
 tuple_text tuple targets = join_by signed_decimal (codes " ") tuple ++ (codes " ->" ++ flat_map target_text targets)
 
-pub tuple_stands : (m : ℤ) (ms : List ℤ) (targets : List ℕ) → AllByRecursion (SFits w32) (m ∷ ms) → is_passed (tuple_text (m ∷ ms) targets) ≡ false
-tuple_stands m ms targets f =
+pub tuple_is_read : (m : ℤ) (ms : List ℤ) (targets : List ℕ) → AllByRecursion (SFits w32) (m ∷ ms) → is_passed (tuple_text (m ∷ ms) targets) ≡ false
+tuple_is_read m ms targets f =
     let rest = flat_map (λ y. codes " " ++ signed_decimal y) ms in
     ap is_passed (append_assoc (signed_decimal m) rest (codes " ->" ++ flat_map target_text targets))
     ∙ not_passed_part (signed_decimal m) (rest ++ (codes " ->" ++ flat_map target_text targets)) (part_signed m f.0) (avoids_signed (λ b. eqb b 35) (spares_byte 35 refl refl) m f.0)

@@ -31,8 +31,8 @@ avoids_joined p s comma (m ∷ set) f = Avoids-append p (signed_decimal m) (flat
 pub regroup : (lead inside : List ℕ) (rest : List ℕ) → lead ++ ((123 ∷ (inside ++ 125 ∷ [])) ++ rest) ≡ (lead ++ 123 ∷ inside) ++ 125 ∷ rest
 regroup lead inside rest = ap (λ t. lead ++ 123 ∷ t) (append_assoc inside (125 ∷ []) rest) ∙ sym (append_assoc lead (123 ∷ inside) (125 ∷ rest))
 
-pub header_stands : (set : List ℤ) (sets : List (List ℤ)) → is_passed (header_text (set ∷ sets)) ≡ false
-header_stands set sets = not_passed 123 ((join_by signed_decimal (codes ",") set ++ codes "}") ++ flat_map (λ s. codes " " ++ set_text s) sets) refl refl
+pub header_is_read : (set : List ℤ) (sets : List (List ℤ)) → is_passed (header_text (set ∷ sets)) ≡ false
+header_is_read set sets = not_passed 123 ((join_by signed_decimal (codes ",") set ++ codes "}") ++ flat_map (λ s. codes " " ++ set_text s) sets) refl refl
 
 -- and it is one line
 pub header_avoids : (p : ℕ → Bool) → Spares p → p 44 ≡ false → p 32 ≡ false → p 123 ≡ false → p 125 ≡ false → (sets : List (List ℤ)) → AllByRecursion IsPrintable sets → Avoids p (header_text sets)

@@ -149,8 +149,8 @@ systems_read system systems h alike =
     ap (λ o. or_else (option_map file.Truth o) (or_else (option_map file.Systems (systems_of line)) (option_map file.Sets (sets_of line)))) (ap truth_by parts ∙ no_truth system systems h.0)
     ∙ ap (λ o. or_else (option_map file.Systems o) (option_map file.Sets (sets_of line))) (ap (λ ps. each_of system_of ps >>= of_one_direction) parts ∙ ap (λ o. o >>= of_one_direction) (each_system all h) ∙ alike)
 
-pub names_stand : (system : SystemTrack) (systems : List SystemTrack) → IsSystemTrack system → is_passed (names_text (system ∷ systems)) ≡ false
-names_stand system systems h = not_passed_part system.name (flat_map (λ (s : SystemTrack). codes " " ++ s.name) systems) (name_part system.name h.name) (system_avoids (λ b. eqb b 35) (λ b k. grind (arith, tests)) refl system.name h.name)
+pub names_are_read : (system : SystemTrack) (systems : List SystemTrack) → IsSystemTrack system → is_passed (names_text (system ∷ systems)) ≡ false
+names_are_read system systems h = not_passed_part system.name (flat_map (λ (s : SystemTrack). codes " " ++ s.name) systems) (name_part system.name h.name) (system_avoids (λ b. eqb b 35) (λ b k. grind (arith, tests)) refl system.name h.name)
 
 -- and it is one line
 name_avoids : (system : SystemTrack) → IsSystemTrack system → Avoids is_line_end system.name

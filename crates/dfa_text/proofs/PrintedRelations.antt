@@ -41,9 +41,9 @@ use Rattle.dfa_text.proofs.Counting.{numbers_more}
 use Rattle.dfa_text.proofs.ListedParts.{printable}
 use Rattle.dfa_text.proofs.PrintedDrafts.{draft, lines_in, passed_line, header_line-added, entry_line, HasRead, read_more, read_none, read_entry, new_number}
 use Rattle.dfa_text.proofs.PrintedParts.{Avoids, spares_byte, passed_empty}
-use Rattle.dfa_text.proofs.PrintedHeaders.{IsPrintable, header_avoids, header_stands}
-use Rattle.dfa_text.proofs.PrintedNames.{sets_read, systems_read, names_stand, names_avoid}
-use Rattle.dfa_text.proofs.PrintedEntries.{IsOutput, tuple_text, state_stands, state_avoids, tuple_stands, tuple_line_avoids}
+use Rattle.dfa_text.proofs.PrintedHeaders.{IsPrintable, header_avoids, header_is_read}
+use Rattle.dfa_text.proofs.PrintedNames.{sets_read, systems_read, names_are_read, names_avoid}
+use Rattle.dfa_text.proofs.PrintedEntries.{IsOutput, tuple_text, state_is_read, state_avoids, tuple_is_read, tuple_line_avoids}
 use Rattle.dfa_text.proofs.PrintedTracks.{IsReadable, readable_set, readable_system, members_fit, digits_read, state_read, IsReadAs, step_read}
 use Rattle.dfa_text.proofs.PrintedTuples.{lines_of-text}
 use Rattle.dfa_text.proofs.TupleSteps.{tuple_of_code, length-members}
@@ -68,7 +68,7 @@ Fits32 o = IfSome o (λ t. t < 2 ^ 32)
 -- an automaton under a header whose text can be read again
 pub record IsPrinted (header : Header) (d : Automaton) : Type 0 where
   pub states : has_states (header_listed header) ≡ true
-  pub stands : is_passed (header_line header) ≡ false
+  pub not_skipped : is_passed (header_line header) ≡ false
   pub read : header_of (header_line header) ≡ Some (header_listed header)
   pub whole : Avoids is_line_end (header_line header)
   pub tuples : (letter : ℕ) → letter < letters_of d → IsReadAs (digits_in (header_listed header)) (tuple_of (sets_of header) letter) (digits_of_letter d.sizes letter)
@@ -98,7 +98,7 @@ module _ (o : Outputs) (fh : file.Header) (states : has_states fh ≡ true) (ns 
   read_step [] digits (Some t) h k lines at rest = absurd (omega (arith, h.some))
   read_step (m ∷ ms) digits (Some t) h k lines at rest =
       subst (λ (line : List ℕ). HasRead o fh ns os lines at (line ∷ []) rest ns os (step_listed q digits (Some t))) (step_text (m ∷ ms) t)
-      (read_entry o fh ns os q lines at (tuple_text (m ∷ ms) (t ∷ [])) (map Some digits) (t ∷ []) rest states long (tuple_stands m ms (t ∷ []) h.fits) (step_read o (digits_in fh) m ms digits t h k))
+      (read_entry o fh ns os q lines at (tuple_text (m ∷ ms) (t ∷ [])) (map Some digits) (t ∷ []) rest states long (tuple_is_read m ms (t ∷ []) h.fits) (step_read o (digits_in fh) m ms digits t h k))
 
   -- the lines of numbers, one after another
   read_each : (f : ℕ → List (List ℕ)) (g : ℕ → List ListedLine) → (a n : ℕ) → ((i : ℕ) → i < a + n → (lines : List (ℕ × ListedLine)) (at : ℕ) (rest : List (List ℕ)) → HasRead o fh ns os lines at (f i) rest ns os (g i))
@@ -133,7 +133,7 @@ module _ (o : Outputs) (header : Header) (d : Automaton) (outputs : List (Option
       let blank : add_lines o at (draft fh ns os lines) ([] ∷ text ∷ below) ≡ add_lines o (at + 1) (draft fh ns os lines) (text ∷ below) =
       add_lines-step o at (draft fh ns os lines) (draft fh ns os lines) [] (text ∷ below) (passed_line o at (draft fh ns os lines) [] passed_empty) in
       let added : add_line o (at + 1) (draft fh ns os lines) text ≡ Some (draft fh (range_with_len 0 (q + 1)) (take (q + 1) outputs) lines) =
-      entry_line o (at + 1) fh ns os lines text (State q z) over.states (state_stands q z small) (state_read o (digits_in fh) q z small z_fits)
+      entry_line o (at + 1) fh ns os lines text (State q z) over.states (state_is_read q z small) (state_read o (digits_in fh) q z small z_fits)
       ∙ ap (λ b. cond b None (Some (draft fh (ns ++ q ∷ []) (os ++ z ∷ []) lines))) (new_number 0 q q (omega arith))
       ∙ ap (λ n. Some (draft fh n (os ++ z ∷ []) lines)) (sym (numbers_more q)) ∙ ap (λ os'. Some (draft fh (range_with_len 0 (q + 1)) os' lines)) (sym more) in
       record {
@@ -227,7 +227,7 @@ module _ (o : Outputs) (header : Header) (d : Automaton) (outputs : List (Option
       record {
         numbered = read.numbered;
         lines = lines_of-text (printed_lines header d outputs) (over.whole, avoids);
-        read = add_lines-step o 1 no_draft (draft fh [] [] []) (header_line header) (body ++ [] ∷ []) (header_line-added o (header_line header) fh over.stands over.read) ∙ reached ∙ last
+        read = add_lines-step o 1 no_draft (draft fh [] [] []) (header_line header) (body ++ [] ∷ []) (header_line-added o (header_line header) fh over.not_skipped over.read) ∙ reached ∙ last
             ∙ ap (λ os. Ok (draft fh numbers os read.numbered)) all;
         lists = read.lists;
       }
@@ -270,7 +270,7 @@ readable_systems (system ∷ systems) h = (readable_system system.digits (digit_
 record IsHeaderRead (header : Header) : Type 0 where
   some : 0 < length (sets_of header)
   states : has_states (header_listed header) ≡ true
-  stands : is_passed (header_line header) ≡ false
+  not_skipped : is_passed (header_line header) ≡ false
   read : header_of (header_line header) ≡ Some (header_listed header)
   whole : Avoids is_line_end (header_line header)
   tracks : AllZip IsReadable (digits_in (header_listed header)) (sets_of header)
@@ -282,7 +282,7 @@ header_read (Sets (set ∷ sets)) h =
     record {
       some = h.some;
       states = refl;
-      stands = header_stands set sets;
+      not_skipped = header_is_read set sets;
       read = sets_read set sets each;
       whole = header_avoids is_line_end (spares_byte 10 refl refl) refl refl refl refl (set ∷ sets) each;
       tracks = readable_sets (set ∷ sets) each;
@@ -293,7 +293,7 @@ header_read (Systems (system ∷ systems)) h =
     record {
       some = omega arith;
       states = refl;
-      stands = names_stand system systems each.0;
+      not_skipped = names_are_read system systems each.0;
       read = systems_read system systems each h.alike;
       whole = names_avoid system systems each;
       tracks = readable_systems (system ∷ systems) each;
@@ -302,7 +302,7 @@ header_read (Systems (system ∷ systems)) h =
 pub printed_under : (header : Header) (d : Automaton) → IsAutomatonUnder header d → IsPrinted header d
 printed_under header d over = record {
   states = known.states;
-  stands = known.stands;
+  not_skipped = known.not_skipped;
   read = known.read;
   whole = known.whole;
   tuples = tuple;

@@ -46,10 +46,10 @@ IsWord-without_zeros letters (zero ∷ w) over = IsWord-without_zeros letters w 
 IsWord-without_zeros letters (suc a ∷ w) over = over
 
 -- a word is its leading zeros and the rest
-pub zeros_in_front : (w : List ℕ) → (k : ℕ) × (w ≡ zeros k ++ without_zeros w)
-zeros_in_front [] = (0, refl)
-zeros_in_front (zero ∷ w) = let rest = zeros_in_front w in (suc rest.0, ap (λ (u : List ℕ). 0 ∷ u) rest.1)
-zeros_in_front (suc a ∷ w) = (0, refl)
+pub zeros_then_rest : (w : List ℕ) → (k : ℕ) × (w ≡ zeros k ++ without_zeros w)
+zeros_then_rest [] = (0, refl)
+zeros_then_rest (zero ∷ w) = let rest = zeros_then_rest w in (suc rest.0, ap (λ (u : List ℕ). 0 ∷ u) rest.1)
+zeros_then_rest (suc a ∷ w) = (0, refl)
 
 pub without_zeros-zeros : (k : ℕ) (w : List ℕ) → without_zeros (zeros k ++ w) ≡ without_zeros w
 without_zeros-zeros zero w = refl
@@ -71,7 +71,7 @@ reverse-zeros (suc k) = reverse-cons 0 (zeros k) ∙ ap (λ (u : List ℕ). u ++
 -- a word is what is left without its trailing zeros, and these
 pub zeros_at_end : (w : List ℕ) → (k : ℕ) × (w ≡ strip Lsd w ++ zeros k)
 zeros_at_end w =
-    let prefix = zeros_in_front (reverse w) in
+    let prefix = zeros_then_rest (reverse w) in
     (prefix.0, sym (reverse-reverse w) ∙ ap reverse prefix.1 ∙ reverse-append (zeros prefix.0) (without_zeros (reverse w)) ∙ ap (λ (u : List ℕ). strip Lsd w ++ u) (reverse-zeros prefix.0))
 
 -- trailing zeros do not count

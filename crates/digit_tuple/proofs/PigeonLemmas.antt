@@ -9,30 +9,30 @@ use Rattle.std.proofs.lemmas.List.Edits.{length-remove, get_or-remove_below, get
 use Rattle.std.proofs.lemmas.Map.Steps.{length-le_from_distinct_below}
 
 -- the number is in the list
-abbrev pub StandsIn : List ℕ → ℕ → Type 0
-StandsIn xs k = (i : ℕ) × (i < length xs) × (get_or xs i 0 ≡ k)
+abbrev pub IsNumberIn : List ℕ → ℕ → Type 0
+IsNumberIn xs k = (i : ℕ) × (i < length xs) × (get_or xs i 0 ≡ k)
 
 -- what is at another place stays when a place is removed
-stays : (xs : List ℕ) (j i k : ℕ) → j < length xs → i < length xs → i ≢ j → get_or xs i 0 ≡ k → StandsIn (remove xs j) k
+stays : (xs : List ℕ) (j i k : ℕ) → j < length xs → i < length xs → i ≢ j → get_or xs i 0 ≡ k → IsNumberIn (remove xs j) k
 stays xs j i k place within other at = by (cases_order i j)
   where
     size : length (remove xs j) + 1 ≡ length xs
     size = length-remove xs j place
 
-    earlier : (m : ℕ) → i ≡ m + 1 → j ≤ m → StandsIn (remove xs j) k
+    earlier : (m : ℕ) → i ≡ m + 1 → j ≤ m → IsNumberIn (remove xs j) k
     earlier m is after = (m, omega (arith, size, is), get_or-remove_above xs j 0 m after place ∙ ap (λ n. get_or xs n 0) (sym is) ∙ at)
 
-    last : (n : ℕ) → i ≡ n → j < n → StandsIn (remove xs j) k
+    last : (n : ℕ) → i ≡ n → j < n → IsNumberIn (remove xs j) k
     last zero is more = absurd (omega arith)
     last (suc m) is more = earlier m (omega arith) (omega arith)
 
-    by : (i ≡ j) ⊎ ((i < j) ⊎ (j < i)) → StandsIn (remove xs j) k
+    by : (i ≡ j) ⊎ ((i < j) ⊎ (j < i)) → IsNumberIn (remove xs j) k
     by (inl same) = absurd (other same)
     by (inr (inl less)) = (i, omega (arith, size), get_or-remove_below xs j 0 i less place ∙ at)
     by (inr (inr more)) = last i (omega arith) more
 
 -- with each number below n a list has at least n elements
-pub onto_least : (n : ℕ) (xs : List ℕ) → ((k : ℕ) → k < n → StandsIn xs k) → n ≤ length xs
+pub onto_least : (n : ℕ) (xs : List ℕ) → ((k : ℕ) → k < n → IsNumberIn xs k) → n ≤ length xs
 onto_least zero xs onto = omega arith
 onto_least (suc m) xs onto =
     let last = onto m (omega arith) in
@@ -41,16 +41,16 @@ onto_least (suc m) xs onto =
     omega (arith, size, rest)
 
 -- with just n elements it has none twice
-pub onto_apart : (n : ℕ) (xs : List ℕ) → ((k : ℕ) → k < n → StandsIn xs k) → length xs ≡ n → (i j : ℕ) → i < j → j < length xs → get_or xs i 0 ≢ get_or xs j 0
+pub onto_apart : (n : ℕ) (xs : List ℕ) → ((k : ℕ) → k < n → IsNumberIn xs k) → length xs ≡ n → (i j : ℕ) → i < j → j < length xs → get_or xs i 0 ≢ get_or xs j 0
 onto_apart n xs onto count i j before within same = omega (arith, length-remove xs j within, onto_least n (remove xs j) (λ k less. let at = onto k less in by k at (cases_order at.0 j)))
   where
-    by : (k : ℕ) (at : StandsIn xs k) → (at.0 ≡ j) ⊎ ((at.0 < j) ⊎ (j < at.0)) → StandsIn (remove xs j) k
+    by : (k : ℕ) (at : IsNumberIn xs k) → (at.0 ≡ j) ⊎ ((at.0 < j) ⊎ (j < at.0)) → IsNumberIn (remove xs j) k
     by k at (inl is) = stays xs j i k within (omega arith) (λ e. omega (arith, e, before)) (same ∙ ap (λ n. get_or xs n 0) (sym is) ∙ at.2)
     by k at (inr (inl less)) = stays xs j at.0 k within at.1 (λ e. omega (arith, e, less)) at.2
     by k at (inr (inr more)) = stays xs j at.0 k within at.1 (λ e. omega (arith, e, more)) at.2
 
 -- places of one element are one
-pub onto_one : (n : ℕ) (xs : List ℕ) → ((k : ℕ) → k < n → StandsIn xs k) → length xs ≡ n → (i j : ℕ) → i < length xs → j < length xs → get_or xs i 0 ≡ get_or xs j 0 → i ≡ j
+pub onto_one : (n : ℕ) (xs : List ℕ) → ((k : ℕ) → k < n → IsNumberIn xs k) → length xs ≡ n → (i j : ℕ) → i < length xs → j < length xs → get_or xs i 0 ≡ get_or xs j 0 → i ≡ j
 onto_one n xs onto count i j small low same = by (cases_order i j)
   where
     by : (i ≡ j) ⊎ ((i < j) ⊎ (j < i)) → i ≡ j

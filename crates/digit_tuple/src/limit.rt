@@ -4,7 +4,7 @@ ghost use Rattle.std.specs.Prelude.{◌≡◌};
 
 use monitor::Monitor;
 
-/// The most that a width may be, and who is told how many states there are so far.
+/// The most that a width may be, and the monitor, if there is one, that shows how many states there are so far.
 #[derive(Clone, Copy)]
 pub struct Limit<'a> {
     /// The most that a width may be.

@@ -64,12 +64,12 @@ module _ (d : Automaton) where
     bare_next : (q a p : ℕ) → IsBare q → step_of d q a ≡ Some p → IsBare p
     bare_next q a p bare leads v r led = bare (a ∷ v) r (run_of-step d q a p v leads ∙ led)
 
-    module _ (tells : (q : ℕ) → q < states_of d → IgnoresZero d q) where
+    module _ (ignores : (q : ℕ) → q < states_of d → IgnoresZero d q) where
       bare_accepts : (v : List ℕ) (q : ℕ) → q < states_of d → IsBare q → accepts_from d q v ≡ true → accepting_of d q ≡ true
       bare_accepts [] q within bare accepted = accepted
       bare_accepts (zero ∷ v) q within bare accepted =
           let step = accepted_step d q 0 v accepted in
-          sym (tells q within) ∙ accepts_from-step d q 0 step.0 [] step.1
+          sym (ignores q within) ∙ accepts_from-step d q 0 step.0 [] step.1
           ∙ bare_accepts v step.0 (step_within d canonical.table q 0 step.0 within step.1) (bare_next q 0 step.0 bare step.1) step.2
       bare_accepts (suc a ∷ v) q within bare accepted = let step = accepted_step d q (suc a) v accepted in absurd (bare_other q a step.0 bare step.1)
 
@@ -82,7 +82,7 @@ module _ (d : Automaton) where
 
       -- 0 leads from such a state to one
       zero_step : (q : ℕ) → q < states_of d → accepting_of d q ≡ true → (t : ℕ) × (step_of d q 0 ≡ Some t) × (accepting_of d t ≡ true)
-      zero_step q within accepts = accepted_step d q 0 [] (tells q within ∙ accepts)
+      zero_step q within accepts = accepted_step d q 0 [] (ignores q within ∙ accepts)
 
       bare_same : (w : List ℕ) (p q : ℕ) → p < states_of d → q < states_of d → IsBare p → IsBare q → accepting_of d p ≡ true → accepting_of d q ≡ true → accepts_from d p w ≡ accepts_from d q w
       bare_same [] p q small low bare other one two = one ∙ sym two

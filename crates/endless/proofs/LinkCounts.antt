@@ -11,7 +11,7 @@ use Rattle.digit_tuple.proofs.DfaLemmas.{row_at}
 use Rattle.digit_tuple.proofs.MemberLemmas.{Contains-head, Contains-tail, Contains-cases, Contains-none, AllPairs-tail}
 use Rattle.numeration.proofs.CountLemmas.{count_by-cons}
 use Rattle.endless.specs.Links.{IsLink}
-use Rattle.endless.specs.Counts.{StandsIn, is_in, is_kept, counts, links, unless, links_from, AreIncoming}
+use Rattle.endless.specs.Counts.{IsNumberIn, is_in, is_kept, counts, links, unless, links_from, AreIncoming}
 use Rattle.endless.proofs.LiveLemmas.{step_of_transition, transition_there}
 
 -- a count above 0 is that of an element
@@ -77,11 +77,11 @@ is_in-other done s n other = is_in-more done s n ∙ ap (λ b. is_in done n || (
 is_in-last : (done : List ℕ) (s n : ℕ) → s ≡ n → is_in (done ++ s ∷ []) n ≡ true
 is_in-last done s n same = is_in-more done s n ∙ ap (λ b. is_in done n || (b || false)) (eq-eqb s n same) ∙ or_true (is_in done n)
 
-pub stands_from_is_in : (xs : List ℕ) (k : ℕ) → is_in xs k ≡ true → StandsIn xs k
-stands_from_is_in [] k is = absurd (false≢true is)
-stands_from_is_in (x ∷ xs) k is = by (x == k) refl is (stands_from_is_in xs k)
+pub number_from_is_in : (xs : List ℕ) (k : ℕ) → is_in xs k ≡ true → IsNumberIn xs k
+number_from_is_in [] k is = absurd (false≢true is)
+number_from_is_in (x ∷ xs) k is = by (x == k) refl is (number_from_is_in xs k)
   where
-    by : (b : Bool) → (x == k) ≡ b → (b || is_in xs k) ≡ true → (is_in xs k ≡ true → StandsIn xs k) → StandsIn (x ∷ xs) k
+    by : (b : Bool) → (x == k) ≡ b → (b || is_in xs k) ≡ true → (is_in xs k ≡ true → IsNumberIn xs k) → IsNumberIn (x ∷ xs) k
     by true here is rest = (0, omega arith, eqb-true x k here)
     by false other is rest = let later = rest is in (suc later.0, omega (arith, later.1), later.2)
 

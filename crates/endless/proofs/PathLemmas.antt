@@ -6,19 +6,19 @@ use Rattle.digit_tuple.specs.declared.transitions.Transition.{Transition}
 use Rattle.digit_tuple.specs.Deterministic.{Automaton, IsTable, letters_of, states_of, transitions_of}
 use Rattle.digit_tuple.proofs.PigeonLemmas.{few_below}
 use Rattle.endless.specs.Links.{IsLink, HasRound}
-use Rattle.endless.specs.Counts.{StandsIn, Grows, is_in, links, links_from, counted, AreIncoming, AreFree, AreReleased, IsSorted}
+use Rattle.endless.specs.Counts.{IsNumberIn, Grows, is_in, links, links_from, counted, AreIncoming, AreFree, AreReleased, IsSorted}
 use Rattle.endless.proofs.OrderLemmas.{Grows-at}
-use Rattle.endless.proofs.LinkCounts.{stands_from_is_in, link_counted, counted_link, links_from-done, links_from-least, links_from-some}
+use Rattle.endless.proofs.LinkCounts.{number_from_is_in, link_counted, counted_link, links_from-done, links_from-least, links_from-some}
 
 -- the number is at an earlier place
-abbrev pub StandsBefore : List ℕ → ℕ → ℕ → Type 0
-StandsBefore xs j k = (i : ℕ) × (i < j) × (get_or xs i 0 ≡ k)
+abbrev pub IsEarlierNumber : List ℕ → ℕ → ℕ → Type 0
+IsEarlierNumber xs j k = (i : ℕ) × (i < j) × (get_or xs i 0 ≡ k)
 
 pub record IsUnderWay (d : Automaton) (z : ℕ) (pending order : List ℕ) (place : ℕ) : Type 0 where
   pub width : length pending ≡ states_of d
   pub free : AreFree pending order (states_of d)
   pub counts : (q : ℕ) → q < states_of d → get_or pending q 0 ≡ links_from d z (take place order) q (states_of d)
-  pub before : (j p : ℕ) → j < length order → p < states_of d → 0 < links d z p (get_or order j 0) → StandsBefore order j p
+  pub before : (j p : ℕ) → j < length order → p < states_of d → 0 < links d z p (get_or order j 0) → IsEarlierNumber order j p
 
 is_in_from_at : (xs : List ℕ) (k i : ℕ) → is_in xs k ≡ false → i < length xs → get_or xs i 0 ≢ k
 is_in_from_at [] k i away within same = omega (arith, within)
@@ -69,7 +69,7 @@ module _ (d : Automaton) (z : ℕ) where
           by : (b : Bool) → is_in (take place order) state ≡ b → b ≡ false
           by false is = refl
           by true is =
-              let at = stands_from_is_in (take place order) state is in
+              let at = number_from_is_in (take place order) state is in
               let low : at.0 < place = omega (arith, at.1, length-take-le place order (omega (arith, within))) in
               absurd (direction.free.apart at.0 place low within (sym (get_or-take place order at.0 0 low) ∙ at.2))
 
@@ -103,15 +103,15 @@ module _ (d : Automaton) (z : ℕ) where
           ap (λ (xs : List ℕ). links_from d z xs q (states_of d)) done_now,
         )
 
-        before_now : (j p : ℕ) → j < length grown → p < states_of d → 0 < links d z p (get_or grown j 0) → StandsBefore grown j p
+        before_now : (j p : ℕ) → j < length grown → p < states_of d → 0 < links d z p (get_or grown j 0) → IsEarlierNumber grown j p
         before_now j p inside small some = by (cases_lt j (length order))
           where
-            moved : StandsBefore order j p → j < length order → StandsBefore grown j p
+            moved : IsEarlierNumber order j p → j < length order → IsEarlierNumber grown j p
             moved at low = (at.0, at.1, Grows-at order grown at.0 grows (omega (arith, at.1, low)) ∙ at.2)
 
-            late : length order ≤ j → (is_in (take (place + 1) grown) p ≡ true) ⊎ (is_in (take (place + 1) grown) p ≡ false) → StandsBefore grown j p
+            late : length order ≤ j → (is_in (take (place + 1) grown) p ≡ true) ⊎ (is_in (take (place + 1) grown) p ≡ false) → IsEarlierNumber grown j p
             late high (inl is) =
-                let at = stands_from_is_in (take (place + 1) grown) p is in
+                let at = number_from_is_in (take (place + 1) grown) p is in
                 let low : at.0 < place + 1 = omega (arith, at.1, ap length done_now, length-take-le (place + 1) grown (omega (arith, inside, high, within))) in
                 (at.0, omega (arith, low, high, within), sym (get_or-take (place + 1) grown at.0 0 low) ∙ at.2)
             late high (inr other) = absurd (omega (
@@ -122,7 +122,7 @@ module _ (d : Automaton) (z : ℕ) where
               all_free.none j inside,
             ))
 
-            by : (j < length order) ⊎ (length order ≤ j) → StandsBefore grown j p
+            by : (j < length order) ⊎ (length order ≤ j) → IsEarlierNumber grown j p
             by (inl low) = moved (direction.before j p low small (subst (λ q. 0 < links d z p q) (Grows-at order grown j grows low) some)) low
             by (inr high) = late high (is_in-cases (take (place + 1) grown) p)
 
@@ -134,15 +134,15 @@ abbrev place_in : List ℕ → ℕ → ℕ
 place_in [] q = 0
 place_in (x ∷ xs) q = if x == q then 0 else suc (place_in xs q)
 
-place_in-at : (xs : List ℕ) (q : ℕ) → StandsIn xs q → (place_in xs q < length xs) × (get_or xs (place_in xs q) 0 ≡ q)
+place_in-at : (xs : List ℕ) (q : ℕ) → IsNumberIn xs q → (place_in xs q < length xs) × (get_or xs (place_in xs q) 0 ≡ q)
 place_in-at [] q at = absurd (omega (arith, at.1))
 place_in-at (x ∷ xs) q at = by (x == q) refl (place_in-at xs q)
   where
-    later : (i : ℕ) → x ≢ q → i < length (x ∷ xs) → get_or (x ∷ xs) i 0 ≡ q → StandsIn xs q
+    later : (i : ℕ) → x ≢ q → i < length (x ∷ xs) → get_or (x ∷ xs) i 0 ≡ q → IsNumberIn xs q
     later zero other within here = absurd (other here)
     later (suc i) other within here = (i, omega (arith, within), here)
 
-    by : (b : Bool) → (x == q) ≡ b → (StandsIn xs q → (place_in xs q < length xs) × (get_or xs (place_in xs q) 0 ≡ q)) → ((if b then 0 else suc (place_in xs q)) < length (x ∷ xs)) × (get_or (x ∷ xs) (if b then 0 else suc (place_in xs q)) 0 ≡ q)
+    by : (b : Bool) → (x == q) ≡ b → (IsNumberIn xs q → (place_in xs q < length xs) × (get_or xs (place_in xs q) 0 ≡ q)) → ((if b then 0 else suc (place_in xs q)) < length (x ∷ xs)) × (get_or (x ∷ xs) (if b then 0 else suc (place_in xs q)) 0 ≡ q)
     by true is rest = (omega arith, eqb-true x q is)
     by false is rest = let found = rest (later at.0 (λ same. true≢false (sym (eq-eqb x q same) ∙ is)) at.1 at.2) in (omega (arith, found.0), found.1)
 

@@ -71,16 +71,16 @@ module _ (d : Automaton) (canonical : IsCanonical d) where
 
   -- the most significant digit last: the initial state accepts, and from each state 0 alone is accepted where nothing is
   zero_pushed : ((q : ℕ) → q < states_of d → IgnoresZero d q) → (w : List ℕ) → accepts_of d (w ++ 0 ∷ []) ≡ accepts_of d w
-  zero_pushed tells w = accepts_from-append d 0 w (0 ∷ []) ∙ by (run_of d 0 w) refl ∙ sym (accepts_from-run d 0 w)
+  zero_pushed ignores w = accepts_from-append d 0 w (0 ∷ []) ∙ by (run_of d 0 w) refl ∙ sym (accepts_from-run d 0 w)
     where
       by : (o : Option ℕ) → run_of d 0 w ≡ o → option_map_or (λ p. accepts_from d p (0 ∷ [])) o false ≡ option_map_or (accepting_of d) o false
       by None leads = refl
-      by (Some p) leads = tells p (run_of-in_range d canonical.table w 0 p canonical.table.initial leads)
+      by (Some p) leads = ignores p (run_of-in_range d canonical.table w 0 p canonical.table.initial leads)
 
   pub keeps_last : accepting_of d 0 ≡ true → ((q : ℕ) → q < states_of d → IgnoresZero d q) → KeepsZeros (language_in Lsd d)
-  keeps_last accepts tells = record {
+  keeps_last accepts ignores = record {
     empty = accepts;
-    zeros = λ w. let same : language_in Lsd d (0 ∷ w) ≡ language_in Lsd d w = ap (accepts_of d) (reverse-cons 0 w) ∙ zero_pushed tells (reverse w) in ((λ t. sym same ∙ t), (λ t. same ∙ t));
+    zeros = λ w. let same : language_in Lsd d (0 ∷ w) ≡ language_in Lsd d w = ap (accepts_of d) (reverse-cons 0 w) ∙ zero_pushed ignores (reverse w) in ((λ t. sym same ∙ t), (λ t. same ∙ t));
   }
 
   pub kept_last : KeepsZeros (language_in Lsd d) → (q : ℕ) → q < states_of d → IgnoresZero d q

@@ -22,8 +22,8 @@ abbrev pub links : Automaton → ℕ → ℕ → ℕ → ℕ
 links d z p q = counted (p == z) (transitions_of d p) q
 
 -- the number is in the list
-abbrev pub StandsIn : List ℕ → ℕ → Type 0
-StandsIn xs k = (i : ℕ) × (i < length xs) × (slice_index_or xs i 0 ≡ k)
+abbrev pub IsNumberIn : List ℕ → ℕ → Type 0
+IsNumberIn xs k = (i : ℕ) × (i < length xs) × (slice_index_or xs i 0 ≡ k)
 
 abbrev pub is_in : List ℕ → ℕ → Bool
 is_in xs k = list_any (λ x. x == k) xs
@@ -51,7 +51,7 @@ pub record AreIncoming (d : Automaton) (z : ℕ) (pending : List ℕ) (n : ℕ) 
 pub record AreFree (pending order : List ℕ) (n : ℕ) : Type 0 where
   pub within : (i : ℕ) → i < length order → slice_index_or order i 0 < n
   pub apart : (i j : ℕ) → i < j → j < length order → slice_index_or order i 0 ≢ slice_index_or order j 0
-  pub placed : (q : ℕ) → q < n → slice_index_or pending q 0 ≡ 0 → StandsIn order q
+  pub placed : (q : ℕ) → q < n → slice_index_or pending q 0 ≡ 0 → IsNumberIn order q
   pub none : (i : ℕ) → i < length order → slice_index_or pending (slice_index_or order i 0) 0 ≡ 0
 
 -- the counts with one more for each transition that counts

@@ -19,24 +19,24 @@ pub record KnowsLastDigit (d : Automaton) : Type 0 where
 
 -- it accepts the words without 11
 sparse_accepted : (d : Automaton) (w : List ℕ) → KnowsLastDigit d → (accepts_from d 0 w ≡ is_sparse w) × (accepts_from d 1 w ≡ is_sparse (1 ∷ w))
-sparse_accepted d [] tells = (tells.accepting 0 (omega arith), tells.accepting 1 (omega arith))
-sparse_accepted d (a ∷ w) tells = by a (sparse_accepted d w tells)
+sparse_accepted d [] sparse_table = (sparse_table.accepting 0 (omega arith), sparse_table.accepting 1 (omega arith))
+sparse_accepted d (a ∷ w) sparse_table = by a (sparse_accepted d w sparse_table)
   where
     to : Option ℕ → Bool
     to o = option_map_or (λ p. accepts_from d p w) o false
 
     by : (b : ℕ) → (accepts_from d 0 w ≡ is_sparse w) × (accepts_from d 1 w ≡ is_sparse (1 ∷ w)) → (to (step_of d 0 b) ≡ is_sparse (b ∷ w)) × (to (step_of d 1 b) ≡ is_sparse (1 ∷ b ∷ w))
-    by zero rest = (ap to tells.zero_stays ∙ rest.0, ap to tells.zero_leads ∙ rest.0)
-    by (suc zero) rest = (ap to tells.one_leads ∙ rest.1, ap to tells.one_stops)
+    by zero rest = (ap to sparse_table.zero_stays ∙ rest.0, ap to sparse_table.zero_leads ∙ rest.0)
+    by (suc zero) rest = (ap to sparse_table.one_leads ∙ rest.1, ap to sparse_table.one_stops)
     by (suc (suc b)) rest = (
-      ap to (tells.others_stop 0 b (omega arith)),
-      ap to (tells.others_stop 1 b (omega arith)) ∙ sym (and_right (not (begins_with_1 (suc (suc b) ∷ w))) false refl),
+      ap to (sparse_table.others_stop 0 b (omega arith)),
+      ap to (sparse_table.others_stop 1 b (omega arith)) ∙ sym (and_right (not (begins_with_1 (suc (suc b) ∷ w))) false refl),
     )
 
 pub language_holds : (direction : Direction) (d : Automaton) → d.sizes ≡ 2 ∷ [] → KnowsLastDigit d → IsLanguageOf direction fibonacci d
-language_holds direction d sizes tells = record {
+language_holds direction d sizes sparse_table = record {
   sizes = sizes;
-  accepts = λ w. (sparse_accepted d w tells).0 ∙ sym (sparse_in_order direction w);
+  accepts = λ w. (sparse_accepted d w sparse_table).0 ∙ sym (sparse_in_order direction w);
 }
 
 -- two accepting states without transitions

@@ -138,6 +138,6 @@ module _ (rules : Rules) (k : ℕ) (has : HasFixedPoint rules k) where
       (ap (slice_get (power rules (0 + length w))) (let at : value k w ≡ 0 * k ^ length w + value k w = omega arith in at) ∙ reached_from w 0 0 (pos 0) over (zero_ruled rules k has) refl)
 
   -- the image of a letter of the fixed point is in it, k times as far
-  pub image_stands : (place digit : ℕ) (letter other : ℤ) → IsLetterAt rules place letter → digit < k → slice_get (image rules letter) digit ≡ Some other → IsLetterAt rules (place * k + digit) other
-  image_stands place digit letter other at small is =
+  pub image_letter_at : (place digit : ℕ) (letter other : ℤ) → IsLetterAt rules place letter → digit < k → slice_get (image rules letter) digit ≡ Some other → IsLetterAt rules (place * k + digit) other
+  image_letter_at place digit letter other at small is =
       letter_at rules has.begins (suc at.times) (place * k + digit) other (slice_get-applied rules k has.uniform (power rules at.times) place digit letter (power_ruled at.times) at.letter_is small ∙ is)

@@ -10,7 +10,7 @@ use Rattle.morph_words.specs.declared.morphism_kind.MorphismKind.{MorphismKind}
 use Rattle.morph_words.specs.Images.{image}
 use Rattle.fixed_points.specs.declared.promote_fault.PromoteFault.TheVariants.{Step}
 
--- a fixed point has a letter at each place
+-- a fixed point has a letter at each position
 abbrev pub FixedPointsHaveLetters : Type 0
 FixedPointsHaveLetters = (rules : Rules) (k place : ℕ) → HasFixedPoint rules k → (letter : ℤ) × IsLetterAt rules place letter
 
@@ -18,7 +18,7 @@ FixedPointsHaveLetters = (rules : Rules) (k place : ℕ) → HasFixedPoint rules
 abbrev pub FixedPointsHaveOneLetter : Type 0
 FixedPointsHaveOneLetter = (rules : Rules) (place : ℕ) (letter other : ℤ) → IsLetterAt rules place letter → IsLetterAt rules place other → letter ≡ other
 
--- and it is its own image: that of the letter at a place is from k times the place on
+-- and it is its own image: that of the letter at a position is from k times the position on
 abbrev pub FixedPointsAreFixed : Type 0
 FixedPointsAreFixed = (rules : Rules) (k place digit : ℕ) (letter other : ℤ) → HasFixedPoint rules k → IsLetterAt rules place letter → digit < k → slice_get (image rules letter) digit ≡ Some other → IsLetterAt rules (place * k + digit) other
 

@@ -6,7 +6,7 @@ use Rattle.morph_words.specs.Images.{image}
 use Rattle.morph_words.specs.Uniform.{HasRule}
 use Rattle.morph_words.specs.MorphismKinds.{HasFixedPoint}
 
--- the letter to which a digit leads: the one at its place of the image
+-- the letter to which a digit leads: the one at its position of the image
 abbrev pub letter_by : Rules → ℤ → ℕ → ℤ
 letter_by rules letter digit = slice_index_or (image rules letter) digit (pos 0)
 

@@ -14,14 +14,14 @@ use Rattle.morph_words.specs.MorphismKinds.{HasFixedPoint, IsRefusedAs}
 use Rattle.fixed_points.specs.declared.promote_fault.PromoteFault.{PromoteFault}
 use Rattle.fixed_points.specs.declared.promote_fault.PromoteFault.TheVariants.{Morphism, Step}
 
--- the word, in base k with the most significant digit first, has the letter of the fixed point at each place
+-- the word, in base k with the most significant digit first, has the letter of the fixed point at each position
 pub record IsFixedWord (rules : Rules) (k : ℕ) (word : WordValue) : Type 0 where
   pub word_is : IsWordValue word
   pub system : systems_of word.systems ≡ base k ∷ []
   pub direction : direction_of word.systems ≡ Msd
   pub letters : (place : ℕ) (letter : ℤ) → HasLetter word (place ∷ []) letter ↔ IsLetterAt rules place letter
 
--- the fixed point has the same letter at the places that the words represent in base k: so the width is the number of letters that occur
+-- the fixed point has the same letter at the positions that the words represent in base k: so the width is the number of letters that occur
 abbrev pub SamePlaceLetter : Rules → ℕ → List ℕ → List ℕ → Type 0
 SamePlaceLetter rules k w v = (letter : ℤ) → IsLetterAt rules (value k w) letter ↔ IsLetterAt rules (value k v) letter
 

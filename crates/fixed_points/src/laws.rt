@@ -4,7 +4,7 @@ ghost use Rattle.fixed_points.specs.Laws.{FixedPointsAreFixed, FixedPointsHaveLe
 
 use base_k::laws::rank_is_positional;
 
-/// A fixed point has a letter at each place, and one alone.
+/// A fixed point has a letter at each position, and one alone.
 pub fn fixed_points_have_letters()
     ensures some { FixedPointsHaveLetters }
     ensures one { FixedPointsHaveOneLetter }

@@ -12,7 +12,7 @@ use morph_words::Morphism;
 use std::alloc::Global;
 
 /// The letters of a morphism all of whose images have the length of the base. A key is the bits of a letter,
-/// and a digit leads to the letter at its place of the image.
+/// and a digit leads to the letter at its position of the image.
 #[derive(Clone, Copy)]
 pub(crate) struct LetterGraph<'a> {
     pub(crate) morphism: &'a Morphism,
@@ -65,7 +65,7 @@ pub(crate) fn letter_of(key: &[u32]) -> i32
     key[0].cast_signed()
 }
 
-// A transition by the place of each letter of a word, to that letter.
+// A transition by the position of each letter of a word, to that letter.
 fn push_letters(word: &[i32], out: &mut KeyTransitions) -> Result<(), OutOfMemory>
     requires few { length word.now < 2 ^ 32 }
     requires empty { out.old ≡ [] }

@@ -1,8 +1,8 @@
 //! Fixed points of morphisms: where all images have one length, the word that begins with the letter 0 and
 //! is its own image is automatic in the base of that length.
 //!
-//! A digit leads from a letter to the letter at its place of the image, so the letter at a place is where the
-//! digits of the place lead from 0 (Cobham; Allouche and Shallit, "Automatic Sequences").
+//! A digit leads from a letter to the letter at its position of the image, so the letter at a position is where the
+//! digits of the position lead from 0 (Cobham; Allouche and Shallit, "Automatic Sequences").
 #![tactic(auto)]
 
 /// Why a morphism gives no word.

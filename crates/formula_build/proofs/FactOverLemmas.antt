@@ -32,7 +32,7 @@ use Rattle.formula_build.proofs.AllLemmas.{all_first, all_second}
 use Rattle.formula_build.proofs.HasLemmas.{has_cases, has_either}
 use Rattle.formula_build.proofs.PartLemmas.{all_closed}
 use Rattle.formula_build.proofs.OverLemmas.{each_among, with_own, over_depends, Only, only_projected, OnlyOf, Faces}
-use Rattle.formula_build.proofs.TermOverLemmas.{IsOwn, IsStood, track_on, value_over, Occurs, term_stands}
+use Rattle.formula_build.proofs.TermOverLemmas.{IsOwn, IsPlacedOver, track_on, value_over, Occurs, term_is_placed}
 use Rattle.formula_build.proofs.PlaceOverLemmas.{on_by, OccursAnywhere, count_same, are_only_more, OrPlaced, only_all_closed, over_all_closed, term_only, arguments_only, same_systems, parted, parted_below, parted_above, systems_exist, FaceSharedDirection, constant_on, AreArguments, arguments_over}
 
 -- where no option is there, neither of both is
@@ -201,16 +201,16 @@ module _ (h : Headers) (direction : Name → Direction) (directions : AreDirecti
       same (own n) is = refl
       same (fresh i) is = absurd is
 
-  named_over : (s n : Name) (t : Track) (r : Option Plan) (k next : ℕ) → Occurs Q s b n → IsStood ph direction (on_by scope (λ i. s)) (Occurs Q s b) t r k next → IsOver ph direction (on_by scope (λ i. s)) (named_by s n t r)
-  named_over s n (own m) None k next of_n stood = (of_scope s m stood.0, of_scope s n of_n)
-  named_over s n (fresh j) (Some r) k next of_n stood =
+  named_over : (s n : Name) (t : Track) (r : Option Plan) (k next : ℕ) → Occurs Q s b n → IsPlacedOver ph direction (on_by scope (λ i. s)) (Occurs Q s b) t r k next → IsOver ph direction (on_by scope (λ i. s)) (named_by s n t r)
+  named_over s n (own m) None k next of_n placed_over = (of_scope s m placed_over.0, of_scope s n of_n)
+  named_over s n (fresh j) (Some r) k next of_n placed_over =
       let on = on_by scope (λ i. s) in
       let same : on (fresh j) ≡ on (own n) = sym (of_scope s n of_n) in (
-        stood.there,
-        over_depends ph direction r on (with_system (fresh j) (on (own n)) on) (λ u is. with_own (fresh j) on u ∙ ap (λ (y : Name). with_system (fresh j) y on u) same) stood.over,
+        placed_over.there,
+        over_depends ph direction r on (with_system (fresh j) (on (own n)) on) (λ u is. with_own (fresh j) on u ∙ ap (λ (y : Name). with_system (fresh j) y on u) same) placed_over.over,
       )
-  named_over s n (own m) (Some r) k next of_n stood = absurd stood
-  named_over s n (fresh j) None k next of_n stood = absurd stood
+  named_over s n (own m) (Some r) k next of_n placed_over = absurd placed_over
+  named_over s n (fresh j) None k next of_n placed_over = absurd placed_over
 
   compare_over : (form : Form) (s : Name) (t : Term) (r : Relation) (u : Term) (k : ℕ) → IsFormIn (Occurs Q s b) form
       → AllByRecursion Q (term_occurrences s b t) → AllByRecursion Q (term_occurrences s b u) → IsOver ph direction (on_by scope (λ i. s)) (compare_by form s t r u k).last
@@ -221,8 +221,8 @@ module _ (h : Headers) (direction : Name → Direction) (directions : AreDirecti
       let q = term_plan s u p.next in
       let x = p.placed.track in
       let y = q.placed.track in
-      let one = term_stands ph direction on s b Q are_on t first k in
-      let two = term_stands ph direction on s b Q are_on u second p.next in
+      let one = term_is_placed ph direction on s b Q are_on t first k in
+      let two = term_is_placed ph direction on s b Q are_on u second p.next in
       let at_x = track_on ph direction on s (Occurs Q s b) are_on x p.placed.relation k p.next one in
       let at_y = track_on ph direction on s (Occurs Q s b) are_on y q.placed.relation p.next q.next two in
       (over_all_closed ph direction on (direction s) (places (places no_places p.placed) q.placed) (compared s r x y) (
@@ -232,10 +232,10 @@ module _ (h : Headers) (direction : Name → Direction) (directions : AreDirecti
       (at_x, at_y) (each_among (Faces direction on (direction s)) (x ∷ y ∷ []) (ap direction at_x, (ap direction at_y, tt)))).0
   compare_over (variable_left n) s t r u k of_form first second =
       let p = term_plan s u k in
-      named_over s n p.placed.track p.placed.relation k p.next of_form (term_stands ph direction (on_by scope (λ i. s)) s b Q (constant_on ph direction scope b Q of_scope s) u second k)
+      named_over s n p.placed.track p.placed.relation k p.next of_form (term_is_placed ph direction (on_by scope (λ i. s)) s b Q (constant_on ph direction scope b Q of_scope s) u second k)
   compare_over (variable_right n) s t r u k of_form first second =
       let p = term_plan s t k in
-      named_over s n p.placed.track p.placed.relation k p.next of_form (term_stands ph direction (on_by scope (λ i. s)) s b Q (constant_on ph direction scope b Q of_scope s) t first k)
+      named_over s n p.placed.track p.placed.relation k p.next of_form (term_is_placed ph direction (on_by scope (λ i. s)) s b Q (constant_on ph direction scope b Q of_scope s) t first k)
 
   -- a base over the tracks of arguments, closed
   arguments_closed : (ss : List Name) (ts : Terms) (k : ℕ) (base : Plan) → tracks base ≡ tracks_of (argument_plans ss ts k).placed → ShareDirection direction ss → length ss ≡ count ts

@@ -17,7 +17,7 @@ use Rattle.formula_build.specs.TrackNames.{track_name, numbers_by, AreNamed}
 use Rattle.formula_build.specs.Libraries.{LibraryValue, IsLibrary, meanings_of}
 use Rattle.formula_build.specs.Makings.{Makes, IsReady}
 use Rattle.formula_build.specs.Laws.{FormulasHold}
-use Rattle.formula_build.proofs.TrackNameLemmas.{named_track, names_tell}
+use Rattle.formula_build.proofs.TrackNameLemmas.{named_track, names_determine}
 use Rattle.formula_build.proofs.HoldLemmas.{plan_says}
 
 -- the first of some tracks that has a name
@@ -26,15 +26,15 @@ track_under [] name = own name
 track_under (t ∷ ts) name = if bytes_eq (track_name t) name then t else track_under ts name
 
 under_is : (ts : List Track) (u : Track) → has_track ts u ≡ true → ((t : Track) → has_track ts t ≡ true → track_name t ≡ track_name u → t ≡ u) → track_under ts (track_name u) ≡ u
-under_is [] u there tell = absurd (false≢true there)
-under_is (t ∷ ts) u there tell = by (bytes_eq (track_name t) (track_name u)) refl (λ found. under_is ts u found (λ v is same. tell v (later_is t ts v is) same))
+under_is [] u there same_named = absurd (false≢true there)
+under_is (t ∷ ts) u there same_named = by (bytes_eq (track_name t) (track_name u)) refl (λ found. under_is ts u found (λ v is same. same_named v (later_is t ts v is) same))
   where
     rest : (b : Bool) → same_track t u ≡ b → bytes_eq (track_name t) (track_name u) ≡ false → has_track ts u ≡ true
     rest true same apart = absurd (false≢true (sym apart ∙ (bytes_eq-Decides (track_name t) (track_name u)).1 (ap track_name (same_is t u same))))
     rest false other apart = sym (ap (λ b. b || has_track ts u) other) ∙ there
 
     by : (b : Bool) → bytes_eq (track_name t) (track_name u) ≡ b → (has_track ts u ≡ true → track_under ts (track_name u) ≡ u) → (if b then t else track_under ts (track_name u)) ≡ u
-    by true is inner = tell t (first_is t ts) ((bytes_eq-Decides (track_name t) (track_name u)).0 is)
+    by true is inner = same_named t (first_is t ts) ((bytes_eq-Decides (track_name t) (track_name u)).0 is)
     by false is inner = inner (rest (same_track t u) refl is)
 
 module _ (l : LibraryValue) (library : IsLibrary l) where
@@ -54,7 +54,7 @@ module _ (l : LibraryValue) (library : IsLibrary l) where
       f name = a (track_under (tracks p) name)
 
       agree : Agree (tracks p) (numbers_by f) a
-      agree u there = ap a (under_is (tracks p) u there (λ t found same. names_tell t u (named_track p t named found) (named_track p u named there) same))
+      agree u there = ap a (under_is (tracks p) u there (λ t found same. names_determine t u (named_track p t named found) (named_track p u named there) same))
 
   pub all_decided : (p : Plan) (c : RelationValue) → AreNamed p → IsReady l p → Makes l p c → AreDecided m p
   all_decided (compared y r s t) c named ready made = decided (compared y r s t) c named ready made

@@ -24,17 +24,17 @@ has_contains (u ∷ ts) t is = elim (has_cases u ts t is) [
 ]
 
 -- a track that is there, of this name
-abbrev pub Stands : List Track → List ℕ → Type 0
-Stands ts name = (t : Track) × (has_track ts t ≡ true) × (track_name t ≡ name)
+abbrev pub HasTrackNamed : List Track → List ℕ → Type 0
+HasTrackNamed ts name = (t : Track) × (has_track ts t ≡ true) × (track_name t ≡ name)
 
-pub stands_later : (u : Track) (ts : List Track) (name : List ℕ) → Stands ts name → Stands (u ∷ ts) name
-stands_later u ts name (t, is, same) = (t, later_is u ts t is, same)
+pub track_named_later : (u : Track) (ts : List Track) (name : List ℕ) → HasTrackNamed ts name → HasTrackNamed (u ∷ ts) name
+track_named_later u ts name (t, is, same) = (t, later_is u ts t is, same)
 
-pub contains_has : (ts : List Track) (name : List ℕ) → Contains (map track_name ts) name → Stands ts name
+pub contains_has : (ts : List Track) (name : List ℕ) → Contains (map track_name ts) name → HasTrackNamed ts name
 contains_has [] name found = absurd (Contains-none name found)
 contains_has (u ∷ ts) name found = elim (Contains-cases (track_name u) (map track_name ts) name found) [
   | inl same ↦ (u, first_is u ts, same)
-  | inr later ↦ stands_later u ts name (contains_has ts name later)
+  | inr later ↦ track_named_later u ts name (contains_has ts name later)
 ]
 
 -- the tracks of two lists

@@ -7,7 +7,7 @@ pub mod TrackNameLemmas
 pub mod HoldLemmas
 pub mod FormulaLemmas
 pub mod UnderTracks
-pub mod StandLemmas
+pub mod SystemsAtTracks
 pub mod WordTracks
 pub mod TrackSystemLemmas
 pub mod PartReady

@@ -17,7 +17,7 @@ use Rattle.number_relations.specs.Complements.{IsRelationComplement}
 use Rattle.number_relations.specs.Projections.{IsRelationProjection}
 use Rattle.number_relations.proofs.ConstantRelations.{constant_is, constant_holds}
 use Rattle.number_relations.proofs.LawLemmas.{one_placed, one_comparison, one_sum, one_number}
-use Rattle.number_relations.proofs.RelationLemmas.{tuples_tell}
+use Rattle.number_relations.proofs.RelationLemmas.{tuples_determine}
 use Rattle.number_relations.proofs.StepOutcomes.{same_relation}
 use Rattle.word_output.specs.LetterSets.{IsLetterSet}
 use Rattle.word_output.specs.Words.{WordValue, IsWordValue}
@@ -66,7 +66,7 @@ one_system l name s t first second = same_Some t s (sym second ∙ first)
 -- two relations that hold of one number alone are the same
 one_constant : (system : SystemValue) (n : ℕ) (name : List ℕ) (c d : RelationValue) → IsSealed system → IsRelationConstant system n name c → IsRelationConstant system n name d → c ≡ d
 one_constant system n name c d sealed first second =
-    tuples_tell c d (constant_is system n name c sealed first) (constant_is system n name d sealed second) (first.names ∙ sym second.names) (first.systems ∙ sym second.systems) same
+    tuples_determine c d (constant_is system n name c sealed first) (constant_is system n name d sealed second) (first.names ∙ sym second.names) (first.systems ∙ sym second.systems) same
   where
     same : (ns : List ℕ) → length ns ≡ length c.names → RelationHolds c ns ↔ RelationHolds d ns
     same [] count = absurd (omega (arith, count, ap length first.names))

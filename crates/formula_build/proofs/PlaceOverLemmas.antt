@@ -21,7 +21,7 @@ use Rattle.formula_build.proofs.AllLemmas.{all_first, all_second}
 use Rattle.formula_build.proofs.HasLemmas.{has_cases, has_either}
 use Rattle.formula_build.proofs.GrowthLemmas.{term_up, arguments_up}
 use Rattle.formula_build.proofs.OverLemmas.{over_depends, Only, OrIs, only_more, OnlyOf, only_closed, Faces, OverOf, over_closed, faces_closed}
-use Rattle.formula_build.proofs.TermOverLemmas.{IsOwn, AreOn, IsStood, value_only, Occurs, term_stands}
+use Rattle.formula_build.proofs.TermOverLemmas.{IsOwn, AreOn, IsPlacedOver, value_only, Occurs, term_is_placed}
 
 -- variables over these systems, and fresh tracks over those
 abbrev pub on_by : (Name → Name) → (ℕ → Name) → TrackSystems
@@ -108,7 +108,7 @@ pub term_only : (Q : Occurrence → Type 0) (s : Name) (b : Binders) (t : Term) 
     → OnlyOf (IsOwn (OccursAnywhere Q b)) (term_plan s t k).placed.track (term_plan s t k).placed.relation
 term_only Q s b t k all =
     let p = term_plan s t k in
-    value_only h direction (λ u. s) s (Occurs Q s b) here (IsOwn (OccursAnywhere Q b)) p.placed.track p.placed.relation k p.next anywhere (term_stands h direction (λ u. s) s b Q here t all k)
+    value_only h direction (λ u. s) s (Occurs Q s b) here (IsOwn (OccursAnywhere Q b)) p.placed.track p.placed.relation k p.next anywhere (term_is_placed h direction (λ u. s) s b Q here t all k)
   where
     h : Headers
     h = record { of_automaton = λ n. []; of_word = λ n. []; of_variable = λ f n. [] }
@@ -187,11 +187,11 @@ module _ (h : Headers) (direction : Name → Direction) (scope : Name → Name) 
 
   -- a value over one system, among fresh tracks over others
   pub value_among : (g : ℕ → Name) (s : Name) (d : Direction) (t : Track) (r : Option Plan) (k next : ℕ) → direction s ≡ d → ((i : ℕ) → k ≤ i → i < next → g i ≡ s)
-      → IsStood h direction (on_by scope (λ i. s)) (Occurs Q s b) t r k next → OverOf h direction (on_by scope g) d t r × (on_by scope g t ≡ s)
-  value_among g s d (own n) None k next faces of_fresh stood = (tt, of_scope s n stood.0)
-  value_among g s d (fresh j) (Some r) k next faces of_fresh stood =
-      let here : g j ≡ s = of_fresh j stood.low stood.high in (
-        (over_depends h direction r (on_by scope (λ i. s)) (on_by scope g) (λ u is. same here u (stood.only u is)) stood.over, stood.there, λ u is. ap direction (at here u (stood.only u is)) ∙ faces),
+      → IsPlacedOver h direction (on_by scope (λ i. s)) (Occurs Q s b) t r k next → OverOf h direction (on_by scope g) d t r × (on_by scope g t ≡ s)
+  value_among g s d (own n) None k next faces of_fresh placed_over = (tt, of_scope s n placed_over.0)
+  value_among g s d (fresh j) (Some r) k next faces of_fresh placed_over =
+      let here : g j ≡ s = of_fresh j placed_over.low placed_over.high in (
+        (over_depends h direction r (on_by scope (λ i. s)) (on_by scope g) (λ u is. same here u (placed_over.only u is)) placed_over.over, placed_over.there, λ u is. ap direction (at here u (placed_over.only u is)) ∙ faces),
         here,
       )
     where
@@ -205,8 +205,8 @@ module _ (h : Headers) (direction : Name → Direction) (scope : Name → Name) 
       at here (own n) (inr e) = sym (ap (on_by scope g) e) ∙ here
       at here (fresh i) (inl is) = absurd is
       at here (fresh i) (inr e) = sym (ap (on_by scope g) e) ∙ here
-  value_among g s d (own n) (Some r) k next faces of_fresh stood = absurd stood
-  value_among g s d (fresh j) None k next faces of_fresh stood = absurd stood
+  value_among g s d (own n) (Some r) k next faces of_fresh placed_over = absurd placed_over
+  value_among g s d (fresh j) None k next faces of_fresh placed_over = absurd placed_over
 
   -- each argument's plan, and its track over the system of its place
   pub record AreArguments (g : ℕ → Name) (d : Direction) (ss : List Name) (ts : Terms) (k : ℕ) : Type 0 where
@@ -225,8 +225,8 @@ module _ (h : Headers) (direction : Name → Direction) (scope : Name → Name) 
       let p = term_plan s t next in
       let on = on_by scope g in
       let former = tracks_of (argument_plans ss ts k).placed in
-      let stood = term_stands h direction (on_by scope (λ i. s)) s b Q (constant_on s) t (last_occurs Q ss b ts t inside all) next in
-      let here = value_among g s d p.placed.track p.placed.relation next p.next (facing (count ts) inside) are.1 stood in
+      let placed_over = term_is_placed h direction (on_by scope (λ i. s)) s b Q (constant_on s) t (last_occurs Q ss b ts t inside all) next in
+      let here = value_among g s d p.placed.track p.placed.relation next p.next (facing (count ts) inside) are.1 placed_over in
       record {
         over = (prefix.over, here.0);
         faces = faces_after (Faces direction on d) former p.placed.track prefix.faces (ap direction here.1 ∙ facing (count ts) inside);

@@ -39,11 +39,11 @@ pub record IsRelated (h : Headers) (direction : Name → Direction) (on : TrackS
   pub there : has_track (tracks r) (fresh j) ≡ true
   pub only : Only (OrIs (IsOwn O) (fresh j)) r
 
-abbrev pub IsStood : Headers → (Name → Direction) → TrackSystems → (Name → Type 0) → Track → Option Plan → ℕ → ℕ → Type 0
-IsStood h direction on O (own n) None k next = O n × (k ≤ next)
-IsStood h direction on O (fresh j) (Some r) k next = IsRelated h direction on O j r k next
-IsStood h direction on O (own n) (Some r) k next = ⊥
-IsStood h direction on O (fresh j) None k next = ⊥
+abbrev pub IsPlacedOver : Headers → (Name → Direction) → TrackSystems → (Name → Type 0) → Track → Option Plan → ℕ → ℕ → Type 0
+IsPlacedOver h direction on O (own n) None k next = O n × (k ≤ next)
+IsPlacedOver h direction on O (fresh j) (Some r) k next = IsRelated h direction on O j r k next
+IsPlacedOver h direction on O (own n) (Some r) k next = ⊥
+IsPlacedOver h direction on O (fresh j) None k next = ⊥
 
 -- the multiple's tracks
 multiple_only : (E : Track → Type 0) (most : ℕ) (s : Name) (c : ℕ) (x y : Track) (k : ℕ) → E x → E y → Only E (multiple most s c x y k).last
@@ -187,8 +187,8 @@ scaling_has s (by_numeral c) x y k low = multiple_has c s c x y k low
 scaling_has s (by_divisor c) x y k low = quotient_has s c x y k low
 
 module _ (h : Headers) (direction : Name → Direction) (on : TrackSystems) (s : Name) (O : Name → Type 0) (are_on : AreOn on s O) where
-  abbrev Stands : TermPlan → ℕ → Type 0
-  Stands p k = IsStood h direction on O p.placed.track p.placed.relation k p.next
+  abbrev IsTermPlaced : TermPlan → ℕ → Type 0
+  IsTermPlaced p k = IsPlacedOver h direction on O p.placed.track p.placed.relation k p.next
 
   own_on : (t : Track) → IsOwn O t → on t ≡ s
   own_on (own n) is = are_on.of_own n is
@@ -198,40 +198,40 @@ module _ (h : Headers) (direction : Name → Direction) (on : TrackSystems) (s :
   value_on j t (inl is) = own_on t is
   value_on j t (inr same) = ap on (sym same) ∙ are_on.of_fresh j
 
-  pub track_on : (t : Track) (r : Option Plan) (k next : ℕ) → IsStood h direction on O t r k next → on t ≡ s
-  track_on (own n) None k next stood = are_on.of_own n stood.0
-  track_on (fresh j) (Some r) k next stood = are_on.of_fresh j
-  track_on (own n) (Some r) k next stood = absurd stood
-  track_on (fresh j) None k next stood = absurd stood
+  pub track_on : (t : Track) (r : Option Plan) (k next : ℕ) → IsPlacedOver h direction on O t r k next → on t ≡ s
+  track_on (own n) None k next placed_over = are_on.of_own n placed_over.0
+  track_on (fresh j) (Some r) k next placed_over = are_on.of_fresh j
+  track_on (own n) (Some r) k next placed_over = absurd placed_over
+  track_on (fresh j) None k next placed_over = absurd placed_over
 
-  stood_up : (t : Track) (r : Option Plan) (k next : ℕ) → IsStood h direction on O t r k next → k ≤ next
-  stood_up (own n) None k next stood = stood.1
-  stood_up (fresh j) (Some r) k next stood = omega (arith, stood.low, stood.high)
-  stood_up (own n) (Some r) k next stood = absurd stood
-  stood_up (fresh j) None k next stood = absurd stood
+  placed_over_up : (t : Track) (r : Option Plan) (k next : ℕ) → IsPlacedOver h direction on O t r k next → k ≤ next
+  placed_over_up (own n) None k next placed_over = placed_over.1
+  placed_over_up (fresh j) (Some r) k next placed_over = omega (arith, placed_over.low, placed_over.high)
+  placed_over_up (own n) (Some r) k next placed_over = absurd placed_over
+  placed_over_up (fresh j) None k next placed_over = absurd placed_over
 
-  track_apart : (t : Track) (r : Option Plan) (k next i : ℕ) → IsStood h direction on O t r k next → next ≤ i → same_track t (fresh i) ≡ false
-  track_apart (own n) None k next i stood past = refl
-  track_apart (fresh j) (Some r) k next i stood past = fresh_apart j i (λ same. let e : j ≡ i = same in omega (arith, stood.high, past, e))
-  track_apart (own n) (Some r) k next i stood past = absurd stood
-  track_apart (fresh j) None k next i stood past = absurd stood
+  track_apart : (t : Track) (r : Option Plan) (k next i : ℕ) → IsPlacedOver h direction on O t r k next → next ≤ i → same_track t (fresh i) ≡ false
+  track_apart (own n) None k next i placed_over past = refl
+  track_apart (fresh j) (Some r) k next i placed_over past = fresh_apart j i (λ same. let e : j ≡ i = same in omega (arith, placed_over.high, past, e))
+  track_apart (own n) (Some r) k next i placed_over past = absurd placed_over
+  track_apart (fresh j) None k next i placed_over past = absurd placed_over
 
   -- where such variables are E, all tracks of a value are, but a fresh one
-  pub value_only : (E : Track → Type 0) (t : Track) (r : Option Plan) (k next : ℕ) → ((u : Track) → IsOwn O u → E u) → IsStood h direction on O t r k next → OnlyOf E t r
-  value_only E (own n) None k next more stood = more (own n) stood.0
-  value_only E (fresh j) (Some r) k next more stood = only_more (OrIs (IsOwn O) (fresh j)) (OrIs E (fresh j)) r each stood.only
+  pub value_only : (E : Track → Type 0) (t : Track) (r : Option Plan) (k next : ℕ) → ((u : Track) → IsOwn O u → E u) → IsPlacedOver h direction on O t r k next → OnlyOf E t r
+  value_only E (own n) None k next more placed_over = more (own n) placed_over.0
+  value_only E (fresh j) (Some r) k next more placed_over = only_more (OrIs (IsOwn O) (fresh j)) (OrIs E (fresh j)) r each placed_over.only
     where
       each : (u : Track) → OrIs (IsOwn O) (fresh j) u → OrIs E (fresh j) u
       each u (inl is) = inl (more u is)
       each u (inr same) = inr same
-  value_only E (own n) (Some r) k next more stood = absurd stood
-  value_only E (fresh j) None k next more stood = absurd stood
+  value_only E (own n) (Some r) k next more placed_over = absurd placed_over
+  value_only E (fresh j) None k next more placed_over = absurd placed_over
 
-  pub value_over : (t : Track) (r : Option Plan) (k next : ℕ) → IsStood h direction on O t r k next → OverOf h direction on (direction s) t r
-  value_over (own n) None k next stood = tt
-  value_over (fresh j) (Some r) k next stood = (stood.over, stood.there, λ u is. ap direction (value_on j u (stood.only u is)))
-  value_over (own n) (Some r) k next stood = absurd stood
-  value_over (fresh j) None k next stood = absurd stood
+  pub value_over : (t : Track) (r : Option Plan) (k next : ℕ) → IsPlacedOver h direction on O t r k next → OverOf h direction on (direction s) t r
+  value_over (own n) None k next placed_over = tt
+  value_over (fresh j) (Some r) k next placed_over = (placed_over.over, placed_over.there, λ u is. ap direction (value_on j u (placed_over.only u is)))
+  value_over (own n) (Some r) k next placed_over = absurd placed_over
+  value_over (fresh j) None k next placed_over = absurd placed_over
 
   linked_over : (m : Made) (k : ℕ) (base : Plan) → IsOver h direction on m.last → Only (Faces direction on (direction s)) m.last → IsOver h direction on base → Only (Faces direction on (direction s)) base
       → has_track (tracks base) (fresh k) ≡ true → IsOver h direction on (linked m (fresh k) base).last
@@ -314,33 +314,33 @@ module _ (h : Headers) (direction : Name → Direction) (on : TrackSystems) (s :
   scaling_over (by_numeral c) x y k first second = multiple_over c c x y k first second
   scaling_over (by_divisor c) x y k first second = quotient_over c x y k first second
 
-  scaled_stands : (p : TermPlan) (f : Scaling) (k : ℕ) → Stands p k → Stands (scaled s p f) k
-  scaled_stands p f k stood =
+  scaled_is_placed : (p : TermPlan) (f : Scaling) (k : ℕ) → IsTermPlaced p k → IsTermPlaced (scaled s p f) k
+  scaled_is_placed p f k placed_over =
       let up = scaled_up s p f in
-      let below = stood_up p.placed.track p.placed.relation k p.next stood in
+      let below = placed_over_up p.placed.track p.placed.relation k p.next placed_over in
       let x = p.placed.track in
       let y = fresh p.next in
-      let at_x = track_on x p.placed.relation k p.next stood in
+      let at_x = track_on x p.placed.relation k p.next placed_over in
       let at_y = are_on.of_fresh p.next in
       let base = (scaling_made s f x y (p.next + 1)).last in
       let E = OrIs (IsOwn O) y in
       record {
         low = below;
         high = omega (arith, up);
-        over = over_closed h direction on (direction s) x p.placed.relation base (value_over x p.placed.relation k p.next stood)
+        over = over_closed h direction on (direction s) x p.placed.relation base (value_over x p.placed.relation k p.next placed_over)
             (scaling_over f x y (p.next + 1) at_x at_y)
             (scaling_only (Faces direction on (direction s)) s f x y (p.next + 1) (ap direction at_x) (ap direction at_y));
-        there = has_closed x p.placed.relation base y (track_apart x p.placed.relation k p.next p.next stood (omega arith)) (scaling_has s f x y (p.next + 1) (omega arith));
-        only = only_closed E x p.placed.relation base (value_only E x p.placed.relation k p.next (λ u is. inl is) stood)
+        there = has_closed x p.placed.relation base y (track_apart x p.placed.relation k p.next p.next placed_over (omega arith)) (scaling_has s f x y (p.next + 1) (omega arith));
+        only = only_closed E x p.placed.relation base (value_only E x p.placed.relation k p.next (λ u is. inl is) placed_over)
             (scaling_only (OrIs E x) s f x y (p.next + 1) (inr refl) (inl (inr refl)));
       }
 
-  all_stand : (p : TermPlan) (fs : List Scaling) (k : ℕ) → Stands p k → Stands (scaled_all s p fs) k
-  all_stand p [] k stood = stood
-  all_stand p (f ∷ fs) k stood = all_stand (scaled s p f) fs k (scaled_stands p f k stood)
+  all_are_placed : (p : TermPlan) (fs : List Scaling) (k : ℕ) → IsTermPlaced p k → IsTermPlaced (scaled_all s p fs) k
+  all_are_placed p [] k placed_over = placed_over
+  all_are_placed p (f ∷ fs) k placed_over = all_are_placed (scaled s p f) fs k (scaled_is_placed p f k placed_over)
 
-  numeral_stands : (c k : ℕ) → Stands (numeral_plan s c k) k
-  numeral_stands c k = record {
+  numeral_is_placed : (c k : ℕ) → IsTermPlaced (numeral_plan s c k) k
+  numeral_is_placed c k = record {
     low = omega arith;
     high = omega arith;
     over = are_on.of_fresh k;
@@ -360,10 +360,10 @@ module _ (h : Headers) (direction : Name → Direction) (on : TrackSystems) (s :
   sum_has plus x y z = third_is x y z
   sum_has minus x y z = later_is y (z ∷ x ∷ []) z (first_is z (x ∷ []))
 
-  addend_stands : (sign : Sign) (p q : TermPlan) (k : ℕ) → Stands p k → Stands q p.next → Stands (with_addend s sign p q) k
-  addend_stands sign p q k first second =
-      let low = stood_up p.placed.track p.placed.relation k p.next first in
-      let high = stood_up q.placed.track q.placed.relation p.next q.next second in
+  addend_is_placed : (sign : Sign) (p q : TermPlan) (k : ℕ) → IsTermPlaced p k → IsTermPlaced q p.next → IsTermPlaced (with_addend s sign p q) k
+  addend_is_placed sign p q k first second =
+      let low = placed_over_up p.placed.track p.placed.relation k p.next first in
+      let high = placed_over_up q.placed.track q.placed.relation p.next q.next second in
       let x = p.placed.track in
       let y = q.placed.track in
       let z = fresh q.next in
@@ -389,15 +389,15 @@ module _ (h : Headers) (direction : Name → Direction) (on : TrackSystems) (s :
             (sum_only (OrIs (OrIs E y) x) sign x y z (inr refl) (inl (inr refl)) (inl (inl (inr refl)))));
       }
 
-  abbrev OtherStands : Option (ℕ → TermPlan) → Type 0
-  OtherStands None = ⊤
-  OtherStands (Some plan) = (k : ℕ) → Stands (plan k) k
+  abbrev OtherIsPlaced : Option (ℕ → TermPlan) → Type 0
+  OtherIsPlaced None = ⊤
+  OtherIsPlaced (Some plan) = (k : ℕ) → IsTermPlaced (plan k) k
 
-  begun_stands : (other : Option (ℕ → TermPlan)) (fs : List Scaling) (k : ℕ) → OtherStands other → Stands (begun s other fs k) k
-  begun_stands (Some plan) fs k stood = all_stand (plan k) fs k (stood k)
-  begun_stands None [] k stood = numeral_stands 1 k
-  begun_stands None (by_numeral c ∷ fs) k stood = all_stand (numeral_plan s c k) fs k (numeral_stands c k)
-  begun_stands None (by_divisor c ∷ fs) k stood = all_stand (numeral_plan s 1 k) (by_divisor c ∷ fs) k (numeral_stands 1 k)
+  begun_is_placed : (other : Option (ℕ → TermPlan)) (fs : List Scaling) (k : ℕ) → OtherIsPlaced other → IsTermPlaced (begun s other fs k) k
+  begun_is_placed (Some plan) fs k placed_over = all_are_placed (plan k) fs k (placed_over k)
+  begun_is_placed None [] k placed_over = numeral_is_placed 1 k
+  begun_is_placed None (by_numeral c ∷ fs) k placed_over = all_are_placed (numeral_plan s c k) fs k (numeral_is_placed c k)
+  begun_is_placed None (by_divisor c ∷ fs) k placed_over = all_are_placed (numeral_plan s 1 k) (by_divisor c ∷ fs) k (numeral_is_placed 1 k)
 
 -- the variables of a term over a system whose occurrences are Q
 abbrev pub Occurs : (Occurrence → Type 0) → Name → Binders → Name → Type 0
@@ -408,30 +408,30 @@ module _ (h : Headers) (direction : Name → Direction) (on : TrackSystems) (s :
   O = Occurs Q s b
 
   mutual
-    pub term_stands : (t : Term) → AllByRecursion Q (term_occurrences s b t) → (k : ℕ)
-        → IsStood h direction on O (term_plan s t k).placed.track (term_plan s t k).placed.relation k (term_plan s t k).next
-    term_stands (variable n) all k = (all.0, omega arith)
-    term_stands (numeral c) all k = numeral_stands h direction on s O are_on c k
-    term_stands (product fs) all k = begun_stands h direction on s O are_on (factor_plans s fs).other (factor_plans s fs).scalings k (factors_stand fs all)
-    term_stands (sum ss t) all k =
+    pub term_is_placed : (t : Term) → AllByRecursion Q (term_occurrences s b t) → (k : ℕ)
+        → IsPlacedOver h direction on O (term_plan s t k).placed.track (term_plan s t k).placed.relation k (term_plan s t k).next
+    term_is_placed (variable n) all k = (all.0, omega arith)
+    term_is_placed (numeral c) all k = numeral_is_placed h direction on s O are_on c k
+    term_is_placed (product fs) all k = begun_is_placed h direction on s O are_on (factor_plans s fs).other (factor_plans s fs).scalings k (factors_are_placed fs all)
+    term_is_placed (sum ss t) all k =
         let first = all_first Q (addend_occurrences s b ss) (term_occurrences s b t) all in
         let second = all_second Q (addend_occurrences s b ss) (term_occurrences s b t) all in
-        sum_stands ss first (term_plan s t) (term_stands t second) k
+        sum_is_placed ss first (term_plan s t) (term_is_placed t second) k
 
-    factors_stand : (fs : Factors) → AllByRecursion Q (factor_occurrences s b fs) → OtherStands h direction on s O are_on (factor_plans s fs).other
-    factors_stand no_factors all = tt
-    factors_stand (factors fs (times (numeral c))) all = factors_stand fs (all_first Q (factor_occurrences s b fs) [] all)
-    factors_stand (factors fs (divided c)) all = factors_stand fs (all_first Q (factor_occurrences s b fs) [] all)
-    factors_stand (factors fs (times (variable n))) all = term_stands (variable n) (all_second Q (factor_occurrences s b fs) (term_occurrences s b (variable n)) all)
-    factors_stand (factors fs (times (product gs))) all = term_stands (product gs) (all_second Q (factor_occurrences s b fs) (term_occurrences s b (product gs)) all)
-    factors_stand (factors fs (times (sum ss t))) all = term_stands (sum ss t) (all_second Q (factor_occurrences s b fs) (term_occurrences s b (sum ss t)) all)
+    factors_are_placed : (fs : Factors) → AllByRecursion Q (factor_occurrences s b fs) → OtherIsPlaced h direction on s O are_on (factor_plans s fs).other
+    factors_are_placed no_factors all = tt
+    factors_are_placed (factors fs (times (numeral c))) all = factors_are_placed fs (all_first Q (factor_occurrences s b fs) [] all)
+    factors_are_placed (factors fs (divided c)) all = factors_are_placed fs (all_first Q (factor_occurrences s b fs) [] all)
+    factors_are_placed (factors fs (times (variable n))) all = term_is_placed (variable n) (all_second Q (factor_occurrences s b fs) (term_occurrences s b (variable n)) all)
+    factors_are_placed (factors fs (times (product gs))) all = term_is_placed (product gs) (all_second Q (factor_occurrences s b fs) (term_occurrences s b (product gs)) all)
+    factors_are_placed (factors fs (times (sum ss t))) all = term_is_placed (sum ss t) (all_second Q (factor_occurrences s b fs) (term_occurrences s b (sum ss t)) all)
 
-    sum_stands : (ss : Addends) → AllByRecursion Q (addend_occurrences s b ss) → (last : ℕ → TermPlan)
-        → ((k : ℕ) → IsStood h direction on O (last k).placed.track (last k).placed.relation k (last k).next) → (k : ℕ)
-        → IsStood h direction on O (sum_plan s ss last k).placed.track (sum_plan s ss last k).placed.relation k (sum_plan s ss last k).next
-    sum_stands no_addends all last stood k = stood k
-    sum_stands (addends ss t sign) all last stood k =
+    sum_is_placed : (ss : Addends) → AllByRecursion Q (addend_occurrences s b ss) → (last : ℕ → TermPlan)
+        → ((k : ℕ) → IsPlacedOver h direction on O (last k).placed.track (last k).placed.relation k (last k).next) → (k : ℕ)
+        → IsPlacedOver h direction on O (sum_plan s ss last k).placed.track (sum_plan s ss last k).placed.relation k (sum_plan s ss last k).next
+    sum_is_placed no_addends all last placed_over k = placed_over k
+    sum_is_placed (addends ss t sign) all last placed_over k =
         let p = sum_plan s ss (term_plan s t) k in
         let first = all_first Q (addend_occurrences s b ss) (term_occurrences s b t) all in
         let second = all_second Q (addend_occurrences s b ss) (term_occurrences s b t) all in
-        addend_stands h direction on s O are_on sign p (last p.next) k (sum_stands ss first (term_plan s t) (term_stands t second) k) (stood p.next)
+        addend_is_placed h direction on s O are_on sign p (last p.next) k (sum_is_placed ss first (term_plan s t) (term_is_placed t second) k) (placed_over p.next)

@@ -35,11 +35,11 @@ letters_are_no_digits [] letter digit = absurd (false≢true digit)
 letters_are_no_digits (b ∷ bytes) letter digit = no_letter_digit b letter digit
 
 -- tracks of one name are one
-pub names_tell : (s t : Track) → IsNamed s → IsNamed t → track_name s ≡ track_name t → s ≡ t
-names_tell (own m) (own n) first second same = ap own same
-names_tell (own m) (fresh k) first second same = absurd (letters_are_no_digits m first (ap begins_with_digit same ∙ decimal_begins k second))
-names_tell (fresh j) (own n) first second same = absurd (letters_are_no_digits n second (ap begins_with_digit (sym same) ∙ decimal_begins j first))
-names_tell (fresh j) (fresh k) first second same = ap fresh (decimal_injective j k first second same)
+pub names_determine : (s t : Track) → IsNamed s → IsNamed t → track_name s ≡ track_name t → s ≡ t
+names_determine (own m) (own n) first second same = ap own same
+names_determine (own m) (fresh k) first second same = absurd (letters_are_no_digits m first (ap begins_with_digit same ∙ decimal_begins k second))
+names_determine (fresh j) (own n) first second same = absurd (letters_are_no_digits n second (ap begins_with_digit (sym same) ∙ decimal_begins j first))
+names_determine (fresh j) (fresh k) first second same = ap fresh (decimal_injective j k first second same)
 
 all_without : (s : Track) (ts : List Track) → AllByRecursion IsNamed ts → AllByRecursion IsNamed (without s ts)
 all_without s [] all = tt
@@ -85,4 +85,4 @@ changed_is s u x f named also = by (same_track s u) refl
       where
         other : (c : Bool) → bytes_eq (track_name u) (track_name s) ≡ c → (if c then x else f (track_name u)) ≡ f (track_name u)
         other false is = refl
-        other true is = absurd (false≢true (sym apart ∙ ap (same_track s) (names_tell u s also named ((bytes_eq-Decides (track_name u) (track_name s)).0 is)) ∙ same_self s))
+        other true is = absurd (false≢true (sym apart ∙ ap (same_track s) (names_determine u s also named ((bytes_eq-Decides (track_name u) (track_name s)).0 is)) ∙ same_self s))

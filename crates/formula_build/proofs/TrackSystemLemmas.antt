@@ -36,15 +36,15 @@ use Rattle.formula_build.specs.TrackNames.{track_name, IsNamed, AreNamed}
 use Rattle.formula_build.specs.Libraries.{LibraryValue, IsLibrary, IsSystemIn}
 use Rattle.formula_build.specs.Makings.{Makes, IsReady, MayJoin, comparison_of, op_of}
 use Rattle.formula_build.specs.TrackSystems.{TrackSystems, with_system, HaveOneDirection, IsOver, IsKnown, Fits}
-use Rattle.formula_build.proofs.HasLemmas.{Stands, has_cases, has_contains, contains_has, stands_later, has_either, exchanged, stays_apart, other_track_stays}
+use Rattle.formula_build.proofs.HasLemmas.{HasTrackNamed, has_cases, has_contains, contains_has, track_named_later, has_either, exchanged, stays_apart, other_track_stays}
 use Rattle.formula_build.proofs.HoldLemmas.{plan_says}
-use Rattle.formula_build.proofs.StandLemmas.{stand_agree, stand_count, stand_over}
-use Rattle.formula_build.proofs.TrackNameLemmas.{names_tell, named_track}
+use Rattle.formula_build.proofs.SystemsAtTracks.{systems_agree, systems_count, systems_over}
+use Rattle.formula_build.proofs.TrackNameLemmas.{names_determine, named_track}
 use Rattle.formula_build.proofs.UnderTracks.{HasTracks, each_of, found_again, placed_tracks, tracks_over_one}
 use Rattle.formula_build.proofs.WordTracks.{pair_may, pair_tracks, word_count}
 
 apart_names : (s t : Track) → IsNamed s → IsNamed t → same_track s t ≡ false → track_name t ≢ track_name s
-apart_names s t named also apart same = false≢true (sym apart ∙ ap (same_track s) (names_tell t s also named same) ∙ same_self s)
+apart_names s t named also apart same = false≢true (sym apart ∙ ap (same_track s) (names_determine t s also named same) ∙ same_self s)
 
 apart_tracks : (s t : Track) → track_name t ≢ track_name s → same_track s t ≡ false
 apart_tracks s t other = by (same_track s t) refl
@@ -62,12 +62,12 @@ compared_there greater s t u is = has_contains (t ∷ s ∷ []) u (exchanged s t
 compared_there at_most s t u is = has_contains (t ∷ s ∷ []) u (exchanged s t u is)
 compared_there at_least s t u is = has_contains (s ∷ t ∷ []) u is
 
-compared_only : (r : Relation) (s t : Track) (name : List ℕ) → Contains (compared_names (comparison_of r) (track_name s) (track_name t)) name → Stands (s ∷ t ∷ []) name
+compared_only : (r : Relation) (s t : Track) (name : List ℕ) → Contains (compared_names (comparison_of r) (track_name s) (track_name t)) name → HasTrackNamed (s ∷ t ∷ []) name
 compared_only equal s t name found = contains_has (s ∷ t ∷ []) name found
 compared_only unequal s t name found = contains_has (s ∷ t ∷ []) name found
 compared_only less s t name found = contains_has (s ∷ t ∷ []) name found
-compared_only greater s t name found = let stands = contains_has (t ∷ s ∷ []) name found in (stands.0, exchanged t s stands.0 stands.1, stands.2)
-compared_only at_most s t name found = let stands = contains_has (t ∷ s ∷ []) name found in (stands.0, exchanged t s stands.0 stands.1, stands.2)
+compared_only greater s t name found = let track_named = contains_has (t ∷ s ∷ []) name found in (track_named.0, exchanged t s track_named.0 track_named.1, track_named.2)
+compared_only at_most s t name found = let track_named = contains_has (t ∷ s ∷ []) name found in (track_named.0, exchanged t s track_named.0 track_named.1, track_named.2)
 compared_only at_least s t name found = contains_has (s ∷ t ∷ []) name found
 
 -- tracks over one system
@@ -93,7 +93,7 @@ module _ (l : LibraryValue) (h : Headers) (read_direction : Name → Direction) 
       agree name in_a in_b =
           let here = first.only name in_a in
           let there = second.only name in_b in
-          let same : here.0 ≡ there.0 = names_tell here.0 there.0 (named_track p here.0 named here.1) (named_track q there.0 also there.1) (here.2 ∙ sym there.2) in
+          let same : here.0 ≡ there.0 = names_determine here.0 there.0 (named_track p here.0 named here.1) (named_track q there.0 also there.1) (here.2 ∙ sym there.2) in
           let left : IsSystemIn l (on here.0) (relations.system_named a name) = subst (λ (n : List ℕ). IsSystemIn l (on here.0) (relations.system_named a n)) here.2 (first.over here.0 here.1) in
           let right : IsSystemIn l (on there.0) (relations.system_named b name) = subst (λ (n : List ℕ). IsSystemIn l (on there.0) (relations.system_named b n)) there.2 (second.over there.0 there.1) in
           one_system (on there.0) (relations.system_named a name) (relations.system_named b name) (subst (λ (t : Track). IsSystemIn l (on t) (relations.system_named a name)) same left) right
@@ -103,9 +103,9 @@ module _ (l : LibraryValue) (h : Headers) (read_direction : Name → Direction) 
       of_track r ts is has s (i, within, at) =
           let inside : i < length r.names = omega (arith, within, is.count) in
           let name : List ℕ = get_or r.names i [] in
-          let stands = has.only name (Contains-get_or r.names i [] inside) in
+          let track_named = has.only name (Contains-get_or r.names i [] inside) in
           let found : relations.system_named r name ≡ s = ap (λ (k : ℕ). get_or r.systems k absent_system) (place_of-is r.names name i is.tracked.distinct inside refl) ∙ get_or_default r.systems i absent_system s within ∙ at in
-          (stands.0, stands.1, fits.directions (on stands.0) s (subst (IsSystemIn l (on stands.0)) (ap (relations.system_named r) stands.2 ∙ found) (has.over stands.0 stands.1)))
+          (track_named.0, track_named.1, fits.directions (on track_named.0) s (subst (IsSystemIn l (on track_named.0)) (ap (relations.system_named r) track_named.2 ∙ found) (has.over track_named.0 track_named.1)))
 
       one : joins.HaveOneDirection a b
       one s t in_a in_b =
@@ -133,11 +133,11 @@ module _ (l : LibraryValue) (h : Headers) (read_direction : Name → Direction) 
       there : (t : Track) → has_track (tracks p ++ tracks q) t ≡ true → Contains c.names (track_name t)
       there t is = subst (λ (names : List (List ℕ)). Contains names (track_name t)) (sym named) (in_joint t is)
 
-      only : (name : List ℕ) → Contains c.names name → Stands (tracks p ++ tracks q) name
+      only : (name : List ℕ) → Contains c.names name → HasTrackNamed (tracks p ++ tracks q) name
       only name found =
           elim (each_of (λ n. Contains a.names n ⊎ Contains b.names n) (joint_names a.names b.names) name all.no_others (subst (λ (names : List (List ℕ)). Contains names name) named found)) [
-            | inl left ↦ (let stands = first.only name left in (stands.0, has_first (tracks p) (tracks q) stands.0 stands.1, stands.2))
-            | inr right ↦ (let stands = second.only name right in (stands.0, has_second (tracks p) (tracks q) stands.0 stands.1, stands.2))
+            | inl left ↦ (let track_named = first.only name left in (track_named.0, has_first (tracks p) (tracks q) track_named.0 track_named.1, track_named.2))
+            | inr right ↦ (let track_named = second.only name right in (track_named.0, has_second (tracks p) (tracks q) track_named.0 track_named.1, track_named.2))
           ]
 
       at : (name : List ℕ) → Contains (joint_names a.names b.names) name → relations.system_named c name ≡ system_under (a.names ++ b.names) (a.systems ++ b.systems) name
@@ -171,12 +171,12 @@ module _ (l : LibraryValue) (h : Headers) (read_direction : Name → Direction) 
       there : (u : Track) → has_track (without t (tracks p)) u ≡ true → Contains c.names (track_name u)
       there u is = subst (λ (ns : List (List ℕ)). Contains ns (track_name u)) (sym made.projection.names) (in_names u is)
 
-      only : (name : List ℕ) → Contains c.names name → Stands (without t (tracks p)) name
+      only : (name : List ℕ) → Contains c.names name → HasTrackNamed (without t (tracks p)) name
       only name found =
           let kept = subst (λ (ns : List (List ℕ)). Contains ns name) made.projection.names found in
-          let stands = has.only name (each_of (Contains a.names) (names_without a.names (track_name t)) name (names_without-there a.names (track_name t)) kept) in
+          let track_named = has.only name (each_of (Contains a.names) (names_without a.names (track_name t)) name (names_without-there a.names (track_name t)) kept) in
           let other = stays_other a.names (track_name t) name kept in
-          (stands.0, other_track_stays t (tracks p) stands.0 stands.1 (apart_tracks t stands.0 (λ same. other (sym stands.2 ∙ same))), stands.2)
+          (track_named.0, other_track_stays t (tracks p) track_named.0 track_named.1 (apart_tracks t track_named.0 (λ same. other (sym track_named.2 ∙ same))), track_named.2)
 
       over : (u : Track) → has_track (without t (tracks p)) u ≡ true → IsSystemIn l (on u) (relations.system_named c (track_name u))
       over u is =
@@ -245,13 +245,13 @@ module _ (l : LibraryValue) (h : Headers) (read_direction : Name → Direction) 
           subst (Contains under) (changed_else (track_name u) (apart_names s u named (named_track p u all stays.0) stays.1)) (Contains-map (changed_name from to) a.names (track_name u) (has.there u stays.0)))
     ]
 
-    renamed_only : (name : List ℕ) → Contains under name → Stands us name
+    renamed_only : (name : List ℕ) → Contains under name → HasTrackNamed us name
     renamed_only name there =
         let origin = Contains-from_map (changed_name from to) a.names name there in
-        let stands = has.only origin.0 origin.1 in
-        elim (moves stands.0 name stands.1 (ap (changed_name from to) stands.2 ∙ origin.2)) [
+        let track_named = has.only origin.0 origin.1 in
+        elim (moves track_named.0 name track_named.1 (ap (changed_name from to) track_named.2 ∙ origin.2)) [
           | inl here ↦ (t, first_is t (without s (tracks p)), here.1)
-          | inr stays ↦ stands_later t (without s (tracks p)) name (stands.0, stays.0, stays.1)
+          | inr stays ↦ track_named_later t (without s (tracks p)) name (track_named.0, stays.0, stays.1)
         ]
 
     -- the system that the first track of the new names has
@@ -261,21 +261,21 @@ module _ (l : LibraryValue) (h : Headers) (read_direction : Name → Direction) 
         let i : ℕ = place_of under (track_name u) in
         let within : i < length a.names = omega (arith, spot.0, length-map a.names (changed_name from to)) in
         let name : List ℕ = get_or a.names i [] in
-        let stands = has.only name (Contains-get_or a.names i [] within) in
-        let moved : changed_name from to (track_name stands.0) ≡ track_name u =
-        ap (changed_name from to) stands.2 ∙ sym (get_or-map (changed_name from to) a.names i [] [] within) ∙ spot.1 in
-        let own : relations.system_named a (track_name stands.0) ≡ get_or a.systems i absent_system =
-        ap (λ (k : ℕ). get_or a.systems k absent_system) (place_of-is a.names (track_name stands.0) i is_a.tracked.distinct within (sym stands.2)) in
-        let has_it : IsSystemIn l (with_system s (on t) on stands.0) (get_or a.systems i absent_system) = subst (IsSystemIn l (with_system s (on t) on stands.0)) own (has.over stands.0 stands.1) in
+        let track_named = has.only name (Contains-get_or a.names i [] within) in
+        let moved : changed_name from to (track_name track_named.0) ≡ track_name u =
+        ap (changed_name from to) track_named.2 ∙ sym (get_or-map (changed_name from to) a.names i [] [] within) ∙ spot.1 in
+        let own : relations.system_named a (track_name track_named.0) ≡ get_or a.systems i absent_system =
+        ap (λ (k : ℕ). get_or a.systems k absent_system) (place_of-is a.names (track_name track_named.0) i is_a.tracked.distinct within (sym track_named.2)) in
+        let has_it : IsSystemIn l (with_system s (on t) on track_named.0) (get_or a.systems i absent_system) = subst (IsSystemIn l (with_system s (on t) on track_named.0)) own (has.over track_named.0 track_named.1) in
         let named_u : IsNamed u = named_new u is in
-        elim (moves stands.0 (track_name u) stands.1 moved) [
+        elim (moves track_named.0 (track_name u) track_named.1 moved) [
           | inl here ↦ (
-              let e : with_system s (on t) on stands.0 ≡ on u =
-              ap (with_system s (on t) on) (sym here.0) ∙ own_system on s (on t) ∙ ap on (names_tell t u also named_u here.1) in
+              let e : with_system s (on t) on track_named.0 ≡ on u =
+              ap (with_system s (on t) on) (sym here.0) ∙ own_system on s (on t) ∙ ap on (names_determine t u also named_u here.1) in
               subst (λ (x : Name). IsSystemIn l x (get_or a.systems i absent_system)) e has_it)
           | inr stays ↦ (
-              let apart = stays_apart s (tracks p) stands.0 stays.0 in
-              let e : with_system s (on t) on stands.0 ≡ on u = other_system on s stands.0 (on t) apart.1 ∙ ap on (names_tell stands.0 u (named_track p stands.0 all apart.0) named_u stays.1) in
+              let apart = stays_apart s (tracks p) track_named.0 stays.0 in
+              let e : with_system s (on t) on track_named.0 ≡ on u = other_system on s track_named.0 (on t) apart.1 ∙ ap on (names_determine track_named.0 u (named_track p track_named.0 all apart.0) named_u stays.1) in
               subst (λ (x : Name). IsSystemIn l x (get_or a.systems i absent_system)) e has_it)
         ]
       where
@@ -288,10 +288,10 @@ module _ (l : LibraryValue) (h : Headers) (read_direction : Name → Direction) 
     -- the two names have one system, where both are there
     renamed_agree : Contains a.names from → Contains a.names to → relations.system_named a from ≡ relations.system_named a to
     renamed_agree in_from in_to =
-        let stands = has.only to in_to in
-        let named_v = named_track p stands.0 all stands.1 in
-        let is_t : stands.0 ≡ t = names_tell stands.0 t named_v also stands.2 in
-        let there : has_track (tracks p) t ≡ true = subst (λ (v : Track). has_track (tracks p) v ≡ true) is_t stands.1 in
+        let track_named = has.only to in_to in
+        let named_v = named_track p track_named.0 all track_named.1 in
+        let is_t : track_named.0 ≡ t = names_determine track_named.0 t named_v also track_named.2 in
+        let there : has_track (tracks p) t ≡ true = subst (λ (v : Track). has_track (tracks p) v ≡ true) is_t track_named.1 in
         let first : IsSystemIn l (on t) (relations.system_named a from) = subst (λ (x : Name). IsSystemIn l x (relations.system_named a from)) (own_system on s (on t)) (has.over s found) in
         one_system (on t) (relations.system_named a from) (relations.system_named a to) first (second (same_track s t) refl there)
       where
@@ -310,9 +310,9 @@ module _ (l : LibraryValue) (h : Headers) (read_direction : Name → Direction) 
     over_ready (number y t) on named known over = known
     over_ready (called n ts) on named (r, is) over =
         let fit = fits.relations n r is in
-        (r, is, stand_count l on ts (h.of_automaton n) r.systems fit.each over ∙ sym fit.count, stand_agree l on ts (h.of_automaton n) r.systems fit.each over named)
+        (r, is, systems_count l on ts (h.of_automaton n) r.systems fit.each over ∙ sym fit.count, systems_agree l on ts (h.of_automaton n) r.systems fit.each over named)
     over_ready (lettered n ts r b) on named (w, is) over =
-        (w, is, word_count l h read_direction fits library on n w ts is over, stand_agree l on ts (h.of_word n) w.systems (fits.words n w is).each over named)
+        (w, is, word_count l h read_direction fits library on n w ts is over, systems_agree l on ts (h.of_word n) w.systems (fits.words n w is).each over named)
     over_ready (renamed s t p) on named known over = (
       over_ready p (with_system s (on t) on) named.2 known over.1,
       λ a made.
@@ -350,10 +350,10 @@ module _ (l : LibraryValue) (h : Headers) (read_direction : Name → Direction) 
         tracks_over_one l on ts (map track_name ts) c made.names_are (has_contains ts) (contains_has ts) y system is made.systems_are (one_over on y t over)
     over_tracks (called n ts) on c named known over (r, is, made) =
         placed_tracks l on ts (map track_name ts) c made.names_are (has_contains ts) (contains_has ts) r.systems made.systems_are
-        (stand_over l on ts (h.of_automaton n) r.systems (fits.relations n r is).each over named)
+        (systems_over l on ts (h.of_automaton n) r.systems (fits.relations n r is).each over named)
     over_tracks (lettered n ts r b) on c named known over (w, is, (d, set, made)) =
         placed_tracks l on ts (map track_name ts) c made.names_are (has_contains ts) (contains_has ts) w.systems made.systems_are
-        (stand_over l on ts (h.of_word n) w.systems (fits.words n w is).each over named)
+        (systems_over l on ts (h.of_word n) w.systems (fits.words n w is).each over named)
     over_tracks (renamed s t p) on c named known over (a, is, made) =
         let inner = with_system s (on t) on in
         let ready = over_ready p inner named.2 known over.1 in

@@ -15,12 +15,12 @@ use Rattle.formula_plan.specs.Tracks.{Track, has_track}
 use Rattle.formula_build.specs.TrackNames.{track_name}
 use Rattle.formula_build.specs.Libraries.{LibraryValue, IsSystemIn}
 use Rattle.formula_build.specs.TrackSystems.{TrackSystems}
-use Rattle.formula_build.proofs.HasLemmas.{Stands}
+use Rattle.formula_build.proofs.HasLemmas.{HasTrackNamed}
 
 -- The relation has these tracks, each over its system.
 pub record HasTracks (l : LibraryValue) (on : TrackSystems) (ts : List Track) (c : RelationValue) : Type 0 where
   pub there : (t : Track) → has_track ts t ≡ true → Contains c.names (track_name t)
-  pub only : (name : List ℕ) → Contains c.names name → Stands ts name
+  pub only : (name : List ℕ) → Contains c.names name → HasTrackNamed ts name
   pub over : (t : Track) → has_track ts t ≡ true → IsSystemIn l (on t) (relations.system_named c (track_name t))
 
 -- the systems of names, found again by these
@@ -35,19 +35,19 @@ each_of P names name all found = let spot = place_of-contained names name found 
 
 -- tracks under names that may repeat, each of which is there once
 module _ (l : LibraryValue) (on : TrackSystems) (ts : List Track) (under names : List (List ℕ)) (c : RelationValue) (same : c.names ≡ names)
-    (there : (t : Track) → has_track ts t ≡ true → Contains names (track_name t)) (only : (name : List ℕ) → Contains names name → Stands ts name) where
+    (there : (t : Track) → has_track ts t ≡ true → Contains names (track_name t)) (only : (name : List ℕ) → Contains names name → HasTrackNamed ts name) where
   has_name : (t : Track) → has_track ts t ≡ true → Contains c.names (track_name t)
   has_name t is = subst (λ (ns : List (List ℕ)). Contains ns (track_name t)) (sym same) (there t is)
 
-  name_stands : (name : List ℕ) → Contains c.names name → Stands ts name
-  name_stands name found = only name (subst (λ (ns : List (List ℕ)). Contains ns name) same found)
+  name_is_mentioned : (name : List ℕ) → Contains c.names name → HasTrackNamed ts name
+  name_is_mentioned name found = only name (subst (λ (ns : List (List ℕ)). Contains ns name) same found)
 
   -- each over its own system
   pub tracks_under : (systems : List SystemValue) → c.systems ≡ systems_under under systems names
       → ((t : Track) → has_track ts t ≡ true → IsSystemIn l (on t) (system_under under systems (track_name t))) → HasTracks l on ts c
   tracks_under systems are over = record {
     there = has_name;
-    only = name_stands;
+    only = name_is_mentioned;
     over = λ t is.
         subst (IsSystemIn l (on t))
         (sym (ap (λ (ss : List SystemValue). system_under c.names ss (track_name t)) are
@@ -58,11 +58,11 @@ module _ (l : LibraryValue) (on : TrackSystems) (ts : List Track) (under names :
 
 -- in order of first occurrence of their names
 module _ (l : LibraryValue) (on : TrackSystems) (ts : List Track) (under : List (List ℕ)) (c : RelationValue) (once : c.names ≡ each_once under)
-    (there : (t : Track) → has_track ts t ≡ true → Contains under (track_name t)) (only : (name : List ℕ) → Contains under name → Stands ts name) where
+    (there : (t : Track) → has_track ts t ≡ true → Contains under (track_name t)) (only : (name : List ℕ) → Contains under name → HasTrackNamed ts name) where
   once_there_is : (t : Track) → has_track ts t ≡ true → Contains (each_once under) (track_name t)
   once_there_is t is = once_contains under (track_name t) (there t is)
 
-  once_only : (name : List ℕ) → Contains (each_once under) name → Stands ts name
+  once_only : (name : List ℕ) → Contains (each_once under) name → HasTrackNamed ts name
   once_only name found = only name (each_of (Contains under) (each_once under) name (once_others under) found)
 
   -- each over its own system
@@ -74,7 +74,7 @@ module _ (l : LibraryValue) (on : TrackSystems) (ts : List Track) (under : List 
   pub tracks_over_one : (y : Name) (s : SystemValue) → IsSystemIn l y s → c.systems ≡ map (λ name. s) (each_once under) → ((t : Track) → has_track ts t ≡ true → on t ≡ y) → HasTracks l on ts c
   tracks_over_one y s is_s are over = record {
     there = has_name l on ts under (each_once under) c once once_there_is once_only;
-    only = name_stands l on ts under (each_once under) c once once_there_is once_only;
+    only = name_is_mentioned l on ts under (each_once under) c once once_there_is once_only;
     over = λ t is.
         let spot = place_of-contained (each_once under) (track_name t) (once_contains under (track_name t) (there t is)) in
         let found : relations.system_named c (track_name t) ≡ s =

@@ -126,8 +126,8 @@ module _ (l : LibraryValue) (h : Headers) (f : Formula) (library : IsLibrary l) 
     over_names n there =
         elim (All-contains (λ m. Contains c.names m ⊎ Contains [] m) (joint_names c.names []) n joint.no_others there) [
           | inl here ↦ (
-              let stands = has.only n here in
-              subst (Contains names) stands.2 (named_found stands.0 (plan_only h IsFound f unbound 1 0 resolved.arity all_found stands.0 stands.1)))
+              let track_named = has.only n here in
+              subst (Contains names) track_named.2 (named_found track_named.0 (plan_only h IsFound f unbound 1 0 resolved.arity all_found track_named.0 track_named.1)))
           | inr never ↦ absurd (Contains-none n never)
         ]
 

@@ -21,9 +21,9 @@ use Rattle.formula_build.specs.PairRelations.{MayPairWords, IsRelationPair}
 use Rattle.formula_build.specs.Makings.{placed_on}
 use Rattle.formula_build.specs.TrackSystems.{TrackSystems, TracksHaveOneDirection, IsWordOverSystems, Fits}
 use Rattle.formula_build.proofs.AllLemmas.{all_both}
-use Rattle.formula_build.proofs.HasLemmas.{Stands, contains_has, has_contains}
+use Rattle.formula_build.proofs.HasLemmas.{HasTrackNamed, contains_has, has_contains}
 use Rattle.formula_build.proofs.OneMadeLemmas.{word_is}
-use Rattle.formula_build.proofs.StandLemmas.{AreSystemsIn, has_at, stand_agree, stand_count, stand_over, stands_at, systems_both}
+use Rattle.formula_build.proofs.SystemsAtTracks.{AreSystemsIn, has_at, systems_agree, systems_count, systems_over, system_at_track, systems_both}
 use Rattle.formula_build.proofs.UnderTracks.{HasTracks, each_of, tracks_under}
 
 module _ (l : LibraryValue) (h : Headers) (read_direction : Name → Direction) (fits : Fits l h read_direction) (library : IsLibrary l) (on : TrackSystems) where
@@ -33,7 +33,7 @@ module _ (l : LibraryValue) (h : Headers) (read_direction : Name → Direction) 
     fit = fits.words n w is
 
     pub word_count : length ts ≡ length w.systems
-    word_count = stand_count l on ts (h.of_word n) w.systems fit.each same ∙ sym fit.count
+    word_count = systems_count l on ts (h.of_word n) w.systems fit.each same ∙ sym fit.count
 
     -- each of its systems is that of a track, and has the track's direction
     faces : (s : SystemValue) → Contains w.systems s → (t : Track) × (has_track ts t ≡ true) × (s.direction ≡ read_direction (on t))
@@ -41,7 +41,7 @@ module _ (l : LibraryValue) (h : Headers) (read_direction : Name → Direction) 
         let inside : i < length ts = omega (arith, within, word_count) in
         let t : Track = get_or ts i (fresh 0) in
         let found : get_or w.systems i absent_system ≡ s = get_or_default w.systems i absent_system s within ∙ at in
-        (t, has_at ts i inside, fits.directions (on t) s (subst (IsSystemIn l (on t)) found (stands_at l on ts (h.of_word n) w.systems fit.each same i inside)))
+        (t, has_at ts i inside, fits.directions (on t) s (subst (IsSystemIn l (on t)) found (system_at_track l on ts (h.of_word n) w.systems fit.each same i inside)))
 
   module _ (n m : Name) (v w : WordValue) (ts us : List Track) (is : IsWordIn l n v) (also : IsWordIn l m w) (same : map on ts ≡ h.of_word n) (alike : map on us ≡ h.of_word m)
       (first : AllByRecursion IsNamed ts) (second : AllByRecursion IsNamed us) where
@@ -85,7 +85,7 @@ module _ (l : LibraryValue) (h : Headers) (read_direction : Name → Direction) 
     pair_may direction = record {
       first_count = length-map ts track_name ∙ word_count n v ts is same;
       second_count = length-map us track_name ∙ word_count m w us also alike;
-      agree = subst (λ (ns : List (List ℕ)). AgreeUnder ns systems) under_is (stand_agree l on both names systems are same_both all);
+      agree = subst (λ (ns : List (List ℕ)). AgreeUnder ns systems) under_is (systems_agree l on both names systems are same_both all);
       shared_direction = shared_direction direction;
     }
 
@@ -103,7 +103,7 @@ module _ (l : LibraryValue) (h : Headers) (read_direction : Name → Direction) 
         | inr right ↦ each_of (Contains joint) (map track_name us) (track_name t) are_joint.all_second right
       ]
 
-      of_joint : (name : List ℕ) → Contains joint name → Stands both name
+      of_joint : (name : List ℕ) → Contains joint name → HasTrackNamed both name
       of_joint name found =
           contains_has both name
           (subst (λ (ns : List (List ℕ)). Contains ns name) (sym under_is)
@@ -115,4 +115,4 @@ module _ (l : LibraryValue) (h : Headers) (read_direction : Name → Direction) 
       pub pair_tracks : HasTracks l on both c
       pair_tracks =
           tracks_under l on both (map track_name both) joint c made.pair.names in_joint of_joint systems
-          (made.systems ∙ ap (λ (ns : List (List ℕ)). systems_under ns systems joint) (sym under_is)) (stand_over l on both names systems are same_both all)
+          (made.systems ∙ ap (λ (ns : List (List ℕ)). systems_under ns systems joint) (sym under_is)) (systems_over l on both names systems are same_both all)

@@ -33,7 +33,7 @@ pub(crate) struct WordAt<'a> {
     pub(crate) tracks: &'a [Track],
 }
 
-/// The places at which the word's letter compares so with a given one, the word's on the left.
+/// The positions at which the word's letter compares so with a given one, the word's on the left.
 pub(crate) fn lettered(
     alloc: Global,
     at: WordAt<'_>,
@@ -49,7 +49,7 @@ pub(crate) fn lettered(
     Relation::placed(alloc, &places, at.word.systems(), &under)
 }
 
-/// The places at which the letters of two words compare so, by the step `product`.
+/// The positions at which the letters of two words compare so, by the step `product`.
 pub(crate) fn paired(
     alloc: Global,
     first: WordAt<'_>,

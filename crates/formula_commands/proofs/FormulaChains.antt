@@ -40,8 +40,8 @@ record IsAt (folder : Folder) (head : NamedHead) (success : Success) : Type 0 wh
   folder_is : folder ≡ success.folder
   name_is : head.name ≡ success.name
 
-stands_at : (limit : ℕ) (ledger : Ledger) (folder : Folder) (head : NamedHead) (success : Success) → (after_named_head limit ledger folder head).answers (Ok success) → IsAt folder head success
-stands_at limit ledger folder head success (expansion, expands, (formula, reads, (tables, files, (admitted, systems, (done, resolves, (lines, builds, (variables, are, (verdict, says, (is, text))))))))) = record {
+folder_and_name_at : (limit : ℕ) (ledger : Ledger) (folder : Folder) (head : NamedHead) (success : Success) → (after_named_head limit ledger folder head).answers (Ok success) → IsAt folder head success
+folder_and_name_at limit ledger folder head success (expansion, expands, (formula, reads, (tables, files, (admitted, systems, (done, resolves, (lines, builds, (variables, are, (verdict, says, (is, text))))))))) = record {
   folder_is = sym (ap (λ (s : Success). s.folder) is);
   name_is = sym (ap (λ (s : Success). s.name) is);
 }
@@ -50,7 +50,7 @@ stands_at limit ledger folder head success (expansion, expands, (formula, reads,
 pub named_changed : (word : List ℕ) (folder : Folder) (limit : ℕ) (ledger : Ledger) (text : List ℕ) (shown : Bool) (head : NamedHead) (change : FileChange) → HasHead (DerivesNamed word) (λ (h : NamedHead). h) text (Ok head) → change.folder ≡ folder → change.name ≡ head.name
     → Makes (custom_of ledger) (after_named_head limit ledger folder head) shown (Ok change.made) → ChangesFile (custom_of ledger) (formula_checks word folder limit ledger text) shown (Ok change)
 named_changed word folder limit ledger text shown head change spells folder_is name_is made =
-    let at : IsAt folder head made.success = stands_at limit ledger folder head made.success made.answers in
+    let at : IsAt folder head made.success = folder_and_name_at limit ledger folder head made.success made.answers in
     changes_after (custom_of ledger) (Pure (HeadAnswers (DerivesNamed word) text)) (λ h. after_named_head limit ledger folder h) head shown (Ok change) spells (record { made = made; folder_is = folder_is ∙ at.folder_is; name_is = name_is ∙ at.name_is })
 
 pub named_failed : (word : List ℕ) (folder : Folder) (limit : ℕ) (ledger : Ledger) (text : List ℕ) (shown : Bool) (head : NamedHead) (fault : Fault) → HasHead (DerivesNamed word) (λ (h : NamedHead). h) text (Ok head)

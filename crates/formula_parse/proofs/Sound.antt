@@ -91,18 +91,18 @@ abbrev pub deep : State parts → ℕ
 deep s = within_position s.position (within s.body.tildes (nesting s.around))
 
 -- a body keeps the nesting of its frames, and has read nothing while it is untouched
-pub record Stands (gs : List (Frame parts)) (g : Body parts) : Type 0 where
+pub record IsBodySane (gs : List (Frame parts)) (g : Body parts) : Type 0 where
   pub based : g.base ≡ nesting gs
   pub empty : g.touched ≡ false → g ≡ fresh derivations g.base
 
-abbrev pub AllStand : List (Frame parts) → Type 0
-AllStand [] = Unit {0}
-AllStand (paren h y ∷ hs) = Stands hs h × AllStand hs
-AllStand (scope k n h ∷ hs) = Stands hs h × AllStand hs
+abbrev pub AreFramesSane : List (Frame parts) → Type 0
+AreFramesSane [] = Unit {0}
+AreFramesSane (paren h y ∷ hs) = IsBodySane hs h × AreFramesSane hs
+AreFramesSane (scope k n h ∷ hs) = IsBodySane hs h × AreFramesSane hs
 
 pub record Sane (s : State parts) : Type 0 where
-  pub body : Stands s.around s.body
-  pub frames : AllStand s.around
+  pub body : IsBodySane s.around s.body
+  pub frames : AreFramesSane s.around
 
 -- the state that comes has read a token more
 pub record ReadsOn (n : State parts) (k : List Placed → List Placed) (c : ℕ → Placed) : Type 0 where
@@ -124,7 +124,7 @@ pub wrapped_then : (ts : List Names) (c : Closed) (d : ℕ) (q : List Placed) �
 wrapped_then [] c d q = refl
 wrapped_then (ms ∷ ts) c d q = wrapped_then ts (marked ms (not_closed c)) d q
 
-close_goes : (w : Option Flaw) (gs : List (Frame parts)) (f : Formula) (t : Token) → AllStand gs → GoesOn (close derivations w gs f t) (λ q. frames_then gs (formula_then f (nesting gs) q)) (here t)
+close_goes : (w : Option Flaw) (gs : List (Frame parts)) (f : Formula) (t : Token) → AreFramesSane gs → GoesOn (close derivations w gs f t) (λ q. frames_then gs (formula_then f (nesting gs) q)) (here t)
 close_goes w [] f end a = goes (record { body = record { based = refl; empty = λ e. refl }; frames = tt }) (λ q. refl)
 close_goes w [] f _ a = tt
 close_goes w (paren h y ∷ hs) f closing a = goes (record { body = a.0; frames = a.1 }) (λ q. refl)
@@ -160,7 +160,7 @@ leave_goes s c t a =
 stays : {s : State parts} (p : Position parts) → Sane s → Sane (at s p)
 stays p a = record { body = a.body; frames = a.frames }
 
-close_term_goes : (s : State parts) (gs : List (Frame parts)) (g : Body parts) (b : Bool) (t : Term) (q : Bool) → b ≡ g.touched → Stands gs g → AllStand gs → GoesOn (close_term derivations s gs b t q) (λ r. frames_then gs (body_then g (nesting gs) (term_then t (within g.tildes (nesting gs)) r))) (here closing)
+close_term_goes : (s : State parts) (gs : List (Frame parts)) (g : Body parts) (b : Bool) (t : Term) (q : Bool) → b ≡ g.touched → IsBodySane gs g → AreFramesSane gs → GoesOn (close_term derivations s gs b t q) (λ r. frames_then gs (body_then g (nesting gs) (term_then t (within g.tildes (nesting gs)) r))) (here closing)
 close_term_goes s (paren h y ∷ hs) g false t q e a b =
     goes
     (record { body = b.0; frames = b.1 })
@@ -259,12 +259,12 @@ argument_goes s n closing a = goes (stays _ a) (λ r. refl)
 argument_goes s n t a = factor_goes s (argument n no_terms) [] no_addends no_factors (product_start true) t a
 
 -- the variables with one more, which a `,` precedes
-begun_goes : (s : State parts) (q : Binding) (n : Name) (h : Body parts) (hs : List (Frame parts)) → Stands hs h → AllStand hs → GoesOn (at_next derivations s hs h (with_variable q n)) (λ r. frames_then (scope q n h ∷ hs) r) (here comma)
+begun_goes : (s : State parts) (q : Binding) (n : Name) (h : Body parts) (hs : List (Frame parts)) → IsBodySane hs h → AreFramesSane hs → GoesOn (at_next derivations s hs h (with_variable q n)) (λ r. frames_then (scope q n h ∷ hs) r) (here comma)
 begun_goes s (some ns) n h hs b c = goes (record { body = b; frames = c }) (λ r. refl)
 begun_goes s (every ns) n h hs b c = goes (record { body = b; frames = c }) (λ r. refl)
 begun_goes s infinite n h hs b c = tt
 
-next_goes : (s : State parts) (gs : List (Frame parts)) (g : Body parts) (b : Bool) → b ≡ g.touched → Stands gs g → AllStand gs → GoesOn (next_variable derivations s gs b) (λ r. frames_then gs (body_then g (nesting gs) r)) (here comma)
+next_goes : (s : State parts) (gs : List (Frame parts)) (g : Body parts) (b : Bool) → b ≡ g.touched → IsBodySane gs g → AreFramesSane gs → GoesOn (next_variable derivations s gs b) (λ r. frames_then gs (body_then g (nesting gs) r)) (here comma)
 next_goes s (scope k n h ∷ hs) g false e a b =
     rederived
     (at_next derivations s hs h (with_variable k n))
@@ -281,7 +281,7 @@ next_goes s (paren h y ∷ hs) g c e a b = tt
 next_goes s [] g c e a b = tt
 
 -- a body inside of another one
-inside : (gs : List (Frame parts)) (g : Body parts) → Stands gs g → suc (within g.tildes g.base) ≡ suc (within g.tildes (nesting gs))
+inside : (gs : List (Frame parts)) (g : Body parts) → IsBodySane gs g → suc (within g.tildes g.base) ≡ suc (within g.tildes (nesting gs))
 inside gs g a = ap (λ b. suc (within g.tildes b)) a.based
 
 enter_goes : (s : State parts) (u : Token) → Sane s → GoesOn (enter derivations s u) (state_then (at s at_operand)) (here u)

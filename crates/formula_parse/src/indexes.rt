@@ -1,4 +1,4 @@
-//! The machine at words with places, on the left or on the right of a relation.
+//! The machine at words with positions, on the left or on the right of a relation.
 
 ghost use Rattle.std.specs.Prelude.{◌≡◌};
 ghost use Rattle.formula_parse.specs.Made.{trees};
@@ -74,7 +74,7 @@ pub(crate) fn enter_bracket(
     }
 }
 
-/// A token after a place of an index.
+/// A token after a position of an index.
 pub(crate) fn leave_index(
     alloc: Global,
     context: Context,

@@ -52,7 +52,7 @@ mod operands;
 /// The machine where a factor begins, and after one.
 mod terms;
 
-/// The machine at words with places.
+/// The machine at words with positions.
 mod indexes;
 
 /// The machine at letters.

@@ -219,7 +219,7 @@ pub fn quantified(
     Ok(whole)
 }
 
-/// A word at some places and a last one.
+/// A word at some positions and a last one.
 pub fn index(word: Name, mut places: Vec<Term>, last: Term) -> Result<Index, OutOfMemory>
     ensures word { IfOk result (λ x. x.word ≡ word) }
     ensures places { IfOk result (λ x. terms_view x.places.items ≡ trees.terms (terms_view places.items) (term_view last)) }

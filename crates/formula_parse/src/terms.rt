@@ -233,7 +233,7 @@ fn leave_argument(
     }
 }
 
-/// A token after a place of a word.
+/// A token after a position of a word.
 fn leave_place(context: Context, places: Places, term: Term, token: Token) -> Result<State, Stop>
     ensures { Gives result (machine.leave_whole trees (context_view context) (role_view (Role.PlaceIn places)) (term_view term) false (token_view token)) }
 {

@@ -88,12 +88,12 @@ pub struct Addend {
     pub sign: Sign,
 }
 
-/// A word at places, one at least.
+/// A word at positions, one at least.
 #[derive(Drop)]
 pub struct Index {
     /// The word's name.
     pub word: Name,
-    /// The places, each in brackets of its own.
+    /// The positions, each in brackets of its own.
     pub places: Vec<Term>,
 }
 
@@ -102,17 +102,17 @@ pub struct Index {
 pub enum Fact {
     /// Two terms compare so.
     Compare(Term, Relation, Term),
-    /// The letters of two words at places compare so.
+    /// The letters of two words at positions compare so.
     Words(Index, Relation, Index),
-    /// The letter of a word at places compares so to a letter.
+    /// The letter of a word at positions compares so to a letter.
     WordLetter(Index, Relation, i32),
-    /// A letter compares so to the letter of a word at places.
+    /// A letter compares so to the letter of a word at positions.
     LetterWord(i32, Relation, Index),
     /// What the automaton of this name says of the terms.
     Call(Name, Vec<Term>),
 }
 
-/// A fact, in the system in force at its place.
+/// A fact, in the system in force at its position.
 #[derive(Drop)]
 pub struct Atom {
     /// The system's name.

@@ -1,6 +1,6 @@
 pub mod OptionLemmas
 pub mod TrackLemmas
-pub mod Standing
+pub mod PlacedValues
 pub mod MultipleLemmas
 pub mod QuotientLemmas
 pub mod TermLemmas

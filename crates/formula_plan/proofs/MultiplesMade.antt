@@ -8,7 +8,7 @@ use Rattle.formula_plan.specs.Tracks.{Track, fresh}
 use Rattle.formula_plan.specs.Plans.{Plan, compared, added, number, constant, joined, Made}
 use Rattle.formula_plan.specs.TermPlans.{Placed, TermPlan, no_times, linked, multiple, parted, below, quotient_made, Scaling, scaling_made, closing, scaled, scaled_all}
 use Rattle.formula_plan.specs.Makings.{plan_at}
-use Rattle.formula_plan.specs.Planning.{Adds, IsAt, Does, DoesTerm, linked_at, base_made, constant_made, closed_made, standing, placed_at, IsWithin}
+use Rattle.formula_plan.specs.Planning.{Adds, IsAt, Does, DoesTerm, linked_at, base_made, constant_made, closed_made, placed_plan, placed_at, IsWithin}
 use Rattle.formula_plan.specs.TermPlanning.{scaling_view}
 use Rattle.formula_plan.specs.declared.multiples.Scaling as parsed_scaling
 use Rattle.formula_plan.specs.declared.multiples.Scaling.TheVariants as scalings
@@ -174,8 +174,8 @@ pub scaled_does : (old taken one new : Planner) (v w : found.Placed) (i j r : �
     → Does taken one i (scaling_made s f (placed_at old.plans v).track (fresh r) taken.next)
     → Does one new j (closed_made one.next (placed_at one.plans v) (plan_at one.plans i))
     → IsWithin new.plans w.relation → placed_at new.plans w ≡ record { track = fresh r; relation = Some (plan_at new.plans j) }
-    → DoesTerm old new w (scaled s (standing (placed_at old.plans v) old.next) f)
-scaled_does old taken one new v w i j r s f inside here next same first second within stands =
+    → DoesTerm old new w (scaled s (placed_plan (placed_at old.plans v) old.next) f)
+scaled_does old taken one new v w i j r s f inside here next same first second within value_placed =
     let p : Placed = placed_at old.plans v in
     let ours : Does old one i (scaling_made s f p.track (fresh old.next) (old.next + 1)) =
     subst (λ l. Does old one i (scaling_made s f p.track (fresh old.next) l)) next
@@ -188,7 +188,7 @@ scaled_does old taken one new v w i j r s f inside here next same first second w
     record {
       adds = adds_then old.plans one.plans new.plans m.steps (closing p m.last) ours.adds closes.adds;
       within = within;
-      placed_is = stands ∙ ap (λ q. let z : Placed = record { track = fresh q; relation = Some (plan_at new.plans j) } in z) here
+      placed_is = value_placed ∙ ap (λ q. let z : Placed = record { track = fresh q; relation = Some (plan_at new.plans j) } in z) here
           ∙ ap (λ q. let z : Placed = record { track = fresh old.next; relation = Some q } in z) closes.last.is;
       next = closes.next ∙ ours.next;
     }
@@ -199,16 +199,16 @@ scaled_end s p [] f = refl
 scaled_end s p (g ∷ fs) f = scaled_end s (scaled s p g) fs f
 
 pub scaled_more : (old mid new : Planner) (v w : found.Placed) (s : Name) (p : TermPlan) (xs : List parsed_scaling.Scaling) (i : ℕ) (x : parsed_scaling.Scaling) → i < length xs → x ≡ get_or xs i x
-    → DoesTerm old mid v (scaled_all s p (map scaling_view (take i xs))) → DoesTerm mid new w (scaled s (standing (placed_at mid.plans v) mid.next) (scaling_view x))
+    → DoesTerm old mid v (scaled_all s p (map scaling_view (take i xs))) → DoesTerm mid new w (scaled s (placed_plan (placed_at mid.plans v) mid.next) (scaling_view x))
     → DoesTerm old new w (scaled_all s p (map scaling_view (take (i + 1) xs)))
 scaled_more old mid new v w s p xs i x within at first second =
     let f : Scaling = scaling_view x in
     let q : TermPlan = scaled_all s p (map scaling_view (take i xs)) in
-    let later : DoesTerm mid new w (scaled s (standing q.placed q.next) f) =
-    subst (λ l. DoesTerm mid new w (scaled s (standing q.placed l) f)) first.next
-    (subst (λ z. DoesTerm mid new w (scaled s (standing z mid.next) f)) first.placed_is second) in
+    let later : DoesTerm mid new w (scaled s (placed_plan q.placed q.next) f) =
+    subst (λ l. DoesTerm mid new w (scaled s (placed_plan q.placed l) f)) first.next
+    (subst (λ z. DoesTerm mid new w (scaled s (placed_plan z mid.next) f)) first.placed_is second) in
     let whole : DoesTerm old new w (scaled s q f) = record {
-      adds = adds_then old.plans mid.plans new.plans q.steps (scaled s (standing q.placed q.next) f).steps first.adds later.adds;
+      adds = adds_then old.plans mid.plans new.plans q.steps (scaled s (placed_plan q.placed q.next) f).steps first.adds later.adds;
       within = later.within;
       placed_is = later.placed_is;
       next = later.next;
@@ -239,11 +239,11 @@ twice_answers (Err e) old new s c x y two does = does
 
 -- a product of a value that is made first
 scaled_prefix : (s : Name) (p : TermPlan) (cs : List Scaling)
-    → scaled_all s p cs ≡ record { steps = p.steps ++ (scaled_all s (standing p.placed p.next) cs).steps; placed = (scaled_all s (standing p.placed p.next) cs).placed; next = (scaled_all s (standing p.placed p.next) cs).next }
+    → scaled_all s p cs ≡ record { steps = p.steps ++ (scaled_all s (placed_plan p.placed p.next) cs).steps; placed = (scaled_all s (placed_plan p.placed p.next) cs).placed; next = (scaled_all s (placed_plan p.placed p.next) cs).next }
 scaled_prefix s p [] = ap (λ l. let q : TermPlan = record { steps = l; placed = p.placed; next = p.next } in q) (sym (append-nil p.steps))
 scaled_prefix s p (c ∷ cs) =
-    let one : TermPlan = scaled s (standing p.placed p.next) c in
-    let rest : TermPlan = scaled_all s (standing one.placed one.next) cs in
+    let one : TermPlan = scaled s (placed_plan p.placed p.next) c in
+    let rest : TermPlan = scaled_all s (placed_plan one.placed one.next) cs in
     let whole : TermPlan = scaled_all s one cs in
     let from : whole ≡ record { steps = one.steps ++ rest.steps; placed = rest.placed; next = rest.next } = scaled_prefix s one cs in
     scaled_prefix s (scaled s p c) cs
@@ -251,13 +251,13 @@ scaled_prefix s p (c ∷ cs) =
     ∙ sym (ap (λ (w : TermPlan). let q : TermPlan = record { steps = p.steps ++ w.steps; placed = w.placed; next = w.next } in q) from)
 
 pub scaled_after : (old mid new : Planner) (v w : found.Placed) (s : Name) (p : TermPlan) (cs : List Scaling)
-    → DoesTerm old mid v p → DoesTerm mid new w (scaled_all s (standing (placed_at mid.plans v) mid.next) cs) → DoesTerm old new w (scaled_all s p cs)
+    → DoesTerm old mid v p → DoesTerm mid new w (scaled_all s (placed_plan (placed_at mid.plans v) mid.next) cs) → DoesTerm old new w (scaled_all s p cs)
 scaled_after old mid new v w s p cs first second =
-    let later : DoesTerm mid new w (scaled_all s (standing p.placed p.next) cs) =
-    subst (λ l. DoesTerm mid new w (scaled_all s (standing p.placed l) cs)) first.next
-    (subst (λ z. DoesTerm mid new w (scaled_all s (standing z mid.next) cs)) first.placed_is second) in
+    let later : DoesTerm mid new w (scaled_all s (placed_plan p.placed p.next) cs) =
+    subst (λ l. DoesTerm mid new w (scaled_all s (placed_plan p.placed l) cs)) first.next
+    (subst (λ z. DoesTerm mid new w (scaled_all s (placed_plan z mid.next) cs)) first.placed_is second) in
     subst (λ r. DoesTerm old new w r) (sym (scaled_prefix s p cs)) (record {
-      adds = adds_then old.plans mid.plans new.plans p.steps (scaled_all s (standing p.placed p.next) cs).steps first.adds later.adds;
+      adds = adds_then old.plans mid.plans new.plans p.steps (scaled_all s (placed_plan p.placed p.next) cs).steps first.adds later.adds;
       within = later.within;
       placed_is = later.placed_is;
       next = later.next;

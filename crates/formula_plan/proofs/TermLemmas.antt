@@ -15,12 +15,12 @@ use Rattle.formula_plan.specs.FactPlans.{Places, no_places, places, tracks_of, c
 use Rattle.formula_plan.specs.Linear.{IsLinear, AreLinearFactors, AreLinearAddends, AreLinear, others}
 use Rattle.formula_plan.specs.Means.{Means}
 use Rattle.formula_plan.proofs.OptionLemmas.{both_some, both_at, and_some, difference_there, difference_back}
-use Rattle.formula_plan.proofs.Standing.{Value, IsPlaced, placed_up, Stands, stands_same, Values, no_values, listed, read_all, StandAll, Reads, reads_outside, list_there, list_back}
+use Rattle.formula_plan.proofs.PlacedValues.{Value, IsPlaced, placed_up, IsValuePlaced, value_placed_same, Values, no_values, listed, read_all, AreValuesPlaced, Reads, reads_outside, list_there, list_back}
 use Rattle.formula_plan.proofs.MultipleLemmas.{IsBelow}
 use Rattle.formula_plan.proofs.QuotientLemmas.{scaled_number, IsScaled, scaling_is}
 
-numeral_stands : (m : Meanings) (s : Name) (c k : ℕ) → Stands m (λ b. Some c) (numeral_plan s c k).placed k (numeral_plan s c k).next
-numeral_stands m s c k = record {
+numeral_is_placed : (m : Meanings) (s : Name) (c k : ℕ) → IsValuePlaced m (λ b. Some c) (numeral_plan s c k).placed k (numeral_plan s c k).next
+numeral_is_placed m s c k = record {
   there = λ a is. ap Some (sym is);
   back = λ a is. sym (same_Some c (a (fresh k)) is);
   placed = (omega arith, omega arith);
@@ -55,17 +55,17 @@ sum_back : (m : Meanings) (s : Name) (sign : Sign) (x y z : Track) (b : Numbers)
 sum_back m s plus x y z b h = same_Some (b x + b y) (b z) h
 sum_back m s minus x y z b h = difference_there (b x) (b y) (b z) h
 
-addend_stands : (m : Meanings) (s : Name) (sign : Sign) (v w : Value) (p q : TermPlan) (k : ℕ) → Stands m v p.placed k p.next → Stands m w q.placed p.next q.next
-    → Stands m (λ b. both (by_sign sign) (v b) (w b)) (with_addend s sign p q).placed k (with_addend s sign p q).next
-addend_stands m s sign v w p q k first second = record {
+addend_is_placed : (m : Meanings) (s : Name) (sign : Sign) (v w : Value) (p q : TermPlan) (k : ℕ) → IsValuePlaced m v p.placed k p.next → IsValuePlaced m w q.placed p.next q.next
+    → IsValuePlaced m (λ b. both (by_sign sign) (v b) (w b)) (with_addend s sign p q).placed k (with_addend s sign p q).next
+addend_is_placed m s sign v w p q k first second = record {
   there = λ a h.
-      let read = list_there m vs ps k q.next stand base (Says a) a (says_there a) h in
+      let read = list_there m vs ps k q.next all_placed base (Says a) a (says_there a) h in
       let two = read_two v w (of_variables a) read.0 read.1 in
       both_at (by_sign sign) (v (of_variables a)) (w (of_variables a)) two.0 two.1 two.2 two.3
       ∙ subst (λ ns. Says a ns) two.4 read.2;
   back = λ a is.
       let parts = both_some (by_sign sign) (v (of_variables a)) (w (of_variables a)) (a (fresh q.next)) is in
-      list_back m vs ps k q.next stand base (Says a) a (says_back a) (parts.0 ∷ parts.1 ∷ []) (two_read v w (of_variables a) parts.0 parts.1 parts.2 parts.3) parts.4;
+      list_back m vs ps k q.next all_placed base (Says a) a (says_back a) (parts.0 ∷ parts.1 ∷ []) (two_read v w (of_variables a) parts.0 parts.1 parts.2 parts.3) parts.4;
   placed = (
     let one = placed_up p.placed.track p.placed.relation k p.next first.placed in
         let two = placed_up q.placed.track q.placed.relation p.next q.next second.placed in omega (arith, one, two),
@@ -82,17 +82,17 @@ addend_stands m s sign v w p q k first second = record {
     base : Plan
     base = sum_relation s sign p.placed.track q.placed.track (fresh q.next)
 
-    stand : StandAll m vs ps k q.next
-    stand = (p.next, (k, omega arith, first), second)
+    all_placed : AreValuesPlaced m vs ps k q.next
+    all_placed = (p.next, (k, omega arith, first), second)
 
     Says : Numbers → List ℕ → Type 0
     Says a ns = by_sign sign (slice_index_or ns 0 0) (slice_index_or ns 1 0) ≡ Some (a (fresh q.next))
 
     says_there : (a b : Numbers) → Reads vs ps a b → Means m base b → Says a (map b (tracks_of ps))
-    says_there a b reads h = sum_there m s sign p.placed.track q.placed.track (fresh q.next) b h ∙ ap Some (reads_outside m vs ps k q.next stand a b reads q.next (omega arith))
+    says_there a b reads h = sum_there m s sign p.placed.track q.placed.track (fresh q.next) b h ∙ ap Some (reads_outside m vs ps k q.next all_placed a b reads q.next (omega arith))
 
     says_back : (a b : Numbers) → Reads vs ps a b → Says a (map b (tracks_of ps)) → Means m base b
-    says_back a b reads h = sum_back m s sign p.placed.track q.placed.track (fresh q.next) b (h ∙ ap Some (sym (reads_outside m vs ps k q.next stand a b reads q.next (omega arith))))
+    says_back a b reads h = sum_back m s sign p.placed.track q.placed.track (fresh q.next) b (h ∙ ap Some (sym (reads_outside m vs ps k q.next all_placed a b reads q.next (omega arith))))
 
 placed_below : (t : Track) (r : Option Plan) (k next : ℕ) → IsPlaced t r k next → IsBelow t (next + 1)
 placed_below (own n) None k next is = tt
@@ -154,18 +154,18 @@ value_of : (f : Scaling) (x : Option ℕ) (z : ℕ) → scaled_value f x ≡ Som
 value_of f None z is = absurd (none-some z is)
 value_of f (Some n) z is = (n, refl, is)
 
-scaled_stands : (m : Meanings) (s : Name) (v : Value) (p : TermPlan) (f : Scaling) (k : ℕ) → Stands m v p.placed k p.next
-    → Stands m (λ b. scaled_value f (v b)) (scaled s p f).placed k (scaled s p f).next
-scaled_stands m s v p f k stands = record {
+scaled_is_placed : (m : Meanings) (s : Name) (v : Value) (p : TermPlan) (f : Scaling) (k : ℕ) → IsValuePlaced m v p.placed k p.next
+    → IsValuePlaced m (λ b. scaled_value f (v b)) (scaled s p f).placed k (scaled s p f).next
+scaled_is_placed m s v p f k value_placed = record {
   there = λ a h.
-      let read = list_there m vs ps k p.next stand base (Says a) a (says_there a) h in
+      let read = list_there m vs ps k p.next all_placed base (Says a) a (says_there a) h in
       let one = read_one v (of_variables a) read.0 read.1 in
       value_at f (v (of_variables a)) one.0 one.1 ∙ subst (λ ns. Says a ns) one.2 read.2;
   back = λ a is.
       let found = value_of f (v (of_variables a)) (a (fresh p.next)) is in
-      list_back m vs ps k p.next stand base (Says a) a (says_back a) (found.0 ∷ []) (one_read v (of_variables a) found.0 found.1) found.2;
+      list_back m vs ps k p.next all_placed base (Says a) a (says_back a) (found.0 ∷ []) (one_read v (of_variables a) found.0 found.1) found.2;
   placed = (
-    placed_up p.placed.track p.placed.relation k p.next stands.placed,
+    placed_up p.placed.track p.placed.relation k p.next value_placed.placed,
     let up = scaling_next s f p.placed.track (fresh p.next) (p.next + 1) in omega (arith, up),
   );
 }
@@ -179,20 +179,20 @@ scaled_stands m s v p f k stands = record {
     base : Plan
     base = (scaling_made s f p.placed.track (fresh p.next) (p.next + 1)).last
 
-    stand : StandAll m vs ps k p.next
-    stand = (k, omega arith, stands)
+    all_placed : AreValuesPlaced m vs ps k p.next
+    all_placed = (k, omega arith, value_placed)
 
     Says : Numbers → List ℕ → Type 0
     Says a ns = scaled_number f (slice_index_or ns 0 0) ≡ Some (a (fresh p.next))
 
     base_is : IsScaled m base p.placed.track (fresh p.next) f
-    base_is = scaling_is m s f p.placed.track (fresh p.next) (p.next + 1) (placed_below p.placed.track p.placed.relation k p.next stands.placed) (omega arith)
+    base_is = scaling_is m s f p.placed.track (fresh p.next) (p.next + 1) (placed_below p.placed.track p.placed.relation k p.next value_placed.placed) (omega arith)
 
     says_there : (a b : Numbers) → Reads vs ps a b → Means m base b → Says a (map b (tracks_of ps))
-    says_there a b reads h = (base_is b).0 h ∙ ap Some (reads_outside m vs ps k p.next stand a b reads p.next (omega arith))
+    says_there a b reads h = (base_is b).0 h ∙ ap Some (reads_outside m vs ps k p.next all_placed a b reads p.next (omega arith))
 
     says_back : (a b : Numbers) → Reads vs ps a b → Says a (map b (tracks_of ps)) → Means m base b
-    says_back a b reads h = (base_is b).1 (h ∙ ap Some (sym (reads_outside m vs ps k p.next stand a b reads p.next (omega arith))))
+    says_back a b reads h = (base_is b).1 (h ∙ ap Some (sym (reads_outside m vs ps k p.next all_placed a b reads p.next (omega arith))))
 
 -- a value scaled several times, in their order
 abbrev pub all_scaled : Option ℕ → List Scaling → Option ℕ
@@ -203,10 +203,10 @@ all_scaled_more : (x : Option ℕ) (fs : List Scaling) (f : Scaling) → all_sca
 all_scaled_more x [] f = refl
 all_scaled_more x (g ∷ fs) f = all_scaled_more (scaled_value g x) fs f
 
-all_stand : (m : Meanings) (s : Name) (fs : List Scaling) (v : Value) (p : TermPlan) (k : ℕ) → Stands m v p.placed k p.next
-    → Stands m (λ b. all_scaled (v b) fs) (scaled_all s p fs).placed k (scaled_all s p fs).next
-all_stand m s [] v p k stands = stands
-all_stand m s (f ∷ fs) v p k stands = all_stand m s fs (λ b. scaled_value f (v b)) (scaled s p f) k (scaled_stands m s v p f k stands)
+all_are_placed : (m : Meanings) (s : Name) (fs : List Scaling) (v : Value) (p : TermPlan) (k : ℕ) → IsValuePlaced m v p.placed k p.next
+    → IsValuePlaced m (λ b. all_scaled (v b) fs) (scaled_all s p fs).placed k (scaled_all s p fs).next
+all_are_placed m s [] v p k value_placed = value_placed
+all_are_placed m s (f ∷ fs) v p k value_placed = all_are_placed m s fs (λ b. scaled_value f (v b)) (scaled s p f) k (scaled_is_placed m s v p f k value_placed)
 
 -- some numerals
 abbrev AreNumerals : List Scaling → Type 0
@@ -247,21 +247,21 @@ once (Some x) = ap Some (one x)
 -- the value is that of the other factor, if there is one, scaled
 abbrev IsFactored : Meanings → Option (ℕ → TermPlan) → List Scaling → Value → Type 0
 IsFactored m None fs v = (b : Assignment) → v b ≡ all_scaled (Some 1) fs
-IsFactored m (Some plan) fs v = (w : Value) × ((k : ℕ) → Stands m w (plan k).placed k (plan k).next) × ((b : Assignment) → v b ≡ all_scaled (w b) fs)
+IsFactored m (Some plan) fs v = (w : Value) × ((k : ℕ) → IsValuePlaced m w (plan k).placed k (plan k).next) × ((b : Assignment) → v b ≡ all_scaled (w b) fs)
 
-begun_stands : (m : Meanings) (s : Name) (other : Option (ℕ → TermPlan)) (fs : List Scaling) (v : Value) → IsFactored m other fs v
-    → (k : ℕ) → Stands m v (begun s other fs k).placed k (begun s other fs k).next
-begun_stands m s (Some plan) fs v is k =
-    stands_same m (λ b. all_scaled (is.0 b) fs) v (scaled_all s (plan k) fs).placed k (scaled_all s (plan k) fs).next
-    (λ b. sym (is.2 b)) (all_stand m s fs is.0 (plan k) k (is.1 k))
-begun_stands m s None [] v is k =
-    stands_same m (λ b. Some 1) v (numeral_plan s 1 k).placed k (numeral_plan s 1 k).next (λ b. sym (is b)) (numeral_stands m s 1 k)
-begun_stands m s None (by_numeral c ∷ fs) v is k =
-    stands_same m (λ b. all_scaled (Some c) fs) v (scaled_all s (numeral_plan s c k) fs).placed k (scaled_all s (numeral_plan s c k) fs).next
-    (λ b. ap (λ x. all_scaled x fs) (sym (once (Some c))) ∙ sym (is b)) (all_stand m s fs (λ b. Some c) (numeral_plan s c k) k (numeral_stands m s c k))
-begun_stands m s None (by_divisor c ∷ fs) v is k =
-    stands_same m (λ b. all_scaled (Some 1) (by_divisor c ∷ fs)) v (scaled_all s (numeral_plan s 1 k) (by_divisor c ∷ fs)).placed k (scaled_all s (numeral_plan s 1 k) (by_divisor c ∷ fs)).next
-    (λ b. sym (is b)) (all_stand m s (by_divisor c ∷ fs) (λ b. Some 1) (numeral_plan s 1 k) k (numeral_stands m s 1 k))
+begun_is_placed : (m : Meanings) (s : Name) (other : Option (ℕ → TermPlan)) (fs : List Scaling) (v : Value) → IsFactored m other fs v
+    → (k : ℕ) → IsValuePlaced m v (begun s other fs k).placed k (begun s other fs k).next
+begun_is_placed m s (Some plan) fs v is k =
+    value_placed_same m (λ b. all_scaled (is.0 b) fs) v (scaled_all s (plan k) fs).placed k (scaled_all s (plan k) fs).next
+    (λ b. sym (is.2 b)) (all_are_placed m s fs is.0 (plan k) k (is.1 k))
+begun_is_placed m s None [] v is k =
+    value_placed_same m (λ b. Some 1) v (numeral_plan s 1 k).placed k (numeral_plan s 1 k).next (λ b. sym (is b)) (numeral_is_placed m s 1 k)
+begun_is_placed m s None (by_numeral c ∷ fs) v is k =
+    value_placed_same m (λ b. all_scaled (Some c) fs) v (scaled_all s (numeral_plan s c k) fs).placed k (scaled_all s (numeral_plan s c k) fs).next
+    (λ b. ap (λ x. all_scaled x fs) (sym (once (Some c))) ∙ sym (is b)) (all_are_placed m s fs (λ b. Some c) (numeral_plan s c k) k (numeral_is_placed m s c k))
+begun_is_placed m s None (by_divisor c ∷ fs) v is k =
+    value_placed_same m (λ b. all_scaled (Some 1) (by_divisor c ∷ fs)) v (scaled_all s (numeral_plan s 1 k) (by_divisor c ∷ fs)).placed k (scaled_all s (numeral_plan s 1 k) (by_divisor c ∷ fs)).next
+    (λ b. sym (is b)) (all_are_placed m s (by_divisor c ∷ fs) (λ b. Some 1) (numeral_plan s 1 k) k (numeral_is_placed m s 1 k))
 
 scaling_factored : (m : Meanings) (other : Option (ℕ → TermPlan)) (fs : List Scaling) (v : Value) (f : Scaling) → IsFactored m other fs v
     → IsFactored m other (fs ++ f ∷ []) (λ b. scaled_value f (v b))
@@ -280,9 +280,9 @@ numeral_factored m other fs v c is =
 
 -- where all factors are numerals, the next one may be another
 other_factored : (m : Meanings) (other : Option (ℕ → TermPlan)) (fs : List Scaling) (v w : Value) (plan : ℕ → TermPlan) → (other ≡ None) × AreNumerals fs → IsFactored m other fs v
-    → ((k : ℕ) → Stands m w (plan k).placed k (plan k).next) → IsFactored m (Some plan) fs (λ b. both multiplied (v b) (w b))
-other_factored m None fs v w plan none is stands = (w, stands, λ b. ap (λ x. both multiplied x (w b)) (is b) ∙ numerals_swapped fs 1 (w b) none.1 ∙ ap (λ x. all_scaled x fs) (once (w b)))
-other_factored m (Some other) fs v w plan none is stands = absurd (none-some other (sym none.0))
+    → ((k : ℕ) → IsValuePlaced m w (plan k).placed k (plan k).next) → IsFactored m (Some plan) fs (λ b. both multiplied (v b) (w b))
+other_factored m None fs v w plan none is value_placed = (w, value_placed, λ b. ap (λ x. both multiplied x (w b)) (is b) ∙ numerals_swapped fs 1 (w b) none.1 ∙ ap (λ x. all_scaled x fs) (once (w b)))
+other_factored m (Some other) fs v w plan none is value_placed = absurd (none-some other (sym none.0))
 
 no_other : (s : Name) (fs : Factors) → others fs ≡ 0 → ((factor_plans s fs).other ≡ None) × AreNumerals (factor_plans s fs).scalings
 no_other s no_factors none = (refl, tt)
@@ -293,11 +293,11 @@ no_other s (factors fs (times (sum ss t))) none = absurd (omega (arith, none))
 no_other s (factors fs (divided c)) none = absurd (omega (arith, none))
 
 mutual
-  pub term_stands : (m : Meanings) (s : Name) (t : Term) → IsLinear t → (k : ℕ) → Stands m (value t) (term_plan s t k).placed k (term_plan s t k).next
-  term_stands m s (variable n) linear k = record { there = λ a h. refl; back = λ a is. tt; placed = omega arith }
-  term_stands m s (numeral c) linear k = numeral_stands m s c k
-  term_stands m s (product fs) linear k = begun_stands m s (factor_plans s fs).other (factor_plans s fs).scalings (product_value fs) (factors_are m s fs linear.0 linear.1) k
-  term_stands m s (sum ss t) linear k = sum_stands m s ss linear.0 (value t) (term_plan s t) (term_stands m s t linear.1) k
+  pub term_is_placed : (m : Meanings) (s : Name) (t : Term) → IsLinear t → (k : ℕ) → IsValuePlaced m (value t) (term_plan s t k).placed k (term_plan s t k).next
+  term_is_placed m s (variable n) linear k = record { there = λ a h. refl; back = λ a is. tt; placed = omega arith }
+  term_is_placed m s (numeral c) linear k = numeral_is_placed m s c k
+  term_is_placed m s (product fs) linear k = begun_is_placed m s (factor_plans s fs).other (factor_plans s fs).scalings (product_value fs) (factors_are m s fs linear.0 linear.1) k
+  term_is_placed m s (sum ss t) linear k = sum_is_placed m s ss linear.0 (value t) (term_plan s t) (term_is_placed m s t linear.1) k
 
   factors_are : (m : Meanings) (s : Name) (fs : Factors) → others fs ≤ 1 → AreLinearFactors fs → IsFactored m (factor_plans s fs).other (factor_plans s fs).scalings (product_value fs)
   factors_are m s no_factors few linear = λ b. refl
@@ -306,22 +306,22 @@ mutual
       scaling_factored m (factor_plans s fs).other (factor_plans s fs).scalings (product_value fs) (by_divisor c) (factors_are m s fs (omega (arith, few)) linear)
   factors_are m s (factors fs (times (variable n))) few linear =
       other_factored m (factor_plans s fs).other (factor_plans s fs).scalings (product_value fs) (value (variable n)) (term_plan s (variable n)) (no_other s fs (omega (arith, few)))
-      (factors_are m s fs (omega (arith, few)) linear.0) (term_stands m s (variable n) linear.1)
+      (factors_are m s fs (omega (arith, few)) linear.0) (term_is_placed m s (variable n) linear.1)
   factors_are m s (factors fs (times (product gs))) few linear =
       other_factored m (factor_plans s fs).other (factor_plans s fs).scalings (product_value fs) (value (product gs)) (term_plan s (product gs)) (no_other s fs (omega (arith, few)))
-      (factors_are m s fs (omega (arith, few)) linear.0) (term_stands m s (product gs) linear.1)
+      (factors_are m s fs (omega (arith, few)) linear.0) (term_is_placed m s (product gs) linear.1)
   factors_are m s (factors fs (times (sum ss t))) few linear =
       other_factored m (factor_plans s fs).other (factor_plans s fs).scalings (product_value fs) (value (sum ss t)) (term_plan s (sum ss t)) (no_other s fs (omega (arith, few)))
-      (factors_are m s fs (omega (arith, few)) linear.0) (term_stands m s (sum ss t) linear.1)
+      (factors_are m s fs (omega (arith, few)) linear.0) (term_is_placed m s (sum ss t) linear.1)
 
-  sum_stands : (m : Meanings) (s : Name) (ss : Addends) → AreLinearAddends ss → (w : Value) (last : ℕ → TermPlan)
-      → ((k : ℕ) → Stands m w (last k).placed k (last k).next) → (k : ℕ)
-      → Stands m (λ b. sum_value ss b (w b)) (sum_plan s ss last k).placed k (sum_plan s ss last k).next
-  sum_stands m s no_addends linear w last stands k = stands k
-  sum_stands m s (addends ss t sign) linear w last stands k =
+  sum_is_placed : (m : Meanings) (s : Name) (ss : Addends) → AreLinearAddends ss → (w : Value) (last : ℕ → TermPlan)
+      → ((k : ℕ) → IsValuePlaced m w (last k).placed k (last k).next) → (k : ℕ)
+      → IsValuePlaced m (λ b. sum_value ss b (w b)) (sum_plan s ss last k).placed k (sum_plan s ss last k).next
+  sum_is_placed m s no_addends linear w last value_placed k = value_placed k
+  sum_is_placed m s (addends ss t sign) linear w last value_placed k =
       let p = sum_plan s ss (term_plan s t) k in
-      addend_stands m s sign (λ b. sum_value ss b (value t b)) w p (last p.next) k
-      (sum_stands m s ss linear.0 (value t) (term_plan s t) (term_stands m s t linear.1) k) (stands p.next)
+      addend_is_placed m s sign (λ b. sum_value ss b (value t b)) w p (last p.next) k
+      (sum_is_placed m s ss linear.0 (value t) (term_plan s t) (term_is_placed m s t linear.1) k) (value_placed p.next)
 
 -- the values of some terms
 abbrev pub values_of : Terms → Values
@@ -332,7 +332,7 @@ pub values_are : (ts : Terms) (b : Assignment) → read_all (values_of ts) b ≡
 values_are no_terms b = refl
 values_are (terms ts t) b = ap (λ o. and_value o (value t b)) (values_are ts b)
 
-pub arguments_stand : (m : Meanings) (ss : List Name) (ts : Terms) → AreLinear ts → (k : ℕ) → StandAll m (values_of ts) (argument_plans ss ts k).placed k (argument_plans ss ts k).next
-arguments_stand m ss no_terms linear k = omega arith
-arguments_stand m ss (terms ts t) linear k =
-    ((argument_plans ss ts k).next, arguments_stand m ss ts linear.0 k, term_stands m (slice_index_or ss (count ts) []) t linear.1 (argument_plans ss ts k).next)
+pub arguments_are_placed : (m : Meanings) (ss : List Name) (ts : Terms) → AreLinear ts → (k : ℕ) → AreValuesPlaced m (values_of ts) (argument_plans ss ts k).placed k (argument_plans ss ts k).next
+arguments_are_placed m ss no_terms linear k = omega arith
+arguments_are_placed m ss (terms ts t) linear k =
+    ((argument_plans ss ts k).next, arguments_are_placed m ss ts linear.0 k, term_is_placed m (slice_index_or ss (count ts) []) t linear.1 (argument_plans ss ts k).next)

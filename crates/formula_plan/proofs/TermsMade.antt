@@ -12,7 +12,7 @@ use Rattle.formula_plan.specs.Tracks.{own, fresh}
 use Rattle.formula_plan.specs.Plans.{Plan}
 use Rattle.formula_plan.specs.TermPlans.{Placed, TermPlan, closed, closing, begun, factor_plans, with_addend, sum_plan, sum_relation, term_plan, numeral_plan, Scaling, by_numeral, by_divisor, scaled_all}
 use Rattle.formula_plan.specs.Makings.{plan_at}
-use Rattle.formula_plan.specs.Planning.{Adds, Does, DoesTerm, base_made, closed_made, standing, placed_at, IsWithin}
+use Rattle.formula_plan.specs.Planning.{Adds, Does, DoesTerm, base_made, closed_made, placed_plan, placed_at, IsWithin}
 use Rattle.formula_plan.specs.TermPlanning.{term_of, scaling_in, scaling_view, Begins, other_of, sum_of, IsSumSoFar}
 use Rattle.formula_plan.specs.declared.planner.Planner.{Planner}
 use Rattle.formula_plan.specs.declared.planner.Placed as found
@@ -68,7 +68,7 @@ begins_divisor all rest x c is divisor_is s k =
     ap (λ l. begun s None (map scaling_view l) k) same ∙ sym (ap (λ l. scaled_all s (numeral_plan s 1 k) (map scaling_view l)) same)
 
 pub begun_answers : {E : Type 0} (r : Result found.Placed E) (old mid new : Planner) (v : found.Placed) (s : Name) (all rest : List parsed_scaling.Scaling) (c : ℕ) → Begins all c rest
-    → DoesTerm old mid v (numeral_plan s c old.next) → IfOk r (λ w. DoesTerm mid new w (scaled_all s (standing (placed_at mid.plans v) mid.next) (map scaling_view rest)))
+    → DoesTerm old mid v (numeral_plan s c old.next) → IfOk r (λ w. DoesTerm mid new w (scaled_all s (placed_plan (placed_at mid.plans v) mid.next) (map scaling_view rest)))
     → IfOk r (λ w. DoesTerm old new w (begun s None (map scaling_view all) old.next))
 begun_answers (Ok w) old mid new v s all rest c begins first second =
     subst (λ p. DoesTerm old new w p) (sym (begins s old.next)) (scaled_after old mid new v w s (numeral_plan s c old.next) (map scaling_view rest) first second)
@@ -81,8 +81,8 @@ pub sum_does : (old taken one two new : Planner) (b : Before) (v w : found.Place
     → Does one two j (closed_made one.next (placed_at one.plans b.sum) (plan_at one.plans i))
     → Does two new k (closed_made two.next (placed_at two.plans v) (plan_at two.plans j))
     → IsWithin new.plans w.relation → placed_at new.plans w ≡ record { track = fresh r; relation = Some (plan_at new.plans k) }
-    → DoesTerm old new w (with_addend s (sign_view b.sign) (standing (placed_at old.plans b.sum) old.next) (standing (placed_at old.plans v) old.next))
-sum_does old taken one two new b v w i j k r s inside within here next same first second third fits stands =
+    → DoesTerm old new w (with_addend s (sign_view b.sign) (placed_plan (placed_at old.plans b.sum) old.next) (placed_plan (placed_at old.plans v) old.next))
+sum_does old taken one two new b v w i j k r s inside within here next same first second third fits value_placed =
     let p : Placed = placed_at old.plans b.sum in
     let q : Placed = placed_at old.plans v in
     let base : Plan = sum_relation s (sign_view b.sign) p.track q.track (fresh old.next) in
@@ -98,7 +98,7 @@ sum_does old taken one two new b v w i j k r s inside within here next same firs
     record {
       adds = adds_then old.plans two.plans new.plans (closing p base) (closing q (closed p base)) prefix whole.adds;
       within = fits;
-      placed_is = stands ∙ ap (λ x. let z : Placed = record { track = fresh x; relation = Some (plan_at new.plans k) } in z) here
+      placed_is = value_placed ∙ ap (λ x. let z : Placed = record { track = fresh x; relation = Some (plan_at new.plans k) } in z) here
           ∙ ap (λ x. let z : Placed = record { track = fresh old.next; relation = Some x } in z) whole.last.is;
       next = whole.next ∙ half.next ∙ made.next ∙ next;
     }
@@ -124,11 +124,11 @@ sum_then s ss old mid one new (Some b) v w q so_far value after =
     let r : TermPlan = q p.next in
     let here : DoesTerm mid one v r = subst (λ k. DoesTerm mid one v (q k)) first.next value in
     let sum_track : placed_at one.plans b.sum ≡ p.placed = placed_later mid.plans one.plans r.steps b.sum here.adds first.within ∙ first.placed_is in
-    let last : DoesTerm one new w (with_addend s (sign_view b.sign) (standing p.placed r.next) (standing r.placed r.next)) =
-    subst (λ k. DoesTerm one new w (with_addend s (sign_view b.sign) (standing p.placed k) (standing r.placed k))) here.next
-    (subst (λ x. DoesTerm one new w (with_addend s (sign_view b.sign) (standing p.placed one.next) (standing x one.next))) here.placed_is
-    (subst (λ x. DoesTerm one new w (with_addend s (sign_view b.sign) (standing x one.next) (standing (placed_at one.plans v) one.next))) sum_track after)) in
-    let rest : List Plan = (with_addend s (sign_view b.sign) (standing p.placed r.next) (standing r.placed r.next)).steps in
+    let last : DoesTerm one new w (with_addend s (sign_view b.sign) (placed_plan p.placed r.next) (placed_plan r.placed r.next)) =
+    subst (λ k. DoesTerm one new w (with_addend s (sign_view b.sign) (placed_plan p.placed k) (placed_plan r.placed k))) here.next
+    (subst (λ x. DoesTerm one new w (with_addend s (sign_view b.sign) (placed_plan p.placed one.next) (placed_plan x one.next))) here.placed_is
+    (subst (λ x. DoesTerm one new w (with_addend s (sign_view b.sign) (placed_plan x one.next) (placed_plan (placed_at one.plans v) one.next))) sum_track after)) in
+    let rest : List Plan = (with_addend s (sign_view b.sign) (placed_plan p.placed r.next) (placed_plan r.placed r.next)).steps in
     subst (λ x. DoesTerm old new w x) (sym (so_far.2 q)) (record {
       adds = adds_then old.plans mid.plans new.plans p.steps (r.steps ++ rest) first.adds (adds_then mid.plans one.plans new.plans r.steps rest here.adds last.adds);
       within = last.within;
@@ -161,9 +161,9 @@ sum_answers_all (Err e) s whole t ss ts i old mid one new before v seen same lon
 -- a variable's value is at its own track
 pub variable_does : (s : Name) (whole : Term) (old : Planner) (w : found.Placed) (n : Name) → whole ≡ variable n → w.relation ≡ None → placed_at old.plans w ≡ record { track = own n; relation = None }
     → DoesTerm old old w (term_plan s whole old.next)
-variable_does s whole old w n seen bare stands =
+variable_does s whole old w n seen bare value_placed =
     subst (λ x. DoesTerm old old w (term_plan s x old.next)) (sym seen)
-    (record { adds = adds_none old.plans; within = subst (λ r. IsWithin old.plans r) (sym bare) tt; placed_is = stands; next = refl })
+    (record { adds = adds_none old.plans; within = subst (λ r. IsWithin old.plans r) (sym bare) tt; placed_is = value_placed; next = refl })
 
 pub seen_answers : {E : Type 0} (r : Result found.Placed E) (s : Name) (whole seen : Term) (old new : Planner) → whole ≡ seen → IfOk r (λ w. DoesTerm old new w (term_plan s seen old.next))
     → IfOk r (λ w. DoesTerm old new w (term_plan s whole old.next))
@@ -191,7 +191,7 @@ other_plan s (factors fs (times (sum ss t))) = refl
 
 pub product_answers : {E : Type 0} (r : Result found.Placed E) (s : Name) (fs : Factors) (t : Term) (xs : List Scaling) (old mid new : Planner) (v : found.Placed)
     → DoesTerm old mid v (term_plan s t old.next) → other_of fs ≡ Some t → (factor_plans s fs).scalings ≡ xs
-    → IfOk r (λ w. DoesTerm mid new w (scaled_all s (standing (placed_at mid.plans v) mid.next) xs)) → IfOk r (λ w. DoesTerm old new w (term_plan s (product fs) old.next))
+    → IfOk r (λ w. DoesTerm mid new w (scaled_all s (placed_plan (placed_at mid.plans v) mid.next) xs)) → IfOk r (λ w. DoesTerm old new w (term_plan s (product fs) old.next))
 product_answers (Ok w) s fs t xs old mid new v first other found_are second =
     subst (λ o. DoesTerm old new w (begun s o (factor_plans s fs).scalings old.next)) (sym (other_plan s fs ∙ ap (plan_of_other s) other))
     (subst (λ l. DoesTerm old new w (begun s (Some (term_plan s t)) l old.next)) (sym found_are) (scaled_after old mid new v w s (term_plan s t old.next) xs first second))

@@ -74,8 +74,8 @@ pub record DoesTerm (old new : Planner) (placed : found.Placed) (p : TermPlan) :
   pub next : new.next ≡ p.next
 
 -- a value that is there already
-abbrev pub standing : Placed → ℕ → TermPlan
-standing p k = record { steps = []; placed = p; next = k }
+abbrev pub placed_plan : Placed → ℕ → TermPlan
+placed_plan p k = record { steps = []; placed = p; next = k }
 
 -- what is made of no other plan: without a step, by a step, and by `const`
 abbrev pub base_made : Plan → ℕ → Made

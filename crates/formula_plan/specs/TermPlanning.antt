@@ -6,7 +6,7 @@ use Rattle.formula_parse.specs.Views.{factor_view, factors_view, sign_view}
 use Rattle.formula_parse.specs.declared.tree.Factor as parsed
 use Rattle.formula_plan.specs.Plans.{Plan}
 use Rattle.formula_plan.specs.TermPlans.{Placed, TermPlan, Scaling, by_numeral, by_divisor, scaled_all, numeral_plan, begun, with_addend, sum_plan}
-use Rattle.formula_plan.specs.Planning.{IsWithin, placed_at, standing, DoesTerm}
+use Rattle.formula_plan.specs.Planning.{IsWithin, placed_at, placed_plan, DoesTerm}
 use Rattle.formula_plan.specs.declared.planner.Planner.{Planner}
 use Rattle.formula_plan.specs.declared.terms.Before.{Before}
 use Rattle.formula_plan.specs.declared.multiples.Scaling as parsed_scaling
@@ -53,8 +53,8 @@ IsSumWithin plans (Some b) = IsWithin plans b.sum.relation
 
 -- a value after what came before it, which is there already
 abbrev pub sum_of : Name → List Plan → Option Before → Placed → ℕ → TermPlan
-sum_of s plans None p k = standing p k
-sum_of s plans (Some b) p k = with_addend s (sign_view b.sign) (standing (placed_at plans b.sum) k) (standing p k)
+sum_of s plans None p k = placed_plan p k
+sum_of s plans (Some b) p k = with_addend s (sign_view b.sign) (placed_plan (placed_at plans b.sum) k) (placed_plan p k)
 
 -- the sum of some addends is there, for what comes after it
 abbrev pub IsSumSoFar : Name → Addends → Planner → Planner → Option Before → Type 0

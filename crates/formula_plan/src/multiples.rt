@@ -4,7 +4,7 @@ ghost use Rattle.std.specs.Prelude.{◌≡◌, ℕ, ◌≤◌, ◌<◌, map, len
 ghost use Rattle.formula_plan.specs.TermPlans.{numeral_plan, no_times, multiple as multiple_plan, parted as parted_plan, below as below_plan, quotient_made, scaling_made, scaled as scaled_plan, scaled_all};
 ghost use Rattle.formula_plan.specs.TermPlanning.{scaling_view};
 ghost use Rattle.formula_plan.specs.Makings.{track_view, plan_at};
-ghost use Rattle.formula_plan.specs.Planning.{Does, DoesTerm, IsWithin, placed_at, standing};
+ghost use Rattle.formula_plan.specs.Planning.{Does, DoesTerm, IsWithin, placed_at, placed_plan};
 
 use crate::making::Making;
 use crate::planner::{Placed, Planner};
@@ -160,7 +160,7 @@ fn scaled(
     factor: Scaling,
 ) -> Result<Placed, OutOfMemory>
     requires { IsWithin planner.old.plans value.now.relation }
-    ensures { IfOk result (λ placed. DoesTerm planner.old planner.new placed (scaled_plan system.now (standing (placed_at planner.old.plans value.now) planner.old.next) (scaling_view factor))) }
+    ensures { IfOk result (λ placed. DoesTerm planner.old planner.new placed (scaled_plan system.now (placed_plan (placed_at planner.old.plans value.now) planner.old.next) (scaling_view factor))) }
 {
     let track = Track::Fresh(planner.fresh()?);
     let scale = Scale {
@@ -184,7 +184,7 @@ pub(crate) fn scaled_by_all(
     scalings: &[Scaling],
 ) -> Result<Placed, OutOfMemory>
     requires { IsWithin planner.old.plans value.relation }
-    ensures { IfOk result (λ placed. DoesTerm planner.old planner.new placed (scaled_all system.now (standing (placed_at planner.old.plans value) planner.old.next) (map scaling_view scalings.now))) }
+    ensures { IfOk result (λ placed. DoesTerm planner.old planner.new placed (scaled_all system.now (placed_plan (placed_at planner.old.plans value) planner.old.next) (map scaling_view scalings.now))) }
 {
     let mut product = value;
     for scaling in scalings {

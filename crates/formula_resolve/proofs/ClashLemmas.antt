@@ -59,8 +59,8 @@ firsts_more os i o m new within at before is =
     ∙ ap firsts_of (sym (take_more os i o within))
 
 -- the map determines the first system
-pub firsts_tell : (os : List Occurrence) (p : Occurrence) → get (firsts_of os) (binding p) ≡ first_system os p
-firsts_tell os p = get-from_entries nat_list_cmp_total (map (λ o. (binding o, o.system)) os) (binding p) ∙ found os
+pub firsts_are_first : (os : List Occurrence) (p : Occurrence) → get (firsts_of os) (binding p) ≡ first_system os p
+firsts_are_first os p = get-from_entries nat_list_cmp_total (map (λ o. (binding o, o.system)) os) (binding p) ∙ found os
   where
     found : (qs : List Occurrence) → find (slice_cmp nat_cmp) (binding p) (map (λ o. (binding o, o.system)) qs) ≡ first_system qs p
     found [] = refl
@@ -79,7 +79,7 @@ clash_step os i o m within at firsts before =
     ∙ (λ k. option_or (clash_with (known k) o) (clash_after (prefix k) (drop (i + 1) os)))
   where
     known : first_system (take i os) o ≡ get m (binding o)
-    known = sym (firsts_tell (take i os) o) ∙ ap (λ n. get n (binding o)) (sym firsts)
+    known = sym (firsts_are_first (take i os) o) ∙ ap (λ n. get n (binding o)) (sym firsts)
 
     prefix : take i os ++ o ∷ [] ≡ take (i + 1) os
     prefix = ap (λ p. take i os ++ p ∷ []) at ∙ sym (take_more os i o within)

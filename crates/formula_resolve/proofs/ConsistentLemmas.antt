@@ -13,7 +13,7 @@ use Rattle.formula_resolve.specs.declared.occurrence.Occurrence.{Occurrence}
 use Rattle.formula_resolve.specs.declared.fault.ResolveFault.{ResolveFault}
 use Rattle.formula_resolve.specs.declared.fault.ResolveFault.TheVariants.{Clash}
 use Rattle.formula_resolve.proofs.AnswerLemmas.{none_of_both}
-use Rattle.formula_resolve.proofs.ClashLemmas.{firsts_tell}
+use Rattle.formula_resolve.proofs.ClashLemmas.{firsts_are_first}
 
 first_system-append : (prefix rest : List Occurrence) (p : Occurrence) → first_system (prefix ++ rest) p ≡ option_or (first_system prefix p) (first_system rest p)
 first_system-append [] rest p = refl
@@ -53,4 +53,4 @@ no_clash_is_consistent os none o p o_there p_there same =
     same_some o.system p.system (sym (system_in [] os none o o_there) ∙ first_same ∙ system_in [] os none p p_there)
   where
     first_same : first_system os o ≡ first_system os p
-    first_same = sym (firsts_tell os o) ∙ ap (get (firsts_of os)) (sym ((bytes_eq-Decides (binding p) (binding o)).0 same)) ∙ firsts_tell os p
+    first_same = sym (firsts_are_first os o) ∙ ap (get (firsts_of os)) (sym ((bytes_eq-Decides (binding p) (binding o)).0 same)) ∙ firsts_are_first os p

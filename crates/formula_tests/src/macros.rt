@@ -265,7 +265,7 @@ fn expansion_by_last(alloc: Global) -> Result<String, NoAnswer> {
 }
 
 #[test]
-fn the_last_text_added_stands(rt: HostRuntime) {
+fn the_last_text_added_is_kept(rt: HostRuntime) {
     for (name, wanted) in &KEPT {
         expect_answer(&rt, name, &kept(rt.alloc(), name), wanted);
     }

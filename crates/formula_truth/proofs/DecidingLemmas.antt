@@ -21,11 +21,11 @@ abbrev pub IsSo : ℕ → trees.Formula → Assignment → Type 0
 IsSo bound f a = Holds nothing (bounded bound f) a
 
 -- the answer is its truth, where there is one
-abbrev pub Tells : ℕ → trees.Formula → Assignment → Result Bool Undecided → Type 0
-Tells bound f a r = IfOk r (λ is. IsTrue is ↔ IsSo bound f a)
+abbrev pub DecidesTruth : ℕ → trees.Formula → Assignment → Result Bool Undecided → Type 0
+DecidesTruth bound f a r = IfOk r (λ is. IsTrue is ↔ IsSo bound f a)
 
-pub tells_seen : (bound : ℕ) (f seen : trees.Formula) (a : Assignment) (r : Result Bool Undecided) → f ≡ seen → Tells bound seen a r → Tells bound f a r
-tells_seen bound f seen a r same tells = subst (λ s. Tells bound s a r) (sym same) tells
+pub decides_seen : (bound : ℕ) (f seen : trees.Formula) (a : Assignment) (r : Result Bool Undecided) → f ≡ seen → DecidesTruth bound seen a r → DecidesTruth bound f a r
+decides_seen bound f seen a r same decides_bounded = subst (λ s. DecidesTruth bound s a r) (sym same) decides_bounded
 
 pub negated_is : (bound : ℕ) (f g : trees.Formula) (a : Assignment) (is : Bool) → f ≡ trees.negated g → IsTrue is ↔ IsSo bound g a → IsTrue (not is) ↔ IsSo bound f a
 negated_is bound f g a is same says =
@@ -54,12 +54,12 @@ chain_is bound f g os qs i a prefix is after same items long so_far here now =
     here now)
 
 -- numbers tried for the variables of a list
-pub trial_tells : (bound : ℕ) (f : trees.Formula) (q : Quantifier) (ns ms : List Name) (g h : trees.Formula) (a : Assignment) (r : Result Bool Undecided)
-    → f ≡ trees.quantified q (names_view ns) g → ms ≡ ns → h ≡ g → IfOk r (λ is. IsTrue is ↔ Holds nothing (each_below q ms bound (bounded bound h)) a) → Tells bound f a r
-trial_tells bound f q ns ms g h a r same names inside tells =
-    tells_seen bound f (trees.quantified q (names_view ns) g) a r same
+pub trial_decides : (bound : ℕ) (f : trees.Formula) (q : Quantifier) (ns ms : List Name) (g h : trees.Formula) (a : Assignment) (r : Result Bool Undecided)
+    → f ≡ trees.quantified q (names_view ns) g → ms ≡ ns → h ≡ g → IfOk r (λ is. IsTrue is ↔ Holds nothing (each_below q ms bound (bounded bound h)) a) → DecidesTruth bound f a r
+trial_decides bound f q ns ms g h a r same names inside decides_bounded =
+    decides_seen bound f (trees.quantified q (names_view ns) g) a r same
     (subst (λ l. IfOk r (λ is. IsTrue is ↔ Holds nothing (each_below q l bound (bounded bound g)) a)) (names ∙ sym (names_back ns))
-    (subst (λ s. IfOk r (λ is. IsTrue is ↔ Holds nothing (each_below q ms bound (bounded bound s)) a)) inside tells))
+    (subst (λ s. IfOk r (λ is. IsTrue is ↔ Holds nothing (each_below q ms bound (bounded bound s)) a)) inside decides_bounded))
 
 -- a number that decides
 pub found_is : (bound : ℕ) (q : Quantifier) (ms ns : List Name) (n : Name) (f : trees.Formula) (a b : Assignment) (k : ℕ) (is wanted : Bool)

@@ -42,8 +42,8 @@ module _ (limit : ℕ) (ledger : Ledger) (command : List ℕ) (shown : Bool) (pr
       infinite = infinite;
       line = printed_text (truth_line infinite) (is ∙ truth_is infinite);
       says = (
-        (λ t n. let found = has.0 t n in (found.0, found.1, (listing.tells found.0).0 found.2)),
-        (λ many. has.1 (λ n. let found = many n in (found.0, found.1, (listing.tells found.0).1 found.2))),
+        (λ t n. let found = has.0 t n in (found.0, found.1, (listing.decides_words found.0).0 found.2)),
+        (λ many. has.1 (λ n. let found = many n in (found.0, found.1, (listing.decides_words found.0).1 found.2))),
       );
     }
 
@@ -57,7 +57,7 @@ module _ (limit : ℕ) (ledger : Ledger) (command : List ℕ) (shown : Bool) (pr
     tracks = tracks;
     automaton = automaton head.name tables loaded tracks over listing;
     lists = listing.lists;
-    tells = listing.tells;
+    decides_words = listing.decides_words;
     place = are.word;
     place_is = are.word_is;
     words = are.lines.lines.words;

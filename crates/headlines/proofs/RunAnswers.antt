@@ -103,24 +103,24 @@ module _ {F : Type 0} (l : CommandLanguage F) where
   }
 
   -- a part of the last line
-  record IsPart (held now : Option (List ℕ)) (front line : List ℕ) : Type 0 where
+  record IsPart (held now : Option (List ℕ)) (lead line : List ℕ) : Type 0 where
     prefix : List ℕ
     rest : List ℕ
     split : line ≡ prefix ++ rest
-    sent : (before : List ℕ) → held ≡ Some before → now ≡ Some (before ++ (front ++ prefix))
+    sent : (before : List ℕ) → held ≡ Some before → now ≡ Some (before ++ (lead ++ prefix))
 
-  part_of : (held mid now : Option (List ℕ)) (front line : List ℕ) (fault : WriteFault) → Grows held mid front (Ok tt) → Grows mid now line (Err fault) → IsPart held now front line
+  part_of : (held mid now : Option (List ℕ)) (lead line : List ℕ) (fault : WriteFault) → Grows held mid lead (Ok tt) → Grows mid now line (Err fault) → IsPart held now lead line
   unfolding Grows
-  part_of None mid now front line fault first last = record { prefix = line; rest = []; split = sym (append-nil line); sent = λ before is. absurd cc }
-  part_of (Some held) None now front line fault first last = absurd cc
-  part_of (Some held) (Some out) now front line fault first (prefix, proper, is) = record {
+  part_of None mid now lead line fault first last = record { prefix = line; rest = []; split = sym (append-nil line); sent = λ before is. absurd cc }
+  part_of (Some held) None now lead line fault first last = absurd cc
+  part_of (Some held) (Some out) now lead line fault first (prefix, proper, is) = record {
     prefix = prefix;
     rest = proper.rest;
     split = proper.split;
     sent = λ before same.
-        let out_is : out ≡ held ++ front = cc in
+        let out_is : out ≡ held ++ lead = cc in
         let held_is : held ≡ before = cc in
-        is ∙ ap (λ (xs : List ℕ). Some (xs ++ prefix)) (out_is ∙ ap (λ (xs : List ℕ). xs ++ front) held_is) ∙ ap (λ (xs : List ℕ). Some xs) (append_assoc before front prefix);
+        is ∙ ap (λ (xs : List ℕ). Some (xs ++ prefix)) (out_is ∙ ap (λ (xs : List ℕ). xs ++ lead) held_is) ∙ ap (λ (xs : List ℕ). Some xs) (append_assoc before lead prefix);
   }
 
   part_printed : (turns : Turns l) (held now : SinkView) (fault : WriteFault) → PrintsPart l held (in_order l turns) fault now → ArePrinted (answers_of turns) held now

@@ -15,7 +15,7 @@ use Rattle.word_output.specs.LetterFunctions.{outputs_of}
 use Rattle.definitions.specs.Texts.{HasText}
 use Rattle.definitions.specs.Tracks.{NamedSystem, OverSystems, header_of, header_tracks}
 use Rattle.definitions.specs.TreeMeanings.{tree_letter}
-use Rattle.definitions.specs.Trees.{Tree, Fixed, Image, Combine, Transduced, Converted, Entry, Ledger, Defined, MayStandIn, custom_of, tree_of}
+use Rattle.definitions.specs.Trees.{Tree, Fixed, Image, Combine, Transduced, Converted, Entry, Ledger, Defined, MayBeIn, custom_of, tree_of}
 use Rattle.definitions.specs.WordTexts.{IsWordText}
 use Rattle.definitions.proofs.FileNames.{file_systems}
 use Rattle.definitions.proofs.TextMeanings.{system_sizes}
@@ -56,11 +56,11 @@ module _ (limit : ℕ) (ledger : Ledger) (files : Files) (command : List ℕ) (n
   stored_at name folder_is name_is = subst (λ (n : List ℕ). new.files ≡ Some (put files Words n bytes)) name_is (subst (λ (f : Folder). new.files ≡ Some (put files f success.name bytes)) folder_is stored)
 
   -- the word of this definition was made under this name
-  of_tree : (name : List ℕ) (tree : Tree) → MayStandIn Words tree → success.folder ≡ Words → success.name ≡ name → success.entry ≡ Defined tree → IsStoredWord (custom_of ledger) files name (λ place letter. tree_letter (custom_of ledger) tree place letter) new
-  of_tree name tree may_stand folder_is name_is entry_is = record {
+  of_tree : (name : List ℕ) (tree : Tree) → MayBeIn Words tree → success.folder ≡ Words → success.name ≡ name → success.entry ≡ Defined tree → IsStoredWord (custom_of ledger) files name (λ place letter. tree_letter (custom_of ledger) tree place letter) new
+  of_tree name tree may_be folder_is name_is entry_is = record {
     bytes = bytes;
     stored = stored_at name folder_is name_is;
-    letters = λ place letter. word_text_means (custom_of ledger) tree bytes may_stand (subst (λ (e : Entry). HasText (custom_of ledger) e bytes) entry_is text) place letter;
+    letters = λ place letter. word_text_means (custom_of ledger) tree bytes may_be (subst (λ (e : Entry). HasText (custom_of ledger) e bytes) entry_is text) place letter;
   }
 
   promoted : (promote_checks limit ledger command).answers (Ok success) → IsPromoted ledger files command new

@@ -16,7 +16,7 @@ use Rattle.definitions.specs.Tracks.{Tracks, letter_sets}
 use Rattle.definitions.specs.Trees.{Entry, Ledger, custom_of, tree_of}
 use Rattle.session_cli.specs.Commands.{Commands}
 use Rattle.command_parts.specs.FileChecks.{FilesAnswers}
-use Rattle.listing_commands.specs.ListingOutcomes.{AreTableTracks, TellsListed, listing_files}
+use Rattle.listing_commands.specs.ListingOutcomes.{AreTableTracks, DecidesListed, listing_files}
 use Rattle.headlines.specs.Sentences.{HasNo, truth_line}
 use Rattle.headlines.specs.RunVerdicts.{step_text}
 
@@ -43,7 +43,7 @@ pub record IsTested (ledger : Ledger) (command : List ℕ) (shown : Bool) (print
   pub tracks : Tracks
   pub automaton : IsAutomatonOf ledger head.name entry tracks
   pub lists : List ℕ → Bool
-  pub tells : TellsListed (custom_of ledger) tracks (tree_of entry) lists
+  pub decides_words : DecidesListed (custom_of ledger) tracks (tree_of entry) lists
   pub place : Option (List ℕ)
   pub place_is : IsPlaceWord (letter_sets tracks) head.place place
   pub words : List (List ℕ)

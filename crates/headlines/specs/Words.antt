@@ -27,7 +27,7 @@ use Rattle.word_commands.specs.CombineOutcomes.{WordTracks, AreTracksOfFirst, li
 use Rattle.session_cli.specs.Commands.{Commands}
 use Rattle.command_parts.specs.FileChecks.{FilesAnswers}
 
--- A file was stored among words under the name, and no other file changed. As a word's file it has these letters at places, and no others.
+-- A file was stored among words under the name, and no other file changed. As a word's file it has these letters at positions, and no others.
 pub record IsStoredWord (custom : Custom) (files : Files) (name : List ℕ) (HasLetter : List ℕ → ℤ → Type 0) (new : StoreView) : Type 0 where
   pub bytes : List ℕ
   pub stored : new.files ≡ Some (put files Words name bytes)
@@ -73,7 +73,7 @@ pub record IsTransduced (ledger : Ledger) (files : Files) (command : List ℕ) (
   pub there : ledger Words head.old ≡ Some old
   pub word : IsStoredWord (custom_of ledger) files head.word (λ place letter. AtNumber (λ n. Makes transducer (λ m of_word. tree_letter (custom_of ledger) (tree_of old) (m ∷ []) of_word) n letter) place) new
 
--- Of a `convert` the letters of the old word, each at its place. The file is over the system that the command names.
+-- Of a `convert` the letters of the old word, each at its position. The file is over the system that the command names.
 pub record IsConverted (ledger : Ledger) (files : Files) (command : List ℕ) (new : StoreView) : Type 0 where
   pub head : ConvertHead
   pub derived : DerivesConvert (texts_of (parts_of command)) head
@@ -84,7 +84,7 @@ pub record IsConverted (ledger : Ledger) (files : Files) (command : List ℕ) (n
   pub read : word_of word.bytes ≡ Ok listed
   pub over : listed.header ≡ Systems (head.system ∷ [])
 
--- Of a `combine` the letter of the first listed automaton that holds of the place, and 0 where none does. A place is a number for each system of
+-- Of a `combine` the letter of the first listed automaton that holds of the position, and 0 where none does. A position is a number for each system of
 -- the automata.
 pub record IsCombined (ledger : Ledger) (files : Files) (command : List ℕ) (new : StoreView) : Type 0 where
   pub head : CombineHead

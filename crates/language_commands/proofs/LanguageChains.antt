@@ -133,14 +133,14 @@ record IsAt (head : LanguagesHead) (success : Success) : Type 0 where
   folder_is : Automata ≡ success.folder
   name_is : head.name ≡ success.name
 
-stands_at : (limit : ℕ) (ledger : Ledger) (op : LanguageOp) (head : LanguagesHead) (success : Success) → (after_language_head limit ledger op head).answers (Ok success) → IsAt head success
-stands_at limit ledger op head success (tables, t, (plain, p, (sets, s, (lines, l, (is, text))))) = record { folder_is = sym (ap (λ (x : Success). x.folder) is); name_is = sym (ap (λ (x : Success). x.name) is) }
+folder_and_name_at : (limit : ℕ) (ledger : Ledger) (op : LanguageOp) (head : LanguagesHead) (success : Success) → (after_language_head limit ledger op head).answers (Ok success) → IsAt head success
+folder_and_name_at limit ledger op head success (tables, t, (plain, p, (sets, s, (lines, l, (is, text))))) = record { folder_is = sym (ap (λ (x : Success). x.folder) is); name_is = sym (ap (λ (x : Success). x.name) is) }
 
 -- a command whose head is this one
 pub language_changed : (op : LanguageOp) (limit : ℕ) (ledger : Ledger) (text : List ℕ) (shown : Bool) (head : LanguagesHead) (change : FileChange) → HeadAnswers (DerivesOperation op) text (Ok head) → change.folder ≡ Automata → change.name ≡ head.name
     → Makes (custom_of ledger) (after_language_head limit ledger op head) shown (Ok change.made) → ChangesFile (custom_of ledger) (language_checks op limit ledger text) shown (Ok change)
 language_changed op limit ledger text shown head change spells folder_is name_is made =
-    let at : IsAt head made.success = stands_at limit ledger op head made.success made.answers in
+    let at : IsAt head made.success = folder_and_name_at limit ledger op head made.success made.answers in
     changes_after (custom_of ledger) (Pure (HeadAnswers (DerivesOperation op) text)) (λ h. after_language_head limit ledger op h) head shown (Ok change) spells (record { made = made; folder_is = folder_is ∙ at.folder_is; name_is = name_is ∙ at.name_is })
 
 pub language_failed : (op : LanguageOp) (limit : ℕ) (ledger : Ledger) (text : List ℕ) (shown : Bool) (head : LanguagesHead) (fault : Fault) → HeadAnswers (DerivesOperation op) text (Ok head) → Fails (after_language_head limit ledger op head) fault → ChangesFile (custom_of ledger) (language_checks op limit ledger text) shown (Err fault)

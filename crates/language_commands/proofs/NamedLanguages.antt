@@ -17,7 +17,7 @@ use Rattle.formula_resolve.specs.declared.file.File.TheVariants.{Automaton, Word
 use Rattle.definitions.specs.Laws.{LanguageTextsMeanTheirTrees}
 use Rattle.definitions.specs.Texts.{HasText, HasTextAt, HasTreeText, Stores}
 use Rattle.definitions.specs.TreeMeanings.{tree_words}
-use Rattle.definitions.specs.Trees.{Trees, MayStandIn, Entry, Bytes, Defined, Ledger, tree_of, custom_of, with_tree, trees_of}
+use Rattle.definitions.specs.Trees.{Trees, MayBeIn, Entry, Bytes, Defined, Ledger, tree_of, custom_of, with_tree, trees_of}
 use Rattle.system_files.specs.SystemFiles.{Custom}
 use Rattle.language_steps.specs.LanguageSteps.{DoesPlainTable, DoesReads, language_named, languages_named, named_language, with_language}
 use Rattle.language_steps.specs.Operands.{HasCount, HasLanguage}
@@ -43,7 +43,7 @@ entry_text custom (Defined tree) text has = has
 record HasEntry (custom : Custom) (found : Option Entry) (text : List ℕ) : Type 0 where
   entry : Entry
   there : found ≡ Some entry
-  may : MayStandIn Automata (tree_of entry)
+  may : MayBeIn Automata (tree_of entry)
   text_is : HasTreeText custom (tree_of entry) text
 
 entry_of : (custom : Custom) (found : Option Entry) (bytes : Option (List ℕ)) (text : List ℕ) → HasTextAt custom Automata found bytes → bytes ≡ Some text → HasEntry custom found text

@@ -61,14 +61,14 @@ record IsAt (head : RegHead) (success : Success) : Type 0 where
   folder : Automata ≡ success.folder
   name : head.name ≡ success.name
 
-stands_at : (limit : ℕ) (custom : Custom) (head : RegHead) (success : Success) → (after_head limit custom head).answers (Ok success) → IsAt head success
-stands_at limit custom head success (admitted, known, (tracks, means, (pattern, parses, (lines, steps, (is, text))))) = record { folder = sym (ap (λ (s : Success). s.folder) is); name = sym (ap (λ (s : Success). s.name) is) }
+folder_and_name_at : (limit : ℕ) (custom : Custom) (head : RegHead) (success : Success) → (after_head limit custom head).answers (Ok success) → IsAt head success
+folder_and_name_at limit custom head success (admitted, known, (tracks, means, (pattern, parses, (lines, steps, (is, text))))) = record { folder = sym (ap (λ (s : Success). s.folder) is); name = sym (ap (λ (s : Success). s.name) is) }
 
 -- a `reg` whose head is this one
 pub reg_changed : (limit : ℕ) (ledger : Ledger) (text : List ℕ) (shown : Bool) (head : RegHead) (change : FileChange) → reg_at text ≡ Ok head → change.folder ≡ Automata → change.name ≡ head.name → Makes (custom_of ledger) (after_head limit (custom_of ledger) head) shown (Ok change.made)
     → ChangesFile (custom_of ledger) (reg_checks limit ledger text) shown (Ok change)
 reg_changed limit ledger text shown head change read folder name made =
-    let at : IsAt head made.success = stands_at limit (custom_of ledger) head made.success made.answers in
+    let at : IsAt head made.success = folder_and_name_at limit (custom_of ledger) head made.success made.answers in
     changes_after (custom_of ledger) (Pure (HeadAnswers DerivesReg text)) (λ h. after_head limit (custom_of ledger) h) head shown (Ok change) (spelled text head read) (record { made = made; folder_is = folder ∙ at.folder; name_is = name ∙ at.name })
 
 pub reg_failed : (limit : ℕ) (ledger : Ledger) (text : List ℕ) (shown : Bool) (head : RegHead) (fault : Fault) → reg_at text ≡ Ok head → Fails (after_head limit (custom_of ledger) head) fault → Fails (reg_checks limit ledger text) fault

@@ -1,4 +1,4 @@
-//! Fixed points of morphisms: the line of the step and the letters at the first places, or why there is no word.
+//! Fixed points of morphisms: the line of the step and the letters at the first positions, or why there is no word.
 
 use crate::outcomes::{after_lines, expect, letter_text};
 use crate::row_fault::RowFault;
@@ -9,17 +9,17 @@ use morph_words::Morphism;
 use std::alloc::Global;
 use word_output::word::Word;
 
-// So many first places are looked at.
+// So many first positions are looked at.
 const SOME: u32 = 8;
 
-// The letter at a place that has at most three digits in a base, most significant digit first.
+// The letter at a position that has at most three digits in a base, most significant digit first.
 fn letter_at(word: &Word, base: u32, place: u32) -> Option<i32> {
     let digits = base.max(1);
     let high = place / digits;
     word.value(&[high / digits % digits, high % digits, place % digits])
 }
 
-// The letters at the first places, each after a blank, and a dash where there is none.
+// The letters at the first positions, each after a blank, and a dash where there is none.
 fn letters_of(alloc: Global, word: &Word, base: u32) -> Result<String, RowFault> {
     let mut text = String::new(alloc);
     for place in 0..SOME {
@@ -28,7 +28,7 @@ fn letters_of(alloc: Global, word: &Word, base: u32) -> Result<String, RowFault>
     Ok(text)
 }
 
-// The letters at the first places, or the fault.
+// The letters at the first positions, or the fault.
 fn letters_or_fault(
     alloc: Global,
     word: &Result<Word, PromoteFault>,
@@ -49,7 +49,7 @@ fn promoted(alloc: Global, rules: &str, limit: u32, base: u32) -> Result<String,
     after_lines(alloc, &steps, &answer)
 }
 
-// Rules, the limit, the base of the word, and what is given: the line of the step and the letters at the places 0 to 7, or the fault
+// Rules, the limit, the base of the word, and what is given: the line of the step and the letters at the positions 0 to 7, or the fault
 // after no line.
 static ROWS: [(&str, u32, u32, &str); 33] = [
     // the width is that of the letters that occur

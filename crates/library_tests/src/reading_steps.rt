@@ -295,7 +295,7 @@ fn digits_of(alloc: Global, systems: &[Rc<System>]) -> Result<Vec<u32>, RowFault
 }
 
 // Whether tracks of these sizes may be over one or two systems of one direction.
-fn may_stand(sizes: &[u32], systems: &[Rc<System>]) -> bool
+fn may_be_header(sizes: &[u32], systems: &[Rc<System>]) -> bool
     ensures sizes { IsTrue result → sizes.now ≡ sizes_of (systems_of (map rc_value systems.now)) }
     ensures direction { IsTrue result → ShareDirection (map rc_value systems.now) }
 {
@@ -319,7 +319,7 @@ pub fn relation_over(
 ) -> Result<Relation, RowFault> {
     let digits = digits_of(alloc, systems)?;
     let table = branching(alloc, text, &digits)?;
-    if may_stand(table.alphabet().sizes(), systems) {
+    if may_be_header(table.alphabet().sizes(), systems) {
         Ok(reading_steps(alloc, &table, systems, steps)?)
     } else {
         Err(RowFault::Form)

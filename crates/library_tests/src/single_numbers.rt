@@ -28,7 +28,7 @@ fn word(alloc: Global, system: &System, number: u64, longest: u32) -> Result<Vec
 }
 
 // Whether the word has no leading zero, and the number as its positional value.
-fn stands_for(word: &[u32], base: u32, number: u64) -> bool {
+fn represents_number(word: &[u32], base: u32, number: u64) -> bool {
     let mut value: u128 = 0;
     for digit in word {
         value = value
@@ -51,7 +51,7 @@ fn gives_words(alloc: Global, base: u32, direction: Direction) -> Result<bool, R
 // Whether a number is given its word.
 fn gives_word(alloc: Global, system: &System, base: u32, number: u64) -> Result<bool, RowFault> {
     let word = word(alloc, system, number, 64)?;
-    Ok(stands_for(&word, base, number))
+    Ok(represents_number(&word, base, number))
 }
 
 #[test]

@@ -27,23 +27,23 @@ use Rattle.table_listings.specs.declared.question.Question.{Question}
 use Rattle.command_parts.specs.declared.listing_fault.ListingFault.{ListingFault}
 use Rattle.command_parts.specs.FormulaSteps.{AreMeant}
 use Rattle.listing_commands.specs.ListingMakes.{AnswersBelow, AnswersBy, AnswersOver, AnswersUnder, DoesRelation}
-use Rattle.listing_commands.specs.ListingOutcomes.{IsRead, IsReadRefused, IsSystemsRead, TellsListed, after_listing_systems}
+use Rattle.listing_commands.specs.ListingOutcomes.{IsRead, IsReadRefused, IsSystemsRead, DecidesListed, after_listing_systems}
 use Rattle.command_parts.specs.TableReads.{ARelation, AreSystemsUnder, IsRelationRead, PassesFile}
 use Rattle.command_parts.specs.TableReading.{IsReadable}
-use Rattle.listing_commands.proofs.ListingChains.{TellsAnswer, answered_so}
-use Rattle.listing_commands.proofs.ListingWords.{ListingLaws, are_tracks, definition, relation_tells, same_sets, sets_tell, tracks_below}
+use Rattle.listing_commands.proofs.ListingChains.{PrintsAnswer, answered_so}
+use Rattle.listing_commands.proofs.ListingWords.{ListingLaws, are_tracks, definition, relation_decides, same_sets, sets_decide, tracks_below}
 use Rattle.command_parts.proofs.TableRelations.{read_shared_direction}
 
 module _ (laws : ListingLaws) (ledger : Ledger) (files : Files) (stores : Stores ledger files) (name : List ℕ) (question : Question) (table : Loaded) (listed : IsListedBy files (Automaton name) table) (admitted log : StepLog) (shown : Bool) where
   abbrev Says : Result Answer ListingFault → Type 0
-  Says result = TellsAnswer (after_listing_systems ledger name question (table ∷ []) admitted) shown log.lines result
+  Says result = PrintsAnswer (after_listing_systems ledger name question (table ∷ []) admitted) shown log.lines result
 
   module _ (sets : List (List ℤ)) (header : table.listed.header ≡ Sets sets) where
     -- the table is over sets
     sets_said : (result : Result Answer ListingFault) → AnswersBy (λ r. DoesPlainTable table.listed admitted r log) None sets name question result → Says result
     sets_said result is =
         answered_so ledger name question table admitted (OverSets sets) (subst (λ (h : Header). AreTracksOf (custom_of ledger) h (OverSets sets)) (sym header) refl) log (definition laws ledger files stores name table listed).0
-        (definition laws ledger files stores name table listed).1 (λ r. DoesPlainTable table.listed admitted r log) None reads stops tells shown result is
+        (definition laws ledger files stores name table listed).1 (λ r. DoesPlainTable table.listed admitted r log) None reads stops decides_words shown result is
       where
         reads : (d : deterministic.Automaton) → DoesPlainTable table.listed admitted (Ok d) log → IsRead table.listed.header admitted (custom_of ledger) table log.lines
         reads d does = subst (λ (h : Header). IsRead h admitted (custom_of ledger) table log.lines) (sym header) (record { read = d; log = log; done = does; lines_are = refl })
@@ -51,8 +51,8 @@ module _ (laws : ListingLaws) (ledger : Ledger) (files : Files) (stores : Stores
         stops : (fault : StepFault) → DoesPlainTable table.listed admitted (Err fault) log → IsReadRefused table.listed.header admitted (custom_of ledger) table fault
         stops fault does = subst (λ (h : Header). IsReadRefused h admitted (custom_of ledger) table fault) (sym header) (log, does)
 
-        tells : (d : deterministic.Automaton) → DoesPlainTable table.listed admitted (Ok d) log → TellsListed (custom_of ledger) (OverSets sets) (tree_of (definition laws ledger files stores name table listed).0) (is_listed d None)
-        tells d does = sets_tell laws ledger files stores name table listed sets header d admitted log does
+        decides_words : (d : deterministic.Automaton) → DoesPlainTable table.listed admitted (Ok d) log → DecidesListed (custom_of ledger) (OverSets sets) (tree_of (definition laws ledger files stores name table listed).0) (is_listed d None)
+        decides_words d does = sets_decide laws ledger files stores name table listed sets header d admitted log does
 
   module _ (systems : List NamedSystem) (sealed : AreSealed systems) (meant : AreMeant (custom_of ledger) systems) (readable : IsReadable systems table) (found : List SystemValue) (under : AreSystemsUnder systems table.listed.header found) where
     abbrev relation_read : (r : RelationValue) → DoesTable found table.listed admitted (Ok r) log → IsRelationRead systems admitted table (record { name = name; relation = r }) log
@@ -80,7 +80,7 @@ module _ (laws : ListingLaws) (ledger : Ledger) (files : Files) (stores : Stores
     over_said result is =
         answered_so ledger name question table admitted (tracks_below table.listed.header found)
         (are_tracks (custom_of ledger) systems meant table.listed.header found under (read_shared_direction systems table found readable under)) log (definition laws ledger files stores name table listed).0
-        (definition laws ledger files stores name table listed).1 (λ r. DoesRelation found table.listed admitted r log) (Some (direction_of found)) reads stops tells shown result
+        (definition laws ledger files stores name table listed).1 (λ r. DoesRelation found table.listed admitted r log) (Some (direction_of found)) reads stops decides_words shown result
         (subst (λ (sets : List (List ℤ)). AnswersBy (λ r. DoesRelation found table.listed admitted r log) (Some (direction_of found)) sets name question result) (sym (same_sets table.listed.header found)) is)
       where
         reads : (d : deterministic.Automaton) → DoesRelation found table.listed admitted (Ok d) log → IsRead table.listed.header admitted (custom_of ledger) table log.lines
@@ -91,11 +91,11 @@ module _ (laws : ListingLaws) (ledger : Ledger) (files : Files) (stores : Stores
         stops : (fault : StepFault) → DoesRelation found table.listed admitted (Err fault) log → IsReadRefused table.listed.header admitted (custom_of ledger) table fault
         stops fault does = refused_by table.listed.header fault under (log, does)
 
-        tells : (d : deterministic.Automaton) → DoesRelation found table.listed admitted (Ok d) log
-            → TellsListed (custom_of ledger) (tracks_below table.listed.header found) (tree_of (definition laws ledger files stores name table listed).0) (is_listed d (Some (direction_of found)))
-        tells d (r, same, does) =
-            subst (λ (x : deterministic.Automaton). TellsListed (custom_of ledger) (tracks_below table.listed.header found) (tree_of (definition laws ledger files stores name table listed).0) (is_listed x (Some (direction_of found)))) same
-            (relation_tells laws ledger files stores name table listed systems sealed meant readable admitted log (record { name = name; relation = r }) (relation_read r does))
+        decides_words : (d : deterministic.Automaton) → DoesRelation found table.listed admitted (Ok d) log
+            → DecidesListed (custom_of ledger) (tracks_below table.listed.header found) (tree_of (definition laws ledger files stores name table listed).0) (is_listed d (Some (direction_of found)))
+        decides_words d (r, same, does) =
+            subst (λ (x : deterministic.Automaton). DecidesListed (custom_of ledger) (tracks_below table.listed.header found) (tree_of (definition laws ledger files stores name table listed).0) (is_listed x (Some (direction_of found)))) same
+            (relation_decides laws ledger files stores name table listed systems sealed meant readable admitted log (record { name = name; relation = r }) (relation_read r does))
 
   module _ (systems : List NamedSystem) (sealed : AreSealed systems) (meant : AreMeant (custom_of ledger) systems) (readable : is_over_sets table.listed.header ≡ false → IsReadable systems table) where
     under_said : is_over_sets table.listed.header ≡ false → (result : Result Answer ListingFault) → AnswersUnder systems admitted table name question result log → Says result
@@ -104,7 +104,7 @@ module _ (laws : ListingLaws) (ledger : Ledger) (files : Files) (stores : Stores
 
     -- what is answered is what the checks after the systems give
     pub below_said : (header : Header) → table.listed.header ≡ header → (result : Result Answer ListingFault) → AnswersBelow header systems admitted table name question result log
-        → TellsAnswer (after_listing_systems ledger name question (table ∷ []) admitted) shown log.lines result
+        → PrintsAnswer (after_listing_systems ledger name question (table ∷ []) admitted) shown log.lines result
     below_said (Truth value) is result answers = under_said (subst (λ (h : Header). is_over_sets h ≡ false) (sym is) refl) result answers
     below_said (Systems names) is result answers = under_said (subst (λ (h : Header). is_over_sets h ≡ false) (sym is) refl) result answers
     below_said (Sets sets) is result answers = sets_said sets is result answers

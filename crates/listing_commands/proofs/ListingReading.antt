@@ -16,22 +16,22 @@ use Rattle.table_listings.specs.declared.question.Answer.{Answer}
 use Rattle.listing_commands.specs.declared.listing.ReadListing.{ReadListing}
 use Rattle.command_parts.specs.declared.listing_fault.ListingFault.{ListingFault}
 use Rattle.command_parts.specs.FormulaSteps.{AreMeant}
-use Rattle.listing_commands.specs.ListingMakes.{AnswersBelow, CanBeListed, TellsAfterSystems, IsReadListing}
+use Rattle.listing_commands.specs.ListingMakes.{AnswersBelow, CanBeListed, PrintsAfterSystems, IsReadListing}
 use Rattle.listing_commands.specs.ListingOutcomes.{after_listing_systems, listing_files}
 use Rattle.command_parts.proofs.StoredLedgers.{files_store}
 use Rattle.command_parts.proofs.FilesElsewhere.{listed_elsewhere}
-use Rattle.listing_commands.proofs.ListingChains.{TellsAnswer, own_said}
+use Rattle.listing_commands.proofs.ListingChains.{PrintsAnswer, own_said}
 use Rattle.listing_commands.proofs.ListingMaking.{below_said}
 use Rattle.listing_commands.proofs.ListingWords.{ListingLaws}
 use Rattle.command_parts.proofs.StoreReads.{IsOwn}
 use Rattle.command_parts.proofs.TextReads.{with_bases}
 
-pub own_over : (admitted : StepLog) (shown : Bool) (read : ReadListing) (custom : Custom) (r : Result (List ℕ) Fault) → IsReadListing read → TellsAfterSystems admitted shown read custom r → IsOwn r
-own_over admitted shown read custom r is tells =
+pub own_over : (admitted : StepLog) (shown : Bool) (read : ReadListing) (custom : Custom) (r : Result (List ℕ) Fault) → IsReadListing read → PrintsAfterSystems admitted shown read custom r → IsOwn r
+own_over admitted shown read custom r is prints_checked =
     let files : Files = with_bases is.0 custom in
     let ledger : Ledger = ledger_of files in
     own_said ledger read.asked.name read.asked.question read.mentioned.tables.items admitted shown r
-    (tells ledger files (files_store files) (found_custom files) (listed_elsewhere is.0 custom (listing_files read.asked.name) read.mentioned.tables.items is.1.listed))
+    (prints_checked ledger files (files_store files) (found_custom files) (listed_elsewhere is.0 custom (listing_files read.asked.name) read.mentioned.tables.items is.1.listed))
 
 -- there is one table
 pub sole : (files : Files) (name : List ℕ) (tables : List Loaded) (table : Loaded) → AreListedBy files (listing_files name) tables → table ≡ slice_index_or tables 0 table → tables ≡ table ∷ []
@@ -49,11 +49,11 @@ listing_laws = record { texts = texts_list; relations = relations_list; language
 -- what is answered about it is what the checks after the systems give
 pub said_here : (read : ReadListing) (table : Loaded) (systems : List NamedSystem) (admitted log : StepLog) (shown : Bool) (result : Result Answer ListingFault) → read.mentioned.tables.items ≡ table ∷ [] → CanBeListed systems table
     → AnswersBelow table.listed.header systems admitted table read.asked.name read.asked.question result log → (custom : Custom) → AreMeant custom systems → (ledger : Ledger) (files : Files) → Stores ledger files → custom_of ledger ≡ custom
-    → AreListedBy files (listing_files read.asked.name) read.mentioned.tables.items → TellsAnswer (after_listing_systems ledger read.asked.name read.asked.question read.mentioned.tables.items admitted) shown log.lines result
+    → AreListedBy files (listing_files read.asked.name) read.mentioned.tables.items → PrintsAnswer (after_listing_systems ledger read.asked.name read.asked.question read.mentioned.tables.items admitted) shown log.lines result
 said_here read table systems admitted log shown result same can answers custom meant ledger files stores own listed =
     let name = read.asked.name in
     let question = read.asked.question in
     let here : AreListedBy files (listing_files name) (table ∷ []) = subst (λ (ts : List Loaded). AreListedBy files (listing_files name) ts) same listed in
     let mean : AreMeant (custom_of ledger) systems = subst (λ (k : Custom). AreMeant k systems) (sym own) meant in
-    subst (λ (ts : List Loaded). TellsAnswer (after_listing_systems ledger name question ts admitted) shown log.lines result) (sym same)
+    subst (λ (ts : List Loaded). PrintsAnswer (after_listing_systems ledger name question ts admitted) shown log.lines result) (sym same)
     (below_said listing_laws ledger files stores name question table here.0 admitted log shown systems can.sealed mean can.readable table.listed.header refl result answers)

@@ -38,7 +38,7 @@ use Rattle.definitions.specs.Trees.{Entry, File, Ledger, tree_of, custom_of}
 use Rattle.system_files.specs.SystemFiles.{Custom}
 use Rattle.command_parts.specs.FormulaSteps.{AreMeant}
 use Rattle.listing_commands.specs.ListingMakes.{sets_below}
-use Rattle.listing_commands.specs.ListingOutcomes.{TellsListed}
+use Rattle.listing_commands.specs.ListingOutcomes.{DecidesListed}
 use Rattle.command_parts.specs.TableReads.{AreSystemsUnder, IsRelationRead}
 use Rattle.command_parts.specs.TableReading.{IsReadable}
 use Rattle.command_parts.specs.WordPrinting.{tracks_named}
@@ -86,8 +86,8 @@ module _ (laws : ListingLaws) (ledger : Ledger) (files : Files) (stores : Stores
   as_tree : (over : Tracks) (w : List ℕ) → IsListedOver custom over (File listed.text) w ↔ IsListedOver custom over (tree_of definition.0) w
   as_tree over w = laws.texts custom (tree_of definition.0) listed.text definition.2.0 (tree_text custom definition.0 listed.text definition.2.1) over w
 
-  pub sets_tell : (sets : List (List ℤ)) → table.listed.header ≡ Sets sets → (d : deterministic.Automaton) (old new : StepLog) → DoesPlainTable table.listed old (Ok d) new → TellsListed custom (OverSets sets) (tree_of definition.0) (is_listed d None)
-  sets_tell sets header d old new done w = ((λ h. tree.0 (file.0 h)), (λ h. file.1 (tree.1 h)))
+  pub sets_decide : (sets : List (List ℤ)) → table.listed.header ≡ Sets sets → (d : deterministic.Automaton) (old new : StepLog) → DoesPlainTable table.listed old (Ok d) new → DecidesListed custom (OverSets sets) (tree_of definition.0) (is_listed d None)
+  sets_decide sets header d old new done w = ((λ h. tree.0 (file.0 h)), (λ h. file.1 (tree.1 h)))
     where
       is : IsOf sets (λ tuples. FileAccepts listed.text tuples) d
       is = table_words sets listed.text table.listed listed.lists.lists header d old new done
@@ -109,8 +109,8 @@ module _ (laws : ListingLaws) (ledger : Ledger) (files : Files) (stores : Stores
     abbrev Lists : List ℕ → Direction → List System → Type 0
     Lists w direction ss = ListsNumbers direction ss (λ ns. tree_holds custom (File listed.text) ns) w
 
-    pub relation_tells : (old new : StepLog) (r : NamedRelation) (read : IsRelationRead systems old table r new) → TellsListed custom (tracks_below table.listed.header read.tracks) (tree_of definition.0) (is_listed r.relation.automaton (Some (direction_of read.tracks)))
-    relation_tells old new r read w = ((λ h. tree.0 (over.0 h)), (λ h. over.1 (tree.1 h)))
+    pub relation_decides : (old new : StepLog) (r : NamedRelation) (read : IsRelationRead systems old table r new) → DecidesListed custom (tracks_below table.listed.header read.tracks) (tree_of definition.0) (is_listed r.relation.automaton (Some (direction_of read.tracks)))
+    relation_decides old new r read w = ((λ h. tree.0 (over.0 h)), (λ h. over.1 (tree.1 h)))
       where
         holds : (ns : List ℕ) → RelationHolds r.relation ns ↔ tree_holds custom (File listed.text) ns
         holds ns = relation_holds laws.tables custom systems sealed meant old new table r listed.text listed.lists.lists readable read ns

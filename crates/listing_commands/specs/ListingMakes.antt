@@ -39,7 +39,7 @@ use Rattle.command_parts.specs.declared.step_options.StepOptions.{StepOptions}
 use Rattle.command_parts.specs.FormulaSteps.{AreMeant}
 use Rattle.listing_commands.specs.ListingOutcomes.{Reply, Lines, Verdict, reply_text, after_listing_systems, after_listing_tables, listing_files, listing_mentions}
 use Rattle.command_parts.specs.Lines.{shown_steps}
-use Rattle.command_parts.specs.FileChanges.{Tells}
+use Rattle.command_parts.specs.FileChanges.{PrintsChecked}
 use Rattle.command_parts.specs.MentionedTables.{AreLoaded, AreNames}
 use Rattle.command_parts.specs.TableReading.{IsReadable}
 use Rattle.command_parts.specs.TableReads.{AreSystemsUnder}
@@ -145,11 +145,11 @@ abbrev pub answer_text : Bool → List StepLine → Answer → List ℕ
 answer_text shown lines answer = shown_steps shown lines ++ reply_text (reply_of answer)
 
 -- by these texts of users' systems this is what the checks after the table make
-abbrev pub TellsAfterTables : StepOptions → ReadListing → Custom → Result (List ℕ) Fault → Type 0
-TellsAfterTables options read custom result = (ledger : Ledger) (files : Files) → Stores ledger files → custom_of ledger ≡ custom → AreListedBy files (listing_files read.asked.name) read.mentioned.tables.items
-    → Tells (after_listing_tables options.limit ledger read.asked.name read.asked.question read.mentioned.tables.items) options.shown result
+abbrev pub PrintsAfterTables : StepOptions → ReadListing → Custom → Result (List ℕ) Fault → Type 0
+PrintsAfterTables options read custom result = (ledger : Ledger) (files : Files) → Stores ledger files → custom_of ledger ≡ custom → AreListedBy files (listing_files read.asked.name) read.mentioned.tables.items
+    → PrintsChecked (after_listing_tables options.limit ledger read.asked.name read.asked.question read.mentioned.tables.items) options.shown result
 
 -- and those after the systems
-abbrev pub TellsAfterSystems : StepLog → Bool → ReadListing → Custom → Result (List ℕ) Fault → Type 0
-TellsAfterSystems admitted shown read custom result = (ledger : Ledger) (files : Files) → Stores ledger files → custom_of ledger ≡ custom → AreListedBy files (listing_files read.asked.name) read.mentioned.tables.items
-    → Tells (after_listing_systems ledger read.asked.name read.asked.question read.mentioned.tables.items admitted) shown result
+abbrev pub PrintsAfterSystems : StepLog → Bool → ReadListing → Custom → Result (List ℕ) Fault → Type 0
+PrintsAfterSystems admitted shown read custom result = (ledger : Ledger) (files : Files) → Stores ledger files → custom_of ledger ≡ custom → AreListedBy files (listing_files read.asked.name) read.mentioned.tables.items
+    → PrintsChecked (after_listing_systems ledger read.asked.name read.asked.question read.mentioned.tables.items admitted) shown result

@@ -111,15 +111,15 @@ ReadingAnswers admitted custom (table ∷ []) result = ReadingAnswersBelow table
 ReadingAnswers admitted custom (table ∷ other ∷ tables) result = ⊥
 
 -- a test that says of each word whether the definition lists it over the tracks
-abbrev pub TellsListed : Custom → Tracks → Tree → (List ℕ → Bool) → Type 0
-TellsListed custom tracks tree lists = (w : List ℕ) → IsTrue (lists w) ↔ IsListedOver custom tracks tree w
+abbrev pub DecidesListed : Custom → Tracks → Tree → (List ℕ → Bool) → Type 0
+DecidesListed custom tracks tree lists = (w : List ℕ) → IsTrue (lists w) ↔ IsListedOver custom tracks tree w
 
 -- the definition under the name, and the words that it lists
 pub record HasListing (ledger : Ledger) (name : List ℕ) (tracks : Tracks) : Type 0 where
   pub entry : Entry
   pub there : ledger Automata name ≡ Some entry
   pub lists : List ℕ → Bool
-  pub tells : TellsListed (custom_of ledger) tracks (tree_of entry) lists
+  pub decides_words : DecidesListed (custom_of ledger) tracks (tree_of entry) lists
 
 -- what is said: the lines of words, or whether there are infinitely many
 pub data Reply : Type 0 where

@@ -10,9 +10,9 @@ ghost use Rattle.language_steps.specs.LanguageSteps.{DoesPlainTable};
 ghost use Rattle.language_steps.specs.Operands.{IsPlainTable};
 ghost use Rattle.system_files.specs.SystemFiles.{Custom};
 ghost use Rattle.table_listings.specs.Questions.{IsAskedOn};
-ghost use Rattle.listing_commands.specs.ListingMakes.{AnswersBelow, AnswersBy, AnswersOver, AnswersUnder, AreListingNames, CanBeListed, HasTracks, HaveHeader, TellsAfterSystems, TellsAfterTables, IsPlaceFault, IsReadListing, answer_text, reply_of, sets_below};
+ghost use Rattle.listing_commands.specs.ListingMakes.{AnswersBelow, AnswersBy, AnswersOver, AnswersUnder, AreListingNames, CanBeListed, HasTracks, HaveHeader, PrintsAfterSystems, PrintsAfterTables, IsPlaceFault, IsReadListing, answer_text, reply_of, sets_below};
 ghost use Rattle.listing_commands.specs.ListingOutcomes.{after_listing_head, inf_checks, listing_mentions, reply_text, test_checks};
-ghost use Rattle.command_parts.specs.FileChanges.{Tells};
+ghost use Rattle.command_parts.specs.FileChanges.{PrintsChecked};
 ghost use Rattle.command_parts.specs.StoreReads.{FromFiles, FromTexts};
 ghost use Rattle.command_parts.specs.TableReading.{IsReadable};
 
@@ -78,7 +78,7 @@ pub fn say_test<T: Store>(
     kept: &mut Kept,
     store: &mut T,
 ) -> Result<Printed, Fault>
-    ensures { FromFiles (λ found printed. (ledger : Ledger) → Stores ledger found → Tells (test_checks options.limit ledger text.now) options.shown printed) (T.view store.old) result (T.view store.new) }
+    ensures { FromFiles (λ found printed. (ledger : Ledger) → Stores ledger found → PrintsChecked (test_checks options.limit ledger text.now) options.shown printed) (T.view store.old) result (T.view store.new) }
 {
     let head = test_parts(alloc, text)?;
     let TestParts { name, count, place } = head;
@@ -94,7 +94,7 @@ pub fn say_inf<T: Store>(
     kept: &mut Kept,
     store: &mut T,
 ) -> Result<Printed, Fault>
-    ensures { FromFiles (λ found printed. (ledger : Ledger) → Stores ledger found → Tells (inf_checks options.limit ledger text.now) options.shown printed) (T.view store.old) result (T.view store.new) }
+    ensures { FromFiles (λ found printed. (ledger : Ledger) → Stores ledger found → PrintsChecked (inf_checks options.limit ledger text.now) options.shown printed) (T.view store.old) result (T.view store.new) }
 {
     let name = name_after(alloc, b"inf", text)?;
     let question = Question::Infinity;
@@ -111,7 +111,7 @@ fn said<T: Store>(
     kept: &mut Kept,
     store: &mut T,
 ) -> Result<Printed, Fault>
-    ensures { FromFiles (λ found printed. (ledger : Ledger) → Stores ledger found → Tells (after_listing_head options.limit ledger asked.name asked.question) options.shown printed) (T.view store.old) result (T.view store.new) }
+    ensures { FromFiles (λ found printed. (ledger : Ledger) → Stores ledger found → PrintsChecked (after_listing_head options.limit ledger asked.name asked.question) options.shown printed) (T.view store.old) result (T.view store.new) }
 {
     let mentions = mentions_of(alloc, &asked.name)?;
     let mentioned = load_mentioned(alloc, mentions, store)?;
@@ -142,7 +142,7 @@ fn said_of_tables<T: Store>(
     store: &mut T,
 ) -> Result<Printed, Fault>
     requires { IsReadListing read.now }
-    ensures { FromTexts (TellsAfterTables options read.now) (T.view store.old) result (T.view store.new) }
+    ensures { FromTexts (PrintsAfterTables options read.now) (T.view store.old) result (T.view store.new) }
 {
     let named = names_of(alloc, options.limit, &read.mentioned, kept, store)?;
     said_over(alloc, options.shown, read, named, &mut kept.tables)
@@ -158,7 +158,7 @@ fn said_over(
 ) -> Result<Printed, Fault>
     requires read { IsReadListing read.now }
     requires named { (custom : Custom) × AreListingNames read.now custom named.names }
-    ensures { (custom : Custom) → AreListingNames read.now custom named.names → TellsAfterSystems named.steps shown read.now custom result }
+    ensures { (custom : Custom) → AreListingNames read.now custom named.names → PrintsAfterSystems named.steps shown read.now custom result }
 {
     let SealedNames { names, mut steps } = named;
     names.systems.are_sealed();

@@ -16,8 +16,8 @@ pub command_drawn : (seed count s0 s1 s2 s3 kind one two : ℕ) → s0 ≡ state
 command_drawn seed count s0 s1 s2 s3 kind one two is state value state' value' state'' value'' =
     let first = drawn_at seed (3 * count) s0 s1 kind is state value in
     let second = drawn_at seed (3 * count + 1) s1 s2 one (first.0 ∙ ap (state_after seed) (sym (more (3 * count)))) state' value' in
-    let behind : suc (3 * count + 1) ≡ 3 * count + 2 = omega arith in
-    let third = drawn_at seed (3 * count + 2) s2 s3 two (second.0 ∙ ap (state_after seed) behind) state'' value'' in
+    let third_draw : suc (3 * count + 1) ≡ 3 * count + 2 = omega arith in
+    let third = drawn_at seed (3 * count + 2) s2 s3 two (second.0 ∙ ap (state_after seed) third_draw) state'' value'' in
     let all : suc (3 * count + 2) ≡ 3 * (count + 1) = omega arith in
     ((λ i. command_text (count + 1) (first.1 i % 4) (second.1 i % 1000) (third.1 i % 1000)), third.0 ∙ ap (state_after seed) all)
 

@@ -85,7 +85,7 @@ class_size-count (suc n) classes class le = by (cases_eq (class_of classes n) cl
 
 -- states in an order, and where each is in it
 module _ (f : ℕ → ℕ) (states places : List ℕ) (n : ℕ) (width : length states ≡ n) (states_within : (place : ℕ) → place < n → get_or states place 0 < n)
-    (placed : (place : ℕ) → place < n → get_or places (get_or states place 0) 0 ≡ place) (standing : (q : ℕ) → q < n → get_or states (get_or places q 0) 0 ≡ q) where
+    (placed : (place : ℕ) → place < n → get_or places (get_or states place 0) 0 ≡ place) (state_back : (q : ℕ) → q < n → get_or states (get_or places q 0) 0 ≡ q) where
   -- what a state adds where it is among so many places from one on
   abbrev part : ℕ → ℕ → ℕ → ℕ
   part start zero q = 0
@@ -128,7 +128,7 @@ module _ (f : ℕ → ℕ) (states places : List ℕ) (n : ℕ) (width : length 
           ∙ ap (λ (q : ℕ). sum_by f (take j (drop start states)) + f q) (get_or-drop start states j 0) ∙ ap (λ (s : ℕ). s + f at) rest
           ∙ sym (sum_below-one (part start j) (part start (suc j)) n at (f at) (states_within (start + j) (omega (arith, fits)))
           (ap (λ (s : ℕ). part start j at + s) (counted_there (get_or places at 0) (start + j) (f at) (placed (start + j) (omega (arith, fits)))))
-          (λ q small other. omega (arith, counted_not (get_or places q 0) (start + j) (f q) (λ is. other (sym (standing q small) ∙ ap (λ (k : ℕ). get_or states k 0) is)))))
+          (λ q small other. omega (arith, counted_not (get_or places q 0) (start + j) (f q) (λ is. other (sym (state_back q small) ∙ ap (λ (k : ℕ). get_or states k 0) is)))))
 
   -- the sum over the places of a class is that over its states
   pub class_sum-slice : (classes : List ℕ) (class start end : ℕ) → start ≤ end → end ≤ n → ((q : ℕ) → q < n → class_of classes q ≡ class → (start ≤ get_or places q 0) × (get_or places q 0 < end))
@@ -149,4 +149,4 @@ module _ (f : ℕ → ℕ) (states places : List ℕ) (n : ℕ) (width : length 
       by q small (inl low) cases = apart q small (inl low)
       by q small (inr from) (inr high) = apart q small (inr (omega (arith, high, ordered)))
       by q small (inr from) (inl less) = part-in start (end - start) q from (omega (arith, less, ordered))
-          ∙ sym (counted_there (class_of classes q) class (f q) (sym (ap (class_of classes) (standing q small)) ∙ of (get_or places q 0) from less))
+          ∙ sym (counted_there (class_of classes q) class (f q) (sym (ap (class_of classes) (state_back q small)) ∙ of (get_or places q 0) from less))

@@ -204,12 +204,12 @@ module _ (d : Automaton) (outputs classes states places : List ℕ) (spans : Lis
     place_of q small is =
         let place = get_or places q 0 in
         let low : place < length states = parted.order.places_within q (omega (arith, small, parted.count)) in
-        let stands : get_or states place 0 ≡ q = parted.order.standing q (omega (arith, small, parted.count)) in
-        let one : class_of classes (get_or states place 0) ≡ class = ap (class_of classes) stands ∙ is in (
+        let occurs : get_or states place 0 ≡ q = parted.order.state_back q (omega (arith, small, parted.count)) in
+        let one : class_of classes (get_or states place 0) ≡ class = ap (class_of classes) occurs ∙ is in (
           place,
           subst (λ (k : ℕ). (span_of spans k).start ≤ place) one (parted.spanned.from_start place low),
           subst (λ (k : ℕ). place < (span_of spans k).end) one (parted.spanned.to_end place low),
-          stands,
+          occurs,
         )
 
     -- the states of a class but the sink's
@@ -221,14 +221,14 @@ module _ (d : Automaton) (outputs classes states places : List ℕ) (spans : Lis
       whole = λ p q small low same there.
           let found = Contains-from_slice states start end p fits there in
           let one : class_of classes q ≡ class = sym (parted.coarse p q small low same) ∙ ap (class_of classes) (sym found.3) ∙ parted.spanned.inside class found.0 made found.1 found.2 in
-          stands q one (cases_lt q (states_of d)) low;
+          occurs q one (cases_lt q (states_of d)) low;
     }
       where
-        stands : (q : ℕ) → class_of classes q ≡ class → (q < states_of d) ⊎ (states_of d ≤ q) → q ≤ states_of d → Contains (slice_range states start end) q
-        stands q one (inl less) low =
+        occurs : (q : ℕ) → class_of classes q ≡ class → (q < states_of d) ⊎ (states_of d ≤ q) → q ≤ states_of d → Contains (slice_range states start end) q
+        occurs q one (inl less) low =
             let at = place_of q less one in
             subst (Contains (slice_range states start end)) at.3 (Contains-slice states start end at.0 fits at.1 at.2)
-        stands q one (inr past) low =
+        occurs q one (inr past) low =
             let sink : q ≡ states_of d = omega arith in
             absurd (omega (arith, one, ap (class_of classes) sink, parted.sink, live))
 
@@ -273,12 +273,12 @@ module _ (d : Automaton) (outputs classes states places : List ℕ) (spans : Lis
         sym (parted.coarse p q small low same) ∙ ap (class_of classes) (sym found.3) ∙ parted.spanned.inside class found.0 made (omega (arith, found.1, moved.after_start)) found.2 in
         let leaves : Contains set q = union.whole p q small low same (subst (Contains set) found.3 (moved.moved found.0 found.1 found.2)) in
         let at = place_of d outputs classes states places spans pending parted class made q (All-contains (λ (x : ℕ). x < states_of d) set q union.within leaves) one in
-        stands q leaves at.0 at.1 at.2 at.3 (cases_lt at.0 middle);
+        occurs q leaves at.0 at.1 at.2 at.3 (cases_lt at.0 middle);
   }
     where
-      stands : (q : ℕ) → Contains set q → (place : ℕ) → first ≤ place → place < last → get_or states place 0 ≡ q → (place < middle) ⊎ (middle ≤ place) → Contains (slice_range states middle last) q
-      stands q leaves place from to is (inl less) = absurd (moved.left place from less (subst (Contains set) (sym is) leaves))
-      stands q leaves place from to is (inr more) = subst (Contains (slice_range states middle last)) is (Contains-slice states middle last place room more to)
+      occurs : (q : ℕ) → Contains set q → (place : ℕ) → first ≤ place → place < last → get_or states place 0 ≡ q → (place < middle) ⊎ (middle ≤ place) → Contains (slice_range states middle last) q
+      occurs q leaves place from to is (inl less) = absurd (moved.left place from less (subst (Contains set) (sym is) leaves))
+      occurs q leaves place from to is (inr more) = subst (Contains (slice_range states middle last)) is (Contains-slice states middle last place room more to)
 
   -- they get a new class
   module _ (new_classes : List ℕ) (new_spans : List ClassSpan) (given : IsGiven classes new_classes (slice_range states middle last) (length spans)) (few : length spans ≤ states_of d) (cut : IsCut spans new_spans class middle) where
@@ -330,10 +330,10 @@ AreParted-one d outputs span table from to = record {
   coarse = λ p q small low same. alike p ∙ sym (alike q);
   order = record {
     width = refl;
-    states_within = λ place small. omega (arith, stands place (omega (arith, small, size)), small);
-    places_within = λ q small. omega (arith, stands q (omega (arith, small, size)), small);
+    states_within = λ place small. omega (arith, occurs place (omega (arith, small, size)), small);
+    places_within = λ q small. omega (arith, occurs q (omega (arith, small, size)), small);
     placed = λ place small. twice place (omega (arith, small, size));
-    standing = λ q small. twice q (omega (arith, small, size));
+    state_back = λ q small. twice q (omega (arith, small, size));
   };
   spanned = record {
     ordered = λ class made. omega (arith, from, ap (λ (s : ClassSpan). s.start) (is class made));
@@ -350,11 +350,11 @@ AreParted-one d outputs span table from to = record {
     size : length (range_with_len 0 (states_of d)) ≡ states_of d
     size = length-range_with_len 0 (states_of d)
 
-    stands : (q : ℕ) → q < states_of d → get_or (range_with_len 0 (states_of d)) q 0 ≡ q
-    stands q small = omega (arith, get_or-range_with_len 0 (states_of d) q 0 small)
+    occurs : (q : ℕ) → q < states_of d → get_or (range_with_len 0 (states_of d)) q 0 ≡ q
+    occurs q small = omega (arith, get_or-range_with_len 0 (states_of d) q 0 small)
 
     twice : (q : ℕ) → q < states_of d → get_or (range_with_len 0 (states_of d)) (get_or (range_with_len 0 (states_of d)) q 0) 0 ≡ q
-    twice q small = ap (λ (k : ℕ). get_or (range_with_len 0 (states_of d)) k 0) (stands q small) ∙ stands q small
+    twice q small = ap (λ (k : ℕ). get_or (range_with_len 0 (states_of d)) k 0) (occurs q small) ∙ occurs q small
 
     alike : (q : ℕ) → class_of (replicate (states_of d + 1) 0) q ≡ 0
     alike q = by (cases_lt q (states_of d + 1))

@@ -21,9 +21,9 @@ module _ (d : Automaton) (outputs : List ℕ) (given : length outputs ≡ states
   }
 
   -- what stays alike, and has one output, has one residual
-  module _ (classes : List ℕ) (stable : IsStable d classes) (tell : HaveOneOutput d outputs classes) where
+  module _ (classes : List ℕ) (stable : IsStable d classes) (one_output_each : HaveOneOutput d outputs classes) where
     pub residual_from_class : (w : List ℕ) (p q : ℕ) → p ≤ states_of d → q ≤ states_of d → class_of classes p ≡ class_of classes q → IsWord (letters_of d) w → class_from d outputs p w ≡ class_from d outputs q w
-    residual_from_class [] p q small low same over = tell p q small low same
+    residual_from_class [] p q small low same over = one_output_each p q small low same
     residual_from_class (a ∷ w) p q small low same over =
         class_from-next d outputs given p a w
         ∙ residual_from_class w (next_of d p a) (next_of d q a) (next_within d table p a) (next_within d table q a) ((stable p q small low same).next a over.0) over.1
@@ -31,10 +31,10 @@ module _ (d : Automaton) (outputs : List ℕ) (given : length outputs ≡ states
 
   -- classes that letters keep, each of one output, are the residuals
   pub AreResidualClasses-stable : (classes : List ℕ) → AreCoarseClasses d outputs classes → IsStable d classes → HaveOneOutput d outputs classes → AreResidualClasses d outputs classes
-  AreResidualClasses-stable classes coarse stable tell = record {
+  AreResidualClasses-stable classes coarse stable one_output_each = record {
     width = coarse.width;
     below = coarse.below;
-    residuals = λ p q small low. ((λ same w over. residual_from_class classes stable tell w p q small low same over), (λ same. coarse.coarse p q small low same));
+    residuals = λ p q small low. ((λ same w over. residual_from_class classes stable one_output_each w p q small low same over), (λ same. coarse.coarse p q small low same));
   }
 
   -- the residuals are classes that letters keep

@@ -6,7 +6,7 @@ use Rattle.std.proofs.lemmas.List.{get_or_past}
 use Rattle.std.proofs.lemmas.List.Elements.{All-contains, Contains-append_left, Contains-push}
 use Rattle.digit_tuple.specs.Deterministic.{Automaton, states_of}
 use Rattle.digit_tuple.proofs.MemberLemmas.{Contains-none}
-use Rattle.digit_tuple.proofs.PigeonLemmas.{StandsIn, onto_one}
+use Rattle.digit_tuple.proofs.PigeonLemmas.{IsNumberIn, onto_one}
 use Rattle.minimise.specs.declared.partition.ClassSpan.{ClassSpan}
 use Rattle.minimise.specs.Classes.{class_of, next_of}
 use Rattle.minimise.specs.CoarseClasses.{AreResidualClasses, HaveOneOutput}
@@ -47,15 +47,15 @@ module _ (d : Automaton) (outputs classes states places : List ℕ) (spans : Lis
   -- where there are as many classes as states and the sink, each has a class of its own
   pub one_each : states_of d < length spans → (p q : ℕ) → p ≤ states_of d → q ≤ states_of d → class_of classes p ≡ class_of classes q → p ≡ q
   one_each full p q small low same =
-      onto_one (states_of d + 1) classes (λ k less. stands k (cases_lt 0 k) (omega (arith, less, full))) parted.width p q (omega (arith, small, parted.width)) (omega (arith, low, parted.width)) same
+      onto_one (states_of d + 1) classes (λ k less. occurs k (cases_lt 0 k) (omega (arith, less, full))) parted.width p q (omega (arith, small, parted.width)) (omega (arith, low, parted.width)) same
     where
-      stands : (k : ℕ) → (0 < k) ⊎ (k ≤ 0) → k < length spans → StandsIn classes k
-      stands k (inl live) made =
+      occurs : (k : ℕ) → (0 < k) ⊎ (k ≤ 0) → k < length spans → IsNumberIn classes k
+      occurs k (inl live) made =
           let place = (span_of spans k).start in
           let some = parted.filled k live made in
           let within : place < length states = omega (arith, some, parted.spanned.within k made) in
           (get_or states place 0, omega (arith, state_within d outputs classes states places spans pending parted place within, parted.width), parted.spanned.inside k place made (omega arith) some)
-      stands k (inr none) made = (states_of d, omega (arith, parted.width), parted.sink ∙ omega arith)
+      occurs k (inr none) made = (states_of d, omega (arith, parted.width), parted.sink ∙ omega arith)
 
   -- a class, of which the states of a set have been moved to the end of its span
   module _ (class : ℕ) (made : class < length spans) (was set : List ℕ) (middle : ℕ) (moved : AreAtEnd was states set (span_of spans class).start middle (span_of spans class).end)
@@ -194,8 +194,8 @@ module _ (d : Automaton) (outputs classes states places : List ℕ) (spans : Lis
   -- classes that part those that are given, all of them pending
   pub IsSettled-begin : (before : List ℕ) → AreAllPending (length spans) pending → HaveOneOutput d outputs before
       → ((p q : ℕ) → p ≤ states_of d → q ≤ states_of d → class_of classes p ≡ class_of classes q → class_of before p ≡ class_of before q) → IsSettled d outputs classes pending
-  IsSettled-begin before all tell finer = record {
-    one_output = λ p q small low same. tell p q small low (finer p q small low same);
+  IsSettled-begin before all one_output_each finer = record {
+    one_output = λ p q small low same. one_output_each p q small low (finer p q small low same);
     led = λ p q a small low inside same. by (next_of d p a) (next_of d q a) (cases_lt 0 (class_of classes (next_of d p a))) (cases_lt 0 (class_of classes (next_of d q a)));
   }
     where

@@ -35,12 +35,12 @@ module _ (d : Automaton) (outputs classes states places : List ℕ) (spans : Lis
   placed : (place : ℕ) → place < states_of d → get_or places (get_or states place 0) 0 ≡ place
   placed place small = parted.order.placed place (omega (arith, small, parted.count))
 
-  standing : (q : ℕ) → q < states_of d → get_or states (get_or places q 0) 0 ≡ q
-  standing q small = parted.order.standing q (omega (arith, small, parted.count))
+  state_back : (q : ℕ) → q < states_of d → get_or states (get_or places q 0) 0 ≡ q
+  state_back q small = parted.order.state_back q (omega (arith, small, parted.count))
 
   -- the sum over a class's span
   pub span_sum : (f : ℕ → ℕ) (class : ℕ) → class < length spans → sum_by f (slice_range states (span_of spans class).start (span_of spans class).end) ≡ class_sum (states_of d) f classes class
-  span_sum f class made = class_sum-slice f states places (states_of d) parted.count states_low placed standing classes class (span_of spans class).start (span_of spans class).end
+  span_sum f class made = class_sum-slice f states places (states_of d) parted.count states_low placed state_back classes class (span_of spans class).start (span_of spans class).end
       (parted.spanned.ordered class made) (omega (arith, parted.spanned.within class made, parted.count))
       (λ q small is.
       let found = place_of d outputs classes states places spans pending parted class made q small is in
@@ -90,7 +90,7 @@ module _ (m : Machine) (p : Partition) (was states places set : List ℕ) (class
       by (inr none) = absurd (omega (arith, fresh q small, given.elsewhere q none, is))
 
   leaving_sum : (f : ℕ → ℕ) → sum_by f (slice_range states middle last) ≡ class_sum n f classes count
-  leaving_sum f = class_sum-slice f states places n parted.count (states_low m.dfa.now m.outputs.now p.classes.items states places p.spans.items p.pending parted) (placed m.dfa.now m.outputs.now p.classes.items states places p.spans.items p.pending parted) (standing m.dfa.now m.outputs.now p.classes.items states places p.spans.items p.pending parted)
+  leaving_sum f = class_sum-slice f states places n parted.count (states_low m.dfa.now m.outputs.now p.classes.items states places p.spans.items p.pending parted) (placed m.dfa.now m.outputs.now p.classes.items states places p.spans.items p.pending parted) (state_back m.dfa.now m.outputs.now p.classes.items states places p.spans.items p.pending parted)
       classes count middle last moved.before_end (omega (arith, fits, parted.count))
       (λ q small is.
       let found = left_at q small is in

@@ -63,8 +63,8 @@ module _ (old states places set : List ℕ) (i start middle end : ℕ) (within :
     abbrev p : ℕ
     p = get_or places x 0
 
-    stood : get_or states p 0 ≡ x
-    stood = order.standing x inside
+    was_there : get_or states p 0 ≡ x
+    was_there = order.state_back x inside
 
     changed : Swapped (λ k. get_or states k 0) (λ k. get_or new k 0) p last
     changed = swapped_from_swap states new p last 0 (omega (arith, moved.before_end)) (omega (arith, moved.before_end)) swapped
@@ -94,7 +94,7 @@ module _ (old states places set : List ℕ) (i start middle end : ℕ) (within :
 
         at_end : (place : ℕ) → last ≤ place → place < end → (place ≡ last) ⊎ (place ≡ last → ⊥) → Contains (take (i + 1) set) (get_or new place 0)
         at_end place low high (inl is) =
-            subst (Contains (take (i + 1) set)) (sym (ap (λ k. get_or new k 0) is ∙ changed.1 ∙ stood)) (subst (λ (xs : List ℕ). Contains xs x) (sym prefix) (Contains-push (take i set) x))
+            subst (Contains (take (i + 1) set)) (sym (ap (λ k. get_or new k 0) is ∙ changed.1 ∙ was_there)) (subst (λ (xs : List ℕ). Contains xs x) (sym prefix) (Contains-push (take i set) x))
         at_end place low high (inr other) =
             subst (Contains (take (i + 1) set)) (sym (changed.2 place (λ is. omega (arith, is)) other)) (kept (get_or states place 0) (moved.moved place (omega (arith, other)) high))
 

@@ -8,7 +8,7 @@ pub record AreInverse (states places : List ℕ) : Type 0 where
   pub states_within : (place : ℕ) → place < length states → slice_index states place < length states
   pub places_within : (q : ℕ) → q < length states → slice_index places q < length states
   pub placed : (place : ℕ) → place < length states → slice_index places (slice_index states place) ≡ place
-  pub standing : (q : ℕ) → q < length states → slice_index states (slice_index places q) ≡ q
+  pub state_back : (q : ℕ) → q < length states → slice_index states (slice_index places q) ≡ q
 
 -- of the states from the start to the end those of the set are from the middle on, and the others before them; all other states are where
 -- they were

@@ -94,42 +94,42 @@ parses_fault text (Number at) h = h
 parses_fault text Memory h = tt
 
 -- the lexemes of a text that were read, and those that are left
-record Stands (text : List ℕ) (stage : Stage) (left : List (Spot Lexeme)) : Type 0 where
+record HasReadSoFar (text : List ℕ) (stage : Stage) (left : List (Spot Lexeme)) : Type 0 where
   prefix : List (Spot Lexeme)
   split : spots text ≡ prefix ++ left
   reached : reach (tokens prefix) AtFirst ≡ Some stage
 
-lexemes_split : (text : List ℕ) (stage : Stage) (left : List (Spot Lexeme)) (st : Stands text stage left) → lexemes text ≡ tokens st.prefix ++ tokens left
+lexemes_split : (text : List ℕ) (stage : Stage) (left : List (Spot Lexeme)) (st : HasReadSoFar text stage left) → lexemes text ≡ tokens st.prefix ++ tokens left
 lexemes_split text stage left st = ap tokens st.split ∙ map-append (λ (s : Spot Lexeme). s.token) st.prefix left
 
 -- the lexemes before are those of the prefix
-taken : (text : List ℕ) (stage : Stage) (left : List (Spot Lexeme)) (st : Stands text stage left) → take (length st.prefix) (lexemes text) ≡ tokens st.prefix
+taken : (text : List ℕ) (stage : Stage) (left : List (Spot Lexeme)) (st : HasReadSoFar text stage left) → take (length st.prefix) (lexemes text) ≡ tokens st.prefix
 taken text stage left st =
     ap (λ n. take n (lexemes text)) (sym (length-map st.prefix (λ (s : Spot Lexeme). s.token)))
     ∙ (ap (take (length (tokens st.prefix))) (lexemes_split text stage left st) ∙ take-append_seam (tokens st.prefix) (tokens left))
 
-counted : (text : List ℕ) (stage : Stage) (left : List (Spot Lexeme)) (st : Stands text stage left) → length (lexemes text) ≡ length st.prefix + length left
+counted : (text : List ℕ) (stage : Stage) (left : List (Spot Lexeme)) (st : HasReadSoFar text stage left) → length (lexemes text) ≡ length st.prefix + length left
 counted text stage left st =
     length-map (spots text) (λ (s : Spot Lexeme). s.token) ∙ (ap length st.split ∙ length-append st.prefix left)
 
-may_be_here : (text : List ℕ) (stage : Stage) (left : List (Spot Lexeme)) (st : Stands text stage left) → MatchBool (takes_letter stage) (MayBeLetter (take (length st.prefix) (lexemes text))) (MayBeLetter (take (length st.prefix) (lexemes text)) → ⊥)
+may_be_here : (text : List ℕ) (stage : Stage) (left : List (Spot Lexeme)) (st : HasReadSoFar text stage left) → MatchBool (takes_letter stage) (MayBeLetter (take (length st.prefix) (lexemes text))) (MayBeLetter (take (length st.prefix) (lexemes text)) → ⊥)
 may_be_here text stage left st =
     let P : List Lexeme → Type 0 = λ ts. MatchBool (takes_letter stage) (MayBeLetter ts) (MayBeLetter ts → ⊥) in
     subst P (sym (taken text stage left st)) (letter_may_be (tokens st.prefix) stage st.reached)
 
-begins_here : (text : List ℕ) (stage : Stage) (left : List (Spot Lexeme)) (st : Stands text stage left) → Begins Derives (take (length st.prefix) (lexemes text))
+begins_here : (text : List ℕ) (stage : Stage) (left : List (Spot Lexeme)) (st : HasReadSoFar text stage left) → Begins Derives (take (length st.prefix) (lexemes text))
 begins_here text stage left st = subst (Begins Derives) (sym (taken text stage left st)) (begins (tokens st.prefix) stage st.reached)
 
 -- one lexeme more
-stands_more : (text : List ℕ) (stage further : Stage) (s : Spot Lexeme) (left : List (Spot Lexeme)) → Stands text stage (s ∷ left) → step stage s.token ≡ Some further → Stands text further left
-stands_more text stage further s left st e = record {
+has_read_more : (text : List ℕ) (stage further : Stage) (s : Spot Lexeme) (left : List (Spot Lexeme)) → HasReadSoFar text stage (s ∷ left) → step stage s.token ≡ Some further → HasReadSoFar text further left
+has_read_more text stage further s left st e = record {
   prefix = st.prefix ++ s ∷ [];
   split = st.split ∙ sym (append_assoc st.prefix (s ∷ []) left);
   reached = ap (λ (ts : List Lexeme). reach ts AtFirst) (map-append (λ (x : Spot Lexeme). x.token) st.prefix (s ∷ [])) ∙ (reach-push (tokens st.prefix) s.token AtFirst stage st.reached ∙ e);
 }
 
 -- a lexeme with which no rules go on
-fault_here : (text : List ℕ) (stage : Stage) (s : Spot Lexeme) (left : List (Spot Lexeme)) → Stands text stage (s ∷ left) → step stage s.token ≡ None → IsFault text (fault_of (takes_letter stage) s)
+fault_here : (text : List ℕ) (stage : Stage) (s : Spot Lexeme) (left : List (Spot Lexeme)) → HasReadSoFar text stage (s ∷ left) → step stage s.token ≡ None → IsFault text (fault_of (takes_letter stage) s)
 fault_here text stage s left st e =
     let n : length (lexemes text) ≡ length st.prefix + length (s ∷ left) = counted text stage (s ∷ left) st in
     let whole : lexemes text ≡ (tokens st.prefix ++ s.token ∷ []) ++ tokens left = lexemes_split text stage (s ∷ left) st ∙ sym (append_assoc (tokens st.prefix) (s.token ∷ []) (tokens left)) in
@@ -149,7 +149,7 @@ fault_here text stage s left st e =
     }
 
 -- a text that ends too early
-fault_at_end : (text : List ℕ) (stage : Stage) → Stands text stage [] → ended stage ≡ None → IsFault text (Syntax (length text))
+fault_at_end : (text : List ℕ) (stage : Stage) → HasReadSoFar text stage [] → ended stage ≡ None → IsFault text (Syntax (length text))
 fault_at_end text stage st e =
     let n : length (lexemes text) ≡ length st.prefix + 0 = counted text stage [] st in
     let whole : lexemes text ≡ tokens st.prefix = lexemes_split text stage [] st ∙ append-nil (tokens st.prefix) in
@@ -168,7 +168,7 @@ fault_at_end text stage st e =
     }
 
 -- what is read of the lexemes that are left
-runs : (text : List ℕ) (stage : Stage) (left : List (Spot Lexeme)) → Stands text stage left → Parses text (run (length text) stage left)
+runs : (text : List ℕ) (stage : Stage) (left : List (Spot Lexeme)) → HasReadSoFar text stage left → Parses text (run (length text) stage left)
 runs text stage [] st = by_end (ended stage) refl
   where
     by_end : (o : Option Rules) → ended stage ≡ o → Parses text (or_fault (Syntax (length text)) o)
@@ -176,7 +176,7 @@ runs text stage [] st = by_end (ended stage) refl
     by_end (Some rules) e =
         let whole : lexemes text ≡ tokens st.prefix = lexemes_split text stage [] st ∙ append-nil (tokens st.prefix) in
         derived (lexemes text) rules (ap (λ (ts : List Lexeme). from (reach ts AtFirst) ended) whole ∙ (ap (λ o. from o ended) st.reached ∙ e))
-runs text stage (s ∷ left) st = by_step (step stage s.token) refl (λ further e. runs text further left (stands_more text stage further s left st e))
+runs text stage (s ∷ left) st = by_step (step stage s.token) refl (λ further e. runs text further left (has_read_more text stage further s left st e))
   where
     by_step : (o : Option Stage) → step stage s.token ≡ o → ((further : Stage) → step stage s.token ≡ Some further → Parses text (run (length text) further left)) → Parses text (or_fault (fault_of (takes_letter stage) s) o >>= λ n. run (length text) n left)
     by_step None e rest = parses_fault text (fault_of (takes_letter stage) s) (fault_here text stage s left st e)

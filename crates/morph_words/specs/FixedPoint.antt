@@ -8,7 +8,7 @@ abbrev pub power : Rules → ℕ → List ℤ
 power rules zero = pos 0 ∷ []
 power rules (suc times) = applied rules (power rules times)
 
--- the letter of the fixed point at a place: that of the first of these words that is longer than the place
+-- the letter of the fixed point at a position: that of the first of these words that is longer than the position
 pub record IsLetterAt (rules : Rules) (place : ℕ) (letter : ℤ) : Type 0 where
   pub times : ℕ
   pub first : (fewer : ℕ) → fewer < times → length (power rules fewer) ≤ place

@@ -4,7 +4,7 @@ use Rattle.morph_words.specs.Rules.{Rules}
 use Rattle.morph_words.specs.Images.{applied, image}
 use Rattle.morph_words.specs.Uniform.{AreUniform}
 
--- the letter at k*q + r is that at place r of the image of the word's letter at q, k being the length of all images
+-- the letter at k*q + r is that at position r of the image of the word's letter at q, k being the length of all images
 pub record IsImageLetter (rules : Rules) (LetterOf : ℕ → ℤ → Type 0) (place : ℕ) (letter : ℤ) : Type 0 where
   pub k : ℕ
   pub uniform : AreUniform rules k
@@ -16,7 +16,7 @@ pub record IsImageLetter (rules : Rules) (LetterOf : ℕ → ℤ → Type 0) (pl
   pub has : LetterOf q of_word
   pub letter_is : slice_get (image rules of_word) r ≡ Some letter
 
--- the images of some first letters of the word, one after another, have this letter at the place
+-- the images of some first letters of the word, one after another, have this letter at the position
 pub record IsJoinedLetter (rules : Rules) (LetterOf : ℕ → ℤ → Type 0) (place : ℕ) (letter : ℤ) : Type 0 where
   pub prefix : List ℤ
   pub letters : (i : ℕ) → i < length prefix → LetterOf i (slice_index_or prefix i (pos 0))

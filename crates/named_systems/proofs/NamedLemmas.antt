@@ -21,9 +21,9 @@ pub stays : (systems more : List NamedSystem) (name : List ℕ) → HasSystemIn 
 stays systems more name has = (has.0, named_first systems more name has.0 has.1)
 
 -- something is under the last name
-pub last_stands : (systems : List NamedSystem) (name : List ℕ) (s : SystemValue) → HasSystemIn (with_system systems name s) name
-last_stands [] name s = let same : bytes_eq name name ≡ true = (bytes_eq-Decides name name).1 refl in rw same (s, refl)
-last_stands (x ∷ systems) name s = by (bytes_eq x.name name) (last_stands systems name s)
+pub last_is_found : (systems : List NamedSystem) (name : List ℕ) (s : SystemValue) → HasSystemIn (with_system systems name s) name
+last_is_found [] name s = let same : bytes_eq name name ≡ true = (bytes_eq-Decides name name).1 refl in rw same (s, refl)
+last_is_found (x ∷ systems) name s = by (bytes_eq x.name name) (last_is_found systems name s)
   where
     by : (b : Bool) → (t : SystemValue) × (system_named (with_system systems name s) name ≡ Some t) → (t : SystemValue) × ((if b then Some x.system else system_named (with_system systems name s) name) ≡ Some t)
     by true rest = (x.system, refl)

@@ -103,4 +103,4 @@ all_there users systems (name ∷ names) extends there has = (by there.0, all_th
   where
     by : IsThere users name → HasSystemIn systems name
     by (inl built) = has.0 built
-    by (inr stands) = kept users systems name extends stands
+    by (inr extended) = kept users systems name extends extended

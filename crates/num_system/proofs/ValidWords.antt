@@ -17,8 +17,8 @@ use Rattle.numeration.proofs.PartRepresentation.{AreValid, ranks, valid_represen
 use Rattle.num_system.specs.Joined.{AreLanguagesOf}
 
 module _ (direction : Direction) (ss : List System) (languages : List Automaton) (are : AreLanguagesOf direction ss languages) (w : List ℕ) where
-  language_tells : (i : ℕ) → i < length ss → accepts_of (language_at languages i) (part (sizes_of ss) (i ∷ []) w) ≡ (system_at ss i).test (track ss i (in_order direction w))
-  language_tells i within =
+  language_decides : (i : ℕ) → i < length ss → accepts_of (language_at languages i) (part (sizes_of ss) (i ∷ []) w) ≡ (system_at ss i).test (track ss i (in_order direction w))
+  language_decides i within =
       (are.each i within).accepts (part (sizes_of ss) (i ∷ []) w)
       ∙ ap (system_at ss i).test (in_order-map direction (letter_part (sizes_of ss) (i ∷ [])) w)
 
@@ -27,7 +27,7 @@ module _ (direction : Direction) (ss : List System) (languages : List Automaton)
       let all = AllPass-from_list_all (λ track. accepts_of (language_at languages track) (part (sizes_of ss) (track ∷ []) w)) (range_with_len 0 (length languages)) accepted in
       let less : i < length languages = omega (arith, within, are.count) in
       let here : get_or (range_with_len 0 (length languages)) i 0 ≡ i = omega (arith, get_or-range_with_len 0 (length languages) i 0 less) in
-      sym (language_tells i within)
+      sym (language_decides i within)
       ∙ subst (λ (j : ℕ). accepts_of (language_at languages j) (part (sizes_of ss) (j ∷ []) w) ≡ true) here
       (all i 0 (omega (arith, less, length-range_with_len 0 (length languages))))
 
@@ -39,7 +39,7 @@ module _ (direction : Direction) (ss : List System) (languages : List Automaton)
       let within : i < length ss = omega (arith, less, are.count) in
       let here : i ≡ get_or (range_with_len 0 (length languages)) i d = omega (arith, get_or-range_with_len 0 (length languages) i d less) in
       subst (λ (j : ℕ). accepts_of (language_at languages j) (part (sizes_of ss) (j ∷ []) w) ≡ true) here
-      (language_tells i within ∙ valid i within))
+      (language_decides i within ∙ valid i within))
 
   -- a valid word represents numbers
   pub represented_from : is_valid (sizes_of ss) languages w ≡ true → (ns : List ℕ) × Represents ss (in_order direction w) ns

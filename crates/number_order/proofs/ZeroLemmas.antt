@@ -10,7 +10,7 @@ use Rattle.digit_tuple.specs.declared.direction.Direction.TheVariants.{Msd, Lsd}
 use Rattle.numeration.specs.Words.{rank}
 use Rattle.numeration.specs.Systems.{System, IsSystem, IsRep}
 use Rattle.numeration.specs.Relations.{IsZeroOf}
-use Rattle.digit_tuple.proofs.PaddingLemmas.{zeros_in_front, reverse-zeros}
+use Rattle.digit_tuple.proofs.PaddingLemmas.{zeros_then_rest, reverse-zeros}
 use Rattle.numeration.proofs.ConstantLemmas.{constant_holds}
 
 -- the empty word is that of 0
@@ -27,7 +27,7 @@ only_zeros (suc k) = only_zeros k
 -- a word is zeros alone where nothing is left without its leading zeros
 zeros_of : (w : List ℕ) → without_zeros w ≡ [] → (k : ℕ) × (w ≡ zeros k)
 zeros_of w none =
-    let parts = zeros_in_front w in
+    let parts = zeros_then_rest w in
     (parts.0, parts.1 ∙ ap (λ v. zeros (parts.0) ++ v) none ∙ append-nil (zeros (parts.0)))
 
 turned : (w : List ℕ) → without_zeros w ≡ [] → without_zeros (reverse w) ≡ []

@@ -45,8 +45,8 @@ same_automaton systems d e closed also canonical other agree = canonical_forms d
             let count = represented_count (systems_of systems) (in_order (direction_of systems) w) found.0 found.1 ∙ length-map systems system_of in
             (closed.accepts w inside).1 (found.0, found.1, (agree found.0 count).1 found.2)
 
-pub tuples_tell : TuplesDetermineRelations
-tuples_tell r s is also names systems same = λ i. record { names = names i; systems = systems i; automaton = automata i }
+pub tuples_determine : TuplesDetermineRelations
+tuples_determine r s is also names systems same = λ i. record { names = names i; systems = systems i; automaton = automata i }
   where
     closed : IsClosedOver r.systems s.automaton
     closed = subst (λ (ss : List SystemValue). IsClosedOver ss s.automaton) (sym systems) also.closed
@@ -73,7 +73,7 @@ module _ (names : List (List ℕ)) (systems : List SystemValue) (P : (List ℕ �
       subst (λ (ms : List ℕ). RelationHolds r ms ↔ P at) (ap (map at) (sym is.names_are) ∙ numbers_of_names r.names ns is.relation.tracked.distinct count) (is.holds_of at)
 
   pub one_relation : (r s : RelationValue) → IsRelationOf names systems P r → IsRelationOf names systems P s → r ≡ s
-  one_relation r s is also = tuples_tell r s is.relation also.relation same_names (is.systems_are ∙ sym also.systems_are) same
+  one_relation r s is also = tuples_determine r s is.relation also.relation same_names (is.systems_are ∙ sym also.systems_are) same
     where
       same_names : r.names ≡ s.names
       same_names = is.names_are ∙ sym also.names_are

@@ -6,7 +6,7 @@ use Rattle.digit_tuple.specs.Paddings.{zeros, without_zeros}
 use Rattle.numeration.specs.Words.{words, words_to, is_plain, is_less, is_before, rank, IsLanguage, ZerosKeepTheRank, RanksDetermineWords, RanksAreInOrder}
 use Rattle.numeration.specs.Systems.{IsRep}
 use Rattle.numeration.proofs.CountLemmas.{sum_below, sum_below-same, sum_below-first, sum_below-le, count_by-append, count_by-words, count_by-same, count_by-same_to, count_by-none}
-use Rattle.digit_tuple.proofs.PaddingLemmas.{length-zeros, without_zeros-short, zeros_in_front, without_zeros-zeros}
+use Rattle.digit_tuple.proofs.PaddingLemmas.{length-zeros, without_zeros-short, zeros_then_rest, without_zeros-zeros}
 pub use Rattle.digit_tuple.proofs.TruthLemmas.{same_tests}
 use Rattle.numeration.proofs.PlainLemmas.{without_zeros-plain, plain_is}
 use Rattle.numeration.proofs.BelowLemmas.{size, below, after, led_below, size-suc, and_true, less_first, below-cons, below-less, below-ordered, below-apart, below-find, word_order}
@@ -220,13 +220,13 @@ rank-find d test n language =
 -- a word without its leading zeros
 pub valid-without_zeros : (d : ℕ) (test : List ℕ → Bool) (w : List ℕ) → IsLanguage d test → IsTrue (test w) ↔ IsTrue (test (without_zeros w))
 valid-without_zeros d test w language =
-    let parts = zeros_in_front w in
+    let parts = zeros_then_rest w in
     let both = valid-zeros d test (parts.0) (without_zeros w) language in
     (λ h. both.0 (subst (λ v. IsTrue (test v)) parts.1 h), λ h. subst (λ v. IsTrue (test v)) (sym parts.1) (both.1 h))
 
 pub rank-without_zeros : (d : ℕ) (test : List ℕ → Bool) (w : List ℕ) → rank d test (without_zeros w) ≡ rank d test w
 rank-without_zeros d test w =
-    let parts = zeros_in_front w in
+    let parts = zeros_then_rest w in
     sym (rank-pad d test (parts.0) (without_zeros w)) ∙ ap (rank d test) (sym parts.1)
 
 pub rep_exists : (d : ℕ) (test : List ℕ → Bool) (n : ℕ) → IsLanguage d test → (w : List ℕ) × IsRep d test n w

@@ -7,7 +7,7 @@ use Rattle.digit_tuple.specs.Letters.{IsWord}
 use Rattle.digit_tuple.specs.Paddings.{zeros, without_zeros}
 use Rattle.numeration.specs.Systems.{System, IsSystem, AreSystems, IsRepresentation}
 use Rattle.numeration.specs.Representation.{letters_in, first_track, other_tracks, Represents, TuplesHaveRepresentations, RepresentationsArePaddings}
-use Rattle.digit_tuple.proofs.PaddingLemmas.{length-zeros, zeros_in_front, without_zeros-zeros, IsWord-zeros_before}
+use Rattle.digit_tuple.proofs.PaddingLemmas.{length-zeros, zeros_then_rest, without_zeros-zeros, IsWord-zeros_before}
 use Rattle.numeration.proofs.RankLemmas.{two_digits, rank-zero, rank-pad, rank-apart, rank-find, valid-zeros}
 
 -- there is a letter
@@ -89,7 +89,7 @@ represents-pad ss (suc k) w ns are =
 -- a word without its leading zero letters represents the same
 pub represents-without_zeros : (ss : List System) (w ns : List ℕ) → AreSystems ss → Represents ss w ns ↔ Represents ss (without_zeros w) ns
 represents-without_zeros ss w ns are =
-    let parts = zeros_in_front w in
+    let parts = zeros_then_rest w in
     let both = represents-pad ss (parts.0) (without_zeros w) ns are in
     (λ h. both.0 (subst (λ u. Represents ss u ns) parts.1 h), λ h. subst (λ u. Represents ss u ns) (sym parts.1) (both.1 h))
 

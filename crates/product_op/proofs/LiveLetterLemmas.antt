@@ -33,13 +33,13 @@ filter_left p xs i inside fails =
 pub leads_by : (r : Reading) (state a next : ℕ) (b : Bool) → next ≡ next_of r.automaton state (part_read r a) → (b ≡ true → next ≡ states_of r.automaton) → (next ≡ states_of r.automaton → b ≡ true) → leads_on r state a ≡ not b
 leads_by r state a next b is out back = by b (next_of r.automaton state (part_read r a) == states_of r.automaton) refl out back
   where
-    tells : (next_of r.automaton state (part_read r a) ≡ states_of r.automaton) → (next_of r.automaton state (part_read r a) == states_of r.automaton) ≡ true
-    tells same = (Decides-eqb (next_of r.automaton state (part_read r a)) (states_of r.automaton)).1 same
+    goes_nowhere : (next_of r.automaton state (part_read r a) ≡ states_of r.automaton) → (next_of r.automaton state (part_read r a) == states_of r.automaton) ≡ true
+    goes_nowhere same = (Decides-eqb (next_of r.automaton state (part_read r a)) (states_of r.automaton)).1 same
 
     by : (b c : Bool) → (next_of r.automaton state (part_read r a) == states_of r.automaton) ≡ c → (b ≡ true → next ≡ states_of r.automaton) → (next ≡ states_of r.automaton → b ≡ true) → not c ≡ not b
     by true true eq out back = refl
     by false false eq out back = refl
-    by true false eq out back = absurd (true≢false (sym (tells (sym is ∙ out refl)) ∙ eq))
+    by true false eq out back = absurd (true≢false (sym (goes_nowhere (sym is ∙ out refl)) ∙ eq))
     by false true eq out back = absurd (true≢false (sym (back (is ∙ (Decides-eqb (next_of r.automaton state (part_read r a)) (states_of r.automaton)).0 eq))))
 
 module _ (letters : ℕ) (op : Op) (rs : List Reading) (are : ArePair letters op rs) (key : List ℕ) where

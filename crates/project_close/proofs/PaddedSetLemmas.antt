@@ -32,7 +32,7 @@ use Rattle.project_close.specs.PaddedSets.{AreFirst, IsStateList, padded_after, 
 use Rattle.project_close.specs.SameBranching.{branch_as, branching_as}
 use Rattle.project_close.specs.ZeroClosure.{AreAfterZeros}
 use Rattle.digit_tuple.proofs.AcceptedLemmas.{accepted_over}
-use Rattle.digit_tuple.proofs.PaddingLemmas.{IsWord-zeros, IsWord-without_zeros, zeros_in_front, without_zeros-zeros, without_zeros-twice}
+use Rattle.digit_tuple.proofs.PaddingLemmas.{IsWord-zeros, IsWord-without_zeros, zeros_then_rest, without_zeros-zeros, without_zeros-twice}
 use Rattle.project_close.proofs.SinkLeads.{lead-sink, lead-append, lead_within, accepts_of-lead, accepting_within, run_from_lead, lead_from_run, lead_from_path, path_from_run, branch_is, IsBranchTable-as}
 
 -- a set of states is not empty
@@ -191,7 +191,7 @@ module _ (d : Automaton) (canonical : IsCanonical d) where
 
         back : IsPadded Msd d w → (k : ℕ) × (accepts_of d (zeros k ++ without_zeros w) ≡ true)
         back padded =
-            let prefix = zeros_in_front padded.0 in
+            let prefix = zeros_then_rest padded.0 in
             (prefix.0, ap (accepts_of d) (ap (λ (u : List ℕ). zeros prefix.0 ++ u) (sym padded.2) ∙ sym prefix.1) ∙ padded.3)
 
     -- words after which the sets are one have the same residuals after zeros

@@ -72,8 +72,8 @@ module _ (a : NamedAutomaton) (kept dropped : List ℕ) (two : HaveTwoTracks a k
   under = names_for a.names kept dropped
 
   -- the name that takes the place of a track's name is there when the dropped one is not
-  stands : (name : List ℕ) → Contains a.names name → Contains rest (name_for kept dropped name)
-  stands name there = by (bytes_eq name dropped) refl
+  name_kept : (name : List ℕ) → Contains a.names name → Contains rest (name_for kept dropped name)
+  name_kept name there = by (bytes_eq name dropped) refl
     where
       by : (b : Bool) → bytes_eq name dropped ≡ b → Contains rest (if b then kept else name)
       by true is = Contains-filter (λ n. not (bytes_eq n dropped)) a.names kept two.is_kept (passes kept dropped two.distinct)
@@ -108,7 +108,7 @@ module _ (a : NamedAutomaton) (kept dropped : List ℕ) (two : HaveTwoTracks a k
     agree = λ i j within inside same.
         size_is i (omega (arith, within, length-names_for)) ∙ ap (size_of a) same ∙ sym (size_is j (omega (arith, inside, length-names_for)));
     distinct = AllPairs-filter (λ n m. n ≢ m) (λ n. not (bytes_eq n dropped)) a.names two.tracked.distinct;
-    there = All-map (Contains rest) (name_for kept dropped) a.names (λ i d within. stands (get_or a.names i d) (Contains-get_or a.names i d within));
+    there = All-map (Contains rest) (name_for kept dropped) a.names (λ i d within. name_kept (get_or a.names i d) (Contains-get_or a.names i d within));
     no_others = stays;
   }
 

@@ -9,20 +9,20 @@ use Rattle.regex_build.specs.Positions.{IsOf, IsWritten, IsPositionTable, Positi
 use Rattle.digit_tuple.specs.Tuples.{IsLetterOf}
 use Rattle.digit_tuple.proofs.TupleLemmas.{one_tuple}
 use Rattle.regex_build.proofs.ListSteps.{zip-through, zip-compose}
-use Rattle.regex_build.proofs.PlaceWords.{Allows, StandsAt, IsWithin, place_within, places_of, word_written}
+use Rattle.regex_build.proofs.PlaceWords.{Allows, OccursAt, IsWithin, place_within, places_of, word_written}
 use Rattle.regex_build.proofs.Merging.{IsChain, matches_from_chain, chain_from_matches}
 
 -- what is said of the occurrence at a place
 abbrev pub IsAt : {L : Type 0} → (Option L → Type 0) → List (Option L) → ℕ → Type 0
 IsAt P os k = IsSomeAnd (slice_get os k) P
 
-get_from_stands : {L : Type 0} (n : ℕ) (os : List (Option L)) (place : ℕ) (x : L) → StandsAt n os place x → (k : ℕ) × (place ≡ n + k) × IsAt (λ o. Allows o x) os k
-get_from_stands n [] place x h = absurd h
-get_from_stands n (o ∷ os) place x h =
+get_from_occurs : {L : Type 0} (n : ℕ) (os : List (Option L)) (place : ℕ) (x : L) → OccursAt n os place x → (k : ℕ) × (place ≡ n + k) × IsAt (λ o. Allows o x) os k
+get_from_occurs n [] place x h = absurd h
+get_from_occurs n (o ∷ os) place x h =
     elim h [
       | inl p ↦ (0, (let e : place ≡ n = p.0 in omega arith), p.1)
       | inr q ↦
-          let r = get_from_stands (n + 1) os place x q in
+          let r = get_from_occurs (n + 1) os place x q in
           (suc r.0, (let e : place ≡ n + 1 + r.0 = r.1 in omega arith), r.2)
     ]
 
@@ -36,9 +36,9 @@ of_at code (o ∷ os) zero x a h c = of_from_allows code o x a h c
 of_at code (o ∷ os) (suc k) x a h c = of_at code os k x a h c
 
 -- a letter at a place is written as it is
-pub written_from_stands : {L : Type 0} (code : L → ℕ → Type 0) (os : List (Option L)) (place : ℕ) (x : L) (a : ℕ) → StandsAt 1 os place x → code x a → IsWritten code os place a
-written_from_stands {L} code os place x a h c =
-    let r = get_from_stands 1 os place x h in
+pub written_from_occurs : {L : Type 0} (code : L → ℕ → Type 0) (os : List (Option L)) (place : ℕ) (x : L) (a : ℕ) → OccursAt 1 os place x → code x a → IsWritten code os place a
+written_from_occurs {L} code os place x a h c =
+    let r = get_from_occurs 1 os place x h in
     let e : suc r.0 ≡ place = let e1 : place ≡ 1 + r.0 = r.1 in omega arith in
     let P : ℕ → Type 0 = λ p. IsWritten code os p a in
     subst P e (of_at code os r.0 x a r.2 c)
@@ -46,12 +46,12 @@ written_from_stands {L} code os place x a h c =
 -- a letter at a place, and how it is written
 record HasLetter {L : Type 0} (code : L → ℕ → Type 0) (n : ℕ) (os : List (Option L)) (place a : ℕ) : Type 0 where
   pub one : L
-  pub stands : StandsAt n os place one
+  pub occurs : OccursAt n os place one
   pub written : code one a
 
 letter_here : {L : Type 0} (code : L → ℕ → Type 0) (n : ℕ) (o : Option L) (os : List (Option L)) (a : ℕ) → IsOf code o a → HasLetter code n (o ∷ os) (n + 0) a
-letter_here code n (Some y) os a h = record { one = y; stands = inl ((omega arith), refl); written = h }
-letter_here code n None os a h = record { one = h.0; stands = inl ((omega arith), tt); written = h.1 }
+letter_here code n (Some y) os a h = record { one = y; occurs = inl ((omega arith), refl); written = h }
+letter_here code n None os a h = record { one = h.0; occurs = inl ((omega arith), tt); written = h.1 }
 
 letter_from_get : {L : Type 0} (code : L → ℕ → Type 0) (n : ℕ) (os : List (Option L)) (k a : ℕ) → IsAt (λ o. IsOf code o a) os k → HasLetter code n os (n + k) a
 letter_from_get code n [] k a h = absurd h
@@ -59,8 +59,8 @@ letter_from_get code n (o ∷ os) zero a h = letter_here code n o os a h
 letter_from_get code n (o ∷ os) (suc k) a h =
     let r = letter_from_get code (n + 1) os k a h in
     let e : n + 1 + k ≡ n + suc k = omega arith in
-    let P : ℕ → Type 0 = λ p. StandsAt (n + 1) os p r.one in
-    record { one = r.one; stands = inr (subst P e r.stands); written = r.written }
+    let P : ℕ → Type 0 = λ p. OccursAt (n + 1) os p r.one in
+    record { one = r.one; occurs = inr (subst P e r.occurs); written = r.written }
 
 letter_from_written : {L : Type 0} (code : L → ℕ → Type 0) (xs : List (Option L)) (place a : ℕ) → IsWritten code xs place a → HasLetter code 1 xs place a
 letter_from_written code xs zero a h = absurd h
@@ -101,20 +101,20 @@ module _ {L : Type 0} (code : L → ℕ → Type 0) (e : Expression L) (n : Bran
   accepts_from_matches word letters z m =
       let a = places_of 1 e word m in
       path_of_chain 0 a.places letters (chain_of_word e a.places a.matched)
-      (zip-compose (StandsAt 1 (occurrences_in e)) code (IsWritten code (occurrences_in e)) (λ place x b h c. written_from_stands code (occurrences_in e) place x b h c) a.places word letters a.written z)
+      (zip-compose (OccursAt 1 (occurrences_in e)) code (IsWritten code (occurrences_in e)) (λ place x b h c. written_from_occurs code (occurrences_in e) place x b h c) a.places word letters a.written z)
 
   pub matches_from_accepts : ((x y : L) (a : ℕ) → code x a → code y a → x ≡ y) → (word : List L) (letters : List ℕ) → AllZip code word letters → Accepts n letters → Matches e word
   matches_from_accepts once word letters z accepted =
       let direction = chain_of_path 0 letters accepted.0 accepted.1 accepted.2 in
-      let written : AllZip (StandsAt 1 (occurrences_in e)) direction.0 word =
-      zip-through (IsWritten code (occurrences_in e)) code (StandsAt 1 (occurrences_in e)) stands direction.0 letters word direction.2 z in
+      let written : AllZip (OccursAt 1 (occurrences_in e)) direction.0 word =
+      zip-through (IsWritten code (occurrences_in e)) code (OccursAt 1 (occurrences_in e)) occurs direction.0 letters word direction.2 z in
       word_written 1 e direction.0 word (word_of_chain e direction.0 direction.1) written
     where
-      stands : (place a : ℕ) (x : L) → IsWritten code (occurrences_in e) place a → code x a → StandsAt 1 (occurrences_in e) place x
-      stands place a x h c =
+      occurs : (place a : ℕ) (x : L) → IsWritten code (occurrences_in e) place a → code x a → OccursAt 1 (occurrences_in e) place x
+      occurs place a x h c =
           let r = letter_from_written code (occurrences_in e) place a h in
-          let P : L → Type 0 = λ y. StandsAt 1 (occurrences_in e) place y in
-          subst P (once r.one x a r.written c) r.stands
+          let P : L → Type 0 = λ y. OccursAt 1 (occurrences_in e) place y in
+          subst P (once r.one x a r.written c) r.occurs
 
 -- the table of an expression's letters accepts its matches
 pub accepts_the_matches : PositionsAcceptMatches

@@ -13,9 +13,9 @@ Allows (Some y) x = y ≡ x
 Allows {L} None x = Unit {0}
 
 -- the letter may be at a place of a list of occurrences whose first place is n
-abbrev pub StandsAt : {L : Type 0} → ℕ → List (Option L) → ℕ → L → Type 0
-StandsAt n [] place x = ⊥
-StandsAt n (o ∷ os) place x = ((place ≡ n) × Allows o x) ⊎ StandsAt (n + 1) os place x
+abbrev pub OccursAt : {L : Type 0} → ℕ → List (Option L) → ℕ → L → Type 0
+OccursAt n [] place x = ⊥
+OccursAt n (o ∷ os) place x = ((place ≡ n) × Allows o x) ⊎ OccursAt (n + 1) os place x
 
 pub record IsWithin (low high place : ℕ) : Type 0 where
   pub low_le : low ≤ place
@@ -24,58 +24,58 @@ pub record IsWithin (low high place : ℕ) : Type 0 where
 within_wider : (low high less more : ℕ) → less ≤ low → high ≤ more → (place : ℕ) → IsWithin low high place → IsWithin less more place
 within_wider low high less more h k place w = let a : low ≤ place = w.low_le in let b : place < high = w.below in record { low_le = omega arith; below = omega arith }
 
-stands_within : {L : Type 0} (n : ℕ) (os : List (Option L)) (place : ℕ) (x : L) → StandsAt n os place x → IsWithin n (n + length os) place
-stands_within n [] place x h = absurd h
-stands_within n (o ∷ os) place x h =
+occurs_within : {L : Type 0} (n : ℕ) (os : List (Option L)) (place : ℕ) (x : L) → OccursAt n os place x → IsWithin n (n + length os) place
+occurs_within n [] place x h = absurd h
+occurs_within n (o ∷ os) place x h =
     elim h [
       | inl p ↦ let e : place ≡ n = p.0 in record { low_le = omega arith; below = omega arith }
-      | inr q ↦ let w : IsWithin (n + 1) (n + 1 + length os) place = stands_within (n + 1) os place x q in record { low_le = omega arith; below = omega arith }
+      | inr q ↦ let w : IsWithin (n + 1) (n + 1 + length os) place = occurs_within (n + 1) os place x q in record { low_le = omega arith; below = omega arith }
     ]
 
 -- of two lists of occurrences one after the other
-pub stands_left : {L : Type 0} (n : ℕ) (os ps : List (Option L)) (place : ℕ) (x : L) → StandsAt n os place x → StandsAt n (os ++ ps) place x
-stands_left n [] ps place x h = absurd h
-stands_left n (o ∷ os) ps place x h =
-    elim h [ inl p ↦ inl p | inr q ↦ inr (stands_left (n + 1) os ps place x q) ]
+pub occurs_left : {L : Type 0} (n : ℕ) (os ps : List (Option L)) (place : ℕ) (x : L) → OccursAt n os place x → OccursAt n (os ++ ps) place x
+occurs_left n [] ps place x h = absurd h
+occurs_left n (o ∷ os) ps place x h =
+    elim h [ inl p ↦ inl p | inr q ↦ inr (occurs_left (n + 1) os ps place x q) ]
 
-pub stands_right : {L : Type 0} (n : ℕ) (os ps : List (Option L)) (place : ℕ) (x : L) → StandsAt (n + length os) ps place x → StandsAt n (os ++ ps) place x
-stands_right n [] ps place x h =
+pub occurs_right : {L : Type 0} (n : ℕ) (os ps : List (Option L)) (place : ℕ) (x : L) → OccursAt (n + length os) ps place x → OccursAt n (os ++ ps) place x
+occurs_right n [] ps place x h =
     let e : n + 0 ≡ n = omega arith in
-    let P : ℕ → Type 0 = λ m. StandsAt m ps place x in
+    let P : ℕ → Type 0 = λ m. OccursAt m ps place x in
     subst P e h
-stands_right n (o ∷ os) ps place x h =
+occurs_right n (o ∷ os) ps place x h =
     let e : n + length (o ∷ os) ≡ n + 1 + length os = omega arith in
-    let P : ℕ → Type 0 = λ m. StandsAt m ps place x in
-    inr (stands_right (n + 1) os ps place x (subst P e h))
+    let P : ℕ → Type 0 = λ m. OccursAt m ps place x in
+    inr (occurs_right (n + 1) os ps place x (subst P e h))
 
-stands_cases : {L : Type 0} (n : ℕ) (os ps : List (Option L)) (place : ℕ) (x : L) → StandsAt n (os ++ ps) place x → StandsAt n os place x ⊎ StandsAt (n + length os) ps place x
-stands_cases n [] ps place x h =
+occurs_cases : {L : Type 0} (n : ℕ) (os ps : List (Option L)) (place : ℕ) (x : L) → OccursAt n (os ++ ps) place x → OccursAt n os place x ⊎ OccursAt (n + length os) ps place x
+occurs_cases n [] ps place x h =
     let e : n ≡ n + 0 = omega arith in
-    let P : ℕ → Type 0 = λ m. StandsAt m ps place x in
+    let P : ℕ → Type 0 = λ m. OccursAt m ps place x in
     inr (subst P e h)
-stands_cases n (o ∷ os) ps place x h =
+occurs_cases n (o ∷ os) ps place x h =
     elim h [
       | inl p ↦ inl (inl p)
-      | inr q ↦ elim (stands_cases (n + 1) os ps place x q) [
+      | inr q ↦ elim (occurs_cases (n + 1) os ps place x q) [
         | inl l ↦ inl (inr l)
         | inr r ↦
             let e : n + 1 + length os ≡ n + length (o ∷ os) = omega arith in
-            let P : ℕ → Type 0 = λ m. StandsAt m ps place x in
+            let P : ℕ → Type 0 = λ m. OccursAt m ps place x in
             inr (subst P e r)
       ]
     ]
 
-pub stands_in_left : {L : Type 0} (n : ℕ) (os ps : List (Option L)) (place : ℕ) (x : L) → IsWithin n (n + length os) place → StandsAt n (os ++ ps) place x → StandsAt n os place x
-stands_in_left n os ps place x w h =
-    elim (stands_cases n os ps place x h) [
+pub occurs_in_left : {L : Type 0} (n : ℕ) (os ps : List (Option L)) (place : ℕ) (x : L) → IsWithin n (n + length os) place → OccursAt n (os ++ ps) place x → OccursAt n os place x
+occurs_in_left n os ps place x w h =
+    elim (occurs_cases n os ps place x h) [
       | inl l ↦ l
-      | inr r ↦ let v : IsWithin (n + length os) (n + length os + length ps) place = stands_within (n + length os) ps place x r in absurd (omega arith)
+      | inr r ↦ let v : IsWithin (n + length os) (n + length os + length ps) place = occurs_within (n + length os) ps place x r in absurd (omega arith)
     ]
 
-pub stands_in_right : {L : Type 0} (n : ℕ) (os ps : List (Option L)) (place high : ℕ) (x : L) → IsWithin (n + length os) high place → StandsAt n (os ++ ps) place x → StandsAt (n + length os) ps place x
-stands_in_right n os ps place high x w h =
-    elim (stands_cases n os ps place x h) [
-      | inl l ↦ let v : IsWithin n (n + length os) place = stands_within n os place x l in absurd (omega arith)
+pub occurs_in_right : {L : Type 0} (n : ℕ) (os ps : List (Option L)) (place high : ℕ) (x : L) → IsWithin (n + length os) high place → OccursAt n (os ++ ps) place x → OccursAt (n + length os) ps place x
+occurs_in_right n os ps place high x w h =
+    elim (occurs_cases n os ps place x h) [
+      | inl l ↦ let v : IsWithin n (n + length os) place = occurs_within n os place x l in absurd (omega arith)
       | inr r ↦ r
     ]
 
@@ -130,13 +130,13 @@ place_within n e u place v m = within_in_middle n (n + length (occurrences_in e)
 pub record HasPlaces {L : Type 0} (n : ℕ) (e : Expression L) (word : List L) : Type 0 where
   pub places : List ℕ
   pub matched : Matches (placed n e) places
-  pub written : AllZip (StandsAt n (occurrences_in e)) places word
+  pub written : AllZip (OccursAt n (occurrences_in e)) places word
 
 -- words over the places whose letters are the pieces of a word
 record HasPieces {L : Type 0} (n : ℕ) (e : Expression L) (pieces : List (List L)) : Type 0 where
   pub words : List (List ℕ)
   pub matched : AllByRecursion (Matches (placed n e)) words
-  pub written : AllZip (StandsAt n (occurrences_in e)) (joined words) (joined pieces)
+  pub written : AllZip (OccursAt n (occurrences_in e)) (joined words) (joined pieces)
   pub some : pieces ≢ [] → words ≢ []
 
 places_of_pieces : {L : Type 0} (n : ℕ) (e : Expression L) → ((word : List L) → Matches e word → HasPlaces n e word)
@@ -148,17 +148,17 @@ places_of_pieces n e each (piece ∷ pieces) all =
     record {
       words = a.places ∷ b.words;
       matched = (a.matched, b.matched);
-      written = zip-append (StandsAt n (occurrences_in e)) a.places piece (joined b.words) (joined pieces) a.written b.written;
+      written = zip-append (OccursAt n (occurrences_in e)) a.places piece (joined b.words) (joined pieces) a.written b.written;
       some = λ h k. cc;
     }
 
-written_left : {L : Type 0} (n : ℕ) (e f : Expression L) (places : List ℕ) (word : List L) → AllZip (StandsAt n (occurrences_in e)) places word → AllZip (StandsAt n (occurrences_in e ++ occurrences_in f)) places word
+written_left : {L : Type 0} (n : ℕ) (e f : Expression L) (places : List ℕ) (word : List L) → AllZip (OccursAt n (occurrences_in e)) places word → AllZip (OccursAt n (occurrences_in e ++ occurrences_in f)) places word
 written_left n e f places word z =
-    zip-weaker (StandsAt n (occurrences_in e)) (StandsAt n (occurrences_in e ++ occurrences_in f)) (λ place x h. stands_left n (occurrences_in e) (occurrences_in f) place x h) places word z
+    zip-weaker (OccursAt n (occurrences_in e)) (OccursAt n (occurrences_in e ++ occurrences_in f)) (λ place x h. occurs_left n (occurrences_in e) (occurrences_in f) place x h) places word z
 
-written_right : {L : Type 0} (n : ℕ) (e f : Expression L) (places : List ℕ) (word : List L) → AllZip (StandsAt (n + length (occurrences_in e)) (occurrences_in f)) places word → AllZip (StandsAt n (occurrences_in e ++ occurrences_in f)) places word
+written_right : {L : Type 0} (n : ℕ) (e f : Expression L) (places : List ℕ) (word : List L) → AllZip (OccursAt (n + length (occurrences_in e)) (occurrences_in f)) places word → AllZip (OccursAt n (occurrences_in e ++ occurrences_in f)) places word
 written_right n e f places word z =
-    zip-weaker (StandsAt (n + length (occurrences_in e)) (occurrences_in f)) (StandsAt n (occurrences_in e ++ occurrences_in f)) (λ place x h. stands_right n (occurrences_in e) (occurrences_in f) place x h) places word z
+    zip-weaker (OccursAt (n + length (occurrences_in e)) (occurrences_in f)) (OccursAt n (occurrences_in e ++ occurrences_in f)) (λ place x h. occurs_right n (occurrences_in e) (occurrences_in f) place x h) places word z
 
 -- a word that is matched has a word over the places
 pub places_of : {L : Type 0} (n : ℕ) (e : Expression L) (word : List L) → Matches e word → HasPlaces n e word
@@ -181,7 +181,7 @@ places_of {L} n (follow e f) word m =
     subst P (sym m.2) (record {
       places = a.places ++ b.places;
       matched = (a.places, b.places, refl, a.matched, b.matched);
-      written = zip-append (StandsAt n (occurrences_in e ++ occurrences_in f)) a.places m.0 b.places m.1 (written_left n e f a.places m.0 a.written) (written_right n e f b.places m.1 b.written);
+      written = zip-append (OccursAt n (occurrences_in e ++ occurrences_in f)) a.places m.0 b.places m.1 (written_left n e f a.places m.0 a.written) (written_right n e f b.places m.1 b.written);
     })
 places_of {L} n (star e) word m =
     let P : List L → Type 0 = λ w. HasPlaces n (star e) w in
@@ -204,12 +204,12 @@ record WritesPieces {L : Type 0} (e : Expression L) (words : List (List ℕ)) (w
   pub matched : AllByRecursion (Matches e) pieces
   pub some : words ≢ [] → pieces ≢ []
 
-pieces_written : {L : Type 0} (n : ℕ) (e : Expression L) → ((places : List ℕ) (word : List L) → Matches (placed n e) places → AllZip (StandsAt n (occurrences_in e)) places word → Matches e word)
-    → (words : List (List ℕ)) (word : List L) → AllByRecursion (Matches (placed n e)) words → AllZip (StandsAt n (occurrences_in e)) (joined words) word → WritesPieces e words word
+pieces_written : {L : Type 0} (n : ℕ) (e : Expression L) → ((places : List ℕ) (word : List L) → Matches (placed n e) places → AllZip (OccursAt n (occurrences_in e)) places word → Matches e word)
+    → (words : List (List ℕ)) (word : List L) → AllByRecursion (Matches (placed n e)) words → AllZip (OccursAt n (occurrences_in e)) (joined words) word → WritesPieces e words word
 pieces_written n e each [] [] all z = record { pieces = []; split = refl; matched = tt; some = λ h k. h refl }
 pieces_written n e each [] (x ∷ word) all z = absurd z
 pieces_written n e each (places ∷ words) word all z =
-    let p = zip_parts (StandsAt n (occurrences_in e)) places (joined words) word z in
+    let p = zip_parts (OccursAt n (occurrences_in e)) places (joined words) word z in
     let b = pieces_written n e each words p.second all.1 p.seconds in
     record {
       pieces = p.first ∷ b.pieces;
@@ -219,64 +219,64 @@ pieces_written n e each (places ∷ words) word all z =
     }
 
 -- the letters of a word over the places are matched
-pub word_written : {L : Type 0} (n : ℕ) (e : Expression L) (places : List ℕ) (word : List L) → Matches (placed n e) places → AllZip (StandsAt n (occurrences_in e)) places word → Matches e word
+pub word_written : {L : Type 0} (n : ℕ) (e : Expression L) (places : List ℕ) (word : List L) → Matches (placed n e) places → AllZip (OccursAt n (occurrences_in e)) places word → Matches e word
 word_written {L} n empty places word m z =
-    let P : List ℕ → Type 0 = λ w. AllZip (StandsAt {L = L} n []) w word in
+    let P : List ℕ → Type 0 = λ w. AllZip (OccursAt {L = L} n []) w word in
     nothing word (subst P m z)
   where
-    nothing : (word : List L) → AllZip (StandsAt {L = L} n []) [] word → word ≡ []
+    nothing : (word : List L) → AllZip (OccursAt {L = L} n []) [] word → word ≡ []
     nothing [] z = refl
     nothing (x ∷ word) z = absurd z
 word_written {L} n (letter x) places word m z =
-    let P : List ℕ → Type 0 = λ w. AllZip (StandsAt n (Some x ∷ [])) w word in
+    let P : List ℕ → Type 0 = λ w. AllZip (OccursAt n (Some x ∷ [])) w word in
     one word (subst P m z)
   where
-    one : (word : List L) → AllZip (StandsAt n (Some x ∷ [])) (n ∷ []) word → word ≡ x ∷ []
+    one : (word : List L) → AllZip (OccursAt n (Some x ∷ [])) (n ∷ []) word → word ≡ x ∷ []
     one [] z = absurd z
     one (y ∷ []) z = elim z.0 [ inl p ↦ ap (λ t. t ∷ []) (sym p.1) | inr q ↦ absurd q ]
     one (y ∷ t ∷ word) z = absurd z.1
 word_written {L} n any places word m z =
-    let P : List ℕ → Type 0 = λ w. AllZip (StandsAt {L = L} n (None ∷ [])) w word in
+    let P : List ℕ → Type 0 = λ w. AllZip (OccursAt {L = L} n (None ∷ [])) w word in
     one word (subst P m z)
   where
-    one : (word : List L) → AllZip (StandsAt {L = L} n (None ∷ [])) (n ∷ []) word → (x : L) × (word ≡ x ∷ [])
+    one : (word : List L) → AllZip (OccursAt {L = L} n (None ∷ [])) (n ∷ []) word → (x : L) × (word ≡ x ∷ [])
     one [] z = absurd z
     one (y ∷ []) z = (y, refl)
     one (y ∷ t ∷ word) z = absurd z.1
 word_written {L} n (either e f) places word m z =
     elim m [
-      | inl h ↦ inl (word_written n e places word h (zip_weaker_where (IsWithin n (n + length (occurrences_in e))) (StandsAt n (occurrences_in e ++ occurrences_in f)) (StandsAt n (occurrences_in e))
-          (λ place x w s. stands_in_left n (occurrences_in e) (occurrences_in f) place x w s) places word (places_within n e places h) z))
+      | inl h ↦ inl (word_written n e places word h (zip_weaker_where (IsWithin n (n + length (occurrences_in e))) (OccursAt n (occurrences_in e ++ occurrences_in f)) (OccursAt n (occurrences_in e))
+          (λ place x w s. occurs_in_left n (occurrences_in e) (occurrences_in f) place x w s) places word (places_within n e places h) z))
       | inr h ↦ inr (word_written (n + length (occurrences_in e)) f places word h (zip_weaker_where (IsWithin (n + length (occurrences_in e)) (n + length (occurrences_in e) + length (occurrences_in f)))
-          (StandsAt n (occurrences_in e ++ occurrences_in f)) (StandsAt (n + length (occurrences_in e)) (occurrences_in f))
-          (λ place x w s. stands_in_right n (occurrences_in e) (occurrences_in f) place (n + length (occurrences_in e) + length (occurrences_in f)) x w s) places word (places_within (n + length (occurrences_in e)) f places h) z))
+          (OccursAt n (occurrences_in e ++ occurrences_in f)) (OccursAt (n + length (occurrences_in e)) (occurrences_in f))
+          (λ place x w s. occurs_in_right n (occurrences_in e) (occurrences_in f) place (n + length (occurrences_in e) + length (occurrences_in f)) x w s) places word (places_within (n + length (occurrences_in e)) f places h) z))
     ]
 word_written {L} n (follow e f) places word m z =
-    let P : List ℕ → Type 0 = λ w. AllZip (StandsAt n (occurrences_in e ++ occurrences_in f)) w word in
-    let p = zip_parts (StandsAt n (occurrences_in e ++ occurrences_in f)) m.0 m.1 word (subst P m.2 z) in (
+    let P : List ℕ → Type 0 = λ w. AllZip (OccursAt n (occurrences_in e ++ occurrences_in f)) w word in
+    let p = zip_parts (OccursAt n (occurrences_in e ++ occurrences_in f)) m.0 m.1 word (subst P m.2 z) in (
       p.first,
       p.second,
       p.split,
-      word_written n e m.0 p.first m.3 (zip_weaker_where (IsWithin n (n + length (occurrences_in e))) (StandsAt n (occurrences_in e ++ occurrences_in f)) (StandsAt n (occurrences_in e))
-          (λ place x w s. stands_in_left n (occurrences_in e) (occurrences_in f) place x w s) m.0 p.first (places_within n e m.0 m.3) p.firsts),
+      word_written n e m.0 p.first m.3 (zip_weaker_where (IsWithin n (n + length (occurrences_in e))) (OccursAt n (occurrences_in e ++ occurrences_in f)) (OccursAt n (occurrences_in e))
+          (λ place x w s. occurs_in_left n (occurrences_in e) (occurrences_in f) place x w s) m.0 p.first (places_within n e m.0 m.3) p.firsts),
       word_written (n + length (occurrences_in e)) f m.1 p.second m.4 (zip_weaker_where (IsWithin (n + length (occurrences_in e)) (n + length (occurrences_in e) + length (occurrences_in f)))
-          (StandsAt n (occurrences_in e ++ occurrences_in f)) (StandsAt (n + length (occurrences_in e)) (occurrences_in f))
-          (λ place x w s. stands_in_right n (occurrences_in e) (occurrences_in f) place (n + length (occurrences_in e) + length (occurrences_in f)) x w s) m.1 p.second (places_within (n + length (occurrences_in e)) f m.1 m.4) p.seconds),
+          (OccursAt n (occurrences_in e ++ occurrences_in f)) (OccursAt (n + length (occurrences_in e)) (occurrences_in f))
+          (λ place x w s. occurs_in_right n (occurrences_in e) (occurrences_in f) place (n + length (occurrences_in e) + length (occurrences_in f)) x w s) m.1 p.second (places_within (n + length (occurrences_in e)) f m.1 m.4) p.seconds),
     )
 word_written {L} n (star e) places word m z =
-    let P : List ℕ → Type 0 = λ w. AllZip (StandsAt n (occurrences_in e)) w word in
+    let P : List ℕ → Type 0 = λ w. AllZip (OccursAt n (occurrences_in e)) w word in
     let s = pieces_written n e (word_written n e) m.0 word m.2 (subst P m.1 z) in
     (s.pieces, s.split, s.matched)
 word_written {L} n (plus e) places word m z =
-    let P : List ℕ → Type 0 = λ w. AllZip (StandsAt n (occurrences_in e)) w word in
+    let P : List ℕ → Type 0 = λ w. AllZip (OccursAt n (occurrences_in e)) w word in
     let s = pieces_written n e (word_written n e) m.0 word m.3 (subst P m.2 z) in
     (s.pieces, s.some m.1, s.split, s.matched)
 word_written {L} n (optional e) places word m z =
     elim m [
-      | inl h ↦ let P : List ℕ → Type 0 = λ w. AllZip (StandsAt n (occurrences_in e)) w word in inl (nothing word (subst P h z))
+      | inl h ↦ let P : List ℕ → Type 0 = λ w. AllZip (OccursAt n (occurrences_in e)) w word in inl (nothing word (subst P h z))
       | inr h ↦ inr (word_written n e places word h z)
     ]
   where
-    nothing : (word : List L) → AllZip (StandsAt n (occurrences_in e)) [] word → word ≡ []
+    nothing : (word : List L) → AllZip (OccursAt n (occurrences_in e)) [] word → word ≡ []
     nothing [] z = refl
     nothing (x ∷ word) z = absurd z

@@ -10,7 +10,7 @@ use Rattle.std.proofs.lemmas.List.Kept.{Contains-from_dedup}
 use Rattle.std.proofs.lemmas.List.Sorted.{Contains-permutation, IsPermutation-sym}
 use Rattle.digit_tuple.specs.declared.transitions.Transition.{Transition}
 use Rattle.digit_tuple.specs.declared.transitions.NfaState.{NfaState}
-use Rattle.digit_tuple.proofs.TransitionLemmas.{Contains-dedup, transitions_tell}
+use Rattle.digit_tuple.proofs.TransitionLemmas.{Contains-dedup, transitions_decide}
 use Rattle.regex_build.specs.declared.codes.LetterRange.{LetterRange}
 use Rattle.regex_build.specs.declared.next_places.NextPlaces.{NextPlaces}
 use Rattle.regex_build.specs.Codes.{IsInRange}
@@ -107,7 +107,7 @@ transition_to_all ranges next i transitions sorted made l moved left so x =
     let r = subst P (take_all i next l) (so x) in
     let Q : List Transition → Type 0 = λ es. Contains es x in (
       λ h. r.0 (Contains-permutation sorted transitions x (IsPermutation-sym transitions sorted moved) (Contains-from_dedup same sorted x (subst Q left h))),
-      λ h. subst Q (sym left) (Contains-dedup same transitions_tell sorted x (Contains-permutation transitions sorted x moved (r.1 h))),
+      λ h. subst Q (sym left) (Contains-dedup same transitions_decide sorted x (Contains-permutation transitions sorted x moved (r.1 h))),
     )
 
 -- one state more

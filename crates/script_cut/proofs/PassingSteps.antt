@@ -170,8 +170,8 @@ gaps_more old mid new was between now inside count n p q h n_is within =
 pub gaps_end : (new : Kept) (inside : Bool) (count n : ℕ) → HasHeld count new → n ≡ gap_count inside (take count new.held) → n < count → (gap_open inside (take count new.held) ≡ false) × Starts (drop n new.held)
 gaps_end new inside count n h n_is less =
     let size : length (take count new.held) ≡ count = length-take-le count new.held h.held in
-    let stands : (gap_open inside (take count new.held) ≡ false) × Starts (drop (gap_count inside (take count new.held)) (take count new.held)) = starts-suffix inside (take count new.held) (omega arith) in
-    (stands.0, starts-take n count new.held (rw n_is stands.1))
+    let opens : (gap_open inside (take count new.held) ≡ false) × Starts (drop (gap_count inside (take count new.held)) (take count new.held)) = starts-suffix inside (take count new.held) (omega arith) in
+    (opens.0, starts-take n count new.held (rw n_is opens.1))
 
 pub gaps_done : (old new : Kept) (was now : SourceView) (inside : Bool) → IsInGaps old was new now inside → inside ≡ false → Starts new.held → 0 < new.room → PassesGaps old was (Ok true) new now
 gaps_done old new was now inside p closed starts room = record {
@@ -247,8 +247,8 @@ text_more old mid new was between now len inside count n p q same h n_is within 
 pub text_end : (new : Kept) (inside : Bool) (count n : ℕ) → HasHeld count new → n ≡ text_count inside (take count new.held) → n < count → (text_open inside (take count new.held) ≡ false) × Ends (drop n new.held)
 text_end new inside count n h n_is less =
     let size : length (take count new.held) ≡ count = length-take-le count new.held h.held in
-    let stands : (text_open inside (take count new.held) ≡ false) × Ends (drop (text_count inside (take count new.held)) (take count new.held)) = ends-suffix inside (take count new.held) (omega arith) in
-    (stands.0, ends-take n count new.held (rw n_is stands.1))
+    let opens : (text_open inside (take count new.held) ≡ false) × Ends (drop (text_count inside (take count new.held)) (take count new.held)) = ends-suffix inside (take count new.held) (omega arith) in
+    (opens.0, ends-take n count new.held (rw n_is opens.1))
 
 pub text_done : (old new : Kept) (was now : SourceView) (len : ℕ) (inside : Bool) → IsInText old was new now len inside → inside ≡ false → Ends new.held → 0 < length new.held → 0 < new.room
     → PassesText old was (Ok (record { len = len; shown = Some (slice_index new.held 0 == 58) })) (advance 1 new) now

@@ -182,7 +182,7 @@ no_end result item is end = of_end (sym (ap coming_of end) ∙ is)
     of_end : coming.End ≡ coming.Item item → ⊥
     of_end is = cc
 
--- the end, a fault of the source, and want of memory
+-- the end, a fault of the source, and out of memory
 pub end_of : (result : Result Cut CutFault) → coming_of result ≡ coming.End → result ≡ Ok cuts.End
 end_of (Ok (cuts.Command text shown line)) is = absurd (cc)
 end_of (Ok cuts.End) is = refl

@@ -8,7 +8,7 @@ use Rattle.command_parts.specs.declared.file_change.FileChange.{FileChange}
 use Rattle.command_parts.specs.Checks.{Check, Passing, Then}
 use Rattle.system_files.specs.SystemFiles.{Custom}
 use Rattle.command_parts.specs.Accepting.{Success, Said, Accepted, Storing, Saying, storing, saying}
-use Rattle.command_parts.specs.FileChanges.{ChangesFile, Tells, Acts, writing, printing}
+use Rattle.command_parts.specs.FileChanges.{ChangesFile, PrintsChecked, Acts, writing, printing}
 use Rattle.command_parts.specs.StoreReads.{HasRead, FromFiles}
 use Rattle.command_parts.proofs.CheckSteps.{IsSingle, then_single, passing_single, fails_first, fails_after}
 
@@ -35,9 +35,9 @@ pub from_change : (First : Files → Result FileChange Fault → Type 0) (Gives 
 from_change First Gives old new r first so = record { found = first.found; reported = first.reported; gives = so first.found first.gives; has_read = written_read old new r first.has_read }
 
 -- a command that says something
-pub tells_action : (custom : Custom) (checks : Check Said) (shown : Bool) (r : Result (List ℕ) Fault) → Tells checks shown r → Acts custom (saying checks) shown (printing r)
-tells_action custom checks shown (Ok printed) (said, answers, is) = record { accepted = Saying said; answers = (said, answers, refl); is_of = is }
-tells_action custom checks shown (Err f) refused = fails_first checks (λ said. Passing (λ accepted. accepted ≡ Saying said)) f refused
+pub prints_action : (custom : Custom) (checks : Check Said) (shown : Bool) (r : Result (List ℕ) Fault) → PrintsChecked checks shown r → Acts custom (saying checks) shown (printing r)
+prints_action custom checks shown (Ok printed) (said, answers, is) = record { accepted = Saying said; answers = (said, answers, refl); is_of = is }
+prints_action custom checks shown (Err f) refused = fails_first checks (λ said. Passing (λ accepted. accepted ≡ Saying said)) f refused
 
 said_read : (old new : StoreView) (r : Result (List ℕ) Fault) → HasRead old r new → HasRead old (printing r) new
 said_read old new (Ok printed) read = record { files = read.files; later = read.later; cause = read.cause }

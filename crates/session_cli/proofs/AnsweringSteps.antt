@@ -38,7 +38,7 @@ failed_answer checks faults.Memory is = inl tt
 failed_answer checks (faults.Refused refusal) is = inl is
 
 module _ (limit : ℕ) (stop : Bool) (depth : ℕ) (text : List ℕ) (short : length text ≤ 65536) where
-  -- the checks of a word, behind those of the length and of the word
+  -- the checks of a word, after those of the length and of the word
   by_word : (ledger : Ledger) (word : Option RunWord) → RunWordAnswers text (Ok word) → (deed : Deed Accepted) → (checks_by_word word limit depth ledger text).answers (Ok deed) → (run_checks limit depth ledger text).answers (Ok deed)
   by_word ledger word is deed made = (tt, short, (word, is, made))
 
@@ -96,7 +96,7 @@ module _ (limit : ℕ) (stop : Bool) (depth : ℕ) (text : List ℕ) (short : le
           stored = record { files = stored.files; later = stored.later; cause = stored.cause; failed = stored.failed };
         }
 
-  -- a command that is refused behind a read
+  -- a command that is refused after a read
   refused_read : (ledger : Ledger) (old new : StoreView) (shown : Bool) (fault : Fault) (found : Files) → IsAnswering old.files ledger found → ((known : Ledger) → Stores known found → Fails (run_checks limit depth known text) fault)
       → HasRead {X = Vec ℕ Global} old (Err fault) new → AnswersCommand (session_language limit stop) depth ledger old text shown (Err fault) new
   refused_read ledger old new shown fault found by refused read = record {

@@ -131,7 +131,7 @@ module _ (limit : ℕ) (ledger : Ledger) (old mid new : StoreView) (text : List 
     where
       by_accepted : (accepted : Accepted) → (checks_of limit by.known text).answers (Ok accepted) → IsActionOf (custom_of by.known) accepted shown (actions.Print said) → Commands limit ledger old text shown (Ok tt) said new
       by_accepted (Storing success) answers is_of = absurd is_of
-      by_accepted (Saying tells) answers is_of = said_command said tells answers is_of read same
+      by_accepted (Saying prints_checked) answers is_of = said_command said prints_checked answers is_of read same
 
   pub done_command : (action : Action) (printed : List ℕ) → IsAction (custom_of by.known) (checks_of limit by.known text) shown action → HasRead {X = Action} old (Ok action) mid → DoesAction mid action (Ok printed) new → Commands limit ledger old text shown (Ok tt) printed new
   done_command (actions.Write change) printed a read (wrote, is) = by_accepted a.accepted a.answers a.is_of

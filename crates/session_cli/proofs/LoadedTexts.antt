@@ -103,25 +103,25 @@ text_unread ledger name files stores faults.Memory is = tt
 text_unread ledger name files stores (faults.Refused refusal) is = (files, stores, is)
 
 module _ (depth : ℕ) (text : List ℕ) where
-  -- the checks behind the head
-  abbrev behind_head : Ledger → List ℕ → Check (List ℕ)
-  behind_head ledger name = Then (Pure (DepthAnswers depth name)) (λ few. text_read ledger name)
+  -- the checks after the head
+  abbrev after_the_head : Ledger → List ℕ → Check (List ℕ)
+  after_the_head ledger name = Then (Pure (DepthAnswers depth name)) (λ few. text_read ledger name)
 
   -- a load gives what was read
   pub load_reads : (name : List ℕ) → HeadAnswers DerivesLoad text (Ok name) → depth < 8 → (files : Files) (result : Result (Vec ℕ Global) Fault) → IsLoadedText name files result
       → (ledger : Ledger) → Stores ledger files → LoadsText depth ledger text result
   load_reads name head few files (Ok loaded) is ledger stores = (name, head, (tt, inl (few, refl), (files, stores, is)))
   load_reads name head few files (Err fault) is ledger stores =
-      fails_after (Pure (HeadAnswers DerivesLoad text)) (behind_head ledger) name fault head
+      fails_after (Pure (HeadAnswers DerivesLoad text)) (after_the_head ledger) name fault head
       (fails_after (Pure (DepthAnswers depth name)) (λ done. text_read ledger name) tt fault (inl (few, refl)) (text_unread ledger name files stores fault is))
 
   -- a load within eight others
   pub load_deep : (name : List ℕ) → HeadAnswers DerivesLoad text (Ok name) → 8 ≤ depth → (ledger : Ledger) → LoadsText depth ledger text (Err (faults.Refused (refusals.File (file_refusals.LoadDepth name))))
   load_deep name head deep ledger =
-      fails_after (Pure (HeadAnswers DerivesLoad text)) (behind_head ledger) name (faults.Refused (refusals.File (file_refusals.LoadDepth name))) head
+      fails_after (Pure (HeadAnswers DerivesLoad text)) (after_the_head ledger) name (faults.Refused (refusals.File (file_refusals.LoadDepth name))) head
       (fails_first (Pure (DepthAnswers depth name)) (λ done. text_read ledger name) (faults.Refused (refusals.File (file_refusals.LoadDepth name))) (inr (deep, refl)))
 
   -- a head that is not read
   pub load_unread : (fault : HeadFault) → HasHead DerivesLoad (λ (name : List ℕ). name) text (Err fault) → (ledger : Ledger) → LoadsText depth ledger text (Err (fault_of_head fault))
   load_unread fault unread ledger =
-      fails_first (Pure (HeadAnswers DerivesLoad text)) (behind_head ledger) (fault_of_head fault) (head_unread DerivesLoad (λ (name : List ℕ). name) text fault unread)
+      fails_first (Pure (HeadAnswers DerivesLoad text)) (after_the_head ledger) (fault_of_head fault) (head_unread DerivesLoad (λ (name : List ℕ). name) text fault unread)

@@ -62,13 +62,13 @@ pub rules_refused : (custom : Custom) (head : NamedHead) (fault : Fault) → Fai
 rules_refused custom head fault refused = fails_first (Pure (RulesAnswers head.body)) (λ (rs : Rules). stored custom (text_success Morphisms head.name (printed rs))) fault refused
 
 -- an accepted `morphism` is under its name among the morphisms
-stands_at : (custom : Custom) (head : NamedHead) (success : Success) → (after_rules_head custom head).answers (Ok success) → (Morphisms ≡ success.folder) × (head.name ≡ success.name)
-stands_at custom head success (rules, parses, (is, text)) = (sym (ap (λ (s : Success). s.folder) is), sym (ap (λ (s : Success). s.name) is))
+folder_and_name_at : (custom : Custom) (head : NamedHead) (success : Success) → (after_rules_head custom head).answers (Ok success) → (Morphisms ≡ success.folder) × (head.name ≡ success.name)
+folder_and_name_at custom head success (rules, parses, (is, text)) = (sym (ap (λ (s : Success). s.folder) is), sym (ap (λ (s : Success). s.name) is))
 
 pub morphism_changed : (ledger : Ledger) (text : List ℕ) (shown : Bool) (head : NamedHead) (change : FileChange) → HasHead (DerivesNamed (codes "morphism")) (λ (h : NamedHead). h) text (Ok head) → change.folder ≡ Morphisms → change.name ≡ head.name
     → Makes (custom_of ledger) (after_rules_head (custom_of ledger) head) shown (Ok change.made) → ChangesFile (custom_of ledger) (morphism_checks ledger text) shown (Ok change)
 morphism_changed ledger text shown head change spells folder name made =
-    let at : (Morphisms ≡ made.success.folder) × (head.name ≡ made.success.name) = stands_at (custom_of ledger) head made.success made.answers in
+    let at : (Morphisms ≡ made.success.folder) × (head.name ≡ made.success.name) = folder_and_name_at (custom_of ledger) head made.success made.answers in
     changes_after (custom_of ledger) (Pure (HeadAnswers (DerivesNamed (codes "morphism")) text)) (λ h. after_rules_head (custom_of ledger) h) head shown (Ok change) spells (record { made = made; folder_is = folder ∙ at.0; name_is = name ∙ at.1 })
 
 pub morphism_failed : (ledger : Ledger) (text : List ℕ) (head : NamedHead) (fault : Fault) → HasHead (DerivesNamed (codes "morphism")) (λ (h : NamedHead). h) text (Ok head) → Fails (after_rules_head (custom_of ledger) head) fault → Fails (morphism_checks ledger text) fault

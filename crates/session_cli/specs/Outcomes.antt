@@ -77,7 +77,7 @@ checks_by words.Inf limit ledger text = saying (inf_checks limit ledger text)
 checks_by words.Transduce limit ledger text = storing (transduce_checks limit ledger text)
 checks_by words.Convert limit ledger text = storing (convert_checks limit ledger text)
 
--- the checks behind that of the length: the first word, and those of the command of that word
+-- the checks after that of the length: the first word, and those of the command of that word
 abbrev pub after_length : ℕ → Ledger → List ℕ → Check Accepted
 after_length limit ledger text = Then (Pure (WordAnswers text)) (λ word. checks_by word limit ledger text)
 

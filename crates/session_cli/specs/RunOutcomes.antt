@@ -33,7 +33,7 @@ RunWordAnswers text result =
     ((word : RunWord) × (first_word_of text ≡ run_word_text word) × (result ≡ Ok (Some word)))
     ⊎ (((word : RunWord) → first_word_of text ≢ run_word_text word) × (result ≡ Ok None))
 
--- a load of this name stands in fewer than eight others
+-- a load of this name is inside fewer than eight others
 abbrev pub DepthAnswers : ℕ → List ℕ → Result (Unit {0}) Refusal → Type 0
 DepthAnswers depth name result = ((depth < 8) × (result ≡ Ok tt)) ⊎ ((8 ≤ depth) × (result ≡ Err (refusals.File (file_refusals.LoadDepth name))))
 
@@ -61,7 +61,7 @@ checks_by_word (Some words.Load) limit depth ledger text = Then (load_checks dep
 checks_by_word (Some words.Exit) limit depth ledger text = Then (Pure (HeadAnswers (DerivesAlone (codes "exit")) text)) (λ done. Passing (λ deed. deed ≡ Ends))
 checks_by_word (Some words.Quit) limit depth ledger text = Then (Pure (HeadAnswers (DerivesAlone (codes "quit")) text)) (λ done. Passing (λ deed. deed ≡ Ends))
 
--- all checks of a command of a script that has its terminator and stands in so many loads
+-- all checks of a command of a script that has its terminator and is inside so many loads
 abbrev pub run_checks : ℕ → ℕ → Ledger → List ℕ → Check (Deed Accepted)
 run_checks limit depth ledger text =
     Then (Pure (LengthAnswers text)) (λ short.

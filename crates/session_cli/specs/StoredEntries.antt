@@ -7,7 +7,7 @@ use Rattle.wal_outside.specs.Files.{same_file}
 use Rattle.wal_outside.specs.Folders.{folder_index}
 use Rattle.wal_outside.specs.declared.folder.Folder.{Folder}
 use Rattle.wal_outside.specs.declared.folder.Folder.TheVariants.{Automata, Words, Bases, Macros, Morphisms, Transducers, Results, Commands}
-use Rattle.definitions.specs.Trees.{Tree, File, Regex, Formula, Fixed, Image, Combine, Language, Transduced, Converted, MayStandIn, Ledger, tree_of}
+use Rattle.definitions.specs.Trees.{Tree, File, Regex, Formula, Fixed, Image, Combine, Language, Transduced, Converted, MayBeIn, Ledger, tree_of}
 use Rattle.language_steps.specs.declared.op.LanguageOp.{LanguageOp}
 use Rattle.language_steps.specs.declared.op.LanguageOp.TheVariants.{Pair, One}
 use Rattle.language_steps.specs.declared.op.OneOp.TheVariants.{Star, Reversal}
@@ -29,16 +29,16 @@ use Rattle.language_commands.specs.RegOutcomes.{reg_checks}
 use Rattle.session_cli.specs.TextOutcomes.{macro_checks, morphism_checks}
 
 -- the entry that a command stores may be in its folder, and defines no system
-abbrev pub Stands : Success → Type 0
-Stands success = (success.folder ≢ Bases) × MayStandIn success.folder (tree_of success.entry)
+abbrev pub MayBeStored : Success → Type 0
+MayBeStored success = (success.folder ≢ Bases) × MayBeIn success.folder (tree_of success.entry)
 
 -- so it is with each accepted command that stores
-abbrev pub AcceptedStands : Accepted → Type 0
-AcceptedStands (Storing success) = Stands success
-AcceptedStands (Saying said) = ⊤
+abbrev pub AcceptedMayBeStored : Accepted → Type 0
+AcceptedMayBeStored (Storing success) = MayBeStored success
+AcceptedMayBeStored (Saying said) = ⊤
 
-storing_stands : (checks : Check Success) (accepted : Accepted) → ((success : Success) → checks.answers (Ok success) → Stands success) → (storing checks).answers (Ok accepted) → AcceptedStands accepted
-storing_stands checks accepted stands (success, made, is) = subst AcceptedStands (sym is) (stands success made)
+storing_may_be_stored : (checks : Check Success) (accepted : Accepted) → ((success : Success) → checks.answers (Ok success) → MayBeStored success) → (storing checks).answers (Ok accepted) → AcceptedMayBeStored accepted
+storing_may_be_stored checks accepted may_be_stored (success, made, is) = subst AcceptedMayBeStored (sym is) (may_be_stored success made)
 
 -- folders are apart, shown where nothing else is known
 words_no_base : Words ≢ Bases
@@ -62,60 +62,60 @@ macros_no_base same = cc
 morphisms_no_base : Morphisms ≢ Bases
 morphisms_no_base same = cc
 
-image_stands : (limit : ℕ) (ledger : Ledger) (text : List ℕ) (success : Success) → (image_checks limit ledger text).answers (Ok success) → Stands success
-image_stands limit ledger text success (head, h, (rules, m, (tables, t, (admitted, a, (one, o, (uniform, u, (track, w, (lines, l, (entry, e, (is, fits)))))))))) = subst Stands (sym is) (words_no_base, (λ i. Words))
+image_may_be_stored : (limit : ℕ) (ledger : Ledger) (text : List ℕ) (success : Success) → (image_checks limit ledger text).answers (Ok success) → MayBeStored success
+image_may_be_stored limit ledger text success (head, h, (rules, m, (tables, t, (admitted, a, (one, o, (uniform, u, (track, w, (lines, l, (entry, e, (is, fits)))))))))) = subst MayBeStored (sym is) (words_no_base, (λ i. Words))
 
-reg_stands : (limit : ℕ) (ledger : Ledger) (text : List ℕ) (success : Success) → (reg_checks limit ledger text).answers (Ok success) → Stands success
-reg_stands limit ledger text success (head, h, (admitted, a, (tracks, t, (pattern, p, (lines, l, (is, fits)))))) = subst Stands (sym is) (automata_no_base, (automata_no_word, automata_no_base))
+reg_may_be_stored : (limit : ℕ) (ledger : Ledger) (text : List ℕ) (success : Success) → (reg_checks limit ledger text).answers (Ok success) → MayBeStored success
+reg_may_be_stored limit ledger text success (head, h, (admitted, a, (tracks, t, (pattern, p, (lines, l, (is, fits)))))) = subst MayBeStored (sym is) (automata_no_base, (automata_no_word, automata_no_base))
 
-formula_stands : (word : List ℕ) (folder : Folder) (limit : ℕ) (ledger : Ledger) (text : List ℕ) (success : Success) → folder ≢ Words → folder ≢ Bases → (formula_checks word folder limit ledger text).answers (Ok success) → Stands success
-formula_stands word folder limit ledger text success no_word no_base (head, h, (expansion, e, (formula, f, (tables, t, (admitted, a, (resolved, r, (lines, b, (variables, v, (verdict, d, (is, fits)))))))))) = subst Stands (sym is) (no_base, (no_word, no_base))
+formula_may_be_stored : (word : List ℕ) (folder : Folder) (limit : ℕ) (ledger : Ledger) (text : List ℕ) (success : Success) → folder ≢ Words → folder ≢ Bases → (formula_checks word folder limit ledger text).answers (Ok success) → MayBeStored success
+formula_may_be_stored word folder limit ledger text success no_word no_base (head, h, (expansion, e, (formula, f, (tables, t, (admitted, a, (resolved, r, (lines, b, (variables, v, (verdict, d, (is, fits)))))))))) = subst MayBeStored (sym is) (no_base, (no_word, no_base))
 
-macro_stands : (ledger : Ledger) (text : List ℕ) (success : Success) → (macro_checks ledger text).answers (Ok success) → Stands success
-macro_stands ledger text success (head, h, (is, fits)) = subst Stands (sym is) (macros_no_base, tt)
+macro_may_be_stored : (ledger : Ledger) (text : List ℕ) (success : Success) → (macro_checks ledger text).answers (Ok success) → MayBeStored success
+macro_may_be_stored ledger text success (head, h, (is, fits)) = subst MayBeStored (sym is) (macros_no_base, tt)
 
-morphism_stands : (ledger : Ledger) (text : List ℕ) (success : Success) → (morphism_checks ledger text).answers (Ok success) → Stands success
-morphism_stands ledger text success (head, h, (rules, r, (is, fits))) = subst Stands (sym is) (morphisms_no_base, tt)
+morphism_may_be_stored : (ledger : Ledger) (text : List ℕ) (success : Success) → (morphism_checks ledger text).answers (Ok success) → MayBeStored success
+morphism_may_be_stored ledger text success (head, h, (rules, r, (is, fits))) = subst MayBeStored (sym is) (morphisms_no_base, tt)
 
-promote_stands : (limit : ℕ) (ledger : Ledger) (text : List ℕ) (success : Success) → (promote_checks limit ledger text).answers (Ok success) → Stands success
-promote_stands limit ledger text success (head, h, (rules, r, (lines, l, (is, fits)))) = subst Stands (sym is) (words_no_base, refl)
+promote_may_be_stored : (limit : ℕ) (ledger : Ledger) (text : List ℕ) (success : Success) → (promote_checks limit ledger text).answers (Ok success) → MayBeStored success
+promote_may_be_stored limit ledger text success (head, h, (rules, r, (lines, l, (is, fits)))) = subst MayBeStored (sym is) (words_no_base, refl)
 
-combine_stands : (limit : ℕ) (ledger : Ledger) (text : List ℕ) (success : Success) → (combine_checks limit ledger text).answers (Ok success) → Stands success
-combine_stands limit ledger text success (head, h, (tables, t, (admitted, a, (none, p, (one, s, (lines, l, (tracks, u, (is, fits)))))))) = subst Stands (sym is) (words_no_base, refl)
+combine_may_be_stored : (limit : ℕ) (ledger : Ledger) (text : List ℕ) (success : Success) → (combine_checks limit ledger text).answers (Ok success) → MayBeStored success
+combine_may_be_stored limit ledger text success (head, h, (tables, t, (admitted, a, (none, p, (one, s, (lines, l, (tracks, u, (is, fits)))))))) = subst MayBeStored (sym is) (words_no_base, refl)
 
-language_stands : (op : LanguageOp) (limit : ℕ) (ledger : Ledger) (text : List ℕ) (success : Success) → (language_checks op limit ledger text).answers (Ok success) → Stands success
-language_stands op limit ledger text success (head, h, (tables, t, (plain, p, (sets, s, (lines, l, (is, fits)))))) = subst Stands (sym is) (automata_no_base, (automata_no_word, automata_no_base))
+language_may_be_stored : (op : LanguageOp) (limit : ℕ) (ledger : Ledger) (text : List ℕ) (success : Success) → (language_checks op limit ledger text).answers (Ok success) → MayBeStored success
+language_may_be_stored op limit ledger text success (head, h, (tables, t, (plain, p, (sets, s, (lines, l, (is, fits)))))) = subst MayBeStored (sym is) (automata_no_base, (automata_no_word, automata_no_base))
 
-convert_stands : (limit : ℕ) (ledger : Ledger) (text : List ℕ) (success : Success) → (convert_checks limit ledger text).answers (Ok success) → Stands success
-convert_stands limit ledger text success (head, h, (tables, f, (other, u, (admitted, a, (over, o, (change, c, (lines, l, (entry, e, (is, fits))))))))) = subst Stands (sym is) (words_no_base, refl)
+convert_may_be_stored : (limit : ℕ) (ledger : Ledger) (text : List ℕ) (success : Success) → (convert_checks limit ledger text).answers (Ok success) → MayBeStored success
+convert_may_be_stored limit ledger text success (head, h, (tables, f, (other, u, (admitted, a, (over, o, (change, c, (lines, l, (entry, e, (is, fits))))))))) = subst MayBeStored (sym is) (words_no_base, refl)
 
-transduce_stands : (limit : ℕ) (ledger : Ledger) (text : List ℕ) (success : Success) → (transduce_checks limit ledger text).answers (Ok success) → Stands success
-transduce_stands limit ledger text success (head, h, (t, r, (tables, f, (admitted, a, (over, o, (lines, l, (entry, e, (is, fits)))))))) = subst Stands (sym is) (words_no_base, refl)
+transduce_may_be_stored : (limit : ℕ) (ledger : Ledger) (text : List ℕ) (success : Success) → (transduce_checks limit ledger text).answers (Ok success) → MayBeStored success
+transduce_may_be_stored limit ledger text success (head, h, (t, r, (tables, f, (admitted, a, (over, o, (lines, l, (entry, e, (is, fits)))))))) = subst MayBeStored (sym is) (words_no_base, refl)
 
-saying_stands : (checks : Check Said) (accepted : Accepted) → (saying checks).answers (Ok accepted) → AcceptedStands accepted
-saying_stands checks accepted (said, made, is) = subst AcceptedStands (sym is) tt
+saying_may_be_stored : (checks : Check Said) (accepted : Accepted) → (saying checks).answers (Ok accepted) → AcceptedMayBeStored accepted
+saying_may_be_stored checks accepted (said, made, is) = subst AcceptedMayBeStored (sym is) tt
 
-by_word : (word : CommandWord) (limit : ℕ) (ledger : Ledger) (text : List ℕ) (accepted : Accepted) → (checks_by word limit ledger text).answers (Ok accepted) → AcceptedStands accepted
-by_word words.Reg limit ledger text accepted is = storing_stands (reg_checks limit ledger text) accepted (λ success made. reg_stands limit ledger text success made) is
-by_word words.Eval limit ledger text accepted is = storing_stands (formula_checks (word_text words.Eval) Results limit ledger text) accepted (λ success made. formula_stands (word_text words.Eval) Results limit ledger text success results_no_word results_no_base made) is
-by_word words.Image limit ledger text accepted is = storing_stands (image_checks limit ledger text) accepted (λ success made. image_stands limit ledger text success made) is
-by_word words.Def limit ledger text accepted is = storing_stands (formula_checks (word_text words.Def) Automata limit ledger text) accepted (λ success made. formula_stands (word_text words.Def) Automata limit ledger text success automata_no_word automata_no_base made) is
-by_word words.Macro limit ledger text accepted is = storing_stands (macro_checks ledger text) accepted (λ success made. macro_stands ledger text success made) is
-by_word words.Morphism limit ledger text accepted is = storing_stands (morphism_checks ledger text) accepted (λ success made. morphism_stands ledger text success made) is
-by_word words.Promote limit ledger text accepted is = storing_stands (promote_checks limit ledger text) accepted (λ success made. promote_stands limit ledger text success made) is
-by_word words.Combine limit ledger text accepted is = storing_stands (combine_checks limit ledger text) accepted (λ success made. combine_stands limit ledger text success made) is
-by_word words.Union limit ledger text accepted is = storing_stands (language_checks (Pair Union) limit ledger text) accepted (λ success made. language_stands (Pair Union) limit ledger text success made) is
-by_word words.Intersect limit ledger text accepted is = storing_stands (language_checks (Pair Intersection) limit ledger text) accepted (λ success made. language_stands (Pair Intersection) limit ledger text success made) is
-by_word words.Concat limit ledger text accepted is = storing_stands (language_checks (Pair Concatenation) limit ledger text) accepted (λ success made. language_stands (Pair Concatenation) limit ledger text success made) is
-by_word words.Star limit ledger text accepted is = storing_stands (language_checks (One Star) limit ledger text) accepted (λ success made. language_stands (One Star) limit ledger text success made) is
-by_word words.Reverse limit ledger text accepted is = storing_stands (language_checks (One Reversal) limit ledger text) accepted (λ success made. language_stands (One Reversal) limit ledger text success made) is
-by_word words.Test limit ledger text accepted is = saying_stands (test_checks limit ledger text) accepted is
-by_word words.Inf limit ledger text accepted is = saying_stands (inf_checks limit ledger text) accepted is
-by_word words.Transduce limit ledger text accepted is = storing_stands (transduce_checks limit ledger text) accepted (λ success made. transduce_stands limit ledger text success made) is
-by_word words.Convert limit ledger text accepted is = storing_stands (convert_checks limit ledger text) accepted (λ success made. convert_stands limit ledger text success made) is
+by_word : (word : CommandWord) (limit : ℕ) (ledger : Ledger) (text : List ℕ) (accepted : Accepted) → (checks_by word limit ledger text).answers (Ok accepted) → AcceptedMayBeStored accepted
+by_word words.Reg limit ledger text accepted is = storing_may_be_stored (reg_checks limit ledger text) accepted (λ success made. reg_may_be_stored limit ledger text success made) is
+by_word words.Eval limit ledger text accepted is = storing_may_be_stored (formula_checks (word_text words.Eval) Results limit ledger text) accepted (λ success made. formula_may_be_stored (word_text words.Eval) Results limit ledger text success results_no_word results_no_base made) is
+by_word words.Image limit ledger text accepted is = storing_may_be_stored (image_checks limit ledger text) accepted (λ success made. image_may_be_stored limit ledger text success made) is
+by_word words.Def limit ledger text accepted is = storing_may_be_stored (formula_checks (word_text words.Def) Automata limit ledger text) accepted (λ success made. formula_may_be_stored (word_text words.Def) Automata limit ledger text success automata_no_word automata_no_base made) is
+by_word words.Macro limit ledger text accepted is = storing_may_be_stored (macro_checks ledger text) accepted (λ success made. macro_may_be_stored ledger text success made) is
+by_word words.Morphism limit ledger text accepted is = storing_may_be_stored (morphism_checks ledger text) accepted (λ success made. morphism_may_be_stored ledger text success made) is
+by_word words.Promote limit ledger text accepted is = storing_may_be_stored (promote_checks limit ledger text) accepted (λ success made. promote_may_be_stored limit ledger text success made) is
+by_word words.Combine limit ledger text accepted is = storing_may_be_stored (combine_checks limit ledger text) accepted (λ success made. combine_may_be_stored limit ledger text success made) is
+by_word words.Union limit ledger text accepted is = storing_may_be_stored (language_checks (Pair Union) limit ledger text) accepted (λ success made. language_may_be_stored (Pair Union) limit ledger text success made) is
+by_word words.Intersect limit ledger text accepted is = storing_may_be_stored (language_checks (Pair Intersection) limit ledger text) accepted (λ success made. language_may_be_stored (Pair Intersection) limit ledger text success made) is
+by_word words.Concat limit ledger text accepted is = storing_may_be_stored (language_checks (Pair Concatenation) limit ledger text) accepted (λ success made. language_may_be_stored (Pair Concatenation) limit ledger text success made) is
+by_word words.Star limit ledger text accepted is = storing_may_be_stored (language_checks (One Star) limit ledger text) accepted (λ success made. language_may_be_stored (One Star) limit ledger text success made) is
+by_word words.Reverse limit ledger text accepted is = storing_may_be_stored (language_checks (One Reversal) limit ledger text) accepted (λ success made. language_may_be_stored (One Reversal) limit ledger text success made) is
+by_word words.Test limit ledger text accepted is = saying_may_be_stored (test_checks limit ledger text) accepted is
+by_word words.Inf limit ledger text accepted is = saying_may_be_stored (inf_checks limit ledger text) accepted is
+by_word words.Transduce limit ledger text accepted is = storing_may_be_stored (transduce_checks limit ledger text) accepted (λ success made. transduce_may_be_stored limit ledger text success made) is
+by_word words.Convert limit ledger text accepted is = storing_may_be_stored (convert_checks limit ledger text) accepted (λ success made. convert_may_be_stored limit ledger text success made) is
 
-pub accepted_stands : (limit : ℕ) (ledger : Ledger) (text : List ℕ) (accepted : Accepted) → (checks_of limit ledger text).answers (Ok accepted) → AcceptedStands accepted
-accepted_stands limit ledger text accepted (short, s, (word, w, is)) = by_word word limit ledger text accepted is
+pub accepted_may_be_stored : (limit : ℕ) (ledger : Ledger) (text : List ℕ) (accepted : Accepted) → (checks_of limit ledger text).answers (Ok accepted) → AcceptedMayBeStored accepted
+accepted_may_be_stored limit ledger text accepted (short, s, (word, w, is)) = by_word word limit ledger text accepted is
 
 words_there : (at : Folder) → eqb (folder_index at) (folder_index Words) ≡ true → at ≡ Words
 words_there Automata same = absurd (cc)
@@ -148,8 +148,8 @@ bases_there Results same = absurd (cc)
 bases_there Commands same = absurd (cc)
 
 -- so it may under the same place
-pub stands_there : (at folder : Folder) (under name : List ℕ) (tree : Tree) → same_file at under folder name ≡ true → MayStandIn at tree → MayStandIn folder tree
-stands_there at folder under name tree same may = by tree may
+pub may_be_there : (at folder : Folder) (under name : List ℕ) (tree : Tree) → same_file at under folder name ≡ true → MayBeIn at tree → MayBeIn folder tree
+may_be_there at folder under name tree same may = by tree may
   where
     one : eqb (folder_index at) (folder_index folder) ≡ true
     one = (and_parts (eqb (folder_index at) (folder_index folder)) (bytes_eq under name) same).0
@@ -163,13 +163,13 @@ stands_there at folder under name tree same may = by tree may
     among : at ≡ Words → folder ≡ Words
     among is = words_back folder (subst (λ (f : Folder). eqb (folder_index f) (folder_index folder) ≡ true) is one)
 
-    by : (t : Tree) → MayStandIn at t → MayStandIn folder t
-    by (File bytes) stands = tt
-    by (Regex tracks expression) stands = apart stands
-    by (Formula variables formula bindings) stands = apart stands
-    by (Fixed rules) stands = among stands
-    by (Image direction system rules image) stands = among stands
-    by (Combine direction named parts) stands = among stands
-    by (Language sets op trees) stands = apart stands
-    by (Transduced system transducer transduced) stands = among stands
-    by (Converted direction system converted) stands = among stands
+    by : (t : Tree) → MayBeIn at t → MayBeIn folder t
+    by (File bytes) may_be_stored = tt
+    by (Regex tracks expression) may_be_stored = apart may_be_stored
+    by (Formula variables formula bindings) may_be_stored = apart may_be_stored
+    by (Fixed rules) may_be_stored = among may_be_stored
+    by (Image direction system rules image) may_be_stored = among may_be_stored
+    by (Combine direction named parts) may_be_stored = among may_be_stored
+    by (Language sets op trees) may_be_stored = apart may_be_stored
+    by (Transduced system transducer transduced) may_be_stored = among may_be_stored
+    by (Converted direction system converted) may_be_stored = among may_be_stored

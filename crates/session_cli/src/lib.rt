@@ -7,8 +7,8 @@
 //! and `morphism` (`texts.rt`); then its text is written. `answering.rt` has a session answer the commands of a run, those of
 //! loaded files among them (`loading.rt`).
 //!
-//! `specs/Outcomes.antt` has the checks of every command, and `laws.rt` says that they have one answer at most. That there is one
-//! which is not want of memory is no law.
+//! `specs/Outcomes.antt` has the checks of every command, and `laws.rt` says that they have one answer at most. No law says
+//! that there is one other than out of memory.
 //!
 //! A text that is written is the last thing that can be refused: nothing grows after it. What a session keeps from one command to
 //! the next changes no answer, and no contract mentions it but by the limit.

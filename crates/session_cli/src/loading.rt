@@ -14,7 +14,7 @@ use script_runs::LOAD_LIMIT;
 use std::alloc::Global;
 use wal_outside::{Folder, Found, Store};
 
-/// The text of the file that a `load` names, which stands in so many loads; or the first of its checks that refuses it: the shape of
+/// The text of the file that a `load` names, which is inside so many loads; or the first of its checks that refuses it: the shape of
 /// its head, the loads around it, and the file.
 pub(crate) fn loaded_text<T: Store>(
     alloc: Global,

@@ -269,7 +269,7 @@ static LIMITS: [(u32, &str, &str, u8, usize); 12] = [
 ];
 
 #[test]
-fn combined_words_stand_in_formulas(rt: HostRuntime) {
+fn combined_words_are_read_in_formulas(rt: HostRuntime) {
     expect_scripts(&rt, rt.alloc(), combined(), "walnut", READ);
 }
 

@@ -70,7 +70,7 @@ static OTHERS: [FileRow; 4] = [
     (Folder::Macros, "e", "0=0"),
 ];
 
-/// What stands in the place of a byte: what separates, what begins a part, and what is no text.
+/// What replaces a byte: what separates, what begins a part, and what is no text.
 const BYTES: &[u8] = b"\0 \n09-\">#}\xff";
 
 /// Runs a command over these bytes as a file.

@@ -468,7 +468,7 @@ fn images_are_made_or_refused_as_listed(rt: HostRuntime) {
 }
 
 #[test]
-fn images_stand_in_formulas(rt: HostRuntime) {
+fn images_are_read_in_formulas(rt: HostRuntime) {
     expect_scripts(&rt, rt.alloc(), imaged(), "walnut", READ);
 }
 

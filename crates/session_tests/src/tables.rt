@@ -4,7 +4,7 @@
 use wal_outside::Folder;
 
 /// The text of a table, whose rows are lists of literals: a text, a folder where there is one, and further fields, of which the
-/// last ones may stand in a list of their own.
+/// last ones may be in a list of their own.
 macro_rules! table {
     ($((
         $first:literal
@@ -37,7 +37,7 @@ pub(crate) use table;
 /// What ends a row of a table.
 pub const ROW_END: char = '\u{1e}';
 
-/// What stands between the fields of a row.
+/// What is between the fields of a row.
 const FIELD_END: char = '\u{1f}';
 
 /// The first field of a row, and those after it.

@@ -1,7 +1,7 @@
 //! Theorems of the literature on words that commands make, with their verdicts.
 //!
 //! The macros say of a word that some factor has itself after it, for so many letters; which lengths the halves of its squares
-//! have, its palindromes, and its factors without border; and that it is periodic from some place on.
+//! have, its palindromes, and its factors without border; and that it is periodic from some position on.
 
 use crate::whole::{Ran, expect_printed, run_script};
 use std::alloc::Global;

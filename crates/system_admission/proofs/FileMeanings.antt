@@ -71,7 +71,7 @@ module _ (s : System) (adds other : ℕ → ℕ → ℕ → Type 0) (same : (x y
 
   first_fault_same : (fault : AdmitFault) → IsFirstFault s adds fault → IsFirstFault s other fault
   first_fault_same (faults.NotAdmitted laws.NoZero) wrong = wrong
-  first_fault_same (faults.NotAdmitted laws.Finite) wrong = wrong
+  first_fault_same (faults.NotAdmitted laws.Endless) wrong = wrong
   first_fault_same (faults.NotAdmitted laws.ZeroLaw) wrong = (wrong.0, λ law. wrong.1 (zero_law_same other adds back law))
   first_fault_same (faults.NotAdmitted laws.SuccessorLaw) wrong = (wrong.0, zero_law_same adds other same wrong.1, λ law. wrong.2 (successor_law_same other adds back law))
   first_fault_same (faults.Letters step) wrong = tt
@@ -113,8 +113,8 @@ module _ (direction : Direction) (files : SystemFiles) (language : Branching) (w
   pub language_first : (d : Automaton) → IsOfFile language files.reversed d → (fault : AdmitFault) → IsFirstLanguageFault direction d fault → IsFirstFaultIn direction files fault
   language_first d file (faults.NotAdmitted laws.NoZero) wrong s are =
       language_fault direction language files.reversed d file files.digits words.sizes_are (faults.NotAdmitted laws.NoZero) wrong language s (words_of_file s are)
-  language_first d file (faults.NotAdmitted laws.Finite) wrong s are =
-      language_fault direction language files.reversed d file files.digits words.sizes_are (faults.NotAdmitted laws.Finite) wrong language s (words_of_file s are)
+  language_first d file (faults.NotAdmitted laws.Endless) wrong s are =
+      language_fault direction language files.reversed d file files.digits words.sizes_are (faults.NotAdmitted laws.Endless) wrong language s (words_of_file s are)
   language_first d file (faults.NotAdmitted laws.ZeroLaw) wrong s are = absurd wrong
   language_first d file (faults.NotAdmitted laws.SuccessorLaw) wrong s are = absurd wrong
   language_first d file (faults.Letters step) wrong s are = tt

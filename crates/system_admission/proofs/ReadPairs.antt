@@ -12,8 +12,8 @@ use Rattle.wal_outside.specs.Views.{StoreView}
 use Rattle.system_files.specs.Looks.{FailsLook, Loads}
 use Rattle.system_files.specs.SystemFiles.{Custom, SystemFiles, HasLanguage, is_reversed, taken_name}
 use Rattle.system_files.specs.SystemLoading.{AreFilesLoaded, FailsFiles}
-use Rattle.system_files.specs.SystemTexts.{Agrees, FoundText, StandsAs, Text}
-use Rattle.system_files.proofs.FoundLemmas.{stands_at}
+use Rattle.system_files.specs.SystemTexts.{Agrees, FoundText, IsFoundAs, Text}
+use Rattle.system_files.proofs.FoundLemmas.{found_at}
 use Rattle.system_files.proofs.LoadSteps.{found_both}
 use Rattle.dfa_loading.proofs.ReadSteps.{reads_both}
 use Rattle.system_admission.specs.KeptSystems.{AdmitsPair, HasLanguageText, IsPairOf}
@@ -25,7 +25,7 @@ module _ (custom : Custom) (direction : Direction) (part : List ℕ) (name : Lis
   -- the text that was found under the name is a language
   pub has_language : (found : List FoundText) → Agrees custom found → HasLanguageText found name → (digits : ℕ) × HasLanguage custom direction part digits
   has_language found agrees has =
-      let there : StandsAs (custom name) (Text has.text) = stands_at custom found has.there.place (record { name = name; finding = Text has.text }) agrees has.there.there in
+      let there : IsFoundAs (custom name) (Text has.text) = found_at custom found has.there.place (record { name = name; finding = Text has.text }) agrees has.there.there in
       let (listed, lists) = has.is_language in
       let is = language_files_list_languages has.text listed lists in
       (is.digits, (listed, record { text = has.text; there = ap custom (sym taken) ∙ there.0; short = there.1; lists = lists; header = is.header }))

@@ -17,7 +17,7 @@ use Rattle.wal_outside.specs.Views.{StoreView}
 use Rattle.wal_outside.specs.declared.folder.Folder.{Folder}
 use Rattle.wal_outside.specs.declared.folder.Folder.TheVariants.{Bases}
 use Rattle.named_systems.specs.NamedSystems.{NamedSystem, HasSystemIn, IsThere, with_system}
-use Rattle.named_systems.proofs.NamedLemmas.{stays, last_stands}
+use Rattle.named_systems.proofs.NamedLemmas.{stays, last_is_found}
 use Rattle.formula_resolve.specs.FirstMentions.{each_once, mentioned_systems, first_systems}
 use Rattle.formula_resolve.specs.Headers.{Headers}
 use Rattle.formula_resolve.specs.declared.mention.Mention.{Mention}
@@ -25,7 +25,7 @@ use Rattle.formula_resolve.specs.declared.mention.Mention.TheVariants.{Marked}
 use Rattle.num_system.specs.Sealed.{SystemValue, system_of}
 use Rattle.system_names.specs.Names.{IsBuiltInName}
 use Rattle.system_files.specs.SystemFiles.{Custom, RefusesFiles}
-use Rattle.system_files.specs.SystemTexts.{FoundText, Agrees, HasFound, CanStand}
+use Rattle.system_files.specs.SystemTexts.{FoundText, Agrees, HasFound, AreInSomeFolder}
 use Rattle.system_files.specs.UserSystems.{IsUserSystem}
 use Rattle.system_admission.specs.NameAdmissions.{IsNamedSystem, FailsName, as_loading}
 use Rattle.system_admission.specs.SystemSteps.{fault_of, AdmitsName, AdmitsNames, IsReadFor, ReadsFor, no_steps}
@@ -93,21 +93,21 @@ read_so X Y old new (systems.Step fault) was = record { files = was.files; later
 
 -- one more is admitted
 pub user_added : (name : List ℕ) (before after : UserSystems) (old new : StoreView) (s : SystemValue) → ((custom : Custom) → Agrees custom after.texts → IsNamedSystem custom name before.steps after.steps s) → after.named ≡ with_system before.named name s → HasFound before.texts old after.texts
-    → CanStand after.texts → HasRead old (as_loading {X = SystemValue} (Ok s)) new → AdmitsUser name before old (Ok tt) after new
-user_added name before after old new s gives named found stands read = record {
+    → AreInSomeFolder after.texts → HasRead old (as_loading {X = SystemValue} (Ok s)) new → AdmitsUser name before old (Ok tt) after new
+user_added name before after old new s gives named found in_some_folder read = record {
   gives = λ custom all. let is = gives custom all in record { admits = is.admits; system = s; defined = is.means; named = named };
   found = found;
-  stands = stands;
+  in_some_folder = in_some_folder;
   has_read = record { files = read.files; later = read.later; cause = read.cause };
 }
 
 -- it is not, or there is no memory to keep it
-pub user_refused : (name : List ℕ) (before after : UserSystems) (old new : StoreView) (fault : SystemFault) → ((custom : Custom) → Agrees custom after.texts → FailsName custom name before.steps after.steps fault) → HasFound before.texts old after.texts → CanStand after.texts
+pub user_refused : (name : List ℕ) (before after : UserSystems) (old new : StoreView) (fault : SystemFault) → ((custom : Custom) → Agrees custom after.texts → FailsName custom name before.steps after.steps fault) → HasFound before.texts old after.texts → AreInSomeFolder after.texts
     → HasRead old (as_loading {X = SystemValue} (Err fault)) new → AdmitsUser name before old (Err fault) after new
-user_refused name before after old new fault gives found stands read = record { gives = gives; found = found; stands = stands; has_read = read_so SystemValue (Unit {0}) old new fault read }
+user_refused name before after old new fault gives found in_some_folder read = record { gives = gives; found = found; in_some_folder = in_some_folder; has_read = read_so SystemValue (Unit {0}) old new fault read }
 
-pub user_unkept : (name : List ℕ) (before after : UserSystems) (old new : StoreView) (s : SystemValue) → HasFound before.texts old after.texts → CanStand after.texts → HasRead old (as_loading {X = SystemValue} (Ok s)) new → AdmitsUser name before old (Err (systems.Step steps.Memory)) after new
-user_unkept name before after old new s found stands read = record { gives = λ custom all. tt; found = found; stands = stands; has_read = record { files = read.files; later = read.later; cause = read.cause } }
+pub user_unkept : (name : List ℕ) (before after : UserSystems) (old new : StoreView) (s : SystemValue) → HasFound before.texts old after.texts → AreInSomeFolder after.texts → HasRead old (as_loading {X = SystemValue} (Ok s)) new → AdmitsUser name before old (Err (systems.Step steps.Memory)) after new
+user_unkept name before after old new s found in_some_folder read = record { gives = λ custom all. tt; found = found; in_some_folder = in_some_folder; has_read = record { files = read.files; later = read.later; cause = read.cause } }
 
 -- something is there, or nothing
 pub something : {B : Type 0} (N : Type 0) (Q : B → Type 0) (o : Option B) (none : Bool) → MatchOption o N Q → is_some o ≡ not none → none ≡ false → (b : B) × Q b
@@ -129,7 +129,7 @@ first_marks h marks names is = ap (first_systems h) is ∙ ap (each_once bytes_e
 -- the systems of the names before it are admitted
 pub record AreSoFar (limit : ℕ) (prefix : List (List ℕ)) (users : UserSystems) (old now : StoreView) : Type 0 where
   pub gives : (custom : Custom) → Agrees custom users.texts → AreAdmitted limit prefix custom users
-  pub stands : CanStand users.texts
+  pub in_some_folder : AreInSomeFolder users.texts
   pub reported : IfSome old.files (λ (files : Files). Agrees (files Bases) users.texts)
   pub has_read : HasRead {X = ⊤} old (Ok tt) now
 
@@ -142,7 +142,7 @@ none_reported (Some files) = tt
 pub none_so_far : (limit : ℕ) (users : UserSystems) (store : StoreView) → users.named ≡ [] → users.texts ≡ [] → users.steps ≡ no_steps limit → AreSoFar limit [] users store store
 none_so_far limit users store named texts log = record {
   gives = λ custom all. record { admits = (refl, log); meant = subst (AreUsers custom) (sym named) tt; there = tt };
-  stands = ((λ name. None), subst (Agrees (λ name. None)) (sym texts) tt);
+  in_some_folder = ((λ name. None), subst (Agrees (λ name. None)) (sym texts) tt);
   reported = subst (λ (found : List FoundText). IfSome store.files (λ (files : Files). Agrees (files Bases) found)) (sym texts) (none_reported store.files);
   has_read = record { files = refl; later = omega arith; cause = refl };
 }
@@ -180,7 +180,7 @@ module _ (limit : ℕ) (names : List (List ℕ)) (i : ℕ) (name : List ℕ) (wi
           meant = before.meant;
           there = there_more users.named (take i names) name before.there (inl built);
         });
-    stands = so.stands;
+    in_some_folder = so.in_some_folder;
     reported = so.reported;
     has_read = so.has_read;
   }
@@ -201,9 +201,9 @@ module _ (limit : ℕ) (names : List (List ℕ)) (i : ℕ) (name : List ℕ) (wi
         (record {
           admits = names_more custom (take i names) name (no_steps limit) users.steps more.steps before.admits adds.admits;
           meant = subst (AreUsers custom) (sym adds.named) (users_push custom users.named name adds.system before.meant adds.defined);
-          there = there_more more.named (take i names) name (there_stay users.named more.named (take i names) stay before.there) (inr (subst (λ (ss : List NamedSystem). HasSystemIn ss name) (sym adds.named) (last_stands users.named name adds.system)));
+          there = there_more more.named (take i names) name (there_stay users.named more.named (take i names) stay before.there) (inr (subst (λ (ss : List NamedSystem). HasSystemIn ss name) (sym adds.named) (last_is_found users.named name adds.system)));
         });
-    stands = one.stands;
+    in_some_folder = one.in_some_folder;
     reported = reported_more old.files mid.files users.texts more.texts so.has_read.files one.found.reported so.reported;
     has_read = reads_both old mid new tt (Ok tt) so.has_read one.has_read;
   }
@@ -212,7 +212,7 @@ module _ (limit : ℕ) (names : List (List ℕ)) (i : ℕ) (name : List ℕ) (wi
   pub refused_so_far : (users more : UserSystems) (old mid new : StoreView) (fault : SystemFault) → AreSoFar limit (take i names) users old mid → AdmitsUser name users mid (Err fault) more new → AdmitsUsers limit names old (Err fault) new
   refused_so_far users more old mid new fault so one = record {
     found = more.texts;
-    stands = one.stands;
+    in_some_folder = one.in_some_folder;
     reported = reported_more old.files mid.files users.texts more.texts so.has_read.files one.found.reported so.reported;
     gives = λ custom all. refused_at custom names i name (no_steps limit) users.steps more.steps fault within is (so.gives custom (one.found.kept custom all)).admits (one.gives custom all);
     has_read = reads_both old mid new tt (as_loading {X = UserSystems} (Err fault)) so.has_read (read_so (Unit {0}) UserSystems mid new fault one.has_read);
@@ -222,7 +222,7 @@ module _ (limit : ℕ) (names : List (List ℕ)) (i : ℕ) (name : List ℕ) (wi
 pub all_so_far : (limit : ℕ) (names : List (List ℕ)) (i : ℕ) (users : UserSystems) (old now : StoreView) → length names ≤ i → AreSoFar limit (take i names) users old now → AdmitsUsers limit names old (Ok users) now
 all_so_far limit names i users old now end so = record {
   found = users.texts;
-  stands = so.stands;
+  in_some_folder = so.in_some_folder;
   reported = so.reported;
   gives = λ custom all. subst (λ (ns : List (List ℕ)). AreAdmitted limit ns custom users) (take_all i names end) (so.gives custom all);
   has_read = record { files = so.has_read.files; later = so.has_read.later; cause = so.has_read.cause };

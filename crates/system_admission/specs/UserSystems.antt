@@ -8,7 +8,7 @@ use Rattle.dfa_loading.specs.declared.fault.LoadFault.TheVariants as loads
 use Rattle.named_systems.specs.NamedSystems.{NamedSystem, with_system, IsThere}
 use Rattle.num_system.specs.Sealed.{SystemValue, system_of}
 use Rattle.system_files.specs.SystemFiles.{Custom}
-use Rattle.system_files.specs.SystemTexts.{FoundText, Agrees, HasFound, CanStand}
+use Rattle.system_files.specs.SystemTexts.{FoundText, Agrees, HasFound, AreInSomeFolder}
 use Rattle.system_files.specs.UserSystems.{IsUserSystem}
 use Rattle.wal_outside.specs.Files.{Files}
 use Rattle.wal_outside.specs.Views.{StoreView}
@@ -44,7 +44,7 @@ FailsNames custom names old (faults.Step (steps.States step)) = (new : StepLog) 
 -- its files.
 pub record AdmitsUsers (limit : ℕ) (names : List (List ℕ)) (old : StoreView) (result : Result UserSystems SystemFault) (new : StoreView) : Type 0 where
   pub found : List FoundText
-  pub stands : CanStand found
+  pub in_some_folder : AreInSomeFolder found
   pub reported : IfSome old.files (λ (files : Files). Agrees (files Bases) found)
   pub gives : (custom : Custom) → Agrees custom found → MatchResult result (AreAdmitted limit names custom) (FailsNames custom names (no_steps limit))
   pub has_read : HasRead old (as_loading result) new
@@ -60,5 +60,5 @@ pub record AddsUser (custom : Custom) (name : List ℕ) (before after : UserSyst
 pub record AdmitsUser (name : List ℕ) (before : UserSystems) (old : StoreView) (result : Result (Unit {0}) SystemFault) (after : UserSystems) (new : StoreView) : Type 0 where
   pub gives : (custom : Custom) → Agrees custom after.texts → MatchResult result (λ _. AddsUser custom name before after) (FailsName custom name before.steps after.steps)
   pub found : HasFound before.texts old after.texts
-  pub stands : CanStand after.texts
+  pub in_some_folder : AreInSomeFolder after.texts
   pub has_read : HasRead old (as_loading result) new

@@ -68,7 +68,7 @@ pub fn admit_system<T: Store>(
     let files = load_system(alloc, &user, texts, store)?;
     let first = steps.count();
     let system = sealed_system(alloc, name, &files, user.direction, steps)?;
-    texts.can_stand();
+    texts.are_in_some_folder();
     if let Some(pair) = pair_of(alloc, &user, reversed, texts) {
         kept.keep(alloc, &pair, first, steps, &system);
     }

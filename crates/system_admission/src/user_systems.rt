@@ -73,7 +73,7 @@ impl UserSystems {
         ensures { AdmitsUser name.now self.old (T.view store.old) result self.new (T.view store.new) }
     {
         let system = admit_system(alloc, name, kept, &mut self.texts, store, &mut self.steps);
-        self.texts.can_stand();
+        self.texts.are_in_some_folder();
         self.named.add(alloc, name, system?)?;
         Ok(())
     }

@@ -69,8 +69,8 @@ module _ (direction : Direction) (part : List ℕ) where
     adder_fails : (custom : Custom) (fault : LoadFault) → HasLanguage custom direction part digits → FailsPart (Adder digits) custom (adder_name (taken_name custom direction part)) fault → FailsFiles custom direction part fault
     adder_fails custom (faults.Unknown folder name) has fails = (fails.0, inr (digits, has, ap custom fails.1 ∙ fails.2, fails.1))
     adder_fails custom (faults.File folder name flaw) has fails =
-        let (text, stands, none) = fails.2 in
-        (fails.0, inr (digits, has, (text, ap custom fails.1 ∙ stands, fails.1, no_adder digits text flaw none)))
+        let (text, found_as, none) = fails.2 in
+        (fails.0, inr (digits, has, (text, ap custom fails.1 ∙ found_as, fails.1, no_adder digits text flaw none)))
     adder_fails custom (faults.Store folder name) has fails = (fails.0, inr (inr (digits, has, fails.1)))
     adder_fails custom faults.Memory has fails = tt
 
@@ -88,5 +88,5 @@ module _ (direction : Direction) (part : List ℕ) where
           loads_both (IsTakenLanguage direction part) (λ custom fault. FailsFiles custom direction part fault) (λ custom found (listed : Listed). IsPartAt (Adder digits) custom name listed) (λ custom fault. FailsPart (Adder digits) custom name fault) (λ custom found (files : SystemFiles). AreFilesOf custom direction part files)
           (λ custom fault. FailsFiles custom direction part fault) before mid after old later new taken takes adder (record { digits = digits; reversed = taken.reversed; language = taken.language; adder = adder }) loads
           (λ custom agrees agree is at.
-          let stands = subst (λ (n : List ℕ). IsPartAt (Adder digits) custom n adder) (named ∙ ap adder_name is.name) at in
-          record { reversed = is.reversed; language = language_at custom is; adder = record { text = stands.text; there = stands.there; short = stands.short; lists = stands.lists } })
+          let found_as = subst (λ (n : List ℕ). IsPartAt (Adder digits) custom n adder) (named ∙ ap adder_name is.name) at in
+          record { reversed = is.reversed; language = language_at custom is; adder = record { text = found_as.text; there = found_as.there; short = found_as.short; lists = found_as.lists } })

@@ -22,37 +22,37 @@ use Rattle.dfa_loading.proofs.PlaceSteps.{text_past}
 use Rattle.dfa_loading.proofs.ReadSteps.{reads_ok}
 use Rattle.system_files.proofs.LoadSteps.{IsQuiet, loads_so, refused_so}
 use Rattle.system_files.specs.SystemFiles.{Custom, is_there}
-use Rattle.system_files.specs.SystemTexts.{Finding, Absent, Text, TooLong, FoundText, StandsAs, Agrees, CanStand, HasFound}
+use Rattle.system_files.specs.SystemTexts.{Finding, Absent, Text, TooLong, FoundText, IsFoundAs, Agrees, AreInSomeFolder, HasFound}
 use Rattle.system_files.specs.TextViews.{found_view, texts_in}
 use Rattle.system_files.specs.declared.texts.FoundText.{FoundText as TextKept}
 use Rattle.system_files.specs.Looks.{IsNew, IsAt, is_text, CanBeFound, ListsPart, ListsNoPart, HasFlaw, IsListedPart, IsPartAt, IsNoPart, FailsPart, FailsLook, Loads}
 
 -- what was found at a place is under its name
-pub stands_at : (custom : Custom) (found : List FoundText) (place : ℕ) (one : FoundText) → Agrees custom found → slice_get found place ≡ Some one → StandsAs (custom one.name) one.finding
-stands_at custom [] place one agrees at = absurd (cc)
-stands_at custom (f ∷ found) zero one agrees at = let same : f ≡ one = let e : Some f ≡ Some one = at in cc in subst (λ (o : FoundText). StandsAs (custom o.name) o.finding) same agrees.0
-stands_at custom (f ∷ found) (suc place) one agrees at = stands_at custom found place one agrees.1 at
+pub found_at : (custom : Custom) (found : List FoundText) (place : ℕ) (one : FoundText) → Agrees custom found → slice_get found place ≡ Some one → IsFoundAs (custom one.name) one.finding
+found_at custom [] place one agrees at = absurd (cc)
+found_at custom (f ∷ found) zero one agrees at = let same : f ≡ one = let e : Some f ≡ Some one = at in cc in subst (λ (o : FoundText). IsFoundAs (custom o.name) o.finding) same agrees.0
+found_at custom (f ∷ found) (suc place) one agrees at = found_at custom found place one agrees.1 at
 
 -- a text is there where one was found
-pub text_stands : (there : Option (List ℕ)) (finding : Finding) → StandsAs there finding → is_there there ≡ is_text finding
-text_stands there Absent h = ap is_there h
-text_stands there (Text text) h = ap is_there h.0
-text_stands there TooLong h = ap is_there h.1
+pub text_is_found : (there : Option (List ℕ)) (finding : Finding) → IsFoundAs there finding → is_there there ≡ is_text finding
+text_is_found there Absent h = ap is_there h
+text_is_found there (Text text) h = ap is_there h.0
+text_is_found there TooLong h = ap is_there h.1
 
 -- and nothing where none was
-pub none_stands : (there : Option (List ℕ)) (finding : Finding) → StandsAs there finding → is_text finding ≡ false → there ≡ None
-none_stands there Absent h none = h
-none_stands there (Text text) h none = absurd (true≢false none)
-none_stands there TooLong h none = absurd (true≢false none)
+pub none_is_found : (there : Option (List ℕ)) (finding : Finding) → IsFoundAs there finding → is_text finding ≡ false → there ≡ None
+none_is_found there Absent h none = h
+none_is_found there (Text text) h none = absurd (true≢false none)
+none_is_found there TooLong h none = absurd (true≢false none)
 
 -- one more that was found
 pub agrees_before : (custom : Custom) (found more : List FoundText) → Agrees custom (found ++ more) → Agrees custom found
 agrees_before custom [] more agrees = tt
 agrees_before custom (f ∷ found) more agrees = (agrees.0, agrees_before custom found more agrees.1)
 
-pub agrees_more : (custom : Custom) (found : List FoundText) (one : FoundText) → Agrees custom found → StandsAs (custom one.name) one.finding → Agrees custom (found ++ one ∷ [])
-agrees_more custom [] one agrees stands = (stands, tt)
-agrees_more custom (f ∷ found) one agrees stands = (agrees.0, agrees_more custom found one agrees.1 stands)
+pub agrees_more : (custom : Custom) (found : List FoundText) (one : FoundText) → Agrees custom found → IsFoundAs (custom one.name) one.finding → Agrees custom (found ++ one ∷ [])
+agrees_more custom [] one agrees found_as = (found_as, tt)
+agrees_more custom (f ∷ found) one agrees found_as = (agrees.0, agrees_more custom found one agrees.1 found_as)
 
 -- the folder with this under a name
 abbrev with_text : Custom → List ℕ → Option (List ℕ) → Custom
@@ -71,16 +71,16 @@ other_text custom name other there apart = by (bytes_eq other name) refl
 agrees_with : (custom : Custom) (found : List FoundText) (name : List ℕ) (there : Option (List ℕ)) → IsNew found name → Agrees custom found → Agrees (with_text custom name there) found
 agrees_with custom [] name there new agrees = tt
 agrees_with custom (f ∷ found) name there new agrees = (
-  subst (λ (o : Option (List ℕ)). StandsAs o f.finding) (sym (other_text custom name f.name there (new 0 f refl))) agrees.0,
+  subst (λ (o : Option (List ℕ)). IsFoundAs o f.finding) (sym (other_text custom name f.name there (new 0 f refl))) agrees.0,
   agrees_with custom found name there (λ place one at. new (suc place) one at) agrees.1,
 )
 
 -- what is found under a new name can be beside what was
-pub can_stand_more : (found : List FoundText) (one : FoundText) → IsNew found one.name → CanBeFound one.finding → CanStand found → CanStand (found ++ one ∷ [])
-can_stand_more found one new (there, stands) (custom, agrees) = (
+pub in_some_folder_more : (found : List FoundText) (one : FoundText) → IsNew found one.name → CanBeFound one.finding → AreInSomeFolder found → AreInSomeFolder (found ++ one ∷ [])
+in_some_folder_more found one new (there, found_as) (custom, agrees) = (
   with_text custom one.name there,
   agrees_more (with_text custom one.name there) found one (agrees_with custom found one.name there new agrees)
-      (subst (λ (o : Option (List ℕ)). StandsAs o one.finding) (sym (same_text custom one.name there)) stands),
+      (subst (λ (o : Option (List ℕ)). IsFoundAs o one.finding) (sym (same_text custom one.name there)) found_as),
 )
 
 -- a text that is too long
@@ -109,31 +109,31 @@ none_in_prefix found place one name prefix within at apart k f less there = elim
 ]
 
 -- what was found lists a part, or nothing
-pub lists_at : (part : SystemPart) (custom : Custom) (name : List ℕ) (finding : Finding) (listed : Listed) → StandsAs (custom name) finding → ListsPart part finding listed → IsPartAt part custom name listed
-lists_at part custom name finding listed stands lists =
-    let text : StandsAs (custom name) (Text lists.text) = subst (StandsAs (custom name)) lists.is_text stands in
+pub lists_at : (part : SystemPart) (custom : Custom) (name : List ℕ) (finding : Finding) (listed : Listed) → IsFoundAs (custom name) finding → ListsPart part finding listed → IsPartAt part custom name listed
+lists_at part custom name finding listed found_as lists =
+    let text : IsFoundAs (custom name) (Text lists.text) = subst (IsFoundAs (custom name)) lists.is_text found_as in
     record { text = lists.text; there = text.0; short = text.1; lists = lists.lists }
 
-flaw_at : (part : SystemPart) (custom : Custom) (name : List ℕ) (finding : Finding) (flaw : FileFlaw) → StandsAs (custom name) finding → HasFlaw part finding flaw → (text : List ℕ) × (custom name ≡ Some text) × IsNoPart part text flaw
-flaw_at part custom name Absent flaw stands has = absurd has
-flaw_at part custom name (Text text) (flaws.Line at) stands has = (text, stands.0, (stands.1, has))
-flaw_at part custom name (Text text) flaws.TooLong stands has = absurd has
-flaw_at part custom name TooLong (flaws.Line at) stands has = absurd has
-flaw_at part custom name TooLong flaws.TooLong stands has = stands
+flaw_at : (part : SystemPart) (custom : Custom) (name : List ℕ) (finding : Finding) (flaw : FileFlaw) → IsFoundAs (custom name) finding → HasFlaw part finding flaw → (text : List ℕ) × (custom name ≡ Some text) × IsNoPart part text flaw
+flaw_at part custom name Absent flaw found_as has = absurd has
+flaw_at part custom name (Text text) (flaws.Line at) found_as has = (text, found_as.0, (found_as.1, has))
+flaw_at part custom name (Text text) flaws.TooLong found_as has = absurd has
+flaw_at part custom name TooLong (flaws.Line at) found_as has = absurd has
+flaw_at part custom name TooLong flaws.TooLong found_as has = found_as
 
-pub fails_at : (part : SystemPart) (custom : Custom) (one : FoundText) (fault : LoadFault) → StandsAs (custom one.name) one.finding → ListsNoPart part one fault → FailsPart part custom one.name fault
-fails_at part custom one (faults.Unknown folder name) stands (place, named, absent) = (place, named, subst (StandsAs (custom one.name)) absent stands)
-fails_at part custom one (faults.File folder name flaw) stands (place, named, has) = (place, named, flaw_at part custom one.name one.finding flaw stands has)
-fails_at part custom one (faults.Store folder name) stands fails = absurd fails
-fails_at part custom one faults.Memory stands fails = tt
+pub fails_at : (part : SystemPart) (custom : Custom) (one : FoundText) (fault : LoadFault) → IsFoundAs (custom one.name) one.finding → ListsNoPart part one fault → FailsPart part custom one.name fault
+fails_at part custom one (faults.Unknown folder name) found_as (place, named, absent) = (place, named, subst (IsFoundAs (custom one.name)) absent found_as)
+fails_at part custom one (faults.File folder name flaw) found_as (place, named, has) = (place, named, flaw_at part custom one.name one.finding flaw found_as has)
+fails_at part custom one (faults.Store folder name) found_as fails = absurd fails
+fails_at part custom one faults.Memory found_as fails = tt
 
 -- a text that was read is one more that was found
-pub found_more : (found : List FoundText) (one : FoundText) (store : StoreView) → IfSome store.files (λ (files : Files). StandsAs (files Bases one.name) one.finding) → HasFound found store (found ++ one ∷ [])
-found_more found one store stands = record { kept = λ custom agrees. agrees_before custom found (one ∷ []) agrees; reported = by store.files stands }
+pub found_more : (found : List FoundText) (one : FoundText) (store : StoreView) → IfSome store.files (λ (files : Files). IsFoundAs (files Bases one.name) one.finding) → HasFound found store (found ++ one ∷ [])
+found_more found one store found_as = record { kept = λ custom agrees. agrees_before custom found (one ∷ []) agrees; reported = by store.files found_as }
   where
-    by : (reported : Option Files) → IfSome reported (λ (files : Files). StandsAs (files Bases one.name) one.finding) → IfSome reported (λ (files : Files). Agrees (files Bases) found → Agrees (files Bases) (found ++ one ∷ []))
-    by None stands = tt
-    by (Some files) stands = λ agrees. agrees_more (files Bases) found one agrees stands
+    by : (reported : Option Files) → IfSome reported (λ (files : Files). IsFoundAs (files Bases one.name) one.finding) → IfSome reported (λ (files : Files). Agrees (files Bases) found → Agrees (files Bases) (found ++ one ∷ []))
+    by None found_as = tt
+    by (Some files) found_as = λ agrees. agrees_more (files Bases) found one agrees found_as
 
 pub at_end : (found : List FoundText) (one : FoundText) → slice_get (found ++ one ∷ []) (length found) ≡ Some one
 at_end [] one = refl
@@ -143,10 +143,10 @@ at_end (f ∷ found) one = at_end found one
 pub added_at : (name : List ℕ) (before : List FoundText) (one : FoundText) → one.name ≡ name → IsAt (before ++ one ∷ []) name (length before)
 added_at name before one named = record { finding = one.finding; there = at_end before one ∙ ap (λ (n : List ℕ). Some (record { name = n; finding = one.finding })) named }
 
-pub looked : (name : List ℕ) (before : List FoundText) (one : FoundText) (old new : StoreView) {X : Type 0} (x : X) → one.name ≡ name → IfSome old.files (λ (files : Files). StandsAs (files Bases name) one.finding) → HasRead old (Ok x) new
+pub looked : (name : List ℕ) (before : List FoundText) (one : FoundText) (old new : StoreView) {X : Type 0} (x : X) → one.name ≡ name → IfSome old.files (λ (files : Files). IsFoundAs (files Bases name) one.finding) → HasRead old (Ok x) new
     → Loads (λ custom found place. IsAt found name place) (λ custom fault. FailsLook name fault) before old (Ok (length before)) (before ++ one ∷ []) new
-looked name before one old new x named stands read =
-    let reported : IfSome old.files (λ (files : Files). StandsAs (files Bases one.name) one.finding) = subst (λ (n : List ℕ). IfSome old.files (λ (files : Files). StandsAs (files Bases n) one.finding)) (sym named) stands in
+looked name before one old new x named found_as read =
+    let reported : IfSome old.files (λ (files : Files). IsFoundAs (files Bases one.name) one.finding) = subst (λ (n : List ℕ). IfSome old.files (λ (files : Files). IsFoundAs (files Bases n) one.finding)) (sym named) found_as in
     record {
       gives = λ custom agrees. added_at name before one named;
       found = found_more before one old reported;
@@ -161,11 +161,11 @@ listed_here part name before found old new place one result at named lists loads
     same : one.name ≡ name
     same = let e : Some one ≡ Some (record { name = name; finding = named.finding }) = sym at ∙ named.there in let f : one ≡ record { name = name; finding = named.finding } = cc in ap (λ (g : FoundText). g.name) f
 
-    stands : (custom : Custom) → Agrees custom found → StandsAs (custom one.name) one.finding
-    stands custom agrees = stands_at custom found place one agrees at
+    found_as : (custom : Custom) → Agrees custom found → IsFoundAs (custom one.name) one.finding
+    found_as custom agrees = found_at custom found place one agrees at
 
     fails : (fault : LoadFault) → ListsNoPart part one fault → (custom : Custom) → Agrees custom found → FailsPart part custom name fault
-    fails fault refuses custom agrees = subst (λ (n : List ℕ). FailsPart part custom n fault) same (fails_at part custom one fault (stands custom agrees) refuses)
+    fails fault refuses custom agrees = subst (λ (n : List ℕ). FailsPart part custom n fault) same (fails_at part custom one fault (found_as custom agrees) refuses)
 
     refuse : (fault : LoadFault) → IsQuiet fault → ListsNoPart part one fault → Loads (λ custom found listed. IsPartAt part custom name listed) (λ custom fault. FailsPart part custom name fault) before old (Err fault) found new
     refuse fault quiet refuses =
@@ -175,7 +175,7 @@ listed_here part name before found old new place one result at named lists loads
     by : (result : Result Listed LoadFault) → MatchResult result (ListsPart part one.finding) (ListsNoPart part one) → Loads (λ custom found listed. IsPartAt part custom name listed) (λ custom fault. FailsPart part custom name fault) before old result found new
     by (Ok listed) lists =
         loads_so (λ custom found place. IsAt found name place) (λ custom fault. FailsLook name fault) (λ custom found listed. IsPartAt part custom name listed) (λ custom fault. FailsPart part custom name fault)
-        before found old new place listed loads (λ custom agrees was. lists_at part custom name one.finding listed (subst (λ (n : List ℕ). StandsAs (custom n) one.finding) same (stands custom agrees)) lists)
+        before found old new place listed loads (λ custom agrees was. lists_at part custom name one.finding listed (subst (λ (n : List ℕ). IsFoundAs (custom n) one.finding) same (found_as custom agrees)) lists)
     by (Err (faults.Unknown folder other)) refuses = refuse (faults.Unknown folder other) tt refuses
     by (Err (faults.File folder other flaw)) refuses = refuse (faults.File folder other flaw) tt refuses
     by (Err (faults.Store folder other)) refuses = absurd refuses

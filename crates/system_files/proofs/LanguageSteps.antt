@@ -16,8 +16,8 @@ use Rattle.system_files.specs.Looks.{IsNoPart, FailsPart, ListsPart, ListsNoPart
 use Rattle.system_files.specs.Taking.{IsTaken, IsTakenLanguage}
 use Rattle.system_files.specs.declared.taking.Taken.{Taken}
 use Rattle.system_files.proofs.LoadSteps.{IsQuiet, loads_so, fails_so, refused_so}
-use Rattle.system_files.proofs.FoundLemmas.{stands_at, lists_at, fails_at}
-use Rattle.system_files.proofs.TakingSteps.{named_so, named_stands}
+use Rattle.system_files.proofs.FoundLemmas.{found_at, lists_at, fails_at}
+use Rattle.system_files.proofs.TakingSteps.{named_so, named_is_found}
 
 no_language : (text : List ℕ) (flaw : FileFlaw) → IsNoPart Language text flaw → IsNoLanguage text flaw
 no_language text (flaws.Line at) is = is
@@ -28,8 +28,8 @@ module _ (direction : Direction) (part : List ℕ) where
   language_fails : (custom : Custom) (fault : LoadFault) → is_there (custom (taken_name custom direction part)) ≡ true → IsQuiet fault → FailsPart Language custom (taken_name custom direction part) fault → FailsFiles custom direction part fault
   language_fails custom (faults.Unknown folder name) there quiet fails = absurd (true≢false (sym there ∙ ap is_there fails.2))
   language_fails custom (faults.File folder name flaw) there quiet fails =
-      let (text, stands, none) = fails.2 in
-      (fails.0, inl (text, ap custom fails.1 ∙ stands, fails.1, no_language text flaw none))
+      let (text, found_as, none) = fails.2 in
+      (fails.0, inl (text, ap custom fails.1 ∙ found_as, fails.1, no_language text flaw none))
   language_fails custom (faults.Store folder name) there quiet fails = absurd quiet
   language_fails custom faults.Memory there quiet fails = tt
 
@@ -37,7 +37,7 @@ module _ (direction : Direction) (part : List ℕ) where
   found_fails : (custom : Custom) (found : List FoundText) (taken : Taken) (one : FoundText) (fault : LoadFault) → Agrees custom found → IsTaken direction part custom found taken → slice_get found taken.place ≡ Some one → IsQuiet fault → ListsNoPart Language one fault → FailsFiles custom direction part fault
   found_fails custom found taken one fault agrees is at quiet refuses =
       let named = named_so found (taken_name custom direction part) taken.place one is.at at in
-      language_fails custom fault is.there quiet (subst (λ (n : List ℕ). FailsPart Language custom n fault) named (fails_at Language custom one fault (stands_at custom found taken.place one agrees at) refuses))
+      language_fails custom fault is.there quiet (subst (λ (n : List ℕ). FailsPart Language custom n fault) named (fails_at Language custom one fault (found_at custom found taken.place one agrees at) refuses))
 
   module _ (before after : List FoundText) (old new : StoreView) (taken : Taken) (one : FoundText) (at : slice_get after taken.place ≡ Some one) (takes : Loads (IsTaken direction part) (λ custom fault. FailsFiles custom direction part fault) before old (Ok taken) after new) where
     refuse : (fault : LoadFault) → IsQuiet fault → ListsNoPart Language one fault → Loads (IsTakenLanguage direction part) (λ custom fault. FailsFiles custom direction part fault) before old (Err fault) after new
@@ -58,7 +58,7 @@ module _ (direction : Direction) (part : List ℕ) where
         (λ custom agrees is. record {
           reversed = is.reversed;
           name = copied ∙ named_so after (taken_name custom direction part) taken.place one is.at at;
-          language = lists_at Language custom (taken_name custom direction part) one.finding listed (named_stands custom after (taken_name custom direction part) taken.place one agrees is.at at) lists;
+          language = lists_at Language custom (taken_name custom direction part) one.finding listed (named_is_found custom after (taken_name custom direction part) taken.place one agrees is.at at) lists;
         })
 
   -- no language is taken

@@ -8,13 +8,13 @@ use Rattle.wal_outside.specs.Views.{StoreView}
 use Rattle.wal_outside.specs.declared.folder.Folder.TheVariants.{Bases}
 use Rattle.system_names.specs.UserNames.{user_name, opposite}
 use Rattle.system_files.specs.SystemFiles.{Custom, is_there, taken_name}
-use Rattle.system_files.specs.SystemTexts.{FoundText, StandsAs, Agrees}
+use Rattle.system_files.specs.SystemTexts.{FoundText, IsFoundAs, Agrees}
 use Rattle.system_files.specs.SystemLoading.{FailsFiles}
 use Rattle.system_files.specs.Looks.{IsAt, is_text, FailsLook, Loads}
 use Rattle.system_files.specs.Taking.{IsTaken}
 use Rattle.system_files.specs.declared.taking.Taken.{Taken}
 use Rattle.system_files.proofs.LoadSteps.{loads_so, fails_so, refused_so, loads_both, fails_both}
-use Rattle.system_files.proofs.FoundLemmas.{stands_at, text_stands, none_stands}
+use Rattle.system_files.proofs.FoundLemmas.{found_at, text_is_found, none_is_found}
 
 -- what was found at the place has the name
 pub named_so : (found : List FoundText) (name : List ℕ) (place : ℕ) (one : FoundText) → IsAt found name place → slice_get found place ≡ Some one → one.name ≡ name
@@ -24,8 +24,8 @@ named_so found name place one at there =
     ap (λ (f : FoundText). f.name) same
 
 -- what is under the name that was looked up
-pub named_stands : (custom : Custom) (found : List FoundText) (name : List ℕ) (place : ℕ) (one : FoundText) → Agrees custom found → IsAt found name place → slice_get found place ≡ Some one → StandsAs (custom name) one.finding
-named_stands custom found name place one agrees at there = subst (λ (n : List ℕ). StandsAs (custom n) one.finding) (named_so found name place one at there) (stands_at custom found place one agrees there)
+pub named_is_found : (custom : Custom) (found : List FoundText) (name : List ℕ) (place : ℕ) (one : FoundText) → Agrees custom found → IsAt found name place → slice_get found place ≡ Some one → IsFoundAs (custom name) one.finding
+named_is_found custom found name place one agrees at there = subst (λ (n : List ℕ). IsFoundAs (custom n) one.finding) (named_so found name place one at there) (found_at custom found place one agrees there)
 
 module _ (direction : Direction) (part : List ℕ) where
   -- where a text is under the name itself
@@ -87,14 +87,14 @@ module _ (direction : Direction) (part : List ℕ) where
       loads_so (λ custom found place. IsAt found name place) (λ custom fault. FailsLook name fault) (IsTaken direction part) (λ custom fault. FailsFiles custom direction part fault) before after old new place (record { place = place; reversed = false }) looks
       (λ custom agrees at.
       let here = subst (λ (n : List ℕ). IsAt after n place) named at in
-      taken_here custom after place (text_stands (custom (user_name direction part)) one.finding (named_stands custom after (user_name direction part) place one agrees here there) ∙ text) here)
+      taken_here custom after place (text_is_found (custom (user_name direction part)) one.finding (named_is_found custom after (user_name direction part) place one agrees here there) ∙ text) here)
 
   module _ (name second : List ℕ) (before mid after : List FoundText) (old later new : StoreView) (place : ℕ) (one : FoundText) (named : name ≡ user_name direction part) (also : second ≡ user_name (opposite direction) part) (there : slice_get mid place ≡ Some one) (none : is_text one.finding ≡ false)
       (first : Looks name before old (Ok place) mid later) where
     none_there : (custom : Custom) → Agrees custom mid → IsAt mid name place → custom (user_name direction part) ≡ None
     none_there custom agrees at =
         let here = subst (λ (n : List ℕ). IsAt mid n place) named at in
-        none_stands (custom (user_name direction part)) one.finding (named_stands custom mid (user_name direction part) place one agrees here there) none
+        none_is_found (custom (user_name direction part)) one.finding (named_is_found custom mid (user_name direction part) place one agrees here there) none
 
     pub fails_second : (fault : LoadFault) → Looks second mid later (Err fault) after new → Takes before old (Err fault) after new
     fails_second fault looks =
@@ -115,14 +115,14 @@ module _ (direction : Direction) (part : List ℕ) where
         loads_so (λ custom found place. (custom (user_name direction part) ≡ None) × IsAt found (user_name (opposite direction) part) place) (λ custom fault. FailsFiles custom direction part fault) (IsTaken direction part) (λ custom fault. FailsFiles custom direction part fault)
         before after old new place (record { place = place; reversed = true }) looks
         (λ custom agrees is. taken_there custom after place is.0
-        (text_stands (custom (user_name (opposite direction) part)) one.finding (named_stands custom after (user_name (opposite direction) part) place one agrees is.1 there) ∙ text) is.1)
+        (text_is_found (custom (user_name (opposite direction) part)) one.finding (named_is_found custom after (user_name (opposite direction) part) place one agrees is.1 there) ∙ text) is.1)
 
     pub takes_none : (name : List ℕ) → name ≡ user_name direction part → is_text one.finding ≡ false → Takes before old (Err (faults.Unknown Bases name)) after new
     takes_none name named none =
         refused_so (λ custom found place. (custom (user_name direction part) ≡ None) × IsAt found (user_name (opposite direction) part) place) (λ custom fault. FailsFiles custom direction part fault) (IsTaken direction part) (λ custom fault. FailsFiles custom direction part fault)
         before after old new place (faults.Unknown Bases name) tt looks
         (λ custom agrees is.
-        let missing = none_stands (custom (user_name (opposite direction) part)) one.finding (named_stands custom after (user_name (opposite direction) part) place one agrees is.1 there) none in
+        let missing = none_is_found (custom (user_name (opposite direction) part)) one.finding (named_is_found custom after (user_name (opposite direction) part) place one agrees is.1 there) none in
         (refl, inl (ap custom (opposite_name custom is.0) ∙ missing, named)))
 
     pub takes_no_memory : Takes before old (Err faults.Memory) after new

@@ -13,7 +13,7 @@ use Rattle.wal_outside.specs.Views.{StoreView}
 use Rattle.wal_outside.specs.declared.folder.Folder.TheVariants.{Bases}
 use Rattle.wal_outside.specs.declared.store.TheConstants.{TEXT_LIMIT}
 use Rattle.system_files.specs.SystemFiles.{Custom}
-use Rattle.system_files.specs.SystemTexts.{Finding, Absent, Text, TooLong, FoundText, StandsAs, Agrees, HasFound}
+use Rattle.system_files.specs.SystemTexts.{Finding, Absent, Text, TooLong, FoundText, IsFoundAs, Agrees, HasFound}
 
 -- nothing was found under the name yet
 abbrev pub IsNew : List FoundText → List ℕ → Type 0
@@ -32,7 +32,7 @@ is_text TooLong = true
 
 -- this may be found under a name
 abbrev pub CanBeFound : Finding → Type 0
-CanBeFound finding = (there : Option (List ℕ)) × StandsAs there finding
+CanBeFound finding = (there : Option (List ℕ)) × IsFoundAs there finding
 
 -- Something was read, or not, by the texts that were found, whatever else is in their folder.
 pub record Loads {X : Type 0} (Holds : Custom → List FoundText → X → Type 0) (Fails : Custom → LoadFault → Type 0) (before : List FoundText) (old : StoreView) (result : Result X LoadFault) (after : List FoundText) (new : StoreView) : Type 0 where

@@ -18,14 +18,14 @@ pub record FoundText : Type 0 where
   pub finding : Finding
 
 -- this is there
-abbrev pub StandsAs : Option (List ℕ) → Finding → Type 0
-StandsAs there Absent = there ≡ None
-StandsAs there (Text text) = (there ≡ Some text) × (length text ≤ TEXT_LIMIT)
-StandsAs there TooLong = (text : List ℕ) × (there ≡ Some text) × (TEXT_LIMIT < length text)
+abbrev pub IsFoundAs : Option (List ℕ) → Finding → Type 0
+IsFoundAs there Absent = there ≡ None
+IsFoundAs there (Text text) = (there ≡ Some text) × (length text ≤ TEXT_LIMIT)
+IsFoundAs there TooLong = (text : List ℕ) × (there ≡ Some text) × (TEXT_LIMIT < length text)
 
 -- all that was found is in the folder
 abbrev pub Agrees : Custom → List FoundText → Type 0
-Agrees custom found = AllByRecursion (λ (f : FoundText). StandsAs (custom f.name) f.finding) found
+Agrees custom found = AllByRecursion (λ (f : FoundText). IsFoundAs (custom f.name) f.finding) found
 
 -- this text was found under the name
 pub record HasText (found : List FoundText) (name text : List ℕ) : Type 0 where
@@ -38,5 +38,5 @@ pub record HasFound (before : List FoundText) (old : StoreView) (after : List Fo
   pub reported : IfSome old.files (λ (files : Files). Agrees (files Bases) before → Agrees (files Bases) after)
 
 -- some folder has all that was found
-abbrev pub CanStand : List FoundText → Type 0
-CanStand found = (custom : Custom) × Agrees custom found
+abbrev pub AreInSomeFolder : List FoundText → Type 0
+AreInSomeFolder found = (custom : Custom) × Agrees custom found

@@ -5,7 +5,7 @@ ghost use Rattle.wal_outside.specs.Files.{Files};
 ghost use Rattle.wal_outside.specs.declared.folder.Folder.TheVariants.{Bases};
 ghost use Rattle.dfa_loading.specs.Places.{HasRead};
 ghost use Rattle.dfa_reading.specs.HeaderViews.{header_view};
-ghost use Rattle.system_files.specs.SystemTexts.{StandsAs};
+ghost use Rattle.system_files.specs.SystemTexts.{IsFoundAs};
 ghost use Rattle.system_files.specs.TextViews.{found_view};
 ghost use Rattle.system_files.specs.Looks.{IsAt, CanBeFound, Loads, FailsLook, ListsPart, ListsNoPart, IsListedPart, IsPartAt, FailsPart, digits_on as count_of_digits};
 
@@ -39,7 +39,7 @@ pub(crate) fn look<T: Store>(
 /// What is under a name, read from the store.
 fn read<T: Store>(alloc: Global, name: Name, store: &mut T) -> Result<FoundText, LoadFault>
     ensures gives { MatchResult result (λ found. (found.name ≡ name) × CanBeFound (found_view found).finding) (FailsLook name) }
-    ensures reported { IfOk result (λ found. IfSome (T.view store.old).files (λ (files : Files). StandsAs (files Bases name) (found_view found).finding)) }
+    ensures reported { IfOk result (λ found. IfSome (T.view store.old).files (λ (files : Files). IsFoundAs (files Bases name) (found_view found).finding)) }
     ensures has_read { HasRead (T.view store.old) result (T.view store.new) }
 {
     let mut text = Vec::new(alloc);

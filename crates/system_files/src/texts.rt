@@ -32,19 +32,19 @@ pub struct SystemTexts {
 
 impl Model for SystemTexts {
     ghost use Rattle.std.specs.Prelude.{List};
-    ghost use Rattle.system_files.specs.SystemTexts.{FoundText as WasFound, CanStand};
+    ghost use Rattle.system_files.specs.SystemTexts.{FoundText as WasFound, AreInSomeFolder};
     ghost use Rattle.system_files.specs.TextViews.{texts_in};
 
     ghost Value = { List WasFound };
 
     ghost view = { λ t. texts_in t.found.items };
 
-    ghost invariant = { λ t. CanStand (texts_in t.found.items) };
+    ghost invariant = { λ t. AreInSomeFolder (texts_in t.found.items) };
 }
 
 impl SystemTexts {
     ghost use Rattle.std.specs.Prelude.{◌≡◌, ◌<◌, [], ◌∷◌, ◌++◌, Some, length, slice_get, IfOk, IfSome, OnErr, OnOk, MatchOption};
-    ghost use Rattle.system_files.specs.SystemTexts.{CanStand, HasText};
+    ghost use Rattle.system_files.specs.SystemTexts.{AreInSomeFolder, HasText};
     ghost use Rattle.system_files.specs.TextViews.{found_view};
     ghost use Rattle.system_files.specs.Looks.{IsNew, IsAt, CanBeFound, is_text};
 
@@ -58,8 +58,8 @@ impl SystemTexts {
     }
 
     /// What was found is in some folder. It does nothing.
-    pub fn can_stand(&self)
-        ensures { CanStand self.now }
+    pub fn are_in_some_folder(&self)
+        ensures { AreInSomeFolder self.now }
     {
         let _ = &self.found;
     }

@@ -31,14 +31,14 @@ pub filter_middle : {X : Type 0} (p : X → Bool) (xs : List X) (first last : �
     → ((k : ℕ) (d : X) → k < first → p (get_or xs k d) ≡ false) → ((k : ℕ) (d : X) → first ≤ k → k < last → p (get_or xs k d) ≡ true) → ((k : ℕ) (d : X) → last ≤ k → k < length xs → p (get_or xs k d) ≡ false)
     → take (last - first) (drop first xs) ≡ filter p xs
 filter_middle {X = X} p xs first last up within before inside after =
-    let front : filter p (take first xs) ≡ [] = filter_none p (take first xs) (λ k d lt. let long = length-take-le first xs (omega arith) in rw (get_or-take first xs k d (omega arith)) (before k d (omega arith))) in
+    let none_before : filter p (take first xs) ≡ [] = filter_none p (take first xs) (λ k d lt. let long = length-take-le first xs (omega arith) in rw (get_or-take first xs k d (omega arith)) (before k d (omega arith))) in
     let middle : filter p (take (last - first) (drop first xs)) ≡ take (last - first) (drop first xs) =
     filter_each p (take (last - first) (drop first xs)) (λ k d lt.
     let less : k < last - first = let all = length-drop first xs in let long = length-take-le (last - first) (drop first xs) (omega arith) in omega arith in
     rw (get_or-take (last - first) (drop first xs) k d less, get_or-drop first xs k d) (inside (first + k) d (omega arith) (omega arith))) in
     let rest : filter p (drop last xs) ≡ [] = filter_none p (drop last xs) (λ k d lt. let less = length-drop last xs in rw (get_or-drop last xs k d) (after (last + k) d (omega arith) (omega arith))) in
     let same : drop (last - first) (drop first xs) ≡ drop last xs = drop-drop (last - first) first xs ∙ ap (λ n. drop n xs) (let e : first + (last - first) ≡ last = omega arith in e) in
-    sym (ap (filter p) (sym (take-append-drop first xs)) ∙ filter-append p (take first xs) (drop first xs) ∙ ap (λ ys. ys ++ filter p (drop first xs)) front
+    sym (ap (filter p) (sym (take-append-drop first xs)) ∙ filter-append p (take first xs) (drop first xs) ∙ ap (λ ys. ys ++ filter p (drop first xs)) none_before
     ∙ ap (filter p) (sym (take-append-drop (last - first) (drop first xs))) ∙ filter-append p (take (last - first) (drop first xs)) (drop (last - first) (drop first xs))
     ∙ ap (λ ys. ys ++ filter p (drop (last - first) (drop first xs))) middle ∙ ap (λ ys. take (last - first) (drop first xs) ++ ys) (ap (filter p) same ∙ rest)
     ∙ append-nil (take (last - first) (drop first xs)))

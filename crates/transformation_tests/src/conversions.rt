@@ -1,4 +1,4 @@
-//! Words over other bases: the lines of the steps there and on, and the letters at the first places of each word.
+//! Words over other bases: the lines of the steps there and on, and the letters at the first positions of each word.
 
 ghost use Rattle.std.specs.Prelude.{ℕ, ◌≡◌, ◌≤◌, ◌∷◌, [], IfOk};
 ghost use Rattle.std.specs.Rc.{rc_value};
@@ -95,13 +95,13 @@ fn converted_twice(
     Ok((between, last))
 }
 
-// So many first places are looked at.
+// So many first positions are looked at.
 const SOME: u32 = 10;
 
 // So many digits are written.
 const DIGITS: usize = 5;
 
-// The letter at a place that has no more digits.
+// The letter at a position that has no more digits.
 fn letter_at(alloc: Global, word: &Word, base: Base, place: u32) -> Result<Option<i32>, NoAnswer> {
     let digits = base.0.max(1);
     let mut representation = Vec::new(alloc);
@@ -116,7 +116,7 @@ fn letter_at(alloc: Global, word: &Word, base: Base, place: u32) -> Result<Optio
     Ok(word.value(&representation))
 }
 
-// The letters at the first places, each after a blank, and a dash where there is none.
+// The letters at the first positions, each after a blank, and a dash where there is none.
 fn letters_of(alloc: Global, word: &Word, base: Base) -> Result<String, NoAnswer> {
     let mut text = String::new(alloc);
     for place in 0..SOME {

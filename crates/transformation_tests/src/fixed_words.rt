@@ -10,7 +10,7 @@ use word_output::word::Word;
 /// The rules of the word of Thue and Morse, in which the order of the digits does not matter.
 pub(crate) const THUE_MORSE: &str = "0->01 1->10";
 
-/// The rules of the word that doubles its period: the letter 1 is at the places whose last digits are an odd number of ones.
+/// The rules of the word that doubles its period: the letter 1 is at the positions whose last digits are an odd number of ones.
 pub(crate) const DOUBLING: &str = "0->01 1->00";
 
 // No fixed point of a row has more letters.

@@ -99,8 +99,8 @@ module _ (limit : ℕ) (ledger : Ledger) (head : ConvertHead) where
 
 module _ (ledger : Ledger) (head : ConvertHead) (tables : List Loaded) (admitted : StepLog) where
   -- the old word has not one track over a base
-  pub base_wanting : (fault : Fault) → Fails (over_base None (headers_of tables) head.old) fault → Fails (after_convert_systems ledger head tables admitted) fault
-  base_wanting fault refused = fails_first (over_base None (headers_of tables) head.old) (λ over. after_old_base ledger head tables admitted over) fault refused
+  pub base_missing : (fault : Fault) → Fails (over_base None (headers_of tables) head.old) fault → Fails (after_convert_systems ledger head tables admitted) fault
+  base_missing fault refused = fails_first (over_base None (headers_of tables) head.old) (λ over. after_old_base ledger head tables admitted over) fault refused
 
   module _ (over : BaseSystem) (over_is : IsBaseOf None (headers_of tables) head.old over) where
     -- the new system is no base, or the bases are not powers of one integer

@@ -75,8 +75,8 @@ no_more_read limit custom name rules place (inl read) = read
 no_more_read limit custom name rules place (inr (lines, promoted, read)) = read
 
 -- an accepted `promote` is under the word's name among words
-stands_at : (limit : ℕ) (custom : Custom) (name : List ℕ) (rules : Rules) (success : Success) → (after_morphism limit custom name rules).answers (Ok success) → (Words ≡ success.folder) × (name ≡ success.name)
-stands_at limit custom name rules success (lines, promoted, (is, text)) = (sym (ap (λ (s : Success). s.folder) is), sym (ap (λ (s : Success). s.name) is))
+folder_and_name_at : (limit : ℕ) (custom : Custom) (name : List ℕ) (rules : Rules) (success : Success) → (after_morphism limit custom name rules).answers (Ok success) → (Words ≡ success.folder) × (name ≡ success.name)
+folder_and_name_at limit custom name rules success (lines, promoted, (is, text)) = (sym (ap (λ (s : Success). s.folder) is), sym (ap (λ (s : Success). s.name) is))
 
 module _ (limit : ℕ) (ledger : Ledger) (text : List ℕ) where
   pub promote_unread : (fault : Fault) → Fails (Pure (HeadAnswers DerivesPromote text)) fault → Fails (promote_checks limit ledger text) fault
@@ -96,6 +96,6 @@ module _ (limit : ℕ) (ledger : Ledger) (text : List ℕ) where
     pub promote_changed : (rules : Rules) (shown : Bool) (change : FileChange) → MorphismAnswers ledger head.morphism (Ok rules) → change.folder ≡ Words → change.name ≡ head.word → Makes (custom_of ledger) (after_morphism limit (custom_of ledger) head.word rules) shown (Ok change.made)
         → ChangesFile (custom_of ledger) (promote_checks limit ledger text) shown (Ok change)
     promote_changed rules shown change there folder name made =
-        let at : (Words ≡ made.success.folder) × (head.word ≡ made.success.name) = stands_at limit (custom_of ledger) head.word rules made.success made.answers in
+        let at : (Words ≡ made.success.folder) × (head.word ≡ made.success.name) = folder_and_name_at limit (custom_of ledger) head.word rules made.success made.answers in
         changes_after (custom_of ledger) (Pure (HeadAnswers DerivesPromote text)) (λ h. after_promote_head limit ledger h) head shown (Ok change) spells
         (changes_after (custom_of ledger) (morphism_loaded ledger head.morphism) (λ rs. after_morphism limit (custom_of ledger) head.word rs) rules shown (Ok change) there (record { made = made; folder_is = folder ∙ at.0; name_is = name ∙ at.1 }))

@@ -42,7 +42,7 @@ use Rattle.command_parts.specs.SystemChecks.{systems_known}
 use Rattle.command_parts.specs.TableReads.{TableRead, AreTablesRead, words_in}
 use Rattle.command_parts.specs.ImageFaults.{fault_of_imaging}
 
--- the old word is mentioned as one that is indexed at one place
+-- the old word is mentioned as one that is indexed at one position
 abbrev pub old_mentions : List ℕ → List Mention
 old_mentions old = Indexed old 1 ∷ []
 

@@ -31,7 +31,7 @@ DoesLetters l s k (b ∷ bs) =
     Then (BuildsFormula l (letter_plan s k b)) (λ relation.
     Then (DoesLetters l s k bs) (λ parts. Gives {Made = List PartValue} (record { relation = relation; value = b } ∷ parts)))
 
--- the word is mapped: first the steps of the letters of the image, over the words of all places, and then one that combines their relations,
+-- the word is mapped: first the steps of the letters of the image, over the words of all positions, and then one that combines their relations,
 -- with no letter where none of them holds
 abbrev pub DoesMapped : Rules → WordValue → Name → StepLog → Result WordValue StepFault → StepLog → Type 0
 DoesMapped rules word s old result new =

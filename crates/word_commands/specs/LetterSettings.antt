@@ -11,7 +11,7 @@ use Rattle.word_commands.specs.declared.setting.Setting.{Setting}
 abbrev pub library_in : Setting → LibraryValue
 library_in t = record { relations = t.words.relations; words = t.words.words; systems = t.names.systems }
 
--- the headers are those of the words of all places, and the names mean these words and the system
+-- the headers are those of the words of all positions, and the names mean these words and the system
 pub record IsSetting (rules : Rules) (word : WordValue) (s : Name) (k : ℕ) (t : Setting) : Type 0 where
   pub headers : t.names.headers ≡ image_headers s k
   pub library : IsImageLibrary rules word s k (library_in t)

@@ -21,7 +21,7 @@ use word_images::{missing_letter, output_letters};
 use word_output::word::Word;
 
 /// The image of a word of one track under a morphism, over the same system, by the next steps: k being the length of the
-/// images, the letter at k*q + r is that at place r of the image of the word's letter at q, and there is none where the
+/// images, the letter at k*q + r is that at position r of the image of the word's letter at q, and there is none where the
 /// word has none. The name is that of the system. All images have one length of 1 to 40, and each letter
 /// of the word has one. Time and memory to prepare the steps follow the states of the word times the length; beside
 /// that they are those of the steps.

@@ -48,7 +48,7 @@ pub fn load_old<T: Store>(alloc: Global, name: &Name, store: &mut T) -> Result<O
     })
 }
 
-/// The word is mentioned as one that is indexed at one place.
+/// The word is mentioned as one that is indexed at one position.
 fn mentions_of(alloc: Global, name: &Name) -> Result<Vec<Mention>, OutOfMemory>
     ensures { IfOk result (λ mentioned. mentioned.items ≡ old_mentions name.now) }
 {

@@ -26,7 +26,7 @@ pub struct Setting {
 }
 
 impl Setting {
-    /// The words of all places of the images of a word, which are so many, over its system. Time and memory follow
+    /// The words of all positions of the images of a word, which are so many, over its system. Time and memory follow
     /// the states of the word times their number.
     pub fn new(
         alloc: Global,

@@ -15,8 +15,8 @@ use word_output::word::Word;
 use word_transduce::laws::transductions_make_words;
 use word_transduce::transduction::transduce;
 
-/// The word that has at each place the output of the run of a transducer over the letters of a word, over the same system, by the
-/// steps `transduce` and `reverse`. From the place on at which the run stops it has no letter. The word has one track, over a
+/// The word that has at each position the output of the run of a transducer over the letters of a word, over the same system, by the
+/// steps `transduce` and `reverse`. From the position on at which the run stops it has no letter. The word has one track, over a
 /// base whose most significant digit comes first. The widths and the costs are those of the steps.
 ///
 /// # Errors

@@ -1,4 +1,4 @@
--- The formula of one letter of the image of a word: of the places at which the letter is.
+-- The formula of one letter of the image of a word: of the positions at which the letter is.
 use Rattle.std.specs.Prelude.{ℕ, zero, suc, ◌-◌, ℤ, codes, decimal}
 use Rattle.formula_parse.specs.Tokens.{Name, equal, plus, some}
 use Rattle.formula_parse.specs.Trees.{no_names, names, Term, variable, numeral, product, sum, no_factors, factors, times, no_terms, terms, no_addends, addends, compare, word_letter, and, or, Formula, atom, chain, quantified, Operands, no_operands, operands}
@@ -10,7 +10,7 @@ place_variable = codes "n"
 abbrev pub whole_variable : Name
 whole_variable = codes "q"
 
--- the name under which the word is whose letters are those at this place of the images: the place in decimal
+-- the name under which the word is whose letters are those at this position of the images: the position in decimal
 abbrev pub word_name : ℕ → Name
 word_name r = decimal r
 
@@ -22,7 +22,7 @@ place_term k r = sum (addends no_addends (product (factors (factors no_factors (
 abbrev pub is_place : Name → ℕ → ℕ → Formula
 is_place s k r = atom (record { system = s; fact = compare (variable place_variable) equal (place_term k r) })
 
--- the letter at q of the word of place r is this
+-- the letter at q of the word of position r is this
 abbrev pub has_letter : Name → ℕ → ℤ → Formula
 has_letter s r b = atom (record { system = s; fact = word_letter (record { word = word_name r; places = terms no_terms (variable whole_variable) }) equal b })
 
@@ -30,11 +30,11 @@ has_letter s r b = atom (record { system = s; fact = word_letter (record { word 
 abbrev pub at_place : Name → ℕ → ℤ → ℕ → Formula
 at_place s k b r = quantified some (names no_names whole_variable) (chain (operands no_operands (is_place s k r) and) (has_letter s r b))
 
--- that for the first so many places, each with an "or" after it
+-- that for the first so many positions, each with an "or" after it
 abbrev pub places_before : Name → ℕ → ℤ → ℕ → Operands
 places_before s k b zero = no_operands
 places_before s k b (suc r) = operands (places_before s k b r) (at_place s k b r) or
 
--- for one of the places 0 to k - 1, of which there is one at least
+-- for one of the positions 0 to k - 1, of which there is one at least
 abbrev pub image_formula : Name → ℕ → ℤ → Formula
 image_formula s k b = chain (places_before s k b (k - 1)) (at_place s k b (k - 1))

@@ -8,7 +8,7 @@ use Rattle.morph_words.specs.ImageLetters.{IsImageLetter}
 use Rattle.morph_words.specs.Uniform.{HasLength, HasRule, IsImageLength}
 use Rattle.word_output.specs.Words.{HasLetter, IsWordValue, WordValue}
 
--- the letter is at some place of the word
+-- the letter is at some position of the word
 abbrev pub OccursIn : WordValue → ℤ → Type 0
 OccursIn word letter = Contains word.function.letters letter
 
@@ -37,7 +37,7 @@ pub record IsMapped (rules : Rules) (word : WordValue) (k : ℕ) : Type 0 where
   pub length_is : HasLength IsImageLength rules k
   pub ruled : AreRuled rules word
 
--- the word over the same systems that has at each place the letter of the image, if there is one
+-- the word over the same systems that has at each position the letter of the image, if there is one
 pub record IsImageWord (rules : Rules) (word v : WordValue) : Type 0 where
   pub word_is : IsWordValue v
   pub systems : v.systems ≡ word.systems

@@ -7,7 +7,7 @@ use Rattle.morph_words.specs.Images.{image}
 use Rattle.word_output.specs.LetterFunctions.{LetterFunctionValue}
 use Rattle.word_output.specs.StateLetters.{letter_of_state}
 
--- the letter at a place of the image of a letter, where there is one
+-- the letter at a position of the image of a letter, where there is one
 abbrev pub recoded_letter : Rules → ℕ → Option ℤ → Option ℤ
 recoded_letter rules r letter = option_and_then (λ a. slice_get (image rules a) r) letter
 

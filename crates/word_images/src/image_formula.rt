@@ -13,8 +13,8 @@ use formula_parse::tree::{
 use itoa::Buffer;
 use std::alloc::Global;
 
-/// The formula that is true of the places of the image at which this letter is, in a system: for one place r of the
-/// images, `Eq n=k*q+r & U[q]=@b`, where `U` is the word of that place. All images have this length. Time and memory
+/// The formula that is true of the positions of the image at which this letter is, in a system: for one position r of the
+/// images, `Eq n=k*q+r & U[q]=@b`, where `U` is the word of that position. All images have this length. Time and memory
 /// follow the length.
 pub fn image_formula(
     alloc: Global,
@@ -36,7 +36,7 @@ pub fn image_formula(
     Ok(Formula::Chain(operands, Box::new(alloc, last)?))
 }
 
-// For some number, the place is reached from it, and the letter there is this.
+// For some number, the position is reached from it, and the letter there is this.
 fn at_place(
     alloc: Global,
     system: &Name,
@@ -58,7 +58,7 @@ fn at_place(
     Ok(Formula::Quantified(Quantifier::Exists, variables, body))
 }
 
-// The place is the length times a number, and the place of the image.
+// The position is the length times a number, and the position of the image.
 fn is_place(
     alloc: Global,
     system: &Name,
@@ -78,7 +78,7 @@ fn is_place(
     }))
 }
 
-// The length times a number, and the place of the image.
+// The length times a number, and the position of the image.
 fn place_term(alloc: Global, length: usize, place: usize) -> Result<Term, OutOfMemory>
     ensures { IfOk result (λ t. term_view t ≡ place_term length place) }
 {
@@ -94,7 +94,7 @@ fn place_term(alloc: Global, length: usize, place: usize) -> Result<Term, OutOfM
     Ok(Term::Sum(addends, last))
 }
 
-// The letter at the number of the word of this place is this one.
+// The letter at the number of the word of this position is this one.
 fn has_letter(
     alloc: Global,
     system: &Name,
@@ -112,7 +112,7 @@ fn has_letter(
     }))
 }
 
-/// The name under which the word of a place is.
+/// The name under which the word of a position is.
 pub fn word_name(alloc: Global, place: usize) -> Result<Name, OutOfMemory>
     ensures { IfOk result (λ name. name ≡ word_name place) }
 {

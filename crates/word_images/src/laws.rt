@@ -2,12 +2,12 @@
 
 ghost use Rattle.word_images.specs.Laws.{ImagesAreJoined, ImagesHaveOneLetter};
 
-/// The image of a word with a letter at each place is the images of its letters, one after another.
+/// The image of a word with a letter at each position is the images of its letters, one after another.
 pub fn images_are_joined()
     ensures { ImagesAreJoined }
 {}
 
-/// The image of a word has one letter at most at each place.
+/// The image of a word has one letter at most at each position.
 pub fn images_have_one_letter()
     ensures { ImagesHaveOneLetter }
 {}

@@ -1,4 +1,4 @@
-//! Words whose letters are those at one place of the images.
+//! Words whose letters are those at one position of the images.
 
 ghost use Rattle.std.specs.Prelude.{◌≡◌, IfOk, slice_get};
 ghost use Rattle.std.specs.Option.{option_and_then};
@@ -13,7 +13,7 @@ use std::alloc::Global;
 use word_output::letter_function::LetterFunction;
 use word_output::word::Word;
 
-/// The word that has at each place the letter at this place of the image of the word's letter there. Where the word has
+/// The word that has at each position the letter at this position of the image of the word's letter there. Where the word has
 /// no letter, or its letter has no image that is long enough, it has none. Time and memory follow the states of the word.
 pub fn recoded(
     alloc: Global,
@@ -30,7 +30,7 @@ pub fn recoded(
     Ok(Word::from_parts(recoded, systems))
 }
 
-// The letter at this place of the image of each state's letter.
+// The letter at this position of the image of each state's letter.
 fn recoded_letters(
     alloc: Global,
     morphism: &Morphism,
@@ -47,7 +47,7 @@ fn recoded_letters(
     Ok(letters)
 }
 
-// The letter at this place of the image of a letter.
+// The letter at this position of the image of a letter.
 fn recoded_letter(morphism: &Morphism, place: usize, letter: Option<i32>) -> Option<i32>
     ensures { result ≡ option_and_then (λ a. slice_get (image morphism.now a) place) letter }
 {

@@ -19,12 +19,12 @@ use Rattle.word_output.specs.WordPairs.{IsPair, PlacedLetters, pair_step}
 use Rattle.word_output.specs.WordReadings.{DoesWord, DoesWordSteps, HasListedLetterAt}
 use Rattle.word_output.specs.Words.{HasLetter, IsWordValue, WordValue}
 
--- a word that is read has at each place the letter that is listed there
+-- a word that is read has at each position the letter that is listed there
 abbrev pub WordsHaveListedLetters : Type 0
 WordsHaveListedLetters = (old new : StepLog) (listed : Listed) (v : WordValue) → IsWordListed listed → IsWordValue v → DoesWordSteps v.systems listed old (Ok v.function) new
     → (ns : List ℕ) (letter : ℤ) → HasLetter v ns letter ↔ HasListedLetterAt (direction_of v.systems) (systems_of v.systems) listed ns letter
 
--- a place has one letter at most
+-- a position has one letter at most
 abbrev pub PlacesHaveOneLetter : Type 0
 PlacesHaveOneLetter = (v : WordValue) (ns : List ℕ) (b c : ℤ) → IsWordValue v → HasLetter v ns b → HasLetter v ns c → b ≡ c
 
@@ -32,7 +32,7 @@ PlacesHaveOneLetter = (v : WordValue) (ns : List ℕ) (b c : ℤ) → IsWordValu
 abbrev pub LettersDetermineWords : Type 0
 LettersDetermineWords = (v u : WordValue) → IsWordValue v → IsWordValue u → v.systems ≡ u.systems → ((ns : List ℕ) (letter : ℤ) → HasLetter v ns letter ↔ HasLetter u ns letter) → v ≡ u
 
--- the automaton of a set of letters holds of the places that have such a letter
+-- the automaton of a set of letters holds of the positions that have such a letter
 abbrev pub LetterSetsHold : Type 0
 LetterSetsHold = (v : WordValue) (comparison : Comparison) (letter : ℤ) (d : Automaton) → IsWordValue v → IsLetterSet comparison letter v.function d
     → HoldsOf (direction_of v.systems) (systems_of v.systems) (λ ns. (b : ℤ) × HasLetter v ns b × ComparesLetters comparison b letter) d

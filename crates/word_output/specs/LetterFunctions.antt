@@ -1,4 +1,4 @@
--- Automata that give words letters, as for places of automatic words.
+-- Automata that give words letters, as for positions of automatic words.
 use Rattle.std.specs.Prelude.{◌≡◌, ◌==◌, ℕ, ◌+◌, ◌-◌, ◌<◌, ◌≤◌, ℤ, pos, ◌<ℤ◌, List, ◌++◌, length, map, slice_index_or, Option, None, Some, if◌then◌else◌}
 use Rattle.std.specs.List.{All, AllPairs, Contains}
 use Rattle.digit_tuple.specs.Deterministic.{Automaton, letters_of}

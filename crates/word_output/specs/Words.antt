@@ -1,4 +1,4 @@
--- Automatic words: the letters at places, which are tuples of numbers. A place may have no letter.
+-- Automatic words: the letters at positions, which are tuples of numbers. A position may have no letter.
 use Rattle.std.specs.Prelude.{◌≡◌, ℕ, ◌<◌, ℤ, List, length, Some, IsSome}
 use Rattle.std.specs.List.{AllByRecursion}
 use Rattle.digit_tuple.specs.Letters.{IsWord}
@@ -8,7 +8,7 @@ use Rattle.num_system.specs.Sealed.{SystemValue, IsSealed}
 use Rattle.num_system.specs.Tracks.{ShareDirection, systems_of, direction_of}
 use Rattle.word_output.specs.LetterFunctions.{LetterFunctionValue, IsLetterFunction, letter_after}
 
--- the systems of the tracks, and the letters of the words that represent places
+-- the systems of the tracks, and the letters of the words that represent positions
 pub record WordValue : Type 0 where
   pub systems : List SystemValue
   pub function : LetterFunctionValue
@@ -22,8 +22,8 @@ pub record RepresentsPlace (systems : List SystemValue) (ns w : List ℕ) : Type
 abbrev pub HasLetter : WordValue → List ℕ → ℤ → Type 0
 HasLetter v ns letter = (w : List ℕ) × RepresentsPlace v.systems ns w × (letter_after v.function w ≡ Some letter)
 
--- Each track has a sealed system, and these have one direction. A word that has a letter represents a place, and all representations of a
--- place have the same letter, or all have none.
+-- Each track has a sealed system, and these have one direction. A word that has a letter represents a position, and all representations of a
+-- position have the same letter, or all have none.
 pub record IsWordValue (v : WordValue) : Type 0 where
   pub function : IsLetterFunction v.function
   pub some : 0 < length v.systems

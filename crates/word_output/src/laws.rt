@@ -8,22 +8,22 @@ pub fn letter_functions_are_equal()
     ensures { LetterFunctionsAreEqual }
 {}
 
-/// A word that is read has at each place the letter that is listed there.
+/// A word that is read has at each position the letter that is listed there.
 pub fn words_have_listed_letters()
     ensures { WordsHaveListedLetters }
 {}
 
-/// Each place has one letter at most.
+/// Each position has one letter at most.
 pub fn places_have_one_letter()
     ensures { PlacesHaveOneLetter }
 {}
 
-/// Words over the same systems are equal if they have the same letters at the same places.
+/// Words over the same systems are equal if they have the same letters at the same positions.
 pub fn letters_determine_words()
     ensures { LettersDetermineWords }
 {}
 
-/// The automaton of a set of letters holds of the places that have such a letter, and is the only one that is
+/// The automaton of a set of letters holds of the positions that have such a letter, and is the only one that is
 /// canonical.
 pub fn letter_sets_hold()
     ensures holds { LetterSetsHold }

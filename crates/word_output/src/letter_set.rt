@@ -1,4 +1,4 @@
-//! The places whose letters compare with a given one.
+//! The positions whose letters compare with a given one.
 
 ghost use Rattle.std.specs.Prelude.{◌≡◌, ◌↔◌, ◌<◌, ℕ, List, length, slice_index_or, false, IfOk, IsTrue};
 ghost use Rattle.digit_tuple.specs.Deterministic.{states_of};

@@ -1,16 +1,16 @@
-//! Automatic words: the letters at places, as an automaton that gives letters to words that represent places. A place
+//! Automatic words: the letters at positions, as an automaton that gives letters to words that represent positions. A position
 //! may have no letter.
 //!
 //! A `LetterFunction` is a function from words to letters, as its minimal automaton with outputs (a DFAO: Jean-Paul
 //! Allouche and Jeffrey Shallit, "Automatic Sequences"), but that letters may be missing. Each function has one
 //! (`letter_functions_are_equal`). Each state has a class, and class 0 has no letter. A `Word` is such a function with
-//! sealed systems: all representations of a place, a tuple of numbers, have the same letter, or all have none.
+//! sealed systems: all representations of a position, a tuple of numbers, have the same letter, or all have none.
 //!
 //! `read_word_steps` makes a word of what a file lists, by the steps `read`, `pad` and `valid`. `letter_set` gives the
 //! automaton of the words whose letter compares with a given one, without a step, and `pair_step` that of the words in
 //! which the letters of two functions compare. `laws.rt` says what they hold of.
 //!
-//! The letter of a place is that of its representation without leading zeros; what a file lists for longer ones is
+//! The letter of a position is that of its representation without leading zeros; what a file lists for longer ones is
 //! ignored. So `pad_letters` is not the `pad` of a language: it gives each word the letter of the word without these
 //! zeros. No comparison holds of a missing letter, not even `Unequal`. In `pair_step` names may repeat: tracks of one
 //! name become one track before the step.
@@ -50,7 +50,7 @@ pub mod word;
 /// Automatic words read from what files list.
 pub mod word_reading;
 
-/// The places whose letters compare with a given one.
+/// The positions whose letters compare with a given one.
 pub mod letter_set;
 
 /// Letters read on tracks that have names.

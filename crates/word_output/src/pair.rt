@@ -121,7 +121,7 @@ fn joint_size(first: Placed<'_>, second: Placed<'_>, name: &Name) -> u32
     }
 }
 
-// The number of digits of the track at a place.
+// The number of digits of the track at a position.
 fn size_at(function: &LetterFunction, place: usize) -> u32
     requires { place < length function.now.automaton.sizes }
     ensures { result ≡ slice_index_or function.now.automaton.sizes place 0 }

@@ -29,7 +29,7 @@ pub(crate) fn distinct_letters(
     Ok(found)
 }
 
-/// The class of each state: one more than the place of its letter, and 0 where it has none.
+/// The class of each state: one more than the position of its letter, and 0 where it has none.
 pub(crate) fn classes_of(
     alloc: Global,
     letters: &[Option<i32>],

@@ -12,8 +12,8 @@ use num_system::system::System;
 use std::marker::Model;
 use std::rc::Rc;
 
-/// An automatic word: letters at places, which are tuples of numbers. Each track has a sealed system, and these have one
-/// direction. All representations of a place have its letter, or none if it has none, and other words have none.
+/// An automatic word: letters at positions, which are tuples of numbers. Each track has a sealed system, and these have one
+/// direction. All representations of a position have its letter, or none if it has none, and other words have none.
 #[derive(Drop)]
 pub struct Word {
     letter_function: LetterFunction,
@@ -52,7 +52,7 @@ impl Word {
         &self.track_systems
     }
 
-    /// The letters that places have, in ascending order. It takes no memory.
+    /// The letters that positions have, in ascending order. It takes no memory.
     pub fn letters(&self) -> &[i32]
         ensures value { result.now ≡ self.now.function.letters }
         ensures word { IsWordValue self.now }
@@ -60,7 +60,7 @@ impl Word {
         self.letter_function.letters()
     }
 
-    /// The letter of a word over the tracks. It is None for a word over their digits that represents no place, or a place
+    /// The letter of a word over the tracks. It is None for a word over their digits that represents no position, or a position
     /// without a letter. It takes no memory; the time follows the word.
     pub fn value(&self, word: &[u32]) -> Option<i32>
         ensures value { result ≡ letter_after self.now.function word.now }

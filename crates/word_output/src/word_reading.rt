@@ -24,8 +24,8 @@ use num_system::tracks::{digits_of, direction_of, languages_of, shared};
 use std::alloc::Global;
 use std::rc::Rc;
 
-/// The word whose letter at each place is that which a word's file lists there: where the path of the place's
-/// representation without leading zeros ends. A place has no letter where this path breaks or ends at a state without
+/// The word whose letter at each position is that which a word's file lists there: where the path of the position's
+/// representation without leading zeros ends. A position has no letter where this path breaks or ends at a state without
 /// one. The word is made by the steps `read`, `pad` and `valid` as the next ones. There
 /// is a system for each track of the header, and all have one direction. The widths and the costs are those of the
 /// steps.

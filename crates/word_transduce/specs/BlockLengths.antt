@@ -13,7 +13,7 @@ use Rattle.word_transduce.specs.BlockMaps.{at_pairs, first_end, first_output, ou
 use Rattle.word_transduce.specs.declared.block_lengths.BlockLength.{BlockLength}
 use Rattle.word_transduce.specs.declared.block_lengths.BlockLengths.{BlockLengths}
 
--- the number of ends in a list: their first place, and how many there are where they are not in it
+-- the number of ends in a list: their first position, and how many there are where they are not in it
 abbrev pub ends_number : List (List ℕ) → List ℕ → ℕ
 ends_number list ends = position_or_len (λ other. pointwise nat_eq other ends) list
 
@@ -70,11 +70,11 @@ place_at past states q (suc s) = q * states + s
 abbrev pub place_in : Transducer → LetterFunctionValue → List ℕ → ℕ → ℕ → ℕ
 place_in t f ends digit pair = place_at (pairs_of t f) t.states (next_of f.automaton (pair / t.states) digit) (state_before t f ends digit pair)
 
--- the places of each digit
+-- the positions of each digit
 abbrev pub rows_of : BlockLength → List (List ℕ)
 rows_of l = map (λ (row : Vec ℕ Global). row.items) l.places.items
 
--- the outputs at the places of a digit, and then the ends
+-- the outputs at the positions of a digit, and then the ends
 abbrev pub gathered : List ℕ → BlockLength → ℕ → List ℕ
 gathered outputs l digit = map (λ place. slice_index outputs place) (slice_index_or (rows_of l) digit []) ++ l.ends.items
 

@@ -17,7 +17,7 @@ use Rattle.word_transduce.specs.Runs.{made_of}
 abbrev pub is_output : ℕ → ℤ → TransducerLine → Bool
 is_output state output line = (line.state == state) && int_eq line.output output
 
--- the number of an output with its state: one more than the place of the first line that has both, and 0 where there is none
+-- the number of an output with its state: one more than the position of the first line that has both, and 0 where there is none
 abbrev pub output_number : List TransducerLine → Option (ℕ × ℤ) → ℕ
 output_number lines None = 0
 output_number lines (Some p) = position_or_len (is_output p.0 p.1) lines + 1
@@ -27,7 +27,7 @@ abbrev pub numbered_output : List TransducerLine → ℕ → Option ℤ
 numbered_output lines zero = None
 numbered_output lines (suc place) = option_map (λ line. line.output) (slice_get lines place)
 
--- the number of a state: one more than its place, and 0 where the run has stopped
+-- the number of a state: one more than its position, and 0 where the run has stopped
 abbrev pub state_number : Option ℕ → ℕ
 state_number None = 0
 state_number (Some state) = state + 1

@@ -1,4 +1,4 @@
--- Blocks of letters: the letters after a word, in the order of the places that the digits after it represent.
+-- Blocks of letters: the letters after a word, in the order of the positions that the digits after it represent.
 use Rattle.std.specs.Prelude.{ℕ, zero, suc, ◌/◌, ◌%◌, ◌^◌, ℤ, List, [], ◌∷◌, ◌++◌, reverse, Option}
 use Rattle.digit_tuple.specs.Deterministic.{letters_of}
 use Rattle.base_k.specs.Positional.{value}

@@ -10,7 +10,7 @@ use Rattle.word_output.specs.LetterFunctions.{IsLetterFunction, LetterFunctionVa
 use Rattle.word_output.specs.Words.{HasLetter, IsWordValue, WordValue}
 use Rattle.word_transduce.specs.Transductions.{IsTransduction}
 
--- at each place the word has the output of the run over the other word's letters, and none where the run does not come or stops
+-- at each position the word has the output of the run over the other word's letters, and none where the run does not come or stops
 pub record IsTransduced (t : Transducer) (word transduced : WordValue) : Type 0 where
   pub systems : transduced.systems ≡ word.systems
   pub word_is : IsWordValue transduced

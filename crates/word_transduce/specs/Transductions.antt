@@ -9,7 +9,7 @@ use Rattle.word_output.specs.LetterFunctions.{LetterFunctionValue, IsLetterFunct
 use Rattle.word_transduce.specs.Runs.{run, made, output_at}
 use Rattle.word_transduce.specs.Blocks.{base_of, block, place_of}
 
--- from each state, and over the block of letters after each word, the two words represent places with one output, made in one state; and the
+-- from each state, and over the block of letters after each word, the two words represent positions with one output, made in one state; and the
 -- runs end in one state, or both stop, over blocks as long as there are words as long as theirs
 pub record TransduceAlike (t : Transducer) (f : LetterFunctionValue) (w v : List ℕ) : Type 0 where
   pub outputs : (u : List ℕ) (s : ℕ) → IsWord (base_of f) u → s < t.states
@@ -17,7 +17,7 @@ pub record TransduceAlike (t : Transducer) (f : LetterFunctionValue) (w v : List
   pub ends : (u : List ℕ) (s : ℕ) → IsWord (base_of f) u → s < t.states
       → run t (block f (length w) u) (base_of f ^ length w) (Some s) ≡ run t (block f (length v) u) (base_of f ^ length v) (Some s)
 
--- a word has the output at the place that it tells, of the run over the letters of so many digits
+-- a word has the output at the position that it represents, of the run over the letters of so many digits
 pub record IsTransduction (t : Transducer) (f transduced : LetterFunctionValue) : Type 0 where
   pub sizes : transduced.automaton.sizes ≡ f.automaton.sizes
   pub function : IsLetterFunction transduced

@@ -15,7 +15,7 @@ use digit_tuple::key_transitions::KeyTransitions;
 use std::alloc::Global;
 
 /// A key is the outputs of a block, at each pair, and the number of its length: that of the first length with the same
-/// ends. Where the ends are not listed they come after the number. So a digit leads to the outputs at the places that are
+/// ends. Where the ends are not listed they come after the number. So a digit leads to the outputs at the positions that are
 /// listed for the length, and no run is made.
 #[derive(Clone, Copy)]
 pub struct BlockGraph<'a> {

@@ -1,4 +1,4 @@
-//! What depends on the length of a block alone, and not on the place.
+//! What depends on the length of a block alone, and not on the position.
 
 ghost use Rattle.std.specs.Prelude.{◌≡◌, ◌<◌, ◌^◌, ◌++◌, [], length, map, slice_index, IfOk, OnOk, Some};
 ghost use Rattle.std.specs.List.{All};
@@ -16,10 +16,10 @@ use std::alloc::Global;
 // At most how many lengths are listed.
 const MOST_LENGTHS: usize = 256;
 
-// At most how many places are listed in all.
+// At most how many positions are listed in all.
 const MOST_PLACES: usize = 1 << 20;
 
-/// What blocks with the same ends lead to by a digit more: for each digit the places at which the outputs are among those
+/// What blocks with the same ends lead to by a digit more: for each digit the positions at which the outputs are among those
 /// of the blocks, and the ends as they are in a key.
 #[derive(Drop)]
 pub struct BlockLength {
@@ -126,7 +126,7 @@ impl BlockLength {
     }
 }
 
-// Writes the numbers at these places, and 0 for those past the end.
+// Writes the numbers at these positions, and 0 for those past the end.
 fn gather(numbers: &[u32], places: &[usize], found: &mut [u32])
     requires { length found.old ≡ length places.now }
     ensures { found.new ≡ map (λ place. slice_index numbers.now place) places.now }
@@ -136,7 +136,7 @@ fn gather(numbers: &[u32], places: &[usize], found: &mut [u32])
     }
 }
 
-// The number at a place, and 0 past the end.
+// The number at a position, and 0 past the end.
 fn number_at(numbers: &[u32], place: usize) -> u32
     ensures { result ≡ slice_index numbers.now place }
 {

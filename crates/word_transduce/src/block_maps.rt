@@ -13,9 +13,9 @@ use transducer_reading::Transducer;
 use word_output::letter_function::LetterFunction;
 
 /// The maps of blocks of letters, from pairs of a state of a letter function, whose letters after it are the block, and a
-/// state of a transducer: the number of what is made at a place of the block, then the number of the state after the block.
+/// state of a transducer: the number of what is made at a position of the block, then the number of the state after the block.
 /// Number 0 says that the run stops before. The block of one digit more is the blocks of its first digits one after
-/// another, and the digit says in which of them the place is.
+/// another, and the digit says in which of them the position is.
 #[derive(Clone, Copy)]
 pub struct BlockMaps<'a> {
     pub transducer: &'a Transducer,

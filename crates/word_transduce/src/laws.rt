@@ -11,13 +11,13 @@ pub fn transductions_have_one_outcome()
     ensures { TransductionsHaveOneOutcome }
 {}
 
-/// The step makes at each place the output of the run over the letters of all places before and of this one.
+/// The step makes at each position the output of the run over the letters of all positions before and of this one.
 pub fn transductions_are_runs()
     ensures { TransductionsAreRuns }
 {}
 
 /// The letters that the step gives to the reversed words of an automatic word over a base are those of an automatic word:
-/// at each place the output of the run over the old word's letters.
+/// at each position the output of the run over the old word's letters.
 pub fn transductions_make_words()
     ensures { TransductionsMakeWords }
 {

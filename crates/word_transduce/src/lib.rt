@@ -2,11 +2,11 @@
 //!
 //! The step `transduce` reads digits from the least significant one, so that the residuals of the old word are those of blocks of
 //! letters: after j digits a residual is that of a block of k^j letters, in base k. Of each block it keeps, from each state of
-//! the transducer, what is made at the place that the digits represent, and where the run ends (`specs/Transductions.antt`). A block
+//! the transducer, what is made at the position that the digits represent, and where the run ends (`specs/Transductions.antt`). A block
 //! of one digit more is k blocks one after another. No run over a list of letters is made.
 //!
 //! Where runs end depends on the number of digits alone. So the ends have numbers, and for each of them it is listed once where
-//! the outputs of a block of one digit more are among those of its blocks: a digit leads to the outputs at these places.
+//! the outputs of a block of one digit more are among those of its blocks: a digit leads to the outputs at these positions.
 #![tactic(auto)]
 
 /// Numbers of outputs and of letters of keys.

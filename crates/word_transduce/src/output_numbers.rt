@@ -8,7 +8,7 @@ use digit_tuple::numbering::Numbering;
 use std::alloc::Global;
 use transducer_reading::{Transducer, TransducerLine};
 
-/// The number of an output with its state: one more than the place of the first line that has both.
+/// The number of an output with its state: one more than the position of the first line that has both.
 pub fn output_number(lines: &[TransducerLine], state: usize, output: i32) -> u32
     requires { length lines.now < 2 ^ 32 - 1 }
     ensures { result ≡ output_number lines.now (Some (state, output)) }

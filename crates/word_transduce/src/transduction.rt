@@ -25,11 +25,11 @@ use std::alloc::Global;
 use transducer_reading::Transducer;
 use word_output::letter_function::LetterFunction;
 
-/// The function that gives to a word, the least significant digit first, the output at the place that it represents, of the run of a
+/// The function that gives to a word, the least significant digit first, the output at the position that it represents, of the run of a
 /// transducer over the letters of another function, which reads the most significant digit first; by the step `transduce` as
 /// the next one. A run stops for good where there is no letter, or no line for it, and gives none from there on. The letters
 /// of the alphabet are the digits. The width is that of the pairs of two maps of the letters after each residual, by so many
-/// digits as a word has: from each state of the transducer, what is made at the place that the word represents, with the state in
+/// digits as a word has: from each state of the transducer, what is made at the position that the word represents, with the state in
 /// which it is made, and where the run ends. Time and memory are those of a number for each pair of a state of the
 /// function and one of the transducer, for each digit and each state of the result; for words of more than 256 digits some
 /// five times that, unless the runs over their blocks end as those over shorter blocks do.
@@ -56,7 +56,7 @@ pub fn transduce(
     }
 }
 
-// The outputs at the places that words represent.
+// The outputs at the positions that words represent.
 fn transduced(
     alloc: Global,
     transducer: &Transducer,

@@ -33,9 +33,9 @@ flag_at count states q within = get_or-map-range_with_len (has_state states) 0 c
 
 -- flags that say of each state whether it is in the list
 pub flags_of-flags : (count : ℕ) (states : List ℕ) (flags : List Bool) → length flags ≡ count → ((q : ℕ) → q < count → get_or flags q false ≡ has_state states q) → flags_of count states ≡ flags
-flags_of-flags count states flags width tells =
+flags_of-flags count states flags width flag_is =
     ext_get_or false (flags_of count states) flags (length-flags_of count states ∙ sym width)
-    (λ q inside. let within : q < count = omega (arith, inside, length-flags_of count states) in flag_at count states q within ∙ sym (tells q within))
+    (λ q inside. let within : q < count = omega (arith, inside, length-flags_of count states) in flag_at count states q within ∙ sym (flag_is q within))
 
 -- lists with the same states have the same flags
 pub flags_of-same : (count : ℕ) (xs ys : List ℕ) → ((q : ℕ) → Contains xs q → Contains ys q) → ((q : ℕ) → Contains ys q → Contains xs q) → flags_of count xs ≡ flags_of count ys
@@ -94,7 +94,7 @@ flags_of-with count flags width = flags_of-flags count (states_with count flags)
 -- the flag of one state more
 pub flags_more : (count : ℕ) (states : List ℕ) (i : ℕ) (flags : List Bool) → i < length states → length flags ≡ count → ((q : ℕ) → q < count → get_or flags q false ≡ has_state (take i states) q)
     → (q : ℕ) → q < count → get_or (set flags (get_or states i 0) true) q false ≡ has_state (take (i + 1) states) q
-flags_more count states i flags inside width tells q within = by (cases_Bool (get_or states i 0 == q)) ∙ sym (list_any_more (λ p. p == q) states i 0 inside)
+flags_more count states i flags inside width flag_is q within = by (cases_Bool (get_or states i 0 == q)) ∙ sym (list_any_more (λ p. p == q) states i 0 inside)
   where
     by : ((get_or states i 0 == q) ≡ true) ⊎ ((get_or states i 0 == q) ≡ false) → get_or (set flags (get_or states i 0) true) q false ≡ (has_state (take i states) q || (get_or states i 0 == q))
     by (inl is) =
@@ -107,7 +107,7 @@ flags_more count states i flags inside width tells q within = by (cases_Bool (ge
         or_true false b is_true = is_true
     by (inr isnt) =
         get_or-set_other flags (get_or states i 0) q true false (λ same. true≢false (sym (eq-eqb (get_or states i 0) q (sym same)) ∙ isnt))
-        ∙ tells q within ∙ sym (or_false (has_state (take i states) q) (get_or states i 0 == q) isnt)
+        ∙ flag_is q within ∙ sym (or_false (has_state (take i states) q) (get_or states i 0 == q) isnt)
       where
         or_false : (a b : Bool) → b ≡ false → (a || b) ≡ a
         or_false true b is_false = refl

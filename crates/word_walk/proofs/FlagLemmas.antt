@@ -17,13 +17,13 @@ list_any_same p r (e ∷ es) same = ap (λ b. b || list_any p es) (same 0 e (ome
 pub IsLevel-next : (d : Automaton) (m : ℕ) (flags next : List Bool) → IsTable (letters_of d) d.states → AreSources d flags next → IsLevel d m flags → IsLevel d (suc m) next
 IsLevel-next d m flags next table sources level = record {
   width = sources.width;
-  tells = λ q within. sources.tells q within ∙ list_any_same (λ e. get_or flags e.target false) (λ e. lives d m e.target) (transitions_of d q)
-      (λ k z inside. level.tells (get_or (transitions_of d q) k z).target ((row_at d q table within).in_range k z inside).1);
+  flag_is = λ q within. sources.flag_is q within ∙ list_any_same (λ e. get_or flags e.target false) (λ e. lives d m e.target) (transitions_of d q)
+      (λ k z inside. level.flag_is (get_or (transitions_of d q) k z).target ((row_at d q table within).in_range k z inside).1);
 }
 
 -- no state has the flag
 pub none_lives : (d : Automaton) (m : ℕ) (flags : List Bool) → IsLevel d m flags → list_any (λ live. live) flags ≡ false → (q : ℕ) → q < states_of d → lives d m q ≡ false
-none_lives d m flags level none q within = sym (level.tells q within) ∙ by (cases_Bool (get_or flags q false))
+none_lives d m flags level none q within = sym (level.flag_is q within) ∙ by (cases_Bool (get_or flags q false))
   where
     by : (get_or flags q false ≡ true) ⊎ (get_or flags q false ≡ false) → get_or flags q false ≡ false
     by (inr is) = is

@@ -29,15 +29,15 @@ module _ (d : Automaton) where
       by (Some p) inside rest = rest p (omega (arith, inside))
 
   -- what can be raised after the first so many letters
-  abbrev pub raised_behind : ℕ → ℕ → List ℕ → Option (List ℕ)
-  raised_behind q k w = option_and_then (λ p. raised d p (drop k w)) (run_of d q (take k w))
+  abbrev pub raised_after : ℕ → ℕ → List ℕ → Option (List ℕ)
+  raised_after q k w = option_and_then (λ p. raised d p (drop k w)) (run_of d q (take k w))
 
   -- nothing after the path
-  pub raised_behind-path : (w : List ℕ) (q : ℕ) → raised_behind q (length (path_of d q w)) w ≡ None
-  raised_behind-path [] q = refl
-  raised_behind-path (a ∷ w) q = by (step_of d q a) (λ p. raised_behind-path w p)
+  pub raised_after-path : (w : List ℕ) (q : ℕ) → raised_after q (length (path_of d q w)) w ≡ None
+  raised_after-path [] q = refl
+  raised_after-path (a ∷ w) q = by (step_of d q a) (λ p. raised_after-path w p)
     where
-      by : (o : Option ℕ) → ((p : ℕ) → raised_behind p (length (path_of d p w)) w ≡ None)
+      by : (o : Option ℕ) → ((p : ℕ) → raised_after p (length (path_of d p w)) w ≡ None)
           → option_and_then (λ p. raised d p (drop (length (option_map_or (λ p. path_of d p w) o [])) w)) (option_and_then (λ p. run_of d p (take (length (option_map_or (λ p. path_of d p w) o [])) w)) o) ≡ None
       by None rest = refl
       by (Some p) rest = rest p
@@ -54,7 +54,7 @@ module _ (d : Automaton) where
       by None nowhere rest = let both : None ≡ Some p = nowhere in absurd (cc)
       by (Some r) on rest = ap (λ (o : Option (List ℕ)). option_or (option_map (λ (y : List ℕ). a ∷ y) o) here) (rest r on)
 
-  module _ (w : List ℕ) (k : ℕ) (within : k < length (path_of d 0 w)) (none : raised_behind 0 (k + 1) w ≡ None) where
+  module _ (w : List ℕ) (k : ℕ) (within : k < length (path_of d 0 w)) (none : raised_after 0 (k + 1) w ≡ None) where
     abbrev q : ℕ
     q = get_or (path_of d 0 w) k 0
 
@@ -64,8 +64,8 @@ module _ (d : Automaton) where
     inside : k < length w
     inside = omega (arith, within, length-path_of w 0)
 
-    behind : drop k w ≡ a ∷ drop (k + 1) w
-    behind = let next : suc k ≡ k + 1 = omega arith in drop-cons w k 0 inside ∙ ap (λ n. a ∷ drop n w) next
+    dropped : drop k w ≡ a ∷ drop (k + 1) w
+    dropped = let next : suc k ≡ k + 1 = omega arith in drop-cons w k 0 inside ∙ ap (λ n. a ∷ drop n w) next
 
     abbrev rest : ℕ
     rest = length (drop (k + 1) w)
@@ -75,13 +75,13 @@ module _ (d : Automaton) where
 
     -- only a greater letter is left
     raised-here : raised d q (drop k w) ≡ option_map (word_by d rest) here
-    raised-here = ap (raised d q) behind ∙ ap (λ (o : Option (List ℕ)). option_or (option_map (λ (y : List ℕ). a ∷ y) o) (option_map (word_by d rest) here)) deeper
+    raised-here = ap (raised d q) dropped ∙ ap (λ (o : Option (List ℕ)). option_or (option_map (λ (y : List ℕ). a ∷ y) o) (option_map (word_by d rest) here)) deeper
       where
         deeper : option_and_then (λ p. raised d p (drop (k + 1) w)) (step_of d q a) ≡ None
         deeper = ap (option_and_then (λ p. raised d p (drop (k + 1) w))) (sym (run_of-push d 0 q (take k w) a (path_of-at w 0 k within)) ∙ ap (run_of d 0) (sym (take_more w k 0 inside))) ∙ none
 
-    pub raised_behind-none : here ≡ None → raised_behind 0 k w ≡ None
-    raised_behind-none nothing = ap (option_and_then (λ p. raised d p (drop k w))) (path_of-at w 0 k within) ∙ raised-here ∙ ap (option_map (word_by d rest)) nothing
+    pub raised_after-none : here ≡ None → raised_after 0 k w ≡ None
+    raised_after-none nothing = ap (option_and_then (λ p. raised d p (drop k w))) (path_of-at w 0 k within) ∙ raised-here ∙ ap (option_map (word_by d rest)) nothing
 
     pub raised-some : (e : Transition) → here ≡ Some e → raised d 0 w ≡ Some (take k w ++ word_by d rest e)
     raised-some e found = ap (raised d 0) (sym (take-append-drop k w)) ∙ raised_prefix (take k w) 0 q (drop k w) (word_by d rest e) (path_of-at w 0 k within) (raised-here ∙ ap (option_map (word_by d rest)) found)

@@ -83,7 +83,7 @@ module _ (d : Automaton) (table : IsTable (letters_of d) d.states) where
     pub AreSources-targets : All (λ q. q < states_of d) states → AreSources d (flags_of (states_of d) states) (flags_of (states_of d) (targets_from n states))
     AreSources-targets all = record {
       width = length-flags_of (states_of d) (targets_from n states);
-      tells = λ q within. flag_at (states_of d) (targets_from n states) q within
+      flag_is = λ q within. flag_at (states_of d) (targets_from n states) q within
           ∙ same_bool (has_state (targets_from n states) q) (list_any (λ e. get_or (flags_of (states_of d) states) e.target false) (transitions_of d q))
           (λ has. (from_target q (contains_from_has_state (targets_from n states) q has)).leads all)
           (λ leads. has_state-contains (targets_from n states) q (to_target q within leads));

@@ -22,7 +22,7 @@ least_word d (suc m) q = option_map_or (λ e. e.letter ∷ least_word d m e.targ
 -- the flags say of each state whether a word of so many letters is accepted from it
 pub record IsLevel (d : Automaton) (m : ℕ) (flags : List Bool) : Type 0 where
   pub width : length flags ≡ states_of d
-  pub tells : (q : ℕ) → q < states_of d → slice_index_or flags q false ≡ lives d m q
+  pub flag_is : (q : ℕ) → q < states_of d → slice_index_or flags q false ≡ lives d m q
 
 -- level after level
 abbrev pub AreLevels : Automaton → List (List Bool) → Type 0

@@ -9,7 +9,7 @@ use Rattle.digit_tuple.specs.Deterministic.{Automaton, states_of, transitions_of
 -- the flags say of each state whether a transition leads from it to a state that has one
 pub record AreSources (d : Automaton) (flags sources : List Bool) : Type 0 where
   pub width : length sources ≡ states_of d
-  pub tells : (q : ℕ) → q < states_of d → slice_index_or sources q false ≡ list_any (λ e. slice_index_or flags e.target false) (transitions_of d q)
+  pub flag_is : (q : ℕ) → q < states_of d → slice_index_or sources q false ≡ list_any (λ e. slice_index_or flags e.target false) (transitions_of d q)
 
 -- from each state the transitions of the second automaton lead to the states from which one of the first leads to it
 pub record LeadsBack (d : Automaton) (n : Branching) : Type 0 where

@@ -47,8 +47,8 @@ impl Distances {
         })
     }
 
-    /// Whether a word of the length is accepted from the state, if the distance tells: it doesn't of longer words.
-    pub(crate) fn tells(&self, size: usize, state: u32) -> Option<bool>
+    /// Whether a word of the length is accepted from the state, if the distance decides it: it doesn't of longer words.
+    pub(crate) fn decides(&self, size: usize, state: u32) -> Option<bool>
         ensures { IfSome result (λ is. (d : Automaton) → AreDistances d self.now → is ≡ lives d size state) }
     {
         let distance = *self.distances.get(state as usize)?;

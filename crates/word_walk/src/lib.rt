@@ -2,7 +2,7 @@
 //! letter by letter.
 //!
 //! A walk keeps how far each state is from acceptance, which one search backwards finds when the walk is made: 4 bytes for
-//! each state. Of a word that is no longer than the shortest one from a state that tells all, so a walk through words of
+//! each state. Of a word that is no longer than the shortest one from a state that decides all, so a walk through words of
 //! the least length needs no more. Where a longer word is looked at, it keeps a level for each length up to that of the
 //! longest: the states from which a word of this length is accepted. Where these are at most an eighth of all states, a
 //! level is their list, 4 bytes for each, else a byte for each state. The level after a list is made from the transitions

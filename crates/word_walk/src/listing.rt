@@ -19,7 +19,7 @@ use digit_tuple::transitions::Transition;
 use std::alloc::Global;
 
 /// An automaton, the distances of its states, and the levels of the lengths so far. Levels are made where a distance
-/// doesn't tell: of words that are longer than the shortest one from a state.
+/// doesn't decide: of words that are longer than the shortest one from a state.
 #[derive(Drop)]
 pub(crate) struct Listing {
     alloc: Global,
@@ -55,7 +55,7 @@ impl Listing {
         ensures same { self.new.dfa ≡ self.old.dfa }
         ensures lives { IfOk result (λ is. is ≡ lives self.old.dfa size state) }
     {
-        if let Some(is) = self.distances.tells(size, state) {
+        if let Some(is) = self.distances.decides(size, state) {
             return Ok(is);
         }
         self.grow(size)?;

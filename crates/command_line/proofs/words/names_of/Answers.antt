@@ -26,8 +26,8 @@ flag_is flag text true at_true at_false is = at_true is
 flag_is flag text false at_true at_false is = at_false is
 
 -- the same names, of equal values
-retold : (words : List Text) (limit limit' seed seed' : Option Text) (is_stop is_stop' : Bool) → limit' ≡ limit → is_stop' ≡ is_stop → seed' ≡ seed → Names words limit is_stop seed → Names words limit' is_stop' seed'
-retold words limit limit' seed seed' is_stop is_stop' limits stops seeds names =
+renamed_values : (words : List Text) (limit limit' seed seed' : Option Text) (is_stop is_stop' : Bool) → limit' ≡ limit → is_stop' ≡ is_stop → seed' ≡ seed → Names words limit is_stop seed → Names words limit' is_stop' seed'
+renamed_values words limit limit' seed seed' is_stop is_stop' limits stops seeds names =
     let P : Option Text → Type 0 = λ value. Names words value is_stop' seed' in
     let Q : Bool → Type 0 = λ flag. Names words limit flag seed' in
     let R : Option Text → Type 0 = λ value. Names words limit is_stop value in
@@ -43,7 +43,7 @@ returns-in-Ok c =
     let stop_text : one_text (found_of c.in-Ok.matches) (codes "stop") ≡ Some (bool_text named.0) = one_text-rows (found_of c.in-Ok.matches) (codes "stop") ∙ (ap (λ (rs : List Row). one_of (codes "stop") rs) rows ∙ named.2) in
     let stop_is : c.get_flag.result ≡ named.0 = flag_is _ _ named.0 c.get_flag.ensures.value c.get_flag.ensures.other stop_text in
     let first : (id : Text) → first_of id (rows_of (found_of c.in-Ok.matches)) ≡ first_of id (matches_of walnut_app words) = λ id. ap (λ (rs : List Row). first_of id rs) rows in
-    retold words _ _ _ _ _ _ (c.get_str.ensures ∙ (first_value-rows (found_of c.in-Ok.matches) (codes "states") ∙ first (codes "states"))) stop_is
+    renamed_values words _ _ _ _ _ _ (c.get_str.ensures ∙ (first_value-rows (found_of c.in-Ok.matches) (codes "states") ∙ first (codes "states"))) stop_is
     (c.get_str-in-Ok.ensures ∙ (first_value-rows (found_of c.in-Ok.matches) (codes "make") ∙ first (codes "make"))) named.1
 
 pub returns-in-Err : goal.returns-in-Err

@@ -1,6 +1,6 @@
 use Rattle.std.proofs.Common.{get_or}
 use Rattle.std.proofs.lemmas.List.{get_or_default}
-use Rattle.formula_plan.specs.Planning.{standing, placed_at}
+use Rattle.formula_plan.specs.Planning.{placed_plan, placed_at}
 use Rattle.formula_plan.specs.declared.multiples.Scaling.{Scaling}
 use Rattle.formula_plan.specs.declared.multiples.Scaling.TheVariants.{Times}
 use Rattle.formula_plan.proofs.MultiplesMade.{scaled_more}
@@ -13,6 +13,6 @@ pub loop-scaling-preserved : goal.loop-scaling-preserved
 unfolding first
 loop-scaling-preserved c =
     scaled_more c.args.planner.now c.loop-scaling.planner c.scaled.new.planner c.loop-scaling.product c.in_ok-product.product c.args.system.now
-    (standing (placed_at c.args.planner.now.plans c.args.value) c.args.planner.now.next) c.args.scalings.now c.loop-scaling.scaling-index (get_or c.args.scalings.now c.loop-scaling.scaling-index first)
+    (placed_plan (placed_at c.args.planner.now.plans c.args.value) c.args.planner.now.next) c.args.scalings.now c.loop-scaling.scaling-index (get_or c.args.scalings.now c.loop-scaling.scaling-index first)
     c.loop-scaling-test.true (get_or_default c.args.scalings.now c.loop-scaling.scaling-index first (get_or c.args.scalings.now c.loop-scaling.scaling-index first) c.loop-scaling-test.true)
     c.loop-scaling.invariant c.in_ok-product.ensures

@@ -4,7 +4,7 @@ use Rattle.formula_parse.specs.Views.{formula_view, operands_view, names_view, a
 use Rattle.formula_parse.proofs.ViewSteps.{view_atom, view_negated, view_chain, view_quantified, view_marked}
 use Rattle.formula_truth.specs.Given.{assigned}
 use Rattle.formula_truth.specs.Bounded.{bounded}
-use Rattle.formula_truth.proofs.DecidingLemmas.{tells_seen, negated_is, operand_more, chain_is, trial_tells, found_is, same_truths}
+use Rattle.formula_truth.proofs.DecidingLemmas.{decides_seen, negated_is, operand_more, chain_is, trial_decides, found_is, same_truths}
 use Rattle.formula_truth.proofs.TrialLemmas.{wants}
 use Rattle.formula_truth.proofs.deciding.+deciding.Goals as goal
 use Rattle.formula_truth.proofs.deciding.+deciding.Goals.{tried-in-Exists, tried-in-ForAll}
@@ -15,7 +15,7 @@ holds-loop-operand-preserved t c =
     (omega (arith, c.loop-operand-test.true)) c.operand-item.is c.loop-operand.invariant c.in_ok-is-in-Chain.ensures c.after.ensures
 
 pub holds-returns-in-Atom : goal.holds-returns-in-Atom
-holds-returns-in-Atom t c = tells_seen c.args.bound (formula_view c.args.formula.now) (trees.atom (atom_view c.in-Atom.atom)) (assigned c.args.given.now) c.fact_holds.result
+holds-returns-in-Atom t c = decides_seen c.args.bound (formula_view c.args.formula.now) (trees.atom (atom_view c.in-Atom.atom)) (assigned c.args.given.now) c.fact_holds.result
     (ap formula_view c.in-Atom.is ∙ view_atom c.in-Atom.atom) c.fact_holds.ensures
 
 pub holds-returns-in_ok-is-in-Negated : goal.holds-returns-in_ok-is-in-Negated
@@ -31,13 +31,13 @@ holds-returns-in_ok-is-in-Chain-2 t c =
 
 pub holds-returns-in-Quantified : goal.holds-returns-in-Quantified
 holds-returns-in-Quantified t c =
-    trial_tells c.args.bound (formula_view c.args.formula.now) (quantifier_view c.in-Quantified.quantifier) c.in-Quantified.names.items c.deref-in-Quantified.result.now
+    trial_decides c.args.bound (formula_view c.args.formula.now) (quantifier_view c.in-Quantified.quantifier) c.in-Quantified.names.items c.deref-in-Quantified.result.now
     (formula_view c.in-Quantified.inside.value) (formula_view c.deref-in-Quantified-2.result.now) (assigned c.args.given.now) c.tried.result
     (ap formula_view c.in-Quantified.is ∙ view_quantified c.in-Quantified.quantifier c.in-Quantified.names c.in-Quantified.inside)
     c.deref-in-Quantified.ensures.value (ap formula_view c.deref-in-Quantified-2.ensures) c.tried.ensures
 
 pub holds-returns-in-Marked : goal.holds-returns-in-Marked
-holds-returns-in-Marked t c = tells_seen c.args.bound (formula_view c.args.formula.now) (trees.marked (names_view c.in-Marked.field-0.items) (formula_view c.deref-in-Marked.result.now)) (assigned c.args.given.now) c.holds-in-Marked.result
+holds-returns-in-Marked t c = decides_seen c.args.bound (formula_view c.args.formula.now) (trees.marked (names_view c.in-Marked.field-0.items) (formula_view c.deref-in-Marked.result.now)) (assigned c.args.given.now) c.holds-in-Marked.result
     (ap formula_view c.in-Marked.is ∙ view_marked c.in-Marked.field-0 c.in-Marked.inside ∙ ap (λ f. trees.marked (names_view c.in-Marked.field-0.items) (formula_view f)) (sym c.deref-in-Marked.ensures)) c.holds-in-Marked.ensures
 
 pub tried-returns-then-is-wanted : goal.tried-returns-then-is-wanted

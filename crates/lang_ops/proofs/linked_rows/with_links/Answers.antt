@@ -6,7 +6,7 @@ use Rattle.std.proofs.lemmas.List.Sorted.{Contains-permutation, IsPermutation-sy
 use Rattle.std.proofs.lemmas.List.{take_all}
 use Rattle.digit_tuple.specs.declared.transitions.Transition.{Transition}
 use Rattle.digit_tuple.specs.Automaton.{IsBefore}
-use Rattle.digit_tuple.proofs.TransitionLemmas.{AllPairs-dedup, Contains-dedup, transitions_tell}
+use Rattle.digit_tuple.proofs.TransitionLemmas.{AllPairs-dedup, Contains-dedup, transitions_decide}
 use Rattle.lang_ops.proofs.LinkedRowLemmas.{linked_members, with_link}
 use Rattle.lang_ops.proofs.linked_rows.with_links.Goals as goal
 
@@ -24,11 +24,11 @@ returns c =
     let all : made ≡ flat_map (with_link d link) transitions = c.loop-transition.invariant ∙ ap (flat_map (with_link d link)) (take_all c.loop-transition.transition-index transitions (omega arith)) in
     let moved = c.in_ok-sort.ensures.permutation in
     record {
-      ascending = subst (AllPairs IsBefore) (sym left) (AllPairs-dedup same transitions_tell sorted c.in_ok-sort.ensures.sorted);
+      ascending = subst (AllPairs IsBefore) (sym left) (AllPairs-dedup same transitions_decide sorted c.in_ok-sort.ensures.sorted);
       members = λ e. (
         (λ there. (linked_members d link transitions e).0 (subst (λ (es : List Transition). Contains es e) all
             (Contains-permutation sorted made e (IsPermutation-sym made sorted moved) (Contains-from_dedup same sorted e (subst (λ (es : List Transition). Contains es e) left there))))),
         (λ from. subst (λ (es : List Transition). Contains es e) (sym left)
-            (Contains-dedup same transitions_tell sorted e (Contains-permutation made sorted e moved (subst (λ (es : List Transition). Contains es e) (sym all) ((linked_members d link transitions e).1 from))))),
+            (Contains-dedup same transitions_decide sorted e (Contains-permutation made sorted e moved (subst (λ (es : List Transition). Contains es e) (sym all) ((linked_members d link transitions e).1 from))))),
       );
     }

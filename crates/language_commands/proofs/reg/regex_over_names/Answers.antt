@@ -36,7 +36,7 @@ pub of_names-requires-clause-there : goal.of_names-requires-clause-there
 of_names-requires-clause-there g c =
     let names : c.deref.result.now ≡ each_once bytes_eq c.args.names.now = c.deref.ensures.value ∙ c.in_ok-once.ensures in
     let first = c.in_ok-users.ensures in
-    let admitted = subst (λ (ns : List (List ℕ)). AreAdmitted c.args.quoted.options.limit ns first.stands.0 c.in_ok-users.users) names (first.gives first.stands.0 first.stands.1) in
+    let admitted = subst (λ (ns : List (List ℕ)). AreAdmitted c.args.quoted.options.limit ns first.in_some_folder.0 c.in_ok-users.users) names (first.gives first.in_some_folder.0 first.in_some_folder.1) in
     (all_once (IsThere c.in_ok-users.users.named) [] c.args.names.now admitted.there).1
 
 pub returns-in_err-systems : goal.returns-in_err-systems
@@ -48,8 +48,8 @@ returns-in_err-systems g c =
     let users = c.in_ok-users.users in
     let names : c.deref.result.now ≡ each_once bytes_eq c.args.names.now = c.deref.ensures.value ∙ c.in_ok-once.ensures in
     let first = c.in_ok-users.ensures in
-    let custom = first.stands.0 in
-    let own = own_fault (Pure (TracksAnswers custom (heads.Systems c.args.names.now))) (λ place read. read) fault (parted_so custom users.named c.args.names.now why (first.gives custom first.stands.1).meant c.in_err-systems.ensures) in
+    let custom = first.in_some_folder.0 in
+    let own = own_fault (Pure (TracksAnswers custom (heads.Systems c.args.names.now))) (λ place read. read) fault (parted_so custom users.named c.args.names.now why (first.gives custom first.in_some_folder.1).meant c.in_err-systems.ensures) in
     rw (p.1, p.2) (texts_read _ _ _ _ users (Err fault) own first
     (λ k admitted name.
     let admits = (subst (λ (ns : List (List ℕ)). AreAdmitted limit ns k users) names admitted).admits in
@@ -58,7 +58,7 @@ returns-in_err-systems g c =
 pub regex_over_systems-requires-clause-named : goal.regex_over_systems-requires-clause-named
 regex_over_systems-requires-clause-named g c =
     let first = c.in_ok-users.ensures in
-    (first.stands.0, (tracks_so first.stands.0 c.in_ok-users.users.named c.in_ok-systems.systems c.args.names.now (first.gives first.stands.0 first.stands.1).meant c.in_ok-systems.ensures).are)
+    (first.in_some_folder.0, (tracks_so first.in_some_folder.0 c.in_ok-users.users.named c.in_ok-systems.systems c.args.names.now (first.gives first.in_some_folder.0 first.in_some_folder.1).meant c.in_ok-systems.ensures).are)
 
 pub returns : goal.returns
 returns g c =
@@ -68,10 +68,10 @@ returns g c =
     let t = c.in_ok-systems.systems in
     let names : c.deref.result.now ≡ each_once bytes_eq c.args.names.now = c.deref.ensures.value ∙ c.in_ok-once.ensures in
     let first = c.in_ok-users.ensures in
-    let custom = first.stands.0 in
+    let custom = first.in_some_folder.0 in
     let tracks = OverSystems t.direction (named_in t.systems.items) in
     let own = own_made custom (after_tracks users.steps custom [] c.args.quoted.body.now tracks) (no_track_read users.steps custom [] c.args.quoted.body.now tracks) shown c.regex_over_systems.result
-    (c.regex_over_systems.ensures custom [] (tracks_so custom users.named t c.args.names.now (first.gives custom first.stands.1).meant c.in_ok-systems.ensures).are) in
+    (c.regex_over_systems.ensures custom [] (tracks_so custom users.named t c.args.names.now (first.gives custom first.in_some_folder.1).meant c.in_ok-systems.ensures).are) in
     texts_read _ _ _ _ users c.regex_over_systems.result own first
     (λ k admitted name.
     let admits = (subst (λ (ns : List (List ℕ)). AreAdmitted limit ns k users) names admitted).admits in

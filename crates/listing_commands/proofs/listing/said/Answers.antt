@@ -34,5 +34,5 @@ returns g c =
     let mentioned = c.in_ok-mentioned.mentioned in
     let loads = same_loads c.in_ok-mentions.ensures c.in_ok-mentioned.ensures in
     then_texts _ _ _ _ _ _ mentioned c.said_of_tables.result loads c.said_of_tables.ensures (λ found custom there. mentioned_elsewhere found custom (listing_mentions name) mentioned there)
-    (λ found there tells ledger stores. listing_loaded c.args.options.limit ledger name c.args.asked.question mentioned.tables.items c.args.options.shown c.said_of_tables.result (found, stores, there.listed)
-    (tells ledger found stores (stored_custom ledger found stores) there.listed))
+    (λ found there prints_checked ledger stores. listing_loaded c.args.options.limit ledger name c.args.asked.question mentioned.tables.items c.args.options.shown c.said_of_tables.result (found, stores, there.listed)
+    (prints_checked ledger found stores (stored_custom ledger found stores) there.listed))

@@ -28,7 +28,7 @@ said_over-requires-clause-named g c =
     let limit = c.args.options.limit in
     let tables = c.args.read.now.mentioned.tables.items in
     let first = same_names limit tables c.requires.1.mentions_are c.in_ok-named.ensures in
-    (first.stands.0, (first.gives first.stands.0 first.stands.1).names)
+    (first.in_some_folder.0, (first.gives first.in_some_folder.0 first.in_some_folder.1).names)
 
 pub returns : goal.returns
 returns g c =
@@ -38,7 +38,7 @@ returns g c =
     let tables = read.mentioned.tables.items in
     let named = c.in_ok-named.named in
     let first = same_names limit tables c.requires.1.mentions_are c.in_ok-named.ensures in
-    let own = own_over named.steps shown read first.stands.0 c.said_over.result c.requires (c.said_over.ensures first.stands.0 (first.gives first.stands.0 first.stands.1).names) in
+    let own = own_over named.steps shown read first.in_some_folder.0 c.said_over.result c.requires (c.said_over.ensures first.in_some_folder.0 (first.gives first.in_some_folder.0 first.in_some_folder.1).names) in
     texts_read _ _ _ _ named c.said_over.result own first
     (λ k given ledger files stores same listed.
     listing_known limit ledger read.asked.name read.asked.question tables named.steps shown c.said_over.result

@@ -10,7 +10,7 @@ use Rattle.system_files.specs.SystemFiles.{Custom}
 use Rattle.command_parts.specs.FormulaLoads.{HasSystems}
 use Rattle.command_parts.specs.FormulaSteps.{AreMeant}
 use Rattle.command_parts.specs.ListingFaults.{fault_of_listing}
-use Rattle.listing_commands.specs.ListingMakes.{AnswersBelow, CanBeListed, TellsAfterSystems, answer_text}
+use Rattle.listing_commands.specs.ListingMakes.{AnswersBelow, CanBeListed, PrintsAfterSystems, answer_text}
 use Rattle.listing_commands.specs.ListingOutcomes.{listing_files, listing_systems}
 use Rattle.listing_commands.specs.declared.listing.ReadListing.{ReadListing}
 use Rattle.command_parts.specs.declared.listing_fault.ListingFault.{ListingFault}
@@ -39,12 +39,12 @@ answered-requires c =
 
 -- a refusal is the fault of the checks
 refused_so : (read : ReadListing) (table : Loaded) (systems : List NamedSystem) (admitted log : StepLog) (shown : Bool) (fault : ListingFault) → read.mentioned.tables.items ≡ table ∷ [] → CanBeListed systems table
-    → AnswersBelow table.listed.header systems admitted table read.asked.name read.asked.question (Err fault) log → (custom : Custom) → AreMeant custom systems → TellsAfterSystems admitted shown read custom (Err (fault_of_listing fault))
+    → AnswersBelow table.listed.header systems admitted table read.asked.name read.asked.question (Err fault) log → (custom : Custom) → AreMeant custom systems → PrintsAfterSystems admitted shown read custom (Err (fault_of_listing fault))
 refused_so read table systems admitted log shown fault same can answers custom meant ledger files stores own listed = said_here read table systems admitted log shown (Err fault) same can answers custom meant ledger files stores own listed
 
 -- an answer is printed
 printed_so : (read : ReadListing) (table : Loaded) (systems : List NamedSystem) (admitted log : StepLog) (shown : Bool) (answer : Answer) → read.mentioned.tables.items ≡ table ∷ [] → CanBeListed systems table
-    → AnswersBelow table.listed.header systems admitted table read.asked.name read.asked.question (Ok answer) log → (custom : Custom) → AreMeant custom systems → TellsAfterSystems admitted shown read custom (Ok (answer_text shown log.lines answer))
+    → AnswersBelow table.listed.header systems admitted table read.asked.name read.asked.question (Ok answer) log → (custom : Custom) → AreMeant custom systems → PrintsAfterSystems admitted shown read custom (Ok (answer_text shown log.lines answer))
 printed_so read table systems admitted log shown answer same can answers custom meant ledger files stores own listed = said_here read table systems admitted log shown (Ok answer) same can answers custom meant ledger files stores own listed
 
 pub returns-in_err-answer : goal.returns-in_err-answer
@@ -64,5 +64,5 @@ pub returns : goal.returns
 returns c =
     let read = c.args.read.now in
     let same = sole c.requires.read.0 read.asked.name read.mentioned.tables.items c.index.result.now c.requires.read.1.listed c.index.ensures in
-    λ custom named. subst (λ (text : List ℕ). TellsAfterSystems c.args.named.steps c.args.shown read custom (Ok text)) (sym c.in_ok-printed_answer.ensures)
+    λ custom named. subst (λ (text : List ℕ). PrintsAfterSystems c.args.named.steps c.args.shown read custom (Ok text)) (sym c.in_ok-printed_answer.ensures)
     (printed_so read c.index.result.now c.args.named.names.systems c.args.named.steps c.answered.new.steps c.args.shown c.in_ok-answer.answer same (can_here read c.requires.read.0 c.index.result.now c.args.named.names.systems same c.requires.read.1.listed c.are_sealed.ensures c.requires.named.1.systems (c.requires.named.0, c.requires.named.1.meant)) c.in_ok-answer.ensures custom named.meant)

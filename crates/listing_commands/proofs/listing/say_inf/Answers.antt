@@ -13,4 +13,4 @@ returns-in_err-name g c =
 pub returns : goal.returns
 returns g c =
     from_part _ _ _ _ c.said.result c.said.ensures
-    (λ found tells ledger stores. inf_said c.args.options.limit ledger c.args.text.now c.in_ok-name.name c.args.options.shown c.said.result c.in_ok-name.ensures (tells ledger stores))
+    (λ found prints_checked ledger stores. inf_said c.args.options.limit ledger c.args.text.now c.in_ok-name.name c.args.options.shown c.said.result c.in_ok-name.ensures (prints_checked ledger stores))

@@ -14,4 +14,4 @@ returns-in_err-head g c =
 pub returns : goal.returns
 returns g c =
     from_part _ _ _ _ c.said.result c.said.ensures
-    (λ found tells ledger stores. test_said c.args.options.limit ledger c.args.text.now (test_view c.in_ok-head.head) c.args.options.shown c.said.result c.in_ok-head.ensures (tells ledger stores))
+    (λ found prints_checked ledger stores. test_said c.args.options.limit ledger c.args.text.now (test_view c.in_ok-head.head) c.args.options.shown c.said.result c.in_ok-head.ensures (prints_checked ledger stores))

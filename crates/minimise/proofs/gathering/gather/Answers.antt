@@ -8,7 +8,7 @@ use Rattle.std.proofs.lemmas.List.Sorted.{Contains-permutation, IsPermutation-sy
 use Rattle.digit_tuple.specs.declared.transitions.Transition.{Transition}
 use Rattle.digit_tuple.specs.Automaton.{IsBefore}
 use Rattle.digit_tuple.specs.Groups.{AreGroups}
-use Rattle.digit_tuple.proofs.TransitionLemmas.{AllPairs-dedup, Contains-dedup, transitions_tell}
+use Rattle.digit_tuple.proofs.TransitionLemmas.{AllPairs-dedup, Contains-dedup, transitions_decide}
 use Rattle.minimise.proofs.GatheringLemmas.{HaveLetters-groups, IsGathered-groups}
 use Rattle.minimise.proofs.gathering.gather.Goals as goal
 
@@ -19,13 +19,13 @@ pub group_into-requires : goal.group_into-requires
 group_into-requires c =
     subst (AllPairs IsBefore) (sym c.deref.ensures.value)
     (subst (AllPairs IsBefore) (sym (dedup_is same c.sort_unstable.new.self.items c.dedup.new.self.items c.dedup.ensures.filtered))
-    (AllPairs-dedup same transitions_tell c.sort_unstable.new.self.items c.sort_unstable.ensures.sorted))
+    (AllPairs-dedup same transitions_decide c.sort_unstable.new.self.items c.sort_unstable.ensures.sorted))
 
 -- the transitions in order, none of them twice
 equal : (transitions sorted left : List Transition) → IsPermutation transitions sorted → left ≡ dedup same sorted → (e : Transition) → Contains left e ↔ Contains transitions e
 equal transitions sorted left moved is e = (
   (λ there. Contains-permutation sorted transitions e (IsPermutation-sym transitions sorted moved) (Contains-from_dedup same sorted e (subst (λ (es : List Transition). Contains es e) is there))),
-  (λ there. subst (λ (es : List Transition). Contains es e) (sym is) (Contains-dedup same transitions_tell sorted e (Contains-permutation transitions sorted e moved there))),
+  (λ there. subst (λ (es : List Transition). Contains es e) (sym is) (Contains-dedup same transitions_decide sorted e (Contains-permutation transitions sorted e moved there))),
 )
 
 pub returns-clause-gathered : goal.returns-clause-gathered

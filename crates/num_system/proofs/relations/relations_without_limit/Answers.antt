@@ -14,8 +14,8 @@ use Rattle.num_system.proofs.StepLemmas.{not_too_large, two_fit}
 use Rattle.num_system.proofs.relations.relations_without_limit.Goals as goal
 
 -- the relations are those of each system whose language the automaton accepts
-abbrev Tells : Direction → Automaton → OrderRelations → Type 0
-Tells direction language r = (s : System) → IsSystem s → IsLanguageOf direction s language → AreOrderRelationsOf direction s r.equal r.less r.zero
+abbrev AreRelations : Direction → Automaton → OrderRelations → Type 0
+AreRelations direction language r = (s : System) → IsSystem s → IsLanguageOf direction s language → AreOrderRelationsOf direction s r.equal r.less r.zero
 
 pub without_limit-requires : goal.without_limit-requires
 without_limit-requires c letters =
@@ -25,7 +25,7 @@ without_limit-requires c letters =
 
 pub successor_without_limit-requires : goal.successor_without_limit-requires
 successor_without_limit-requires c =
-    let are_relations = IfOk-at_ok (Tells c.args.direction c.args.language.now) c.in_ok-relations.ensures c.order_relations.ensures.relations in
+    let are_relations = IfOk-at_ok (AreRelations c.args.direction c.args.language.now) c.in_ok-relations.ensures c.order_relations.ensures.relations in
     let so_far = are_relations c.requires.system.0 c.requires.system.1 c.requires.system.2.accepts in
     record {
       less = so_far.order_canonical;
@@ -38,6 +38,6 @@ successor_without_limit-requires c =
 pub returns : goal.returns
 returns c s is language adds =
     let r = c.in_ok-relations.relations in
-    let so_far = IfOk-at_ok (Tells c.args.direction c.args.language.now) c.in_ok-relations.ensures c.order_relations.ensures.relations s is language in
+    let so_far = IfOk-at_ok (AreRelations c.args.direction c.args.language.now) c.in_ok-relations.ensures c.order_relations.ensures.relations s is language in
     subst (λ (all : Relations). AreRelationsOf c.args.direction s all.equal all.less all.successor all.zero) (sym c.with_successor.ensures)
     (with_next c.args.direction s r.equal r.less c.in_ok-successor.successor r.zero so_far (c.in_ok-successor.ensures.successor s is so_far.order so_far.zeros adds) c.in_ok-successor.ensures.canonical)

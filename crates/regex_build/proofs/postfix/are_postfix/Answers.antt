@@ -15,7 +15,7 @@ loop-symbol-preserved c =
 
 pub returns : goal.returns
 returns c =
-    let tells = Decides-eqb c.loop-symbol.waiting 1 in (
-      λ h. postfix_from_count c.args.symbols.now c.loop-symbol.symbol-index c.loop-symbol.waiting c.loop-symbol-test.false c.loop-symbol.invariant.count (tells.0 h),
-      λ h. tells.1 (count_from_postfix c.args.symbols.now c.loop-symbol.symbol-index c.loop-symbol.waiting c.loop-symbol-test.false c.loop-symbol.invariant.count h),
+    let waits_for_one = Decides-eqb c.loop-symbol.waiting 1 in (
+      λ h. postfix_from_count c.args.symbols.now c.loop-symbol.symbol-index c.loop-symbol.waiting c.loop-symbol-test.false c.loop-symbol.invariant.count (waits_for_one.0 h),
+      λ h. waits_for_one.1 (count_from_postfix c.args.symbols.now c.loop-symbol.symbol-index c.loop-symbol.waiting c.loop-symbol-test.false c.loop-symbol.invariant.count h),
     )

@@ -5,7 +5,7 @@ use Rattle.std.proofs.lemmas.List.{get_or_default}
 use Rattle.std.proofs.lemmas.List.Filters.{dedup_is}
 use Rattle.std.proofs.lemmas.List.Elements.{Contains-get_or}
 use Rattle.digit_tuple.specs.Automaton.{IsBefore}
-use Rattle.digit_tuple.proofs.TransitionLemmas.{AllPairs-dedup, transitions_tell}
+use Rattle.digit_tuple.proofs.TransitionLemmas.{AllPairs-dedup, transitions_decide}
 use Rattle.regex_build.specs.declared.codes.LetterRange.{LetterRange}
 use Rattle.regex_build.proofs.RowSteps.{same, transition_to_none, transition_to_more, transition_to_all}
 use Rattle.regex_build.proofs.rows.transitions_to.Goals as goal
@@ -42,7 +42,7 @@ loop-place-preserved c =
 pub returns-clause-ascending : goal.returns-clause-ascending
 returns-clause-ascending c =
     subst (AllPairs IsBefore) (sym (dedup_is same c.sort.new.self.items c.dedup.new.self.items c.dedup.ensures.filtered))
-    (AllPairs-dedup same transitions_tell c.sort.new.self.items c.in_ok-sort.ensures.sorted)
+    (AllPairs-dedup same transitions_decide c.sort.new.self.items c.in_ok-sort.ensures.sorted)
 
 pub returns-clause-transitions : goal.returns-clause-transitions
 returns-clause-transitions c =

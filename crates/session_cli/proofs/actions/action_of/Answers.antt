@@ -22,7 +22,7 @@ use Rattle.word_commands.specs.PromoteOutcomes.{promote_checks}
 use Rattle.language_commands.specs.RegOutcomes.{reg_checks}
 use Rattle.session_cli.specs.TextOutcomes.{macro_checks, morphism_checks}
 use Rattle.word_commands.specs.TransduceOutcomes.{transduce_checks}
-use Rattle.session_cli.proofs.ActionSteps.{from_change, from_said, stores_change, tells_action}
+use Rattle.session_cli.proofs.ActionSteps.{from_change, from_said, stores_change, prints_action}
 use Rattle.command_parts.proofs.StoreReads.{from_none, own_change}
 use Rattle.command_parts.proofs.TextReads.{files_of_texts}
 use Rattle.session_cli.proofs.TextSteps.{macro_reads_none, morphism_reads_none}
@@ -134,15 +134,15 @@ pub returns-in-Some-Test : goal.returns-in-Some-Test
 returns-in-Some-Test g c =
     rw c.printing.ensures
     (from_said _ _ _ _ c.say_test.result c.say_test.ensures
-    (λ found tells ledger stores. acted_by_word words.Test c.args.options.limit ledger c.args.text.now c.args.options.shown (printing c.say_test.result) c.if-text-gt-COMMAND_LIMIT.false (rw c.in-Some-Test.field-0-is at c.in-Some-Test.ensures)
-    (tells_action (custom_of ledger) (test_checks c.args.options.limit ledger c.args.text.now) c.args.options.shown c.say_test.result (tells ledger stores))))
+    (λ found prints_checked ledger stores. acted_by_word words.Test c.args.options.limit ledger c.args.text.now c.args.options.shown (printing c.say_test.result) c.if-text-gt-COMMAND_LIMIT.false (rw c.in-Some-Test.field-0-is at c.in-Some-Test.ensures)
+    (prints_action (custom_of ledger) (test_checks c.args.options.limit ledger c.args.text.now) c.args.options.shown c.say_test.result (prints_checked ledger stores))))
 
 pub returns-in-Some-Inf : goal.returns-in-Some-Inf
 returns-in-Some-Inf g c =
     rw c.printing-in-Some-Inf.ensures
     (from_said _ _ _ _ c.say_inf.result c.say_inf.ensures
-    (λ found tells ledger stores. acted_by_word words.Inf c.args.options.limit ledger c.args.text.now c.args.options.shown (printing c.say_inf.result) c.if-text-gt-COMMAND_LIMIT.false (rw c.in-Some-Inf.field-0-is at c.in-Some-Inf.ensures)
-    (tells_action (custom_of ledger) (inf_checks c.args.options.limit ledger c.args.text.now) c.args.options.shown c.say_inf.result (tells ledger stores))))
+    (λ found prints_checked ledger stores. acted_by_word words.Inf c.args.options.limit ledger c.args.text.now c.args.options.shown (printing c.say_inf.result) c.if-text-gt-COMMAND_LIMIT.false (rw c.in-Some-Inf.field-0-is at c.in-Some-Inf.ensures)
+    (prints_action (custom_of ledger) (inf_checks c.args.options.limit ledger c.args.text.now) c.args.options.shown c.say_inf.result (prints_checked ledger stores))))
 
 pub returns-in-Some-Transduce : goal.returns-in-Some-Transduce
 returns-in-Some-Transduce g c =

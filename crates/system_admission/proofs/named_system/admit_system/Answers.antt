@@ -104,8 +104,8 @@ keep-requires-clause-first g c =
 
 pub keep-requires-clause-right : goal.keep-requires-clause-right
 keep-requires-clause-right g c =
-    let custom = c.can_stand.ensures.0 in
-    let agrees = c.can_stand.ensures.1 in
+    let custom = c.are_in_some_folder.ensures.0 in
+    let agrees = c.are_in_some_folder.ensures.1 in
     let part = c.in-Some.user.part.now in
     let pair = pair_view c.in-Some-pair_of.pair in
     let old = c.admit.new.steps in

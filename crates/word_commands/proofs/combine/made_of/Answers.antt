@@ -28,7 +28,7 @@ combined-requires-clause-named g c =
     let limit = c.args.options.limit in
     let tables = c.args.read.now.mentioned.tables.items in
     let first = same_names limit tables c.requires.loaded.1.mentions_are c.in_ok-named.ensures in
-    (first.stands.0, (first.gives first.stands.0 first.stands.1).names)
+    (first.in_some_folder.0, (first.gives first.in_some_folder.0 first.in_some_folder.1).names)
 
 pub returns : goal.returns
 returns g c =
@@ -38,7 +38,7 @@ returns g c =
     let tables = read.mentioned.tables.items in
     let named = c.in_ok-named.named in
     let first = same_names limit tables c.requires.loaded.1.mentions_are c.in_ok-named.ensures in
-    let own = list_own named.steps shown read first.stands.0 c.combined.result c.requires (c.combined.ensures first.stands.0 (first.gives first.stands.0 first.stands.1).names) in
+    let own = list_own named.steps shown read first.in_some_folder.0 c.combined.result c.requires (c.combined.ensures first.in_some_folder.0 (first.gives first.in_some_folder.0 first.in_some_folder.1).names) in
     texts_read _ _ _ _ named c.combined.result own first
     (λ k given ledger files word stores same listed.
     list_known limit ledger (head_of word read) tables named.steps shown c.combined.result

@@ -16,7 +16,7 @@ use Rattle.base_change.specs.Conversions.{AreRelated, DoesConversion}
 use Rattle.word_output.specs.Words.{WordValue}
 use Rattle.word_commands.specs.ConvertSteps.{DoesConvert}
 use Rattle.word_commands.proofs.OldWordChains.{unread}
-use Rattle.word_commands.proofs.ConvertChains.{base_wanting, bases_unrelated}
+use Rattle.word_commands.proofs.ConvertChains.{base_missing, bases_unrelated}
 use Rattle.word_commands.proofs.ConvertTexts.{convert_kept, convert_names, convert_unmade}
 use Rattle.word_commands.proofs.ConvertedSteps.{convertible, converted_here, old_related, unconverted_here}
 use Rattle.word_commands.proofs.convert.made_over.Goals as goal
@@ -27,7 +27,7 @@ returns-in_err-over c =
     let fault = c.in_err-over.field-0.0 in
     let read = c.args.read.now in
     let refused = subst (λ (h : Headers). Fails (over_base None h read.old.name) fault) c.requires.named.1.headers c.in_err-over.ensures in
-    λ custom named ledger files word stores same listed. rw (p.1, p.2) (base_wanting ledger (head_of word read) read.old.mentioned.tables.items c.args.named.steps fault refused)
+    λ custom named ledger files word stores same listed. rw (p.1, p.2) (base_missing ledger (head_of word read) read.old.mentioned.tables.items c.args.named.steps fault refused)
 
 pub change_of-requires : goal.change_of-requires
 change_of-requires c = c.in_ok-over.ensures.base_is

@@ -26,7 +26,7 @@ pub made_over-requires-clause-named : goal.made_over-requires-clause-named
 made_over-requires-clause-named g c =
     let limit = c.args.options.limit in
     let first = same_names limit c.args.read.now.old.mentioned.tables.items c.requires.1.mentions_are c.in_ok-named.ensures in
-    (first.stands.0, (first.gives first.stands.0 first.stands.1).names)
+    (first.in_some_folder.0, (first.gives first.in_some_folder.0 first.in_some_folder.1).names)
 
 pub returns : goal.returns
 returns g c =
@@ -35,7 +35,7 @@ returns g c =
     let read = c.args.read.now in
     let named = c.in_ok-named.named in
     let first = same_names limit read.old.mentioned.tables.items c.requires.1.mentions_are c.in_ok-named.ensures in
-    let own = image_own named.steps shown read first.stands.0 c.made_over.result c.requires (c.made_over.ensures first.stands.0 (first.gives first.stands.0 first.stands.1).names) in
+    let own = image_own named.steps shown read first.in_some_folder.0 c.made_over.result c.requires (c.made_over.ensures first.in_some_folder.0 (first.gives first.in_some_folder.0 first.in_some_folder.1).names) in
     texts_read _ _ _ _ named c.made_over.result own first
     (λ k given ledger files word morphism stores same listed.
     old_known limit ledger (head_of word morphism read) read.morphism read.old.mentioned.tables.items named.steps shown c.made_over.result

@@ -5,5 +5,5 @@ use Rattle.word_walk.proofs.few_states.flags_of.Given as goal
 abbrev pub invariant-loop-state : goal.invariant-loop-state
 invariant-loop-state l = record {
   width : length l.flags.items ≡ l.count;
-  tells : (q : ℕ) → q < l.count → get_or l.flags.items q false ≡ has_state (take l.state-index l.states) q;
+  flag_is : (q : ℕ) → q < l.count → get_or l.flags.items q false ≡ has_state (take l.state-index l.states) q;
 }

@@ -14,11 +14,11 @@ returns-then-branch-clause-agrees c =
     let target = c.args.target in
     let own = c.in_ok-own.own in
     let new = c.own_table.new.self in
-    let tells = c.in_ok-leads_elsewhere.ensures
+    let elsewhere_is = c.in_ok-leads_elsewhere.ensures
     ∙ ap (λ (ts : List StarTable). list_any (λ (table : StarTable). differs_from (targets_at (get_or ts own no_table).entries (masked digits table.pattern)) target) ts) c.deref.ensures.value
     ∙ leads_elsewhere_is (transitions_in new.list.items) new.tables.items digits target own c.in_ok-own.ensures.indexed c.in_ok-own.ensures.own
     ∙ ap (λ (l : List TransitionRead). list_any (λ t. share_tuple digits t.0 && not (eqb t.1 target)) (transitions_in l)) c.in_ok-own.ensures.list in
-    ap not (sym c.if-branch.true ∙ tells)
+    ap not (sym c.if-branch.true ∙ elsewhere_is)
 
 pub returns-clause-agrees : goal.returns-clause-agrees
 returns-clause-agrees c =
@@ -26,11 +26,11 @@ returns-clause-agrees c =
     let target = c.args.target in
     let own = c.in_ok-own.own in
     let new = c.own_table.new.self in
-    let tells = c.in_ok-leads_elsewhere.ensures
+    let elsewhere_is = c.in_ok-leads_elsewhere.ensures
     ∙ ap (λ (ts : List StarTable). list_any (λ (table : StarTable). differs_from (targets_at (get_or ts own no_table).entries (masked digits table.pattern)) target) ts) c.deref.ensures.value
     ∙ leads_elsewhere_is (transitions_in new.list.items) new.tables.items digits target own c.in_ok-own.ensures.indexed c.in_ok-own.ensures.own
     ∙ ap (λ (l : List TransitionRead). list_any (λ t. share_tuple digits t.0 && not (eqb t.1 target)) (transitions_in l)) c.in_ok-own.ensures.list in
-    ap not (sym c.if-branch.false ∙ tells)
+    ap not (sym c.if-branch.false ∙ elsewhere_is)
 
 pub returns-clause-indexed : goal.returns-clause-indexed
 returns-clause-indexed c added =

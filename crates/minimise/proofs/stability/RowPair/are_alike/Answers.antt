@@ -1,5 +1,5 @@
 use Rattle.std.proofs.Common.{sym, ◌∙◌}
-use Rattle.digit_tuple.proofs.StateLemmas.{rows_tell}
+use Rattle.digit_tuple.proofs.StateLemmas.{rows_decide}
 use Rattle.minimise.proofs.ClassTransitionLemmas.{alike_from_rows, rows_from_alike}
 use Rattle.minimise.proofs.stability.RowPair.are_alike.Goals as goal
 
@@ -11,7 +11,7 @@ returns c =
     let q = c.args.q in
     let one = c.as_slice.ensures ∙ c.in_ok-read.ensures in
     let other = c.as_slice-2.ensures ∙ c.in_ok-read-2.ensures in
-    let alike_if = rows_tell c.as_slice.result.now c.as_slice-2.result.now c.eq.result c.eq.ensures in (
+    let alike_if = rows_decide c.as_slice.result.now c.as_slice-2.result.now c.eq.result c.eq.ensures in (
       (λ is. alike_from_rows d classes c.requires.table p q c.requires.own (sym one ∙ alike_if.0 is ∙ other)),
       (λ alike. alike_if.1 (one ∙ rows_from_alike d classes c.requires.table p q alike ∙ sym other)),
     )

@@ -2,7 +2,7 @@ use Rattle.std.proofs.Common.{List, sym, subst}
 use Rattle.std.proofs.lemmas.Result.{err_from_is_err_and}
 use Rattle.named_systems.specs.NamedSystems.{NamedSystem, HasSystemIn}
 use Rattle.named_systems.specs.SealedSystems.{Extends}
-use Rattle.named_systems.proofs.NamedLemmas.{last_stands}
+use Rattle.named_systems.proofs.NamedLemmas.{last_is_found}
 use Rattle.named_systems.proofs.SealedLemmas.{extends_none, extends_one}
 use Rattle.named_systems.proofs.sealed_systems.SealedSystems.add.Goals as goal
 
@@ -25,5 +25,5 @@ returns-in_ok-add c =
     let is = rw c.in-Some.is at c.in_ok-system.ensures in
     record {
       extends = subst (Extends before) (sym c.in_ok-add.ensures.ok) (extends_one before name s is);
-      there = λ built. subst (λ (systems : List NamedSystem). HasSystemIn systems name) (sym c.in_ok-add.ensures.ok) (last_stands before name s);
+      there = λ built. subst (λ (systems : List NamedSystem). HasSystemIn systems name) (sym c.in_ok-add.ensures.ok) (last_is_found before name s);
     }

@@ -6,5 +6,5 @@ use Rattle.word_walk.proofs.level.Level.before.Given as goal
 abbrev pub invariant-loop-state : goal.invariant-loop-state
 invariant-loop-state l = record {
   count : length l.sources.items ≡ l.state;
-  tells : (q : ℕ) → q < l.state → get_or l.sources.items q false ≡ list_any (λ e. get_or l.flags e.target false) (transitions_of l.d q);
+  flag_is : (q : ℕ) → q < l.state → get_or l.sources.items q false ≡ list_any (λ e. get_or l.flags e.target false) (transitions_of l.d q);
 }

@@ -5,7 +5,7 @@ use Rattle.digit_tuple.specs.Deterministic.{Automaton, states_of, transitions_of
 use Rattle.word_walk.specs.Levels.{first_live}
 use Rattle.word_walk.specs.Raising.{path_of, word_by}
 use Rattle.word_walk.proofs.CodeLemmas.{first_live-greater, first_live-within, state_within}
-use Rattle.word_walk.proofs.PathLemmas.{length-path_of, raised-some, raised_behind, raised_behind-none, raised_behind-path}
+use Rattle.word_walk.proofs.PathLemmas.{length-path_of, raised-some, raised_after, raised_after-none, raised_after-path}
 use Rattle.word_walk.proofs.listing.Listing.raised.Goals as goal
 
 pub loop-at-init : goal.loop-at-init
@@ -13,7 +13,7 @@ loop-at-init c =
     let d : Automaton = c.args.self.now.dfa in
     let w : List ℕ = c.args.word.now in
     let size : c.len-at.result ≡ length (path_of d 0 w) = omega (arith, ap (λ (ps : List ℕ). length ps) c.in_ok-path.ensures, c.len-at.ensures) in
-    record { same = refl; none = ap (λ (n : ℕ). raised_behind d 0 n w) size ∙ raised_behind-path d w 0 }
+    record { same = refl; none = ap (λ (n : ℕ). raised_after d 0 n w) size ∙ raised_after-path d w 0 }
 
 pub overflow_sub-rest-in-loop-at : goal.overflow_sub-rest-in-loop-at
 overflow_sub-rest-in-loop-at c =
@@ -79,7 +79,7 @@ returns-in-Some-clause-raised c =
     = sym (first_live-greater d c.args.self.now.is_table w k within m from c.index.result.now c.deref.result.now refl greater state row)
     ∙ sym (ap (λ (x : Automaton). first_live x m from c.deref.result.now) same) ∙ sym c.in_ok-transition.ensures.first ∙ c.in-Some.is in
     let next : c.loop-at.at ≡ k + 1 = omega (arith, c.loop-at-test.true) in
-    let none : raised_behind d 0 (k + 1) w ≡ None = subst (λ (n : ℕ). raised_behind d 0 n w ≡ None) next c.loop-at.invariant.none in
+    let none : raised_after d 0 (k + 1) w ≡ None = subst (λ (n : ℕ). raised_after d 0 n w ≡ None) next c.loop-at.invariant.none in
     let rest : m ≡ length (drop (k + 1) w) = omega (arith, length-drop (k + 1) w, within, length-path_of d w 0) in
     ap Some (c.in_ok-word_after.ensures.word
     ∙ ap (λ (x : Automaton). take k w ++ word_by x m e) (c.in_ok-transition.ensures.same ∙ same)
@@ -106,5 +106,5 @@ loop-at-preserved c =
     let next : c.loop-at.at ≡ k + 1 = omega (arith, c.loop-at-test.true) in
     record {
       same = c.in_ok-transition.ensures.same ∙ same;
-      none = raised_behind-none d w k within (subst (λ (n : ℕ). raised_behind d 0 n w ≡ None) next c.loop-at.invariant.none) nothing;
+      none = raised_after-none d w k within (subst (λ (n : ℕ). raised_after d 0 n w ≡ None) next c.loop-at.invariant.none) nothing;
     }

@@ -16,7 +16,7 @@ use Rattle.formula_build.specs.TrackNames.{track_name, IsNamed}
 use Rattle.formula_build.specs.Libraries.{LibraryValue, IsSystemIn}
 use Rattle.formula_build.specs.TrackSystems.{TrackSystems}
 use Rattle.formula_build.proofs.HasLemmas.{has_contains}
-use Rattle.formula_build.proofs.TrackNameLemmas.{names_tell, named_among}
+use Rattle.formula_build.proofs.TrackNameLemmas.{names_determine, named_among}
 
 -- each name means the system at its index
 abbrev pub AreSystemsIn : LibraryValue → List Name → List SystemValue → Type 0
@@ -49,16 +49,16 @@ own_place ts t all named is =
     let i : ℕ = place_of (map track_name ts) (track_name t) in
     let within : i < length ts = omega (arith, spot.0, length-map ts track_name) in
     let same : track_name (get_or ts i (fresh 0)) ≡ track_name t = sym (get_or-map track_name ts i (fresh 0) [] within) ∙ spot.1 in
-    (i, refl, within, names_tell (get_or ts i (fresh 0)) t (All-get_or IsNamed ts i (fresh 0) within (All-from_recursion IsNamed ts all)) named same)
+    (i, refl, within, names_determine (get_or ts i (fresh 0)) t (All-get_or IsNamed ts i (fresh 0) within (All-from_recursion IsNamed ts all)) named same)
 
 module _ (l : LibraryValue) (on : TrackSystems) (ts : List Track) (names : List Name) (systems : List SystemValue) (are : AreSystemsIn l names systems) (same : map on ts ≡ names) where
-  pub stand_count : length ts ≡ length names
-  stand_count = sym (length-map ts on) ∙ ap length same
+  pub systems_count : length ts ≡ length names
+  systems_count = sym (length-map ts on) ∙ ap length same
 
-  pub stands_at : (i : ℕ) → i < length ts → IsSystemIn l (on (get_or ts i (fresh 0))) (get_or systems i absent_system)
-  stands_at i within =
+  pub system_at_track : (i : ℕ) → i < length ts → IsSystemIn l (on (get_or ts i (fresh 0))) (get_or systems i absent_system)
+  system_at_track i within =
       subst (λ (y : Name). IsSystemIn l y (get_or systems i absent_system)) (sym (sym (get_or-map on ts i (fresh 0) [] within) ∙ ap (λ (ys : List Name). get_or ys i []) same))
-      (are i (omega (arith, within, stand_count)))
+      (are i (omega (arith, within, systems_count)))
 
   module _ (all : AllByRecursion IsNamed ts) where
     name_at : (i : ℕ) → i < length ts → get_or (map track_name ts) i [] ≡ track_name (get_or ts i (fresh 0))
@@ -68,17 +68,17 @@ module _ (l : LibraryValue) (on : TrackSystems) (ts : List Track) (names : List 
     named_at i within = All-get_or IsNamed ts i (fresh 0) within (All-from_recursion IsNamed ts all)
 
     -- tracks of one name have one system
-    pub stand_agree : AgreeUnder (map track_name ts) systems
-    stand_agree i j within inside also =
+    pub systems_agree : AgreeUnder (map track_name ts) systems
+    systems_agree i j within inside also =
         let here : i < length ts = omega (arith, within, length-map ts track_name) in
         let there : j < length ts = omega (arith, inside, length-map ts track_name) in
-        let one : get_or ts i (fresh 0) ≡ get_or ts j (fresh 0) = names_tell (get_or ts i (fresh 0)) (get_or ts j (fresh 0)) (named_at i here) (named_at j there) (sym (name_at i here) ∙ also ∙ name_at j there) in
+        let one : get_or ts i (fresh 0) ≡ get_or ts j (fresh 0) = names_determine (get_or ts i (fresh 0)) (get_or ts j (fresh 0)) (named_at i here) (named_at j there) (sym (name_at i here) ∙ also ∙ name_at j there) in
         same_Some (get_or systems i absent_system) (get_or systems j absent_system)
-        (sym (subst (λ (t : Track). IsSystemIn l (on t) (get_or systems i absent_system)) one (stands_at i here)) ∙ stands_at j there)
+        (sym (subst (λ (t : Track). IsSystemIn l (on t) (get_or systems i absent_system)) one (system_at_track i here)) ∙ system_at_track j there)
 
     -- and that of a track's name is the track's
-    pub stand_over : (t : Track) → has_track ts t ≡ true → IsSystemIn l (on t) (system_under (map track_name ts) systems (track_name t))
-    stand_over t found =
+    pub systems_over : (t : Track) → has_track ts t ≡ true → IsSystemIn l (on t) (system_under (map track_name ts) systems (track_name t))
+    systems_over t found =
         let place = own_place ts t all (named_among ts t all found) found in
         subst (λ (k : ℕ). IsSystemIn l (on t) (get_or systems k absent_system)) place.1
-        (subst (λ (u : Track). IsSystemIn l (on u) (get_or systems place.0 absent_system)) place.3 (stands_at place.0 place.2))
+        (subst (λ (u : Track). IsSystemIn l (on u) (get_or systems place.0 absent_system)) place.3 (system_at_track place.0 place.2))
