@@ -1,5 +1,8 @@
 //! What a session keeps from one command to the next.
 
+ghost use Rattle.std.specs.Prelude.{◌≡◌, []};
+
+use digit_tuple::steps::Steps;
 use kept_tables::KeptTables;
 use named_systems::SealedSystems;
 use std::alloc::Global;
@@ -24,6 +27,15 @@ impl Kept {
             systems: KeptSystems::new(alloc),
             tables: KeptTables::new(alloc),
         }
+    }
+
+    /// No steps yet, under this limit. Those that follow are shown on the monitor, if there is one.
+    pub fn new_steps(&self, alloc: Global, limit: u32) -> Steps
+        ensures { result ≡ record { limit = limit; lines = [] } }
+    {
+        let mut steps = Steps::new(alloc, limit);
+        steps.show_on(self.systems.monitor());
+        steps
     }
 
     /// How often something that was kept of files was used. The count stays at its type's greatest value.

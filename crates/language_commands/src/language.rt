@@ -17,6 +17,7 @@ use crate::reg::made_of;
 use command_head::{HeadFault, LanguagesParts, language_parts, languages_parts};
 use command_parts::fault::Fault;
 use command_parts::file_change::{FileChange, Made};
+use command_parts::kept::Kept;
 use command_parts::mentioned_tables::load_mentioned;
 use command_parts::refusal::Refusal;
 use command_parts::shape_refusal::ShapeRefusal;
@@ -25,7 +26,6 @@ use dfa_loading::Loaded;
 use digit_tuple::faults::OutOfMemory;
 use digit_tuple::header::Header;
 use digit_tuple::name::Name;
-use digit_tuple::steps::Steps;
 use formula_resolve::Mention;
 use language_steps::{
     LanguageOp, OneOp, PairOp, first_not_plain, first_sets, first_unlike, language_of,
@@ -33,21 +33,41 @@ use language_steps::{
 use std::alloc::Global;
 use wal_outside::{Folder, Store};
 
+/// A language command: its operation and its text.
+#[derive(Clone, Copy)]
+pub struct LanguageCommand<'a> {
+    /// The operation that its first word names.
+    pub op: LanguageOp,
+    /// The whole text.
+    pub text: &'a [u8],
+}
+
+/// An operation and the names of its languages.
+#[derive(Clone, Copy)]
+struct Operands<'a> {
+    op: LanguageOp,
+    names: &'a [Name],
+}
+
 /// What a language command stores and prints, or the first of its checks that refuses it: the shape of its head, the files of the
 /// automata, that all are over sets, that all have the header of the first, its steps, and the length of the text to store. Each
 /// file is read once, also where it is listed more often, and no text is changed.
 pub fn language_change<T: Store>(
     alloc: Global,
     options: StepOptions,
-    op: LanguageOp,
-    text: &[u8],
+    command: LanguageCommand<'_>,
+    kept: &Kept,
     store: &mut T,
 ) -> Result<FileChange, Fault>
-    ensures { FromFiles (λ found change. (ledger : Ledger) → Stores ledger found → ChangesFile (custom_of ledger) (language_checks op options.limit ledger text.now) options.shown change) (T.view store.old) result (T.view store.new) }
+    ensures { FromFiles (λ found change. (ledger : Ledger) → Stores ledger found → ChangesFile (custom_of ledger) (language_checks command.entry.op options.limit ledger command.entry.text.now) options.shown change) (T.view store.old) result (T.view store.new) }
 {
-    let head = head_of(alloc, op, text)?;
-    let LanguagesParts { name, languages } = head;
-    match language_made(alloc, options, op, &languages, store) {
+    let LanguageCommand { op, text } = command;
+    let LanguagesParts { name, languages } = head_of(alloc, op, text)?;
+    let operands = Operands {
+        op,
+        names: &languages,
+    };
+    match language_made(alloc, options, operands, kept, store) {
         Ok(made) => Ok(FileChange {
             folder: Folder::Automata,
             name,
@@ -74,16 +94,16 @@ fn head_of(alloc: Global, op: LanguageOp, text: &[u8]) -> Result<LanguagesParts,
 fn language_made<T: Store>(
     alloc: Global,
     options: StepOptions,
-    op: LanguageOp,
-    names: &[Name],
+    operands: Operands<'_>,
+    kept: &Kept,
     store: &mut T,
 ) -> Result<Made, Fault>
-    requires { HasCount op names.now }
-    ensures { FromFiles (λ found made. (ledger : Ledger) (name : List ℕ) → Stores ledger found → Makes (custom_of ledger) (after_language_head options.limit ledger op (record { name = name; languages = names.now })) options.shown made) (T.view store.old) result (T.view store.new) }
+    requires { HasCount operands.op operands.names.now }
+    ensures { FromFiles (λ found made. (ledger : Ledger) (name : List ℕ) → Stores ledger found → Makes (custom_of ledger) (after_language_head options.limit ledger operands.entry.op (record { name = name; languages = operands.entry.names.now })) options.shown made) (T.view store.old) result (T.view store.new) }
 {
-    let mentions = mentions_of(alloc, names)?;
+    let mentions = mentions_of(alloc, operands.names)?;
     let mentioned = load_mentioned(alloc, mentions, store)?;
-    made_of_tables(alloc, options, op, names, &mentioned.tables)
+    made_of_tables(alloc, options, operands, &mentioned.tables, kept)
 }
 
 /// Automata are mentioned as those are that are called.
@@ -101,16 +121,17 @@ fn mentions_of(alloc: Global, names: &[Name]) -> Result<Vec<Mention>, OutOfMemor
 fn made_of_tables(
     alloc: Global,
     options: StepOptions,
-    op: LanguageOp,
-    names: &[Name],
+    operands: Operands<'_>,
     tables: &[Loaded],
+    kept: &Kept,
 ) -> Result<Made, Fault>
-    requires count { HasCount op names.now }
-    requires listed { (files : Files) × AreListedBy files (language_files names.now) tables.now }
-    ensures { MakesLanguage options op names.now tables.now result }
+    requires count { HasCount operands.op operands.names.now }
+    requires listed { (files : Files) × AreListedBy files (language_files operands.names.now) tables.now }
+    ensures { MakesLanguage options operands.entry.op operands.entry.names.now tables.now result }
 {
+    let Operands { op, names } = operands;
     refuse_tables(alloc, tables)?;
-    let mut steps = Steps::new(alloc, options.limit);
+    let mut steps = kept.new_steps(alloc, options.limit);
     let language = language_of(alloc, op, names, tables, &mut steps)?;
     let header = Header::Sets(first_sets(tables).copy(alloc)?);
     made_of(alloc, &header, &language, &steps, options.shown)

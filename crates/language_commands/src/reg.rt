@@ -104,19 +104,25 @@ fn made_over<T: Store>(
     ensures { FromTexts (λ custom made. (name : List ℕ) → Makes custom (after_head quoted.entry.options.limit custom (record { name = name; alphabets = alphabets_of alphabets; body = quoted.entry.body.now })) quoted.entry.options.shown made) (T.view store.old) result (T.view store.new) }
 {
     match alphabets {
-        Alphabets::Sets(sets) => regex_over(alloc, quoted.options, sets, quoted.body),
+        Alphabets::Sets(sets) => regex_over(alloc, quoted.options, sets, quoted.body, kept),
         Alphabets::Systems(names) => regex_over_names(alloc, quoted, &names, kept, store),
     }
 }
 
 /// What is made of the expression in a quoted text over sets, by the step `regex`.
-fn regex_over(alloc: Global, options: StepOptions, sets: Sets, body: &[u8]) -> Result<Made, Fault>
+fn regex_over(
+    alloc: Global,
+    options: StepOptions,
+    sets: Sets,
+    body: &[u8],
+    kept: &Kept,
+) -> Result<Made, Fault>
     requires sets { AreTrackSets sets }
     ensures { (custom : Custom) (name : List ℕ) → Makes custom (after_tracks (no_steps options.limit) custom name body.now (OverSets sets)) options.shown result }
 {
     let header = Header::Sets(sets);
     let regex = parsed(alloc, body, &header)?;
-    let mut steps = Steps::new(alloc, options.limit);
+    let mut steps = kept.new_steps(alloc, options.limit);
     let automaton = regex_step(alloc, &regex, &mut steps)?;
     made_of(alloc, &header, &automaton, &steps, options.shown)
 }

@@ -16,7 +16,7 @@ use command_parts::refusal::Refusal;
 use command_parts::step_options::StepOptions;
 use command_parts::text_refusal::TextRefusal;
 use formula_commands::formula::{FormulaCommand, formula_change};
-use language_commands::language::language_change;
+use language_commands::language::{LanguageCommand, language_change};
 use language_commands::reg::reg_change;
 use language_steps::{LanguageOp, OneOp, PairOp};
 use listing_commands::listing::{say_inf, say_test};
@@ -79,28 +79,33 @@ pub(crate) fn action_of<T: Store>(
         Some(CommandWord::Def) => writing(formula_change(alloc, def(options), text, kept, store)),
         Some(CommandWord::Macro) => writing(macro_change(alloc, text)),
         Some(CommandWord::Morphism) => writing(morphism_change(alloc, text)),
-        Some(CommandWord::Promote) => writing(promote_change(alloc, options, text, store)),
+        Some(CommandWord::Promote) => writing(promote_change(alloc, options, text, kept, store)),
         Some(CommandWord::Combine) => { writing(combine_change(alloc, options, text, kept, store)) }
         Some(CommandWord::Image) => writing(image_change(alloc, options, text, kept, store)),
         Some(CommandWord::Union) => {
             let op = LanguageOp::Pair(PairOp::Union);
-            writing(language_change(alloc, options, op, text, store))
+            let command = LanguageCommand { op, text };
+            writing(language_change(alloc, options, command, kept, store))
         }
         Some(CommandWord::Intersect) => {
             let op = LanguageOp::Pair(PairOp::Intersection);
-            writing(language_change(alloc, options, op, text, store))
+            let command = LanguageCommand { op, text };
+            writing(language_change(alloc, options, command, kept, store))
         }
         Some(CommandWord::Concat) => {
             let op = LanguageOp::Pair(PairOp::Concatenation);
-            writing(language_change(alloc, options, op, text, store))
+            let command = LanguageCommand { op, text };
+            writing(language_change(alloc, options, command, kept, store))
         }
         Some(CommandWord::Star) => {
             let op = LanguageOp::One(OneOp::Star);
-            writing(language_change(alloc, options, op, text, store))
+            let command = LanguageCommand { op, text };
+            writing(language_change(alloc, options, command, kept, store))
         }
         Some(CommandWord::Reverse) => {
             let op = LanguageOp::One(OneOp::Reversal);
-            writing(language_change(alloc, options, op, text, store))
+            let command = LanguageCommand { op, text };
+            writing(language_change(alloc, options, command, kept, store))
         }
         Some(CommandWord::Transduce) => {
             writing(transduce_change(alloc, options, text, kept, store))

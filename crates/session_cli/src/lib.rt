@@ -50,4 +50,4 @@ pub use dfa_loading::FileFlaw;
 pub use laws::{one_outcome, one_run, store_faults_counted};
 pub use script_runs::Status;
 pub use session::Session;
-pub use whole::run;
+pub use whole::{Program, run};

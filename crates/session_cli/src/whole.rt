@@ -7,8 +7,10 @@ use crate::answering::Answerer;
 use crate::making::run_generated;
 use crate::session::Session;
 use command_line::{WordsFault, options_of};
+use monitor::Monitor;
 use script_runs::{Status, run_script};
 use std::alloc::Global;
+use std::rc::Rc;
 use wal_outside::{Sink, Source, Store, WriteFault, send};
 
 /// Runs a script: answers its commands in order, each as soon as its terminator was read, and prints what they print: the lines of
@@ -37,19 +39,71 @@ pub fn run<S: Source, K: Sink, T: Store>(
         ⊎ (Rose (K.view out.old).faults (K.view out.new).faults ⊎ Rose (T.view store.old).faults (T.view store.new).faults) }
     ensures memory { result ≡ Status.Memory → ((S.view script.new).faults ≡ (S.view script.old).faults) × ((K.view out.new).faults ≡ (K.view out.old).faults) }
 {
-    match options_of(alloc, words) {
-        Ok(options) => {
-            let answerer = Answerer {
-                session: Session::new(alloc, options.limit),
-                stop: options.stop,
-            };
-            match options.seed {
-                None => run_script(alloc, answerer, script, out, store),
-                Some(seed) => run_generated(alloc, answerer, seed, out, store),
-            }
+    Program::new(alloc).run(words, script, out, store)
+}
+
+/// The program. It may show on a monitor which step is being made, while a command works.
+#[derive(Drop)]
+pub struct Program {
+    alloc: Global,
+    monitor: Option<Rc<Monitor>>,
+}
+
+impl Program {
+    /// The program that shows nothing.
+    pub fn new(alloc: Global) -> Program {
+        Program {
+            alloc,
+            monitor: None,
         }
-        Err(WordsFault::Refused) => print_usage(out),
-        Err(WordsFault::Memory) => Status::Memory,
+    }
+
+    /// The program that shows its steps on this monitor, if there is one.
+    pub fn shown_on(alloc: Global, monitor: Option<Rc<Monitor>>) -> Program {
+        Program { alloc, monitor }
+    }
+
+    /// Runs a script, as `run` does, whether there is a monitor or not.
+    pub fn run<S: Source, K: Sink, T: Store>(
+        self,
+        words: &[String],
+        script: &mut S,
+        out: &mut K,
+        store: &mut T,
+    ) -> Status
+        ensures run { HasCalled (map string_bytes words.now) (S.view script.old) (S.view script.new) (T.view store.old) (T.view store.new) (K.view out.old) (K.view out.new) result }
+        ensures usage { result ≡ Status.Usage → GivesNone (map string_bytes words.now) }
+        ensures refused { GivesNone (map string_bytes words.now) → (result ≡ Status.Usage) ⊎ (result ≡ Status.Memory) }
+        ensures outside { result ≡ Status.Outside → Rose (S.view script.old).faults (S.view script.new).faults
+            ⊎ (Rose (K.view out.old).faults (K.view out.new).faults ⊎ Rose (T.view store.old).faults (T.view store.new).faults) }
+        ensures memory { result ≡ Status.Memory → ((S.view script.new).faults ≡ (S.view script.old).faults) × ((K.view out.new).faults ≡ (K.view out.old).faults) }
+    {
+        let alloc = self.alloc;
+        match options_of(alloc, words) {
+            Ok(options) => {
+                let answerer = Answerer {
+                    session: self.session(options.limit),
+                    stop: options.stop,
+                };
+                match options.seed {
+                    None => run_script(alloc, answerer, script, out, store),
+                    Some(seed) => run_generated(alloc, answerer, seed, out, store),
+                }
+            }
+            Err(WordsFault::Refused) => print_usage(out),
+            Err(WordsFault::Memory) => Status::Memory,
+        }
+    }
+
+    /// A session with this limit, which shows its steps on the monitor.
+    fn session(self, limit: u32) -> Session
+        ensures { result ≡ record { limit = limit } }
+    {
+        let mut session = Session::new(self.alloc, limit);
+        if let Some(monitor) = self.monitor {
+            session.show_on(monitor);
+        }
+        session
     }
 }
 

@@ -17,10 +17,10 @@ use crate::word_text::{letters_fit, word_text};
 use command_head::promote_parts;
 use command_parts::fault::Fault;
 use command_parts::file_change::{FileChange, Made};
+use command_parts::kept::Kept;
 use command_parts::printed::Printed;
 use command_parts::step_options::StepOptions;
 use digit_tuple::direction::Direction;
-use digit_tuple::steps::Steps;
 use fixed_points::promotion::promote;
 use morph_words::Morphism;
 use morphism_loading::load_morphism;
@@ -36,13 +36,14 @@ pub fn promote_change<T: Store>(
     alloc: Global,
     options: StepOptions,
     text: &[u8],
+    kept: &Kept,
     store: &mut T,
 ) -> Result<FileChange, Fault>
     ensures { FromFiles (λ found change. (ledger : Ledger) → Stores ledger found → ChangesFile (custom_of ledger) (promote_checks options.limit ledger text.now) options.shown change) (T.view store.old) result (T.view store.new) }
 {
     let head = promote_parts(alloc, text)?;
     let morphism = load_morphism(alloc, &head.morphism, store)?;
-    let made = fixed_point(alloc, options, &morphism)?;
+    let made = fixed_point(alloc, options, &morphism, kept)?;
     Ok(FileChange {
         folder: Folder::Words,
         name: head.word,
@@ -51,10 +52,15 @@ pub fn promote_change<T: Store>(
 }
 
 /// What is made of a morphism, whatever the word's name.
-fn fixed_point(alloc: Global, options: StepOptions, morphism: &Morphism) -> Result<Made, Fault>
+fn fixed_point(
+    alloc: Global,
+    options: StepOptions,
+    morphism: &Morphism,
+    kept: &Kept,
+) -> Result<Made, Fault>
     ensures { (custom : Custom) (name : List ℕ) → Makes custom (after_morphism options.limit custom name morphism.now) options.shown result }
 {
-    let mut steps = Steps::new(alloc, options.limit);
+    let mut steps = kept.new_steps(alloc, options.limit);
     let word = promote(alloc, morphism, &mut steps)?;
     letters_fit(&word);
     let stored = base_text(alloc, &word)?;

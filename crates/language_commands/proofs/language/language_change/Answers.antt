@@ -16,23 +16,23 @@ pub returns-in_err-head : goal.returns-in_err-head
 returns-in_err-head g c =
     let p = err_from_is_err_and c.from_residual.result c.from_residual.ensures.1 in
     let fault = c.in_err-head.field-0.0 in
-    rw (p.1, p.2) (from_none _ _ _ (own_head fault) (λ found ledger stores. language_broken c.args.op c.args.options.limit ledger c.args.text.now fault c.in_err-head.ensures))
+    rw (p.1, p.2) (from_none _ _ _ (own_head fault) (λ found ledger stores. language_broken c.args.command.op c.args.options.limit ledger c.args.command.text.now fault c.in_err-head.ensures))
 
 pub language_made-requires : goal.language_made-requires
 language_made-requires g c =
     let head = languages_view c.in_ok-head.head in
-    subst (HasCount c.args.op) (sym c.deref.ensures.value) (head_count c.args.op (texts_of (parts_of c.args.text.now)) head c.in_ok-head.ensures)
+    subst (HasCount c.args.command.op) (sym c.deref.ensures.value) (head_count c.args.command.op (texts_of (parts_of c.args.command.text.now)) head c.in_ok-head.ensures)
 
 pub returns-in-Ok : goal.returns-in-Ok
 returns-in-Ok g c =
     let head = languages_view c.in_ok-head.head in
     from_read _ _ _ _ _ _ tt c.in-Ok.ensures
-    (λ found makes ledger stores. language_changed c.args.op c.args.options.limit ledger c.args.text.now c.args.options.shown head _ c.in_ok-head.ensures refl refl
-    (subst (λ (names : List (List ℕ)). Makes (custom_of ledger) (after_language_head c.args.options.limit ledger c.args.op (record { name = head.name; languages = names })) c.args.options.shown (Ok c.in-Ok.made)) c.deref.ensures.value (makes ledger head.name stores)))
+    (λ found makes ledger stores. language_changed c.args.command.op c.args.options.limit ledger c.args.command.text.now c.args.options.shown head _ c.in_ok-head.ensures refl refl
+    (subst (λ (names : List (List ℕ)). Makes (custom_of ledger) (after_language_head c.args.options.limit ledger c.args.command.op (record { name = head.name; languages = names })) c.args.options.shown (Ok c.in-Ok.made)) c.deref.ensures.value (makes ledger head.name stores)))
 
 pub returns-in-Err : goal.returns-in-Err
 returns-in-Err g c =
     let head = languages_view c.in_ok-head.head in
     from_refused _ _ _ _ c.in-Err.fault c.in-Err.ensures
-    (λ found refused ledger stores. language_failed c.args.op c.args.options.limit ledger c.args.text.now c.args.options.shown head c.in-Err.fault c.in_ok-head.ensures
-    (subst (λ (names : List (List ℕ)). Fails (after_language_head c.args.options.limit ledger c.args.op (record { name = head.name; languages = names })) c.in-Err.fault) c.deref.ensures.value (refused ledger head.name stores)))
+    (λ found refused ledger stores. language_failed c.args.command.op c.args.options.limit ledger c.args.command.text.now c.args.options.shown head c.in-Err.fault c.in_ok-head.ensures
+    (subst (λ (names : List (List ℕ)). Fails (after_language_head c.args.options.limit ledger c.args.command.op (record { name = head.name; languages = names })) c.in-Err.fault) c.deref.ensures.value (refused ledger head.name stores)))

@@ -19,21 +19,21 @@ pub returns-in_err-mentioned : goal.returns-in_err-mentioned
 returns-in_err-mentioned g c =
     let p = err_from_is_err_and c.from_residual-in_err-mentioned.result c.from_residual-in_err-mentioned.ensures.1 in
     let fault = c.in_err-mentioned.field-0.0 in
-    let names = c.args.names.now in
+    let names = c.args.operands.names.now in
     let loads = same_loads c.in_ok-mentions.ensures c.in_err-mentioned.ensures in
     rw (p.1, p.2) (from_refused _ _ _ _ fault loads
-    (λ found refused ledger name stores. language_unloaded c.args.options.limit ledger c.args.op (record { name = name; languages = names }) fault (unloaded ledger found (language_files names) fault stores refused)))
+    (λ found refused ledger name stores. language_unloaded c.args.options.limit ledger c.args.operands.op (record { name = name; languages = names }) fault (unloaded ledger found (language_files names) fault stores refused)))
 
 pub made_of_tables-requires-clause-listed : goal.made_of_tables-requires-clause-listed
 made_of_tables-requires-clause-listed g c =
-    let names = c.args.names.now in
+    let names = c.args.operands.names.now in
     let loads = same_loads c.in_ok-mentions.ensures c.in_ok-mentioned.ensures in
     (loads.found, subst (λ (ts : List Loaded). AreListedBy loads.found (language_files names) ts) (sym c.deref.ensures.value) loads.gives.listed)
 
 pub returns : goal.returns
 returns g c =
-    let names = c.args.names.now in
-    let op = c.args.op in
+    let names = c.args.operands.names.now in
+    let op = c.args.operands.op in
     let mentioned = c.in_ok-mentioned.mentioned in
     let tables = mentioned.tables.items in
     let makes : MakesLanguage c.args.options op names tables c.made_of_tables.result = subst (λ (ts : List Loaded). MakesLanguage c.args.options op names ts c.made_of_tables.result) c.deref.ensures.value c.made_of_tables.ensures in

@@ -14,7 +14,7 @@ returns-in_err-word c =
     let fault = c.in_err-word.field-0.0 in
     let limit = c.args.options.limit in
     let rules = c.args.morphism.now in
-    let refused : DoesPromote rules (no_steps limit) (Err fault) c.promote.new.steps = subst (λ (log : StepLog). DoesPromote rules log (Err fault) c.promote.new.steps) c.new-steps.ensures c.in_err-word.ensures in
+    let refused : DoesPromote rules (no_steps limit) (Err fault) c.promote.new.steps = subst (λ (log : StepLog). DoesPromote rules log (Err fault) c.promote.new.steps) c.new_steps-steps.ensures c.in_err-word.ensures in
     rw (p.1, p.2) (λ custom name. promotion_refused limit custom name rules (fault_of_promotion fault) (not_promoted limit rules fault c.promote.new.steps refused))
 
 pub base_text-requires : goal.base_text-requires
@@ -22,7 +22,7 @@ base_text-requires c =
     let limit = c.args.options.limit in
     let rules = c.args.morphism.now in
     let word = c.in_ok-word.word in
-    let done : DoesPromote rules (no_steps limit) (Ok word) c.promote.new.steps = subst (λ (log : StepLog). DoesPromote rules log (Ok word) c.promote.new.steps) c.new-steps.ensures c.in_ok-word.ensures in
+    let done : DoesPromote rules (no_steps limit) (Ok word) c.promote.new.steps = subst (λ (log : StepLog). DoesPromote rules log (Ok word) c.promote.new.steps) c.new_steps-steps.ensures c.in_ok-word.ensures in
     (done.0, over_base rules done.0 word done.1 done.2.step.made_is)
 
 pub returns-in_err-stored : goal.returns-in_err-stored
@@ -32,7 +32,7 @@ returns-in_err-stored c =
     let limit = c.args.options.limit in
     let rules = c.args.morphism.now in
     let word = c.in_ok-word.word in
-    let done : DoesPromote rules (no_steps limit) (Ok word) c.promote.new.steps = subst (λ (log : StepLog). DoesPromote rules log (Ok word) c.promote.new.steps) c.new-steps.ensures c.in_ok-word.ensures in
+    let done : DoesPromote rules (no_steps limit) (Ok word) c.promote.new.steps = subst (λ (log : StepLog). DoesPromote rules log (Ok word) c.promote.new.steps) c.new_steps-steps.ensures c.in_ok-word.ensures in
     rw (p.1, p.2) (λ custom name. fixed_refused limit custom name rules word c.promote.new.steps done c.letters_fit.ensures fault (c.in_err-stored.ensures done.0 (over_base rules done.0 word done.1 done.2.step.made_is)))
 
 pub returns-in_err-printed : goal.returns-in_err-printed
@@ -45,6 +45,6 @@ returns c =
     let limit = c.args.options.limit in
     let rules = c.args.morphism.now in
     let word = c.in_ok-word.word in
-    let done : DoesPromote rules (no_steps limit) (Ok word) c.promote.new.steps = subst (λ (log : StepLog). DoesPromote rules log (Ok word) c.promote.new.steps) c.new-steps.ensures c.in_ok-word.ensures in
+    let done : DoesPromote rules (no_steps limit) (Ok word) c.promote.new.steps = subst (λ (log : StepLog). DoesPromote rules log (Ok word) c.promote.new.steps) c.new_steps-steps.ensures c.in_ok-word.ensures in
     λ custom name. fixed_made limit custom name rules word c.promote.new.steps done c.letters_fit.ensures c.args.options.shown _ (c.in_ok-stored.ensures done.0 (over_base rules done.0 word done.1 done.2.step.made_is))
     c.in_ok-printed.ensures

@@ -2,10 +2,10 @@ use Rattle.std.proofs.Common.{refl, inl, inr}
 use Rattle.script_runs.proofs.Statuses.{rose_of_outside}
 use Rattle.session_cli.proofs.MadeSteps.{made_no_usage, made_outside, made_memory}
 use Rattle.session_cli.proofs.WholeSteps.{served_run, served_made}
-use Rattle.session_cli.proofs.whole.run.Goals as goal
+use Rattle.session_cli.proofs.whole.Program.run.Goals as goal
 
 pub returns-in-None-clause-run : goal.returns-in-None-clause-run
-returns-in-None-clause-run g c = inl (c.in-Ok.options, c.in-Ok.ensures, served_run c.in-Ok.options.limit c.in-Ok.options.stop c.in-Ok.options.seed c.new.result _ _ _ _ _ _ _ c.new.ensures c.in-None.is c.run_script.ensures)
+returns-in-None-clause-run g c = inl (c.in-Ok.options, c.in-Ok.ensures, served_run c.in-Ok.options.limit c.in-Ok.options.stop c.in-Ok.options.seed c.session.result _ _ _ _ _ _ _ c.session.ensures c.in-None.is c.run_script.ensures)
 
 pub returns-in-None-clause-refused : goal.returns-in-None-clause-refused
 returns-in-None-clause-refused g c = λ refused. absurd (refused c.in-Ok.options c.in-Ok.ensures)
@@ -14,7 +14,7 @@ pub returns-in-None-clause-outside : goal.returns-in-None-clause-outside
 returns-in-None-clause-outside g c = λ outside. rose_of_outside _ _ _ _ _ _ _ _ c.run_script.ensures outside
 
 pub returns-in-Some-clause-run : goal.returns-in-Some-clause-run
-returns-in-Some-clause-run g c = inl (c.in-Ok.options, c.in-Ok.ensures, served_made c.in-Ok.options.limit c.in-Ok.options.stop c.in-Ok.options.seed c.new.result _ _ _ _ _ _ _ c.new.ensures c.in-Some.seed c.in-Some.is refl c.run_generated.ensures)
+returns-in-Some-clause-run g c = inl (c.in-Ok.options, c.in-Ok.ensures, served_made c.in-Ok.options.limit c.in-Ok.options.stop c.in-Ok.options.seed c.session.result _ _ _ _ _ _ _ c.session.ensures c.in-Some.seed c.in-Some.is refl c.run_generated.ensures)
 
 pub returns-in-Some-clause-usage : goal.returns-in-Some-clause-usage
 returns-in-Some-clause-usage g c = λ usage. absurd (made_no_usage _ _ _ _ _ _ _ c.run_generated.ensures usage)
