@@ -1,19 +1,21 @@
 -- Letters by which pairs of states lead to dead ones.
 use Rattle.std.proofs.Common.{◌≡◌, ◌≢◌, ℕ, zero, suc, ◌+◌, ◌<◌, ◌≤◌, true, List, [], ◌∷◌, ◌++◌, length, get_or, unwrap_or, ◌⊎◌, inl, inr, refl, sym, ap, ◌∙◌, subst, arith}
 use Rattle.std.specs.List.{All, Contains, range_with_len}
+use Rattle.std.specs.Option.{IfSome}
 use Rattle.std.proofs.lemmas.Bool.{cases_eq, cases_lt}
 use Rattle.std.proofs.lemmas.Bool.Decides.{Decides-eqb}
 use Rattle.std.proofs.lemmas.List.{get_or_append_left, get_or_push, length_push}
 use Rattle.std.proofs.lemmas.List.Elements.{All-append, All-cons, All-nil, All-push, Contains-append_left, Contains-append_right}
 use Rattle.std.proofs.lemmas.List.FromFn.{get_or-map-range_with_len}
 use Rattle.digit_tuple.specs.declared.transitions.Transition.{Transition}
-use Rattle.digit_tuple.specs.Deterministic.{states_of, transitions_of, target_by}
-use Rattle.digit_tuple.proofs.DfaLemmas.{target_by-none}
+use Rattle.digit_tuple.specs.Deterministic.{Automaton, IsRow, letters_of, states_of, transitions_of, target_by}
+use Rattle.digit_tuple.proofs.DfaLemmas.{target_by-in_range, target_by-none}
 use Rattle.digit_tuple.proofs.MemberLemmas.{Contains-head}
 use Rattle.digit_tuple.proofs.RangeLemmas.{All-range, Contains-range, map-range-same}
+use Rattle.digit_tuple.proofs.RowLemmas.{IsFrom, IsFrom-row, full_of}
 use Rattle.minimise.specs.Classes.{next_of}
 use Rattle.product_op.specs.declared.op.Op.{Op}
-use Rattle.product_op.specs.DeadExits.{AreExits, AreExitsBeside, HasExit, LeadsOut}
+use Rattle.product_op.specs.DeadExits.{AllLeadOn, AreExits, AreExitsBeside, HasExit, LeadsOut}
 use Rattle.product_op.specs.DeadPairs.{is_dead_pair, is_sink_at, needs_second}
 use Rattle.product_op.specs.Readings.{Reading, part_read, reading_at, state_at, next_key}
 use Rattle.product_op.proofs.DeadPairLemmas.{dead_cases}
@@ -73,6 +75,27 @@ module _ (letters : ℕ) (r other : Reading) (beside : ℕ) (row : List Transiti
       by : (a : ℕ) → a < letters → ¬ LeadsOut r state a → LeadsOut other beside a → ((i : ℕ) × (i < length row) × ((z : Transition) → (get_or row i z).letter ≡ part_read r a)) ⊎ All (λ e. e.letter ≢ part_read r a) row → HasExit r other beside exits a
       by a small on out (inl found) = are.whole found.0 (record { letter = 0; target = 0 }) (omega (arith, found.1, all)) a small (sym (found.2 (record { letter = 0; target = 0 }))) out
       by a small on out (inr none) = absurd (on (ap (λ (es : List Transition). unwrap_or (target_by es (part_read r a)) (states_of r.automaton)) (sym row_is) ∙ ap (λ o. unwrap_or o (states_of r.automaton)) (target_by-none row (part_read r a) none)))
+
+-- each letter leads on where there are as many transitions as letters
+pub all_lead_on : (d : Automaton) (q : ℕ) (row : List Transition) → row ≡ transitions_of d q → IsRow (letters_of d) (states_of d) row → letters_of d ≤ length row → AllLeadOn d q
+all_lead_on d q row is row_is full a small out =
+    let from : IsFrom (letters_of d) 0 row = IsFrom-row (letters_of d) 0 row (λ k e within. (row_is.in_range k e within).0) row_is.ascending (λ k e within. omega arith) in
+    let found = full_of (letters_of d) 0 row from (omega (arith, full)) a (omega arith) small in
+    let low : found.0 < states_of d = subst (λ o. IfSome o (λ t. t < states_of d)) found.1 (target_by-in_range (letters_of d) (states_of d) row a row_is.in_range) in
+    let next : next_of d q a ≡ found.0 = ap (λ (es : List Transition). unwrap_or (target_by es a) (states_of d)) (sym is) ∙ ap (λ o. unwrap_or o (states_of d)) found.1 in
+    omega (arith, low, next, out)
+
+-- the same of the same automaton and state
+pub LeadsOut-same : (r f : Reading) (q p a : ℕ) → f ≡ r → p ≡ q → LeadsOut f p a → LeadsOut r q a
+LeadsOut-same r f q p a same here out = subst (λ (x : Reading). LeadsOut x q a) same (subst (λ k. LeadsOut f k a) here out)
+
+-- exits for the same automata and states
+pub AreExitsBeside-same : (letters : ℕ) (r other f g : Reading) (state beside p q : ℕ) (exits : List ℕ) → f ≡ r → g ≡ other → p ≡ state → q ≡ beside → length r.parts ≡ letters
+    → AreExitsBeside (length f.parts) f g p q exits → AreExitsBeside letters r other state beside exits
+AreExitsBeside-same letters r other f g state beside p q exits first second here there long are =
+    let moved : AreExitsBeside (length f.parts) f g state beside exits = subst (λ k. AreExitsBeside (length f.parts) f g state k exits) there (subst (λ k. AreExitsBeside (length f.parts) f g k q exits) here are) in
+    let turned : AreExitsBeside (length f.parts) f other state beside exits = subst (λ (y : Reading). AreExitsBeside (length f.parts) f y state beside exits) second moved in
+    subst (λ n. AreExitsBeside n r other state beside exits) long (subst (λ (x : Reading). AreExitsBeside (length x.parts) x other state beside exits) first turned)
 
 -- all letters are exits
 pub AreExits-every : (letters : ℕ) (op : Op) (rs : List Reading) (key exits : List ℕ) → exits ≡ range_with_len 0 letters → AreExits letters op rs key exits

@@ -3,13 +3,14 @@
 ghost use Rattle.std.specs.Prelude.{◌≡◌, ◌<◌, ℕ, length, slice_index, IfOk, MatchOption, OnOk};
 ghost use Rattle.std.specs.List.{All, Contains};
 ghost use Rattle.digit_tuple.specs.PartIndex.{letters_with};
-ghost use Rattle.product_op.specs.DeadExits.{AreExits, AreExitsBeside, LeadsOut};
+ghost use Rattle.product_op.specs.DeadExits.{AreExits, AreExitsBeside, IsReaderAt, LeadsOut};
 ghost use Rattle.product_op.specs.DeadPairs.{ArePair};
-ghost use Rattle.product_op.specs.Readings.{AreStates, IsReading, reading_at, reading_in, readings_in, state_at};
+ghost use Rattle.product_op.specs.Readings.{AreStates, IsReading, automata_in, reading_at, reading_in, readings_in, state_at};
 
 use crate::live_pairs::LivePairs;
 use crate::numbers_below::numbers_below;
 use crate::reader::Reader;
+use crate::reader_at::ReaderAt;
 use digit_tuple::faults::OutOfMemory;
 use digit_tuple::transitions::Transition;
 
@@ -21,6 +22,7 @@ pub fn dead_exits(
     row: &mut Vec<Transition>,
 ) -> Result<Vec<u32>, OutOfMemory>
     requires pair { ArePair graph.now.letters graph.now.op (readings_in graph.now.readers.now) }
+    requires tables { graph.now.tables.now ≡ automata_in (readings_in graph.now.readers.now) }
     requires key { AreStates (readings_in graph.now.readers.now) key.now }
     ensures { IfOk result (λ exits. AreExits graph.now.letters graph.now.op (readings_in graph.now.readers.now) key.now exits.items) }
 {
@@ -40,15 +42,16 @@ fn found_exits(
     row: &mut Vec<Transition>,
 ) -> Result<Vec<u32>, OutOfMemory>
     requires pair { ArePair graph.now.letters graph.now.op (readings_in graph.now.readers.now) }
+    requires tables { graph.now.tables.now ≡ automata_in (readings_in graph.now.readers.now) }
     requires key { AreStates (readings_in graph.now.readers.now) key.now }
     ensures { IfOk result (λ exits. AreExits graph.now.letters graph.now.op (readings_in graph.now.readers.now) key.now exits.items) }
 {
-    let first = &graph.readers[0];
-    let second = &graph.readers[1];
-    let mut exits = exits_beside(first, second, key[0], key[1], row)?;
-    let others = exits_beside(second, first, key[1], key[0], row)?;
+    let first = ReaderAt::new(&graph.readers[0], &graph.tables[0], key[0], row)?;
+    let second = ReaderAt::new(&graph.readers[1], &graph.tables[1], key[1], row)?;
+    let mut exits = exits_beside(&first, &second, row)?;
+    let others = exits_beside(&second, &first, row)?;
     exits.extend_from_slice(&others)?;
-    if let Some(letter) = common_exit(first, second, key[0], key[1], graph.letters) {
+    if let Some(letter) = common_exit(&first, &second, graph.letters) {
         exits.push(letter)?;
     }
     Ok(exits)
@@ -57,25 +60,25 @@ fn found_exits(
 // For each transition of a reader's state the first letter with its part that leads the other reader to its sink, if
 // there is one. The row is written over.
 fn exits_beside(
-    reader: &Reader<'_>,
-    other: &Reader<'_>,
-    state: u32,
-    beside: u32,
+    own: &ReaderAt<'_>,
+    other: &ReaderAt<'_>,
     row: &mut Vec<Transition>,
 ) -> Result<Vec<u32>, OutOfMemory>
-    requires parts { length reader.now.parts ≡ length other.now.parts }
-    ensures { IfOk result (λ exits. AreExitsBeside (length reader.now.parts) (reading_in reader.now) (reading_in other.now) state beside exits.items) }
+    requires parts { length own.now.reader.now.parts ≡ length other.now.reader.now.parts }
+    requires other { IsReaderAt other.now }
+    ensures { IfOk result (λ exits. AreExitsBeside (length own.now.reader.now.parts) (reading_in own.now.reader.now) (reading_in other.now.reader.now) own.now.state other.now.state exits.items) }
 {
     let alloc = *row.allocator();
     let mut exits = Vec::new(alloc);
-    if state >= reader.dfa.states() {
+    let reader = own.reader;
+    if other.leads_on || own.state >= reader.dfa.states() {
         return Ok(exits);
     }
-    reader.dfa.transitions_into(state, row)?;
+    reader.dfa.transitions_into(own.state, row)?;
     let mut letters = Vec::new(alloc);
     for transition in row.iter() {
         write_letters(reader, transition.letter, &mut letters)?;
-        if let Some(letter) = first_exit(other, beside, &letters) {
+        if let Some(letter) = first_exit(other, &letters) {
             exits.push(letter)?;
         }
     }
@@ -91,12 +94,13 @@ fn write_letters(reader: &Reader<'_>, part: u32, letters: &mut Vec<u32>) -> Resu
 }
 
 // The first of the letters that leads the reader to its sink.
-fn first_exit(reader: &Reader<'_>, state: u32, letters: &[u32]) -> Option<u32>
-    requires { All (λ a. a < length reader.now.parts) letters.now }
-    ensures { MatchOption result (All (λ a. ¬ LeadsOut (reading_in reader.now) state a) letters.now) (λ a. Contains letters.now a × LeadsOut (reading_in reader.now) state a) }
+fn first_exit(at: &ReaderAt<'_>, letters: &[u32]) -> Option<u32>
+    requires at { IsReaderAt at.now }
+    requires letters { All (λ a. a < length at.now.reader.now.parts) letters.now }
+    ensures { MatchOption result (All (λ a. ¬ LeadsOut (reading_in at.now.reader.now) at.now.state a) letters.now) (λ a. Contains letters.now a × LeadsOut (reading_in at.now.reader.now) at.now.state a) }
 {
     for letter in letters {
-        if reader.is_sink(reader.next(state, *letter)) {
+        if at.leads_out(*letter) {
             return Some(*letter);
         }
     }
@@ -104,20 +108,19 @@ fn first_exit(reader: &Reader<'_>, state: u32, letters: &[u32]) -> Option<u32>
 }
 
 // The first letter that leads both readers to their sinks.
-fn common_exit(
-    first: &Reader<'_>,
-    second: &Reader<'_>,
-    state: u32,
-    beside: u32,
-    letters: u32,
-) -> Option<u32>
-    requires first { length first.now.parts ≡ letters }
-    requires second { length second.now.parts ≡ letters }
-    ensures { MatchOption result ((a : ℕ) → a < letters → ¬ (LeadsOut (reading_in first.now) state a × LeadsOut (reading_in second.now) beside a))
-        (λ a. (a < letters) × LeadsOut (reading_in first.now) state a × LeadsOut (reading_in second.now) beside a) }
+fn common_exit(first: &ReaderAt<'_>, second: &ReaderAt<'_>, letters: u32) -> Option<u32>
+    requires first { IsReaderAt first.now }
+    requires second { IsReaderAt second.now }
+    requires first_count { length first.now.reader.now.parts ≡ letters }
+    requires second_count { length second.now.reader.now.parts ≡ letters }
+    ensures { MatchOption result ((a : ℕ) → a < letters → ¬ (LeadsOut (reading_in first.now.reader.now) first.now.state a × LeadsOut (reading_in second.now.reader.now) second.now.state a))
+        (λ a. (a < letters) × LeadsOut (reading_in first.now.reader.now) first.now.state a × LeadsOut (reading_in second.now.reader.now) second.now.state a) }
 {
+    if first.leads_on || second.leads_on {
+        return None;
+    }
     for letter in 0..letters {
-        if first.is_sink(first.next(state, letter)) && second.is_sink(second.next(beside, letter)) {
+        if first.leads_out(letter) && second.leads_out(letter) {
             return Some(letter);
         }
     }

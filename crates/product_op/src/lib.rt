@@ -51,6 +51,9 @@ mod reader_graph;
 /// The graph of the pairs of states from which a connective may accept.
 mod live_pairs;
 
+/// Readers at their states.
+mod reader_at;
+
 /// Letters by which pairs of states lead to dead ones.
 mod dead_exits;
 

@@ -23,9 +23,6 @@ use digit_tuple::key_transitions::KeyTransitions;
 use digit_tuple::transitions::Transition;
 use std::alloc::Global;
 
-// To search for a letter takes about as long as to write so many.
-const SEARCH: usize = 8;
-
 /// Two automata that read side by side, where their letters lead, the connective by which they accept, which needs the
 /// first, how many letters there are, and all of them where they are few, else none. A key has a state of each. Where
 /// one that the connective needs is a sink, there is no key.
@@ -179,8 +176,7 @@ fn leading_on(
     ensures { IfOk result (λ leading. leading.items ≡ filter (leads_on (reading_in reader.now) state) letters.now) }
 {
     let alloc = *row.allocator();
-    let asked = letters.len().saturating_mul(SEARCH);
-    let next = NextRow::of_state(alloc, table, state, asked, row)?;
+    let next = NextRow::of_state(alloc, table, state, letters.len(), row)?;
     let mut leading = Vec::new(alloc);
     for letter in letters {
         if !reader.is_sink(next_by(reader, state, &next, *letter)) {
@@ -190,8 +186,8 @@ fn leading_on(
     Ok(leading)
 }
 
-// Where a letter leads a reader from a state, by the state's row if there is one.
-fn next_by(reader: &Reader<'_>, state: u32, row: &Option<NextRow<'_>>, letter: u32) -> u32
+/// Where a letter leads a reader from a state, by the state's row if there is one.
+pub fn next_by(reader: &Reader<'_>, state: u32, row: &Option<NextRow<'_>>, letter: u32) -> u32
     requires reading { IsReading (length reader.now.parts) (reading_in reader.now) }
     requires letter { letter < length reader.now.parts }
     requires row { IfSome row.now (IsNextRow reader.now.dfa.now state) }

@@ -14,6 +14,9 @@ use digit_tuple::faults::OutOfMemory;
 use digit_tuple::transitions::Transition;
 use std::alloc::Global;
 
+// To search for where a letter leads takes about as long as to write so many letters.
+const SEARCH: usize = 8;
+
 /// Where each letter of an automaton leads from a state, or from its sink.
 #[derive(Drop)]
 pub enum NextRow<'a> {
@@ -25,8 +28,8 @@ pub enum NextRow<'a> {
 
 impl<'a> NextRow<'a> {
     /// The row of a state or of the sink, for so many letters that are to be asked for. Where none is kept it is a list
-    /// if they are no fewer than the automaton's letters, and takes time and memory as these are many; else there is
-    /// none. The transitions are written over.
+    /// if they are no fewer than an eighth of the automaton's letters, and takes time and memory as these are many; else
+    /// there is none. The transitions are written over.
     pub fn of_state(
         alloc: Global,
         table: &'a NextTable<'_>,
@@ -40,7 +43,7 @@ impl<'a> NextRow<'a> {
             return Ok(Some(NextRow::Kept(row)));
         }
         let dfa = table.dfa();
-        if letters < dfa.alphabet().letters() as usize {
+        if letters.saturating_mul(SEARCH) < dfa.alphabet().letters() as usize {
             return Ok(None);
         }
         let list = next_row(alloc, dfa, state, transitions)?;
