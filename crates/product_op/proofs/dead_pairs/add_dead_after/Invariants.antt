@@ -11,7 +11,7 @@ abbrev pub invariant-loop-letter : goal.invariant-loop-letter
 invariant-loop-letter l = record {
   live : HoldLive l.graph.letters l.graph.op (readings_in l.graph.readers.now) l.keys;
   begins : BeginsWith l.fn.keys l.keys;
-  few : length l.keys ≤ l.limit;
+  few : length l.keys ≤ l.limit.most;
   tried : (i : ℕ) → i < l.letter-index → is_dead_pair l.graph.op (readings_in l.graph.readers.now) (next_key (readings_in l.graph.readers.now) l.key (get_or l.letter-items i 0)) ≡ true
       → Contains l.keys (next_key (readings_in l.graph.readers.now) l.key (get_or l.letter-items i 0));
   rows : IfSome l.rows (λ all. AreNextRows (automata_in (readings_in l.graph.readers.now)) l.key all.items);

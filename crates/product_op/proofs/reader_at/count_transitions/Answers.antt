@@ -1,5 +1,4 @@
-use Rattle.std.proofs.Common.{sym, ◌∙◌, subst, ap, length, arith}
-use Rattle.digit_tuple.specs.Deterministic.{IsRow, letters_of, states_of}
+use Rattle.std.proofs.Common.{arith}
 use Rattle.product_op.proofs.DeadExitLemmas.{all_lead_on}
 use Rattle.product_op.proofs.reader_at.count_transitions.Goals as goal
 
