@@ -1,7 +1,6 @@
 -- Words are alike to the step if and only if they have the same maps.
 use Rattle.std.proofs.Common.{◌≡◌, ℕ, ◌+◌, ◌*◌, ◌/◌, ◌%◌, ◌^◌, ◌<◌, List, [], ◌++◌, length, take, drop, map, get_or, Option, None, Some, refl, sym, ap, ◌∙◌, subst, arith}
 use Rattle.std.specs.Option.{option_and_then, option_map}
-use Rattle.std.proofs.lemmas.List.{get_or_append_left}
 use Rattle.std.proofs.lemmas.Nat.{div-mul-add, mod-mul-add, mod_below}
 use Rattle.std.proofs.lemmas.Option.{same_Some}
 use Rattle.digit_tuple.specs.Deterministic.{Automaton, letters_of, run_of, states_of}
@@ -12,18 +11,20 @@ use Rattle.digit_tuple.specs.Width.{IsEquivalence}
 use Rattle.minimise.proofs.RunLemmas.{run_within}
 use Rattle.transducer_reading.specs.Transducers.{IsTransducer, Transducer}
 use Rattle.word_output.specs.LetterFunctions.{IsLetterFunction, LetterFunctionValue}
-use Rattle.word_output.specs.StateLetters.{letter_led}
+use Rattle.word_output.specs.StateLetters.{letter_led, letter_of_state}
 use Rattle.word_output.proofs.LsdLetterLemmas.{letter_led-explored}
 use Rattle.word_transduce.specs.Blocks.{base_of, block, place_of}
 use Rattle.word_transduce.specs.BlockLaws.{length-pairs}
 use Rattle.word_transduce.specs.BlockMaps.{at_pairs, first_end, first_output, key_letter, numbered_output, output_number, pairs_of, state_number}
 use Rattle.word_transduce.specs.BlockLengths.{block_key, first_block_key, key_after}
-use Rattle.word_transduce.specs.Runs.{made, output_at, run}
+use Rattle.word_transduce.specs.PackedOutputs.{Fit, are_packed, packed}
+use Rattle.word_transduce.specs.Runs.{made, made_of, output_at, run}
 use Rattle.word_transduce.specs.Transductions.{TransduceAlike}
 use Rattle.word_transduce.proofs.BlockKeys.{block_end, block_output, key_run-word, maps_of, words_positive}
 use Rattle.word_transduce.proofs.BlockLemmas.{block_from, block_led, block_lost}
 use Rattle.word_transduce.proofs.FoundLines.{numbered-number, one_output}
 use Rattle.word_transduce.proofs.KeyLemmas.{block_key-two, key_run-key, two_from_key}
+use Rattle.word_transduce.proofs.PackedLemmas.{key_output-packed, numbers_fit}
 use Rattle.word_transduce.proofs.PairLemmas.{at_pairs-at, first_of_two, pair_state, pair_within, pairs_same, same_pairs, second_of_two}
 use Rattle.word_transduce.proofs.RunLemmas.{made-line, made-same, made-silent, run-same, run-silent}
 
@@ -133,14 +134,18 @@ module _ (t : Transducer) (f : LetterFunctionValue) (transducer : IsTransducer t
             ∙ end_of_pair (length v) (base_of f ^ length v) q s within)
             ∙ sym (run_led u q (length v) (base_of f ^ length v) s leads)
 
+  -- the outputs of a word fit where they are packed
+  outputs_fit_of : (w : List ℕ) → Fit (are_packed t) (at_pairs t f (block_output t f transducer is (length w) (place_of (base_of f) w)))
+  outputs_fit_of w = numbers_fit t f (λ pair. made t (block_from f is (length w) (pair / t.states)) (place_of (base_of f) w) (Some (pair % t.states)))
+
   -- the key to which a word leads
   key_run-block : (list : List (List ℕ)) (w : List ℕ) → IsWord (base_of f) w → key_run (key_after t f list) (first_block_key t f list) w ≡ Some (block_key t f list (maps_of t f transducer is w))
-  key_run-block list w over = key_run-key t f list w (first_output t f) (first_end t f) ∙ ap (option_map (block_key t f list)) (key_run-word t f transducer is w over)
+  key_run-block list w over = key_run-key t f list w (first_output t f) (first_end t f) (numbers_fit t f (λ pair. made_of t (pair % t.states) (letter_of_state f (pair / t.states)))) ∙ ap (option_map (block_key t f list)) (key_run-word t f transducer is w over)
 
   -- so words that lead to one key are alike, and the other way round
   pub alike_from_lead : (list : List (List ℕ)) (w v : List ℕ) → IsWord (base_of f) w → IsWord (base_of f) v → LeadAlike (key_after t f list) (first_block_key t f list) w v → TransduceAlike t f w v
   alike_from_lead list w v over there lead =
-      alike_from_maps w v over there (two_from_key t f list _ _ _ _ (sym (block_key-two t f list _ _) ∙ same ∙ block_key-two t f list _ _))
+      alike_from_maps w v over there (two_from_key t f list _ _ _ _ (outputs_fit_of w) (outputs_fit_of v) (sym (block_key-two t f list _ _) ∙ same ∙ block_key-two t f list _ _))
     where
       same : block_key t f list (maps_of t f transducer is w) ≡ block_key t f list (maps_of t f transducer is v)
       same = same_Some (block_key t f list (maps_of t f transducer is w)) (block_key t f list (maps_of t f transducer is v)) (sym (key_run-block list w over) ∙ lead ∙ key_run-block list v there)
@@ -150,14 +155,14 @@ module _ (t : Transducer) (f : LetterFunctionValue) (transducer : IsTransducer t
       key_run-block list w over ∙ ap (λ (maps : List ℕ). Some (block_key t f list maps)) (maps_from_alike w v alike) ∙ sym (key_run-block list v there)
 
   -- the letter of a word's key is the output at the place that it represents
-  letter_of_maps : (w rest : List ℕ) → key_letter t (at_pairs t f (block_output t f transducer is (length w) (place_of (base_of f) w)) ++ rest) ≡ output_at t (block f (length w) []) (place_of (base_of f) w)
+  letter_of_maps : (w rest : List ℕ) → key_letter t (packed (are_packed t) (at_pairs t f (block_output t f transducer is (length w) (place_of (base_of f) w))) ++ rest) ≡ output_at t (block f (length w) []) (place_of (base_of f) w)
   letter_of_maps w rest =
       let least : 0 * t.states + 0 < pairs_of t f = pair_within t f 0 0 is.canonical.table.initial transducer.some in
       let some : 0 < pairs_of t f = omega (arith, least) in
       let outputs : List ℕ = at_pairs t f (block_output t f transducer is (length w) (place_of (base_of f) w)) in
       let zero_pair : 0 ≡ 0 * t.states + 0 = omega arith in
       ap (numbered_output t.lines) (
-      get_or_append_left outputs rest 0 0 (omega (arith, some, length-pairs t f (block_output t f transducer is (length w) (place_of (base_of f) w))))
+      key_output-packed (are_packed t) outputs rest 0 (outputs_fit_of w) (omega (arith, some, length-pairs t f (block_output t f transducer is (length w) (place_of (base_of f) w))))
       ∙ at_pairs-at t f (block_output t f transducer is (length w) (place_of (base_of f) w)) 0 some
       ∙ ap (λ p. output_number t.lines (made t (block_from f is (length w) p) (place_of (base_of f) w) (Some (0 % t.states)))) (ap (λ n. n / t.states) zero_pair ∙ div-mul-add 0 t.states 0 transducer.some)
       ∙ ap (λ r. output_number t.lines (made t (block_from f is (length w) 0) (place_of (base_of f) w) (Some r))) (ap (λ n. n % t.states) zero_pair ∙ mod-mul-add 0 t.states 0 transducer.some))

@@ -1,5 +1,5 @@
 -- Keys that are gathered from places.
-use Rattle.std.proofs.Common.{◌≡◌, ℕ, zero, suc, ◌+◌, ◌/◌, ◌<◌, ◌≤◌, List, [], ◌∷◌, ◌++◌, length, map, take, get_or, slice_index, Option, Some, cond, refl, sym, ap, ◌∙◌, subst, arith}
+use Rattle.std.proofs.Common.{◌≡◌, ℕ, zero, suc, ◌+◌, ◌/◌, ◌<◌, ◌≤◌, List, [], ◌∷◌, ◌++◌, length, map, get_or, slice_index, Option, Some, Bool, cond, refl, sym, ap, ◌∙◌, subst, arith}
 use Rattle.std.specs.List.{All, range_with_len}
 use Rattle.std.specs.Prelude.{Vec, slice_index_or}
 use Rattle.std.specs.declared.alloc.Global.{Global}
@@ -16,7 +16,8 @@ use Rattle.transducer_reading.specs.Transducers.{Transducer}
 use Rattle.word_output.specs.LetterFunctions.{LetterFunctionValue}
 use Rattle.word_transduce.specs.BlockLaws.{length-pairs}
 use Rattle.word_transduce.specs.BlockMaps.{at_pairs, map_at, output_in, pairs_of, state_before}
-use Rattle.word_transduce.specs.BlockLengths.{AreListedLengths, IsBlockLength, ends_of, gathered, key_after, key_by, key_ends, place_at, place_in, rows_of}
+use Rattle.word_transduce.specs.BlockLengths.{AreListedLengths, IsBlockLength, ends_of, gathered, key_after, key_by, key_ends, key_outputs, place_at, place_in, rows_of}
+use Rattle.word_transduce.specs.PackedOutputs.{are_packed, packed}
 use Rattle.word_transduce.specs.declared.block_lengths.BlockLength.{BlockLength}
 use Rattle.word_transduce.proofs.PairLemmas.{at_pairs-at, same_pairs}
 
@@ -70,22 +71,23 @@ module _ (t : Transducer) (f : LetterFunctionValue) (ends : List ℕ) where
     -- the key of a digit
     pub gathered_is : (digit : ℕ) → digit < letters_of f.automaton → gathered outputs l digit ≡ key_by t f list outputs ends digit
     gathered_is digit small =
-        ap (λ (row : List ℕ). map (λ place. slice_index outputs place) row ++ l.ends.items) row
-        ∙ ap (λ (found : List ℕ). found ++ l.ends.items) (
+        ap (λ (is_packed : Bool). packed is_packed (map (λ place. slice_index outputs place) (slice_index_or (rows_of l) digit [])) ++ l.ends.items) is.form
+        ∙ ap (λ (row : List ℕ). packed (are_packed t) (map (λ place. slice_index outputs place) row) ++ l.ends.items) row
+        ∙ ap (λ (found : List ℕ). packed (are_packed t) found ++ l.ends.items) (
         map-map (λ place. slice_index outputs place) (place_in t f ends digit) (range_with_len 0 (pairs_of t f))
         ∙ same_pairs t f (λ pair. slice_index outputs (place_in t f ends digit pair)) (output_in t f outputs ends digit)
         (λ pair within. value_at_place outputs (pairs_of t f) t.states (next_of f.automaton (pair / t.states) digit) (state_before t f ends digit pair) (omega (arith, long))))
-        ∙ ap (λ (part : List ℕ). at_pairs t f (output_in t f outputs ends digit) ++ part) is.ends_are
+        ∙ ap (λ (part : List ℕ). packed (are_packed t) (at_pairs t f (output_in t f outputs ends digit)) ++ part) is.ends_are
       where
         row : slice_index_or (rows_of l) digit [] ≡ at_pairs t f (place_in t f ends digit)
         row = ap (λ (rows : List (List ℕ)). slice_index_or rows digit []) is.rows ∙ get_or-map-range_with_len (λ d. at_pairs t f (place_in t f ends d)) 0 (letters_of f.automaton) digit digit [] small (omega arith)
 
     -- where the digits lead from a key with these maps
-    pub keys_lead : (key : List ℕ) (letters : ℕ) (transitions : List KeyTransition) → outputs ≡ take (pairs_of t f) key → ends ≡ key_ends t f list key → letters ≡ letters_of f.automaton
+    pub keys_lead : (key : List ℕ) (letters : ℕ) (transitions : List KeyTransition) → outputs ≡ key_outputs t f key → ends ≡ key_ends t f list key → letters ≡ letters_of f.automaton
         → AreKeyTransitions letters (λ digit. Some (gathered outputs l digit)) transitions → AreKeyTransitions (letters_of f.automaton) (key_after t f list key) transitions
     keys_lead key letters transitions first second all are =
         AreKeyTransitions-same (letters_of f.automaton) (λ digit. Some (gathered outputs l digit)) (key_after t f list key) transitions
         (λ digit small. ap Some (gathered_is digit small)
         ∙ ap (λ (xs : List ℕ). Some (key_by t f list xs ends digit)) first
-        ∙ ap (λ (xs : List ℕ). Some (key_by t f list (take (pairs_of t f) key) xs digit)) second)
+        ∙ ap (λ (xs : List ℕ). Some (key_by t f list (key_outputs t f key) xs digit)) second)
         (subst (λ n. AreKeyTransitions n (λ digit. Some (gathered outputs l digit)) transitions) all are)

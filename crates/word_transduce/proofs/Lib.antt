@@ -4,6 +4,7 @@ pub mod RunLemmas
 pub mod PairLemmas
 pub mod BlockLemmas
 pub mod BlockKeys
+pub mod PackedLemmas
 pub mod KeyLemmas
 pub mod StateLemmas
 pub mod GatheredKeys

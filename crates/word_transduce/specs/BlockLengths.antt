@@ -10,6 +10,7 @@ use Rattle.minimise.specs.Classes.{next_of}
 use Rattle.transducer_reading.specs.Transducers.{Transducer}
 use Rattle.word_output.specs.LetterFunctions.{LetterFunctionValue}
 use Rattle.word_transduce.specs.BlockMaps.{at_pairs, first_end, first_output, output_in, pairs_of, state_before}
+use Rattle.word_transduce.specs.PackedOutputs.{are_packed, packed, packed_len, unpacked}
 use Rattle.word_transduce.specs.declared.block_lengths.BlockLength.{BlockLength}
 use Rattle.word_transduce.specs.declared.block_lengths.BlockLengths.{BlockLengths}
 
@@ -27,15 +28,22 @@ ends_of list number others = if nat_lt number (length list) then key_at list num
 
 -- the key of two maps
 abbrev pub block_key : Transducer → LetterFunctionValue → List (List ℕ) → List ℕ → List ℕ
-block_key t f list maps = take (pairs_of t f) maps ++ ends_part list (drop (pairs_of t f) maps)
+block_key t f list maps = packed (are_packed t) (take (pairs_of t f) maps) ++ ends_part list (drop (pairs_of t f) maps)
 
--- the ends of a key
+-- where the number of the ends is in a key
+abbrev pub number_place : Transducer → LetterFunctionValue → ℕ
+number_place t f = packed_len (are_packed t) (pairs_of t f)
+
+-- the outputs and the ends of a key
+abbrev pub key_outputs : Transducer → LetterFunctionValue → List ℕ → List ℕ
+key_outputs t f key = unpacked (are_packed t) (pairs_of t f) key
+
 abbrev pub key_ends : Transducer → LetterFunctionValue → List (List ℕ) → List ℕ → List ℕ
-key_ends t f list key = ends_of list (slice_index key (pairs_of t f)) (drop (pairs_of t f + 1) key)
+key_ends t f list key = ends_of list (slice_index key (number_place t f)) (drop (number_place t f + 1) key)
 
 -- the key of blocks of one letter
 abbrev pub first_block_key : Transducer → LetterFunctionValue → List (List ℕ) → List ℕ
-first_block_key t f list = at_pairs t f (first_output t f) ++ ends_part list (at_pairs t f (first_end t f))
+first_block_key t f list = packed (are_packed t) (at_pairs t f (first_output t f)) ++ ends_part list (at_pairs t f (first_end t f))
 
 -- the ends of blocks of one digit more
 abbrev pub ends_after : Transducer → LetterFunctionValue → List ℕ → List ℕ
@@ -52,14 +60,14 @@ AreFirstEnds t f list = (digits : ℕ) → digits < length list → key_at list 
 
 -- the key of the block of one digit more, with the outputs in the block of the digit
 abbrev pub key_by : Transducer → LetterFunctionValue → List (List ℕ) → List ℕ → List ℕ → ℕ → List ℕ
-key_by t f list outputs ends digit = at_pairs t f (output_in t f outputs ends digit) ++ ends_part list (ends_after t f ends)
+key_by t f list outputs ends digit = packed (are_packed t) (at_pairs t f (output_in t f outputs ends digit)) ++ ends_part list (ends_after t f ends)
 
 abbrev pub key_after : Transducer → LetterFunctionValue → List (List ℕ) → List ℕ → ℕ → Option (List ℕ)
-key_after t f list key digit = Some (key_by t f list (take (pairs_of t f) key) (key_ends t f list key) digit)
+key_after t f list key digit = Some (key_by t f list (key_outputs t f key) (key_ends t f list key) digit)
 
 -- there is a number after the outputs
 abbrev pub HasEnds : Transducer → LetterFunctionValue → List ℕ → Type 0
-HasEnds t f key = pairs_of t f < length key
+HasEnds t f key = number_place t f < length key
 
 -- where a map has what it has at a state of the function and the state of a number; past it where the run has stopped
 abbrev pub place_at : ℕ → ℕ → ℕ → ℕ → ℕ
@@ -76,10 +84,11 @@ rows_of l = map (λ (row : Vec ℕ Global). row.items) l.places.items
 
 -- the outputs at the positions of a digit, and then the ends
 abbrev pub gathered : List ℕ → BlockLength → ℕ → List ℕ
-gathered outputs l digit = map (λ place. slice_index outputs place) (slice_index_or (rows_of l) digit []) ++ l.ends.items
+gathered outputs l digit = packed l.is_packed (map (λ place. slice_index outputs place) (slice_index_or (rows_of l) digit [])) ++ l.ends.items
 
 -- what blocks with the ends lead to
 pub record IsBlockLength (t : Transducer) (f : LetterFunctionValue) (list : List (List ℕ)) (ends : List ℕ) (l : BlockLength) : Type 0 where
+  pub form : l.is_packed ≡ are_packed t
   pub rows : rows_of l ≡ map (λ digit. at_pairs t f (place_in t f ends digit)) (range_with_len 0 (letters_of f.automaton))
   pub ends_are : l.ends.items ≡ ends_part list (ends_after t f ends)
 

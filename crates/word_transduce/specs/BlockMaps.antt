@@ -5,12 +5,13 @@ use Rattle.std.specs.List.{position_or_len, range_with_len}
 use Rattle.std.specs.Option.{option_and_then}
 use Rattle.std.specs.Ordering.{int_eq}
 use Rattle.digit_tuple.specs.Deterministic.{letters_of, states_of}
-use Rattle.minimise.specs.Classes.{class_of, next_of}
+use Rattle.minimise.specs.Classes.{next_of}
 use Rattle.class_reversal.specs.BackwardClasses.{AreTargets}
 use Rattle.transducer_reading.specs.declared.transducer.TransducerLine.{TransducerLine}
 use Rattle.transducer_reading.specs.Transducers.{IsTransducer, Transducer, target_of}
 use Rattle.word_output.specs.LetterFunctions.{IsLetterFunction, LetterFunctionValue}
 use Rattle.word_output.specs.StateLetters.{letter_of_state}
+use Rattle.word_transduce.specs.PackedOutputs.{are_packed, key_output}
 use Rattle.word_transduce.specs.Runs.{made_of}
 
 -- the line is from the state and has the output
@@ -86,4 +87,4 @@ pub record IsBlockGraph (t : Transducer) (f : LetterFunctionValue) (targets : Li
 
 -- the letter of a key: that of the pair of the first states
 abbrev pub key_letter : Transducer → List ℕ → Option ℤ
-key_letter t key = numbered_output t.lines (class_of key 0)
+key_letter t key = numbered_output t.lines (key_output (are_packed t) key 0)

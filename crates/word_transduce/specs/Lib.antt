@@ -4,6 +4,7 @@ pub mod Transductions
 pub mod LetterRuns
 pub mod TransducedWords
 pub mod Laws
+pub mod PackedOutputs
 pub mod BlockMaps
 pub mod BlockLengths
 pub mod BlockLaws

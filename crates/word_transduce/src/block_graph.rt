@@ -9,13 +9,14 @@ ghost use Rattle.word_transduce.specs.BlockLaws.{after_has_ends, first_has_ends}
 use crate::block_lengths::{BlockLength, BlockLengths};
 use crate::block_maps::BlockMaps;
 use crate::listed_ends::ends_part;
+use crate::packed_outputs::{are_packed, packed_len, push_packed, unpacked};
 use digit_tuple::faults::OutOfMemory;
 use digit_tuple::key_graph::KeyGraph;
 use digit_tuple::key_transitions::KeyTransitions;
 use std::alloc::Global;
 
 /// A key is the outputs of a block, at each pair, and the number of its length: that of the first length with the same
-/// ends. Where the ends are not listed they come after the number. So a digit leads to the outputs at the positions that are
+/// ends. Four outputs are in one number of the key where they fit. Where the ends are not listed they come after the number. So a digit leads to the outputs at the positions that are
 /// listed for the length, and no run is made.
 #[derive(Clone, Copy)]
 pub struct BlockGraph<'a> {
@@ -43,8 +44,10 @@ impl KeyGraph for BlockGraph<'_> {
     fn first_key(&self, alloc: Global) -> Result<Vec<u32>, OutOfMemory> {
         let ends = self.maps.first_ends(alloc)?;
         let part = ends_part(alloc, &self.lengths.ends, &ends)?;
+        let mut outputs = Vec::new(alloc);
+        self.maps.push_first_outputs(&mut outputs)?;
         let mut key = Vec::new(alloc);
-        self.maps.push_first_outputs(&mut key)?;
+        push_packed(are_packed(self.maps.transducer), &outputs, &mut key)?;
         key.extend_from_slice(&part)?;
         Ok(key)
     }
@@ -57,14 +60,16 @@ impl KeyGraph for BlockGraph<'_> {
     ) -> Result<(), OutOfMemory> {
         let letters = self.maps.function.dfa().alphabet().letters();
         let pairs = self.maps.pairs();
-        let outputs = &key[..pairs];
-        let number = key[pairs] as usize;
+        let is_packed = are_packed(self.maps.transducer);
+        let outputs = unpacked(alloc, is_packed, pairs, key)?;
+        let place = packed_len(is_packed, pairs);
+        let number = key[place] as usize;
         if number < self.lengths.lengths.len() {
-            return self.lengths.lengths[number].push_keys(alloc, letters, outputs, out);
+            return self.lengths.lengths[number].push_keys(alloc, letters, &outputs, out);
         }
-        let ends = &key[pairs + 1..];
+        let ends = &key[place + 1..];
         let length = BlockLength::new(alloc, &self.maps, &self.lengths.ends, ends)?;
-        length.push_keys(alloc, letters, outputs, out)
+        length.push_keys(alloc, letters, &outputs, out)
     }
 
     fn is_accepting(&self, _key: &[u32]) -> bool {

@@ -8,6 +8,7 @@ ghost use Rattle.word_transduce.specs.BlockLengths.{AreBlockLengths, AreListedLe
 
 use crate::block_maps::BlockMaps;
 use crate::listed_ends::{ends_part, list_ends};
+use crate::packed_outputs::{are_packed, gather, packed_len};
 use digit_tuple::faults::OutOfMemory;
 use digit_tuple::key_transitions::KeyTransitions;
 use digit_tuple::numbering::Numbering;
@@ -20,9 +21,10 @@ const MOST_LENGTHS: usize = 256;
 const MOST_PLACES: usize = 1 << 20;
 
 /// What blocks with the same ends lead to by a digit more: for each digit the positions at which the outputs are among those
-/// of the blocks, and the ends as they are in a key.
+/// of the blocks, the ends as they are in a key, and whether the outputs are packed there.
 #[derive(Drop)]
 pub struct BlockLength {
+    pub is_packed: bool,
     pub places: Vec<Vec<usize>>,
     pub ends: Vec<u32>,
 }
@@ -96,7 +98,12 @@ impl BlockLength {
             maps.advance(ends, digit, &mut states);
         }
         let ends = ends_part(alloc, list, &states)?;
-        Ok(BlockLength { places, ends })
+        let is_packed = are_packed(maps.transducer);
+        Ok(BlockLength {
+            is_packed,
+            places,
+            ends,
+        })
     }
 
     /// Adds for each digit the key that it leads to from one with these outputs.
@@ -113,36 +120,16 @@ impl BlockLength {
         ensures { OnOk result (AreKeyTransitions letters (λ digit. Some (gathered outputs.now self.now digit)) out.new) }
     {
         let mut found = Vec::new(alloc);
-        found.resize(outputs.len(), 0)?;
+        found.resize(packed_len(self.is_packed, outputs.len()), 0)?;
         let mut key = out.take_spare(alloc);
         for digit in 0..letters {
             let places = &self.places[digit as usize];
-            gather(outputs, places, &mut found);
+            gather(self.is_packed, outputs, places, &mut found);
             write_key(&found, &self.ends, &mut key)?;
             out.push(digit, &key)?;
         }
         out.give_spare(key);
         Ok(())
-    }
-}
-
-// Writes the numbers at these positions, and 0 for those past the end.
-fn gather(numbers: &[u32], places: &[usize], found: &mut [u32])
-    requires { length found.old ≡ length places.now }
-    ensures { found.new ≡ map (λ place. slice_index numbers.now place) places.now }
-{
-    for at in 0..places.len() {
-        found[at] = number_at(numbers, places[at]);
-    }
-}
-
-// The number at a position, and 0 past the end.
-fn number_at(numbers: &[u32], place: usize) -> u32
-    ensures { result ≡ slice_index numbers.now place }
-{
-    match numbers.get(place) {
-        Some(number) => *number,
-        None => 0,
     }
 }
 

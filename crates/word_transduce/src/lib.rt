@@ -7,6 +7,7 @@
 //!
 //! Where runs end depends on the number of digits alone. So the ends have numbers, and for each of them it is listed once where
 //! the outputs of a block of one digit more are among those of its blocks: a digit leads to the outputs at these positions.
+//! A key has four outputs to a number where the transducer has fewer than 255 lines, else one.
 #![tactic(auto)]
 
 /// Numbers of outputs and of letters of keys.
@@ -17,6 +18,9 @@ mod block_maps;
 
 /// Ends of blocks in a list, and their numbers in it.
 mod listed_ends;
+
+/// Outputs as they are in keys.
+mod packed_outputs;
 
 /// What depends on the length of a block alone.
 mod block_lengths;

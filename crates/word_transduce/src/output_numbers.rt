@@ -3,6 +3,7 @@
 ghost use Rattle.std.specs.Prelude.{◌≡◌, ◌-◌, ◌<◌, ◌^◌, length, map, IfOk, Some};
 ghost use Rattle.word_transduce.specs.BlockMaps.{is_output, key_letter, numbered_output, output_number};
 
+use crate::packed_outputs::{are_packed, key_output};
 use digit_tuple::faults::OutOfMemory;
 use digit_tuple::numbering::Numbering;
 use std::alloc::Global;
@@ -43,14 +44,12 @@ pub fn key_letters(
     Ok(letters)
 }
 
-// The letter of a key: that of its first number.
+// The letter of a key: that of its first output.
 fn key_letter(transducer: &Transducer, key: &[u32]) -> Option<i32>
     ensures { result ≡ key_letter transducer.now key.now }
 {
-    match key {
-        [] => None,
-        [number, ..] => numbered_output(transducer.lines(), *number),
-    }
+    let number = key_output(are_packed(transducer), key, 0);
+    numbered_output(transducer.lines(), number)
 }
 
 // The output of a number.

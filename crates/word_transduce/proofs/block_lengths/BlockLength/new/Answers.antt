@@ -47,6 +47,7 @@ returns c =
     let letters : c.letters-letters.result ≡ letters_of f.automaton = c.letters-letters.ensures.value ∙ ap product (c.alphabet.ensures.sizes ∙ ap (λ (x : Automaton). x.sizes) c.dfa.ensures.value) in
     let all : c.loop-digit.digit ≡ letters_of f.automaton = omega (arith, c.loop-digit-test.false, c.loop-digit.auto.digit-end, letters) in
     record {
+      form = c.are_packed-is_packed.ensures;
       rows = c.loop-digit.invariant.rows ∙ ap (λ n. map (λ d. at_pairs t f (place_in t f ends d)) (range_with_len 0 n)) all;
       ends_are = c.in_ok-ends.ensures ∙ ap (ends_part c.args.list.now) (c.deref-2.ensures.value ∙ c.loop-digit.invariant.states ∙ ap (λ n. at_pairs t f (state_before t f ends n)) all);
     }

@@ -5,6 +5,7 @@ use Rattle.std.proofs.lemmas.List.{get_or-map, length-map, take_at}
 use Rattle.digit_tuple.specs.Keys.{AreKeyTransitions, KeyTransition}
 use Rattle.digit_tuple.proofs.LetterKeyTransitions.{AreKeyTransitions-more}
 use Rattle.word_transduce.specs.BlockLengths.{gathered, rows_of}
+use Rattle.word_transduce.specs.PackedOutputs.{packed, packed_len}
 use Rattle.word_transduce.specs.declared.block_lengths.BlockLength.{BlockLength}
 use Rattle.word_transduce.proofs.block_lengths.BlockLength.push_keys.Goals as goal
 
@@ -23,7 +24,8 @@ gather-requires c =
     let digit = c.loop-digit.digit in
     let within : digit < length (rows_of l) = omega (arith, c.requires.letters, c.loop-digit-test.true) in
     let row : slice_index_or (rows_of l) digit [] ≡ c.index-places.result.now.items = row_at l digit c.index-places.result.now within c.index-places.ensures in
-    ap length c.deref_mut.ensures.value ∙ c.loop-digit.invariant.count ∙ sym (ap length (c.deref.ensures.value ∙ sym row) ∙ c.requires.rows digit [] within)
+    ap length c.deref_mut.ensures.value ∙ c.loop-digit.invariant.count
+    ∙ ap (packed_len l.is_packed) (sym (ap length (c.deref.ensures.value ∙ sym row) ∙ c.requires.rows digit [] within))
 
 pub loop-digit-preserved : goal.loop-digit-preserved
 loop-digit-preserved c =
@@ -39,8 +41,8 @@ loop-digit-preserved c =
     let key : c.deref-in-loop-digit-3.result.now ≡ gathered outputs l digit =
     c.deref-in-loop-digit-3.ensures.value ∙ c.in_ok-write_key.ensures
     ∙ ap (λ (xs : List ℕ). xs ++ c.deref-in-loop-digit-2.result.now)
-    (c.deref-in-loop-digit.ensures.value ∙ taken ∙ c.gather.ensures ∙ ap (map (λ place. slice_index outputs place)) (c.deref.ensures.value ∙ sym row))
-    ∙ ap (λ (xs : List ℕ). map (λ place. slice_index outputs place) (slice_index_or (rows_of l) digit []) ++ xs) c.deref-in-loop-digit-2.ensures.value in
+    (c.deref-in-loop-digit.ensures.value ∙ taken ∙ c.gather.ensures ∙ ap (λ (places : List ℕ). packed l.is_packed (map (λ place. slice_index outputs place) places)) (c.deref.ensures.value ∙ sym row))
+    ∙ ap (λ (xs : List ℕ). packed l.is_packed (map (λ place. slice_index outputs place) (slice_index_or (rows_of l) digit [])) ++ xs) c.deref-in-loop-digit-2.ensures.value in
     record {
       count = ap length taken ∙ omega (arith, size, found.ok, c.loop-digit.invariant.count);
       transitions =

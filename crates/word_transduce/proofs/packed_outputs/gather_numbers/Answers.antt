@@ -1,10 +1,10 @@
 use Rattle.std.proofs.Common.{◌≡◌, length, map, slice_index, sym, ◌∙◌, arith}
 use Rattle.std.proofs.lemmas.List.{ext_get_or, get_or-map, length-map}
-use Rattle.word_transduce.proofs.block_lengths.gather.Goals as goal
+use Rattle.word_transduce.proofs.packed_outputs.gather_numbers.Goals as goal
 
 pub returns : goal.returns
 returns c =
-    let numbers = c.args.numbers.now in
+    let numbers = c.args.outputs.now in
     let places = c.args.places.now in
     let long : length c.loop-at.found ≡ length places = c.loop-at.invariant.count ∙ c.requires in
     ext_get_or 0 c.loop-at.found (map (λ place. slice_index numbers place) places) (long ∙ sym (length-map places (λ place. slice_index numbers place)))
