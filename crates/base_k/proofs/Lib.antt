@@ -1,4 +1,4 @@
-mod ValueLemmas
+pub mod ValueLemmas
 mod CarryLemmas
 mod AdderLemmas
 mod TableLemmas

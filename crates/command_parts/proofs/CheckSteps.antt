@@ -7,13 +7,9 @@ use Rattle.command_parts.specs.declared.fault.Fault.TheVariants as faults
 use Rattle.command_parts.specs.declared.file_change.Made.{Made}
 use Rattle.command_parts.specs.declared.file_change.FileChange.{FileChange}
 use Rattle.system_files.specs.SystemFiles.{Custom}
-use Rattle.command_parts.specs.Checks.{Check, Passing, Then, Fails}
+use Rattle.command_parts.specs.Checks.{Check, Passing, Then, Fails, IsSingle}
 use Rattle.command_parts.specs.Accepting.{Success}
 use Rattle.command_parts.specs.FileChanges.{Makes, ChangesFile}
-
--- a check answers in one way at most
-abbrev pub IsSingle : {Y : Type 0} → Check Y → Type 0
-IsSingle {Y} c = (r s : Result Y Refusal) → c.answers r → c.answers s → r ≡ s
 
 -- a chain of checks answers in one way, where each of them does after those before it
 module _ {Y Z : Type 0} (first : Check Y) (rest : Y → Check Z) (one : IsSingle first) (each : (y : Y) → first.answers (Ok y) → IsSingle (rest y)) where

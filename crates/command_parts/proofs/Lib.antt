@@ -28,3 +28,12 @@ pub mod SameMentions
 pub mod UserFaults
 pub mod NamedTracks
 pub mod StoppedReadings
+pub mod RefusingSteps
+pub mod OneHeads
+pub mod OneTexts
+pub mod OneLoadings
+pub mod OneSystems
+pub mod OneSealed
+pub mod OneTableReadings
+pub mod OneMeantReadings
+pub mod SoundChecks

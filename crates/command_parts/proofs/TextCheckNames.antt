@@ -2,7 +2,7 @@
 use Rattle.std.specs.Prelude.{ℕ, List, [], None}
 use Rattle.wal_outside.specs.declared.folder.Folder.{Folder}
 use Rattle.definitions.specs.Trees.{Bytes}
-use Rattle.command_parts.specs.Accepting.{Success, stored}
+use Rattle.command_parts.specs.Accepting.{Success}
 
 -- what is stored and printed of bytes
 abbrev pub text_success : Folder → List ℕ → List ℕ → Success

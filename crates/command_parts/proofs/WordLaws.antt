@@ -1,7 +1,4 @@
 -- The laws of words that commands cite.
-use Rattle.base_change.specs.Conversions.{ConversionsHaveOneOutcome}
-use Rattle.base_change.proofs.OneConversions.{conversions_one}
-use Rattle.letter_reversal.proofs.ReversedLetters.{reversal_outcome}
 use Rattle.word_output.specs.Laws.{WordReadingsHaveOneOutcome}
 use Rattle.word_output.proofs.LetterEquality.{letter_functions}
 use Rattle.word_output.proofs.OneWords.{one_readings}
@@ -16,7 +13,3 @@ one_word_outcome = one_readings letter_functions
 -- a word that is read of a file has the letters of the file
 pub words_have_file_letters : WordsHaveFileLetters
 words_have_file_letters = file_letters words_listed
-
--- the conversion of a word to another base has one outcome
-pub one_conversion_outcome : ConversionsHaveOneOutcome
-one_conversion_outcome = conversions_one (reversal_outcome letter_functions)

@@ -1,5 +1,5 @@
 -- Checks of a command, one after another: the first that refuses decides.
-use Rattle.std.specs.Prelude.{◌⊎◌, Result, Ok, Err, MatchResult, ⊤}
+use Rattle.std.specs.Prelude.{◌≡◌, ◌⊎◌, Result, Ok, Err, MatchResult, ⊤}
 use Rattle.wal_outside.specs.Places.{Place}
 use Rattle.command_parts.specs.declared.refusal.Refusal.{Refusal}
 use Rattle.command_parts.specs.declared.fault.Fault.{Fault}
@@ -33,3 +33,7 @@ abbrev pub Fails : {Y : Type 0} → Check Y → Fault → Type 0
 Fails check (faults.Refused refusal) = check.answers (Err refusal)
 Fails check (faults.Store folder name) = check.reads (folder, name)
 Fails check faults.Memory = ⊤
+
+-- a check answers in one way at most
+abbrev pub IsSingle : {Y : Type 0} → Check Y → Type 0
+IsSingle {Y} c = (r s : Result Y Refusal) → c.answers r → c.answers s → r ≡ s

@@ -12,14 +12,12 @@ pub mod StoreFailures
 pub mod FormulaFaults
 pub mod SystemFaults
 pub mod MorphismFaults
-pub mod ImageFaults
 pub mod FileChanges
 pub mod StoreReads
 pub mod UserSystems
 pub mod TrackSystems
 pub mod FormulaLoads
 pub mod MentionedTables
-pub mod ListingFaults
 pub mod WordPrinting
 pub mod TextChanges
 pub mod TableReading

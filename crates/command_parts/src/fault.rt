@@ -5,14 +5,10 @@ ghost use Rattle.command_parts.specs.TrackSystems.{fault_of, fault_of_tracks};
 ghost use Rattle.command_parts.specs.FormulaFaults.{fault_of_loading, fault_of_resolution, fault_of_formula, fault_of_expansion};
 ghost use Rattle.command_parts.specs.HeadAnswers.{fault_of_head};
 ghost use Rattle.command_parts.specs.MorphismFaults.{fault_of_promotion, fault_of_rules};
-ghost use Rattle.command_parts.specs.ImageFaults.{fault_of_imaging};
-ghost use Rattle.command_parts.specs.ListingFaults.{fault_of_listing};
 ghost use Rattle.command_parts.specs.RegexFaults.{fault_of_regex};
 ghost use Rattle.command_parts.specs.SystemFaults.{fault_of_system};
 
 use crate::file_refusal::FileRefusal;
-use crate::image_fault::ImageFault;
-use crate::listing_fault::ListingFault;
 use crate::refusal::Refusal;
 use crate::shape_refusal::ShapeRefusal;
 use crate::step_refusal::StepRefusal;
@@ -110,30 +106,6 @@ impl From<StepFault> for Fault {
             StepFault::Letters(step) => Fault::from(StepRefusal::Letters(step)),
             StepFault::States(step) => Fault::from(StepRefusal::States(step)),
             StepFault::Memory => Fault::Memory,
-        }
-    }
-}
-
-impl From<ImageFault> for Fault {
-    ghost from_gives = { λ f e. e ≡ fault_of_imaging f };
-
-    fn from(fault: ImageFault) -> Fault {
-        match fault {
-            ImageFault::Morphism(kind) => Fault::from(WordRefusal::Morphism(kind)),
-            ImageFault::Missing(letter) => Fault::from(WordRefusal::LetterMissing(letter)),
-            ImageFault::Step(fault) => Fault::from(fault),
-        }
-    }
-}
-
-impl From<ListingFault> for Fault {
-    ghost from_gives = { λ f e. e ≡ fault_of_listing f };
-
-    fn from(fault: ListingFault) -> Fault {
-        match fault {
-            ListingFault::Place(name) => Fault::from(ShapeRefusal::Place(name)),
-            ListingFault::Step(fault) => Fault::from(fault),
-            ListingFault::Long => Fault::from(WordRefusal::TestLong),
         }
     }
 }

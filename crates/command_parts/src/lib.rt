@@ -70,9 +70,3 @@ pub mod table_reading;
 
 /// The tracks of systems under names.
 pub mod named_tracks;
-
-/// Why a word has no image.
-pub mod image_fault;
-
-/// Why a question about listed words has no answer.
-pub mod listing_fault;

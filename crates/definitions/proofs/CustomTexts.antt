@@ -4,22 +4,21 @@ use Rattle.wal_outside.specs.declared.folder.Folder.{Folder}
 use Rattle.wal_outside.specs.declared.folder.Folder.TheVariants.{Bases, Words}
 use Rattle.wal_outside.specs.Files.{Files, same_file}
 use Rattle.system_files.specs.SystemFiles.{Custom}
-use Rattle.definitions.specs.Trees.{File, Regex, Formula, Fixed, Image, Combine, Language, Transduced, Converted, Entry, Bytes, Defined, Ledger, ledger_of, entered, bytes_of, tree_of, custom_of}
+use Rattle.definitions.specs.Trees.{Tree, File, Regex, Formula, Language, Entry, Bytes, Defined, Ledger, ledger_of, entered, bytes_of, tree_of, custom_of}
 use Rattle.definitions.specs.Texts.{HasTextIn, HasTextAt, Stores}
 use Rattle.definitions.specs.Laws.{CustomTextsAreFiles}
 
--- what is as a text of a user's system is a file, of these bytes
+-- what is as a text of a user's system is a file, of these bytes: the other definitions are of words, which are elsewhere
+tree_bytes : (custom : Custom) (tree : Tree) (text : List ℕ) → HasTextIn custom Bases (Defined tree) text → bytes_of tree ≡ Some text
+tree_bytes custom (File bytes) text has = ap Some (sym has.1)
+tree_bytes custom (Regex tracks e) text has = absurd (has.0.1 refl)
+tree_bytes custom (Formula variables formula bindings) text has = absurd (has.0.1 refl)
+tree_bytes custom (Language sets op trees) text has = absurd (has.0.1 refl)
+tree_bytes custom _ text has = absurd (let no : Bases ≡ Words = has.0 in cc)
+
 entry_text : (custom : Custom) (entry : Entry) (text : List ℕ) → HasTextIn custom Bases entry text → bytes_of (tree_of entry) ≡ Some text
 entry_text custom (Bytes bytes) text has = ap Some (sym has.1)
-entry_text custom (Defined (File bytes)) text has = ap Some (sym has.1)
-entry_text custom (Defined (Regex tracks e)) text has = absurd (has.0.1 refl)
-entry_text custom (Defined (Formula variables formula bindings)) text has = absurd (has.0.1 refl)
-entry_text custom (Defined (Fixed rules)) text has = absurd (let no : Bases ≡ Words = has.0 in cc)
-entry_text custom (Defined (Image direction system rules tree)) text has = absurd (let no : Bases ≡ Words = has.0 in cc)
-entry_text custom (Defined (Combine direction named parts)) text has = absurd (let no : Bases ≡ Words = has.0 in cc)
-entry_text custom (Defined (Language sets op trees)) text has = absurd (has.0.1 refl)
-entry_text custom (Defined (Transduced system transducer tree)) text has = absurd (let no : Bases ≡ Words = has.0 in cc)
-entry_text custom (Defined (Converted direction system tree)) text has = absurd (let no : Bases ≡ Words = has.0 in cc)
+entry_text custom (Defined tree) text has = tree_bytes custom tree text has
 
 entry_there : (custom : Custom) (entry : Option Entry) (text : Option (List ℕ)) → HasTextAt custom Bases entry text → option_and_then (λ e. bytes_of (tree_of e)) entry ≡ text
 entry_there custom None None has = refl

@@ -15,7 +15,7 @@ use Rattle.dfa_text.specs.Meaning.{FileAccepts}
 use Rattle.dfa_text.specs.RelationText.{relation_text}
 use Rattle.dfa_text.proofs.PrintedRelations.{text_lists}
 use Rattle.definitions.specs.Tracks.{NamedSystem, Tracks, OverSets, OverSystems, systems_of, header_of}
-use Rattle.definitions.specs.Trees.{Variable, File, Regex, Formula, Fixed, Image, Combine, Language, Transduced, Converted, Bindings}
+use Rattle.definitions.specs.Trees.{Variable, File, Regex, Formula, Language, Bindings}
 use Rattle.system_files.specs.SystemFiles.{Custom}
 use Rattle.definitions.specs.Named.{AreNamed}
 use Rattle.definitions.specs.FormulaTexts.{named_systems, IsFormulaText}
@@ -60,9 +60,5 @@ pub language_text_means : LanguageTextsMeanTheirTrees
 language_text_means custom (File bytes) text may is word = (λ h. subst (λ (bs : List ℕ). FileAccepts bs word) is h, λ h. subst (λ (bs : List ℕ). FileAccepts bs word) (sym is) h)
 language_text_means custom (Regex tracks e) text may is word = track_text_words custom tracks e text is word
 language_text_means custom (Formula variables formula bindings) text may is word = formula_text_words custom bindings formula variables text is word
-language_text_means custom (Fixed rules) text may is word = not_among may
-language_text_means custom (Image direction system rules tree) text may is word = not_among may
-language_text_means custom (Combine direction named parts) text may is word = not_among may
-language_text_means custom (Transduced system transducer tree) text may is word = not_among may
-language_text_means custom (Converted direction system tree) text may is word = not_among may
 language_text_means custom (Language sets op trees) text may is word = is.accepts word
+language_text_means custom _ text may is word = not_among may

@@ -2,7 +2,6 @@
 use Rattle.std.proofs.Common.{◌≡◌, ℕ, Bool, List, [], ◌∷◌, ℤ, Option, None, Some, refl, sym, ap, ◌∙◌, subst}
 use Rattle.digit_tuple.specs.Deterministic.{Automaton}
 use Rattle.digit_tuple.specs.declared.direction.Direction.{Direction}
-use Rattle.digit_tuple.specs.declared.direction.Direction.TheVariants.{Msd}
 use Rattle.dfa_text.specs.RelationText.{relation_text}
 use Rattle.numeration.specs.Relations.{HoldsOf}
 use Rattle.num_system.proofs.OneSystem.{one_holding}
@@ -11,10 +10,10 @@ use Rattle.regex_build.specs.Expression.{Expression}
 use Rattle.reg_steps.proofs.OneRegex.{same_truth}
 use Rattle.reg_steps.proofs.RelationLemmas.{relation_is_one}
 use Rattle.definitions.specs.Tracks.{Tracks, OverSets, OverSystems, systems_of, letter_sets, header_of}
-use Rattle.definitions.specs.Trees.{Variable, Tree, File, Regex, Formula, Fixed, Image, Combine, Language, Transduced, Converted, Bindings, Bytes, Defined}
+use Rattle.definitions.specs.Trees.{Variable, Tree, File, Regex, Formula, Fixed, Language, Bindings, Bytes, Defined}
 use Rattle.system_files.specs.SystemFiles.{Custom}
 use Rattle.definitions.specs.FormulaTexts.{IsSolvedBy, named_systems, IsSolutionText, HasTruth, truth_text, IsFormulaText, HasVerdict}
-use Rattle.definitions.specs.TreeMeanings.{tree_letter, tree_words}
+use Rattle.definitions.specs.TreeMeanings.{tree_words}
 use Rattle.definitions.specs.Texts.{IsTrackText, HasTreeText}
 use Rattle.definitions.specs.Laws.{OneText}
 use Rattle.definitions.proofs.RegexTexts.{one_regex_text}
@@ -65,11 +64,8 @@ one_tree_text custom (File bytes) text other a b = a ∙ sym b
 one_tree_text custom (Regex tracks e) text other a b = one_track_text custom tracks e text other a b
 one_tree_text custom (Formula variables formula bindings) text other a b = one_formula_text custom bindings variables formula text other a b
 one_tree_text custom (Fixed rules) text other a b = one_fixed_text custom rules text other a b
-one_tree_text custom (Image direction system rules tree) text other a b = one_word_text custom direction (system ∷ []) (λ ns letter. tree_letter custom (Image direction system rules tree) ns letter) text other a b
-one_tree_text custom (Combine direction named parts) text other a b = one_word_text custom direction named (λ ns letter. tree_letter custom (Combine direction named parts) ns letter) text other a b
 one_tree_text custom (Language sets op trees) text other a b = one_language_text sets (λ word. tree_words custom (Language sets op trees) word) text other a b
-one_tree_text custom (Transduced system transducer tree) text other a b = one_word_text custom Msd (system ∷ []) (λ ns letter. tree_letter custom (Transduced system transducer tree) ns letter) text other a b
-one_tree_text custom (Converted direction system tree) text other a b = one_word_text custom direction (system ∷ []) (λ ns letter. tree_letter custom (Converted direction system tree) ns letter) text other a b
+one_tree_text custom _ text other a b = one_word_text custom _ _ _ text other a b
 
 -- an entry has one text
 pub one_text_of : OneText

@@ -30,7 +30,7 @@ use Rattle.dfa_text.specs.RelationText.{relation_text}
 use Rattle.dfa_text.proofs.ListedPaths.{accepts_listed}
 use Rattle.dfa_text.proofs.PrintedRelations.{text_lists}
 use Rattle.definitions.specs.Tracks.{NamedSystem, Tracks, OverSets, OverSystems, names_of, systems_of, letter_sets, header_of}
-use Rattle.definitions.specs.Trees.{Variable, File, Regex, Formula, Fixed, Image, Combine, Language, Transduced, Converted, Bindings}
+use Rattle.definitions.specs.Trees.{Variable, File, Regex, Formula, Language, Bindings}
 use Rattle.system_files.specs.SystemFiles.{Custom}
 use Rattle.definitions.specs.Named.{AreNamed}
 use Rattle.definitions.specs.Files.{HasListedWord, HoldsUnder, ListedHolds, FileHolds}
@@ -176,9 +176,5 @@ pub text_means : TextsMeanTheirTrees
 text_means custom (File bytes) text may is ns = (λ h. subst (λ (file : List ℕ). FileHolds custom file ns) is h, λ h. subst (λ (file : List ℕ). FileHolds custom file ns) (sym is) h)
 text_means custom (Regex tracks e) text may is ns = track_text_holds custom tracks e text is ns
 text_means custom (Formula variables formula bindings) text may is ns = formula_text_holds custom bindings formula variables text is ns
-text_means custom (Fixed rules) text may is ns = not_among may
-text_means custom (Image direction system rules tree) text may is ns = not_among may
-text_means custom (Combine direction named parts) text may is ns = not_among may
-text_means custom (Transduced system transducer tree) text may is ns = not_among may
-text_means custom (Converted direction system tree) text may is ns = not_among may
 text_means custom (Language sets op trees) text may is ns = sets_text_holds custom sets is.automaton text (record { tracks = is.tracks; sizes = is.sizes; table = is.canonical.table }) is.text_is ns
+text_means custom _ text may is ns = not_among may

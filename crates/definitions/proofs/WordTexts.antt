@@ -1,7 +1,7 @@
 -- The text of a definition that may be among words, read as a word's file, has the letters of the definition.
 use Rattle.std.proofs.Common.{◌≡◌, ℕ, List, [], ◌∷◌, length, ℤ, refl, sym, ap, subst}
 use Rattle.digit_tuple.specs.declared.direction.Direction.TheVariants.{Msd}
-use Rattle.definitions.specs.Trees.{Tree, File, Regex, Formula, Fixed, Image, Combine, Language, Transduced, Converted}
+use Rattle.definitions.specs.Trees.{Tree, File, Regex, Formula, Fixed, Combine, Language}
 use Rattle.definitions.specs.TreeMeanings.{AtNumber, tree_letter}
 use Rattle.definitions.specs.WordFiles.{FileLetter}
 use Rattle.definitions.specs.WordTexts.{msd_base}
@@ -22,8 +22,6 @@ word_text_means custom (File bytes) text may is ns letter = (λ h. subst (λ (fi
 word_text_means custom (Regex tracks expression) text may is ns letter = absurd (may.0 refl)
 word_text_means custom (Formula variables formula bindings) text may is ns letter = absurd (may.0 refl)
 word_text_means custom (Fixed rules) text may is ns letter = word_text_letters custom Msd (msd_base is.k ∷ []) (letters_of custom (Fixed rules)) text is.word (λ ms b has. one_number _ ms has) ns letter
-word_text_means custom (Image direction system rules tree) text may is ns letter = word_text_letters custom direction (system ∷ []) (letters_of custom (Image direction system rules tree)) text is (λ ms b has. one_number _ ms has) ns letter
 word_text_means custom (Combine direction named parts) text may is ns letter = word_text_letters custom direction named (letters_of custom (Combine direction named parts)) text is (λ ms b has. has.0) ns letter
 word_text_means custom (Language sets op trees) text may is ns letter = absurd (may.0 refl)
-word_text_means custom (Transduced system transducer tree) text may is ns letter = word_text_letters custom Msd (system ∷ []) (letters_of custom (Transduced system transducer tree)) text is (λ ms b has. one_number _ ms has) ns letter
-word_text_means custom (Converted direction system tree) text may is ns letter = word_text_letters custom direction (system ∷ []) (letters_of custom (Converted direction system tree)) text is (λ ms b has. one_number _ ms has) ns letter
+word_text_means custom tree text may is ns letter = word_text_letters custom _ _ (letters_of custom tree) text is (λ ms b has. one_number _ ms has) ns letter

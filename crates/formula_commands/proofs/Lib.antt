@@ -10,3 +10,8 @@ pub mod FormulaRefusals
 pub mod FormulaChains
 pub mod FormulaWrites
 pub mod FormulaMaking
+pub mod OneReadings
+pub mod OneMacros
+pub mod OneBuildings
+pub mod OneFormulas
+pub mod FormulaSoundness

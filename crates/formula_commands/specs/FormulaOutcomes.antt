@@ -25,7 +25,7 @@ use Rattle.formula_resolve.specs.declared.variable.Variable as resolved
 use Rattle.number_relations.specs.Relations.{RelationValue}
 use Rattle.command_parts.specs.declared.refusal.Refusal.{Refusal}
 use Rattle.command_parts.specs.declared.fault.Fault.TheVariants as faults
-use Rattle.command_parts.specs.Checks.{Check, Passing, Pure, Then}
+use Rattle.command_parts.specs.Checks.{Check, Passing, Pure, Then, IsSingle}
 use Rattle.command_parts.specs.FileChecks.{files_loaded}
 use Rattle.definitions.specs.Trees.{Variable, Formula, Bindings, Defined, Ledger, bindings_of, custom_of}
 use Rattle.definitions.specs.Named.{IsSystemNamed}
@@ -103,3 +103,7 @@ after_named_head limit ledger folder head = Then (expanded ledger head.body) (λ
 -- all checks of a command of this word, whose texts are in this folder
 abbrev pub formula_checks : List ℕ → Folder → ℕ → Ledger → List ℕ → Check Success
 formula_checks word folder limit ledger text = Then (Pure (HeadAnswers (DerivesNamed word) text)) (λ head. after_named_head limit ledger folder head)
+
+-- a formula, under the word of its command, has at most one proper outcome
+abbrev pub FormulaHasOneOutcome : Type 0
+FormulaHasOneOutcome = (word : List ℕ) (folder : Folder) (limit : ℕ) (ledger : Ledger) (text : List ℕ) → IsSingle (formula_checks word folder limit ledger text)

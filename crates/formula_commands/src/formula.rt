@@ -9,7 +9,7 @@ ghost use Rattle.wal_outside.specs.declared.folder.Folder.{Folder as FolderOf};
 ghost use Rattle.definitions.specs.Texts.{Stores};
 ghost use Rattle.definitions.specs.Trees.{Ledger, custom_of};
 ghost use Rattle.formula_commands.specs.FormulaMakes.{AreFormulaNames, IsReadFormula, MakesAfterTables, MakesAfterSystems};
-ghost use Rattle.formula_commands.specs.FormulaOutcomes.{after_named_head, formula_checks};
+ghost use Rattle.formula_commands.specs.FormulaOutcomes.{FormulaHasOneOutcome, after_named_head, formula_checks};
 ghost use Rattle.command_parts.specs.MentionedTables.{LoadsMentioned};
 ghost use Rattle.formula_commands.specs.MacroMakes.{ExpandsTo, MakesOfText};
 ghost use Rattle.command_parts.specs.FileChanges.{Makes, ChangesFile};
@@ -183,3 +183,8 @@ fn built(
     printed.push_verdict(relation.verdict())?;
     Ok(Made { stored, printed })
 }
+
+/// A formula has at most one proper outcome under its word. The call does nothing.
+pub fn one_outcome()
+    ensures { FormulaHasOneOutcome }
+{}

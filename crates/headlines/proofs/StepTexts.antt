@@ -27,22 +27,7 @@ looked_at (b ∷ bs) is = looked_first b (list_all (λ b. not (b == 10)) bs) (Ha
 
 kind_single : (kind : Kind) → HasNo 10 (kind_name kind)
 kind_single kinds.Read = looked_at (kind_name kinds.Read) refl
-kind_single kinds.Reverse = looked_at (kind_name kinds.Reverse) refl
-kind_single kinds.Regex = looked_at (kind_name kinds.Regex) refl
-kind_single kinds.Pad = looked_at (kind_name kinds.Pad) refl
-kind_single kinds.Valid = looked_at (kind_name kinds.Valid) refl
-kind_single kinds.Order = looked_at (kind_name kinds.Order) refl
-kind_single kinds.Const = looked_at (kind_name kinds.Const) refl
-kind_single kinds.Product = looked_at (kind_name kinds.Product) refl
-kind_single kinds.Complement = looked_at (kind_name kinds.Complement) refl
-kind_single kinds.Project = looked_at (kind_name kinds.Project) refl
-kind_single kinds.Combine = looked_at (kind_name kinds.Combine) refl
-kind_single kinds.Promote = looked_at (kind_name kinds.Promote) refl
-kind_single kinds.Concat = looked_at (kind_name kinds.Concat) refl
-kind_single kinds.Star = looked_at (kind_name kinds.Star) refl
-kind_single kinds.Transduce = looked_at (kind_name kinds.Transduce) refl
-kind_single kinds.Split = looked_at (kind_name kinds.Split) refl
-kind_single kinds.Join = looked_at (kind_name kinds.Join) refl
+kind_single kind = looked_at (kind_name kind) refl
 
 digit_single : (d : ℕ) → d < 10 → digit_glyph false d ≢ 10
 digit_single d h = rw (lt-ltb d 10 h) (λ is. absurd (omega (arith, is)))

@@ -9,3 +9,9 @@ pub mod NamedLanguages
 pub mod LanguageTexts
 pub mod LanguageTables
 pub mod LanguageChains
+pub mod NameLemmas
+pub mod OneExpression
+pub mod OneRegs
+pub mod OneLanguages
+pub mod RegSoundness
+pub mod LanguageSoundness

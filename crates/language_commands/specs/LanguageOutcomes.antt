@@ -28,7 +28,7 @@ use Rattle.command_parts.specs.declared.refusal.Refusal.TheVariants as refusals
 use Rattle.command_parts.specs.declared.fault.Fault.{Fault}
 use Rattle.command_parts.specs.declared.fault.Fault.TheVariants as faults
 use Rattle.command_parts.specs.Accepting.{Success, stored}
-use Rattle.command_parts.specs.Checks.{Check, Pure, Then}
+use Rattle.command_parts.specs.Checks.{Check, Pure, Then, IsSingle}
 use Rattle.command_parts.specs.FileChecks.{files_loaded}
 use Rattle.command_parts.specs.HeadAnswers.{HeadAnswers}
 use Rattle.command_parts.specs.RefusingChecks.{Refusing}
@@ -118,3 +118,7 @@ after_language_head limit ledger op head = Then (files_loaded ledger (language_f
 -- all checks of a language command
 abbrev pub language_checks : LanguageOp → ℕ → Ledger → List ℕ → Check Success
 language_checks op limit ledger text = Then (Pure (HeadAnswers (DerivesOperation op) text)) (λ head. after_language_head limit ledger op head)
+
+-- a command that makes a language of others has at most one proper outcome
+abbrev pub LanguageHasOneOutcome : Type 0
+LanguageHasOneOutcome = (op : LanguageOp) (limit : ℕ) (ledger : Ledger) (text : List ℕ) → IsSingle (language_checks op limit ledger text)

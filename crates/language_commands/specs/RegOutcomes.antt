@@ -16,7 +16,7 @@ use Rattle.command_parts.specs.declared.system_refusal.SystemRefusal.TheVariants
 use Rattle.command_parts.specs.declared.refusal.Refusal.{Refusal}
 use Rattle.command_parts.specs.declared.refusal.Refusal.TheVariants as refusals
 use Rattle.command_parts.specs.declared.fault.Fault.TheVariants as faults
-use Rattle.command_parts.specs.Checks.{Check, Pure, Then}
+use Rattle.command_parts.specs.Checks.{Check, Pure, Then, IsSingle}
 use Rattle.definitions.specs.Trees.{Regex, Defined, Ledger, custom_of}
 use Rattle.definitions.specs.Tracks.{Tracks, letter_sets}
 use Rattle.formula_resolve.specs.FirstMentions.{each_once}
@@ -68,3 +68,7 @@ after_head limit custom head =
 -- all checks of a `reg`
 abbrev pub reg_checks : ℕ → Ledger → List ℕ → Check Success
 reg_checks limit ledger text = Then (Pure (HeadAnswers DerivesReg text)) (λ head. after_head limit (custom_of ledger) head)
+
+-- a `reg` has at most one proper outcome
+abbrev pub RegHasOneOutcome : Type 0
+RegHasOneOutcome = (limit : ℕ) (ledger : Ledger) (text : List ℕ) → IsSingle (reg_checks limit ledger text)

@@ -9,7 +9,7 @@ ghost use Rattle.definitions.specs.Texts.{Stores};
 ghost use Rattle.definitions.specs.Trees.{Ledger, custom_of};
 ghost use Rattle.language_steps.specs.Operands.{HasCount};
 ghost use Rattle.language_commands.specs.LanguageMakes.{AreAlike, MakesLanguage, RefusesTables};
-ghost use Rattle.language_commands.specs.LanguageOutcomes.{DerivesOperation, after_language_head, language_checks, language_files, language_mentions};
+ghost use Rattle.language_commands.specs.LanguageOutcomes.{LanguageHasOneOutcome, DerivesOperation, after_language_head, language_checks, language_files, language_mentions};
 ghost use Rattle.command_parts.specs.FileChanges.{Makes, ChangesFile};
 ghost use Rattle.command_parts.specs.StoreReads.{FromFiles};
 
@@ -153,3 +153,8 @@ fn refuse_tables(alloc: Global, tables: &[Loaded]) -> Result<(), Fault>
     }
     Ok(())
 }
+
+/// A command that makes a language of others has at most one proper outcome. The call does nothing.
+pub fn one_outcome()
+    ensures { LanguageHasOneOutcome }
+{}

@@ -10,7 +10,7 @@ ghost use Rattle.definitions.specs.Named.{AreNamed};
 ghost use Rattle.definitions.specs.Trees.{Ledger, custom_of};
 ghost use Rattle.definitions.specs.Tracks.{OverSystems, OverSets};
 ghost use Rattle.system_files.specs.SystemFiles.{Custom};
-ghost use Rattle.language_commands.specs.RegOutcomes.{reg_checks, after_head, after_tracks};
+ghost use Rattle.language_commands.specs.RegOutcomes.{RegHasOneOutcome, reg_checks, after_head, after_tracks};
 ghost use Rattle.system_admission.specs.SystemSteps.{no_steps};
 ghost use Rattle.command_parts.specs.StoreReads.{FromTexts};
 ghost use Rattle.command_parts.specs.TrackSystems.{named_in};
@@ -200,3 +200,8 @@ pub fn made_of(
         None => Err(Fault::Refused(Refusal::Text(TextRefusal::Long(TEXT_LIMIT)))),
     }
 }
+
+/// A `reg` has at most one proper outcome. The call does nothing.
+pub fn one_outcome()
+    ensures { RegHasOneOutcome }
+{}

@@ -6,3 +6,5 @@ pub mod ListingMaking
 pub mod ListingReady
 pub mod ListingSteps
 pub mod ListingReading
+pub mod OneListings
+pub mod ListingSoundness

@@ -24,13 +24,13 @@ use Rattle.command_parts.specs.declared.word_refusal.WordRefusal.TheVariants as 
 use Rattle.command_parts.specs.declared.refusal.Refusal.TheVariants as refusals
 use Rattle.command_parts.specs.declared.fault.Fault.{Fault}
 use Rattle.command_parts.specs.declared.fault.Fault.TheVariants as faults
-use Rattle.command_parts.specs.declared.listing_fault.ListingFault.{ListingFault}
-use Rattle.command_parts.specs.declared.listing_fault.ListingFault.TheVariants as own
+use Rattle.listing_commands.specs.declared.listing_fault.ListingFault.{ListingFault}
+use Rattle.listing_commands.specs.declared.listing_fault.ListingFault.TheVariants as own
 use Rattle.command_parts.specs.Accepting.{Said}
 use Rattle.command_parts.specs.Checks.{Check, Fails, Passing, Then}
 use Rattle.command_parts.specs.FileChecks.{FilesAnswers, files_loaded}
 use Rattle.command_parts.specs.Lines.{shown_steps}
-use Rattle.command_parts.specs.ListingFaults.{fault_of_listing}
+use Rattle.listing_commands.specs.ListingFaults.{fault_of_listing}
 use Rattle.listing_commands.specs.ListingMakes.{AnswersBy, reply_of, answer_text}
 use Rattle.listing_commands.specs.ListingOutcomes.{AreTableTracks, HasListing, IsRead, IsReadRefused, IsReply, PlaceAnswers, ReadingAnswers, Reply, ReplyAnswers, DecidesListed, after_listing_head, after_listing_systems, after_listing_tables, after_place, after_read, after_tracks, listing_files, listing_systems, reply_text, too_long}
 use Rattle.command_parts.specs.FileChanges.{PrintsChecked}

@@ -24,7 +24,7 @@ use Rattle.definitions.specs.Tracks.{OverSets}
 use Rattle.definitions.specs.Trees.{Ledger, tree_of, custom_of}
 use Rattle.table_listings.specs.declared.question.Answer.{Answer}
 use Rattle.table_listings.specs.declared.question.Question.{Question}
-use Rattle.command_parts.specs.declared.listing_fault.ListingFault.{ListingFault}
+use Rattle.listing_commands.specs.declared.listing_fault.ListingFault.{ListingFault}
 use Rattle.command_parts.specs.FormulaSteps.{AreMeant}
 use Rattle.listing_commands.specs.ListingMakes.{AnswersBelow, AnswersBy, AnswersOver, AnswersUnder, DoesRelation}
 use Rattle.listing_commands.specs.ListingOutcomes.{IsRead, IsReadRefused, IsSystemsRead, DecidesListed, after_listing_systems}

@@ -14,7 +14,7 @@ use Rattle.system_files.specs.SystemFiles.{Custom}
 use Rattle.command_parts.specs.declared.fault.Fault.{Fault}
 use Rattle.table_listings.specs.declared.question.Answer.{Answer}
 use Rattle.listing_commands.specs.declared.listing.ReadListing.{ReadListing}
-use Rattle.command_parts.specs.declared.listing_fault.ListingFault.{ListingFault}
+use Rattle.listing_commands.specs.declared.listing_fault.ListingFault.{ListingFault}
 use Rattle.command_parts.specs.FormulaSteps.{AreMeant}
 use Rattle.listing_commands.specs.ListingMakes.{AnswersBelow, CanBeListed, PrintsAfterSystems, IsReadListing}
 use Rattle.listing_commands.specs.ListingOutcomes.{after_listing_systems, listing_files}

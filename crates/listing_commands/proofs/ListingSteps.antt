@@ -11,9 +11,9 @@ use Rattle.word_walk.specs.Listed.{is_listed}
 use Rattle.table_listings.specs.Questions.{IsAskedOn, IsUnanswered}
 use Rattle.table_listings.specs.declared.question.Question.{Question}
 use Rattle.listing_commands.specs.declared.listing.Asked.{Asked}
-use Rattle.command_parts.specs.declared.listing_fault.ListingFault.{ListingFault}
-use Rattle.command_parts.specs.declared.listing_fault.ListingFault.TheVariants as own
-use Rattle.command_parts.specs.ListingFaults.{of_lines}
+use Rattle.listing_commands.specs.declared.listing_fault.ListingFault.{ListingFault}
+use Rattle.listing_commands.specs.declared.listing_fault.ListingFault.TheVariants as own
+use Rattle.listing_commands.specs.ListingFaults.{of_lines}
 use Rattle.listing_commands.specs.ListingMakes.{IsNotAnswered, IsPlaceFault}
 
 module _ (Does : Result Automaton StepFault → Type 0) (skip : Option Direction) (sets : List (List ℤ)) where

@@ -1,2 +1,3 @@
 pub mod ListingOutcomes
 pub mod ListingMakes
+pub mod ListingFaults

@@ -33,8 +33,8 @@ use Rattle.table_listings.specs.declared.question.Question.{Question}
 use Rattle.command_parts.specs.declared.fault.Fault.{Fault}
 use Rattle.listing_commands.specs.declared.listing.Asked.{Asked}
 use Rattle.listing_commands.specs.declared.listing.ReadListing.{ReadListing}
-use Rattle.command_parts.specs.declared.listing_fault.ListingFault.{ListingFault}
-use Rattle.command_parts.specs.declared.listing_fault.ListingFault.TheVariants as own
+use Rattle.listing_commands.specs.declared.listing_fault.ListingFault.{ListingFault}
+use Rattle.listing_commands.specs.declared.listing_fault.ListingFault.TheVariants as own
 use Rattle.command_parts.specs.declared.step_options.StepOptions.{StepOptions}
 use Rattle.command_parts.specs.FormulaSteps.{AreMeant}
 use Rattle.listing_commands.specs.ListingOutcomes.{Reply, Lines, Verdict, reply_text, after_listing_systems, after_listing_tables, listing_files, listing_mentions}

@@ -35,7 +35,7 @@ use Rattle.command_parts.specs.declared.refusal.Refusal.TheVariants as refusals
 use Rattle.command_parts.specs.declared.fault.Fault.{Fault}
 use Rattle.command_parts.specs.declared.fault.Fault.TheVariants as faults
 use Rattle.command_parts.specs.Accepting.{Said}
-use Rattle.command_parts.specs.Checks.{Check, Passing, Pure, Then}
+use Rattle.command_parts.specs.Checks.{Check, Passing, Pure, Then, IsSingle}
 use Rattle.command_parts.specs.FileChecks.{files_loaded}
 use Rattle.command_parts.specs.FormulaSteps.{AreMeant, IsReadingStopped}
 use Rattle.command_parts.specs.HeadAnswers.{HeadAnswers, fault_of_head}
@@ -179,3 +179,11 @@ test_checks limit ledger text = Then (Refusing fault_of_head (TestAnswers text))
 
 abbrev pub inf_checks : ℕ → Ledger → List ℕ → Check Said
 inf_checks limit ledger text = Then (Pure (HeadAnswers (DerivesName (codes "inf")) text)) (λ name. after_listing_head limit ledger name Infinity)
+
+-- a `test` has at most one proper outcome
+abbrev pub TestHasOneOutcome : Type 0
+TestHasOneOutcome = (limit : ℕ) (ledger : Ledger) (text : List ℕ) → IsSingle (test_checks limit ledger text)
+
+-- an `inf` has at most one proper outcome
+abbrev pub InfHasOneOutcome : Type 0
+InfHasOneOutcome = (limit : ℕ) (ledger : Ledger) (text : List ℕ) → IsSingle (inf_checks limit ledger text)

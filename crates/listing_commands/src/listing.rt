@@ -11,15 +11,15 @@ ghost use Rattle.language_steps.specs.Operands.{IsPlainTable};
 ghost use Rattle.system_files.specs.SystemFiles.{Custom};
 ghost use Rattle.table_listings.specs.Questions.{IsAskedOn};
 ghost use Rattle.listing_commands.specs.ListingMakes.{AnswersBelow, AnswersBy, AnswersOver, AnswersUnder, AreListingNames, CanBeListed, HasTracks, HaveHeader, PrintsAfterSystems, PrintsAfterTables, IsPlaceFault, IsReadListing, answer_text, reply_of, sets_below};
-ghost use Rattle.listing_commands.specs.ListingOutcomes.{after_listing_head, inf_checks, listing_mentions, reply_text, test_checks};
+ghost use Rattle.listing_commands.specs.ListingOutcomes.{TestHasOneOutcome, InfHasOneOutcome, after_listing_head, inf_checks, listing_mentions, reply_text, test_checks};
 ghost use Rattle.command_parts.specs.FileChanges.{PrintsChecked};
 ghost use Rattle.command_parts.specs.StoreReads.{FromFiles, FromTexts};
 ghost use Rattle.command_parts.specs.TableReading.{IsReadable};
 
+use crate::listing_fault::ListingFault;
 use command_head::{TestParts, name_after, test_parts};
 use command_parts::fault::Fault;
 use command_parts::kept::Kept;
-use command_parts::listing_fault::ListingFault;
 use command_parts::mentioned_tables::{MentionedTables, SealedNames, load_mentioned, names_of};
 use command_parts::named_tracks::tracks_of;
 use command_parts::printed::Printed;
@@ -311,3 +311,9 @@ fn names_in(alloc: Global, names: &[SystemName]) -> Result<Vec<Name>, OutOfMemor
     }
     Ok(copies)
 }
+
+/// A `test` has at most one proper outcome, and so has an `inf`. The call does nothing.
+pub fn one_outcome()
+    ensures test { TestHasOneOutcome }
+    ensures inf { InfHasOneOutcome }
+{}

@@ -10,7 +10,7 @@ use Rattle.system_files.specs.SystemFiles.{Custom}
 use Rattle.command_parts.specs.Accepting.{Success, Said, Accepted, Storing, Saying, storing, saying}
 use Rattle.command_parts.specs.FileChanges.{ChangesFile, PrintsChecked, Acts, writing, printing}
 use Rattle.command_parts.specs.StoreReads.{HasRead, FromFiles}
-use Rattle.command_parts.proofs.CheckSteps.{IsSingle, then_single, passing_single, fails_first, fails_after}
+use Rattle.command_parts.proofs.CheckSteps.{fails_first, fails_after}
 
 -- what the checks after the first lead to
 pub acts_after : {Y : Type 0} (custom : Custom) (first : Check Y) (rest : Y → Check Accepted) (y : Y) (shown : Bool) (r : Result Action Fault) → first.answers (Ok y) → Acts custom (rest y) shown r → Acts custom (Then first rest) shown r
@@ -45,10 +45,3 @@ said_read old new (Err f) read = record { files = read.files; later = read.later
 
 pub from_said : (First : Files → Result (List ℕ) Fault → Type 0) (Gives : Files → Result Action Fault → Type 0) (old new : StoreView) (r : Result (List ℕ) Fault) → FromFiles First old r new → ((found : Files) → First found r → Gives found (printing r)) → FromFiles Gives old (printing r) new
 from_said First Gives old new r first so = record { found = first.found; reported = first.reported; gives = so first.found first.gives; has_read = said_read old new r first.has_read }
-
-pub saying_single : (checks : Check Said) → IsSingle checks → IsSingle (saying checks)
-saying_single checks one = then_single checks (λ said. Passing (λ accepted. accepted ≡ Saying said)) one (λ said made. passing_single (Saying said))
-
--- a command that stores has one outcome, where what it stores is one
-pub storing_single : (checks : Check Success) → IsSingle checks → IsSingle (storing checks)
-storing_single checks one = then_single checks (λ success. Passing (λ accepted. accepted ≡ Storing success)) one (λ success made. passing_single (Storing success))

@@ -8,8 +8,8 @@ use Rattle.language_steps.specs.declared.op.LanguageOp.TheVariants.{Pair, One}
 use Rattle.language_steps.specs.declared.op.OneOp.TheVariants.{Star, Reversal}
 use Rattle.language_steps.specs.declared.op.PairOp.TheVariants.{Union, Intersection, Concatenation}
 use Rattle.script_runs.specs.Languages.{Enters, Loads, Ends}
-use Rattle.session_cli.specs.declared.command_word.CommandWord.{CommandWord}
-use Rattle.session_cli.specs.declared.command_word.CommandWord.TheVariants as words
+use Rattle.session_cli.specs.declared.actions.CommandWord.{CommandWord}
+use Rattle.session_cli.specs.declared.actions.CommandWord.TheVariants as words
 use Rattle.session_cli.specs.declared.run_word.RunWord.{RunWord}
 use Rattle.session_cli.specs.declared.run_word.RunWord.TheVariants as others
 use Rattle.command_parts.specs.Accepting.{Accepted, saying, storing}
@@ -23,7 +23,7 @@ use Rattle.session_cli.specs.Outcomes.{word_text, checks_by, after_length}
 use Rattle.word_commands.specs.PromoteOutcomes.{promote_checks}
 use Rattle.session_cli.specs.RunOutcomes.{run_checks, run_word_text}
 use Rattle.word_commands.specs.TransduceOutcomes.{transduce_checks}
-use Rattle.session_cli.proofs.OneOutcomes.{one_word}
+use Rattle.session_cli.specs.SoundCommands.{one_word}
 
 module _ (limit : ℕ) (known : Ledger) (command : List ℕ) (accepted : Accepted) where
   -- the checks are those of the command whose word comes first

@@ -6,20 +6,19 @@ use Rattle.command_head.specs.Grammar.{DerivesLoad, DerivesAlone}
 use Rattle.command_head.proofs.OneFault.{one_head}
 use Rattle.command_head.proofs.RunHeads.{one_load, one_alone}
 use Rattle.script_runs.specs.Languages.{Enters, Loads, Ends}
-use Rattle.fixed_points.specs.Laws.{PromotionsHaveOneOutcome}
 use Rattle.command_parts.specs.declared.file_refusal.FileRefusal.TheVariants as file_refusals
 use Rattle.command_parts.specs.declared.refusal.Refusal.{Refusal}
 use Rattle.command_parts.specs.declared.refusal.Refusal.TheVariants as refusals
 use Rattle.session_cli.specs.declared.run_word.RunWord.{RunWord}
 use Rattle.session_cli.specs.declared.run_word.RunWord.TheVariants as words
-use Rattle.command_parts.specs.Checks.{Pure, Passing, Then}
+use Rattle.command_parts.specs.Checks.{Pure, Passing, Then, IsSingle}
 use Rattle.command_parts.specs.HeadAnswers.{HeadAnswers}
 use Rattle.session_cli.specs.Outcomes.{LengthAnswers, after_length}
 use Rattle.session_cli.specs.RunOutcomes.{run_word_text, RunWordAnswers, DepthAnswers, TextIn, text_read, load_checks, checks_by_word, run_checks}
 use Rattle.definitions.specs.Trees.{Ledger}
-use Rattle.command_parts.proofs.CheckSteps.{IsSingle, then_single, passing_single}
-use Rattle.session_cli.proofs.OneHeads.{head_single}
-use Rattle.session_cli.proofs.OneLoadings.{same_there}
+use Rattle.command_parts.proofs.CheckSteps.{then_single, passing_single}
+use Rattle.command_parts.proofs.OneHeads.{head_single}
+use Rattle.command_parts.proofs.OneLoadings.{same_there}
 use Rattle.session_cli.proofs.OneOutcomes.{length_single, after_length_single}
 
 -- one of two answers, of which each excludes the other
@@ -64,17 +63,17 @@ word_single text r s (inl (v, is, at)) (inr (none, at')) = absurd (none v is)
 word_single text r s (inr (none, at)) (inl (w, is', at')) = absurd (none w is')
 word_single text r s (inr (none, at)) (inr (none', at')) = at ∙ sym at'
 
-single_by_word : PromotionsHaveOneOutcome → (word : Option RunWord) (limit depth : ℕ) (ledger : Ledger) (text : List ℕ) → IsSingle (checks_by_word word limit depth ledger text)
-single_by_word promotions None limit depth ledger text =
-    then_single (after_length limit ledger text) (λ accepted. Passing (λ deed. deed ≡ Enters accepted)) (after_length_single promotions limit ledger text) (λ accepted made. passing_single (Enters accepted))
-single_by_word promotions (Some words.Load) limit depth ledger text =
+single_by_word : (word : Option RunWord) (limit depth : ℕ) (ledger : Ledger) (text : List ℕ) → IsSingle (checks_by_word word limit depth ledger text)
+single_by_word None limit depth ledger text =
+    then_single (after_length limit ledger text) (λ accepted. Passing (λ deed. deed ≡ Enters accepted)) (after_length_single limit ledger text) (λ accepted made. passing_single (Enters accepted))
+single_by_word (Some words.Load) limit depth ledger text =
     then_single (load_checks depth ledger text) (λ loaded. Passing (λ deed. deed ≡ Loads loaded)) (load_single depth ledger text) (λ loaded read. passing_single (Loads loaded))
-single_by_word promotions (Some words.Exit) limit depth ledger text =
+single_by_word (Some words.Exit) limit depth ledger text =
     then_single (Pure (HeadAnswers (DerivesAlone (codes "exit")) text)) (λ done. Passing (λ deed. deed ≡ Ends)) (head_single (DerivesAlone (codes "exit")) (one_head (DerivesAlone (codes "exit")) (one_alone (codes "exit"))) text) (λ done head. passing_single Ends)
-single_by_word promotions (Some words.Quit) limit depth ledger text =
+single_by_word (Some words.Quit) limit depth ledger text =
     then_single (Pure (HeadAnswers (DerivesAlone (codes "quit")) text)) (λ done. Passing (λ deed. deed ≡ Ends)) (head_single (DerivesAlone (codes "quit")) (one_head (DerivesAlone (codes "quit")) (one_alone (codes "quit"))) text) (λ done head. passing_single Ends)
 
-pub one_reply : PromotionsHaveOneOutcome → (limit depth : ℕ) (ledger : Ledger) (text : List ℕ) → IsSingle (run_checks limit depth ledger text)
-one_reply promotions limit depth ledger text =
+pub one_reply : (limit depth : ℕ) (ledger : Ledger) (text : List ℕ) → IsSingle (run_checks limit depth ledger text)
+one_reply limit depth ledger text =
     then_single (Pure (LengthAnswers text)) (λ short. Then (Pure (RunWordAnswers text)) (λ word. checks_by_word word limit depth ledger text)) (length_single text) (λ done short.
-    then_single (Pure (RunWordAnswers text)) (λ word. checks_by_word word limit depth ledger text) (word_single text) (λ word is. single_by_word promotions word limit depth ledger text))
+    then_single (Pure (RunWordAnswers text)) (λ word. checks_by_word word limit depth ledger text) (word_single text) (λ word is. single_by_word word limit depth ledger text))

@@ -8,7 +8,7 @@ use Rattle.command_parts.specs.declared.fault.Fault.{Fault}
 use Rattle.command_parts.specs.declared.fault.Fault.TheVariants as faults
 use Rattle.command_parts.specs.declared.file_change.Action.{Action}
 use Rattle.command_parts.specs.declared.file_change.FileChange.{FileChange}
-use Rattle.session_cli.specs.declared.command_word.CommandWord.{CommandWord}
+use Rattle.session_cli.specs.declared.actions.CommandWord.{CommandWord}
 use Rattle.command_parts.specs.Checks.{Pure, Fails}
 use Rattle.definitions.specs.Trees.{Ledger, custom_of}
 use Rattle.session_cli.specs.Outcomes.{LengthAnswers, WordAnswers, word_text, checks_by, after_length, checks_of}

@@ -8,8 +8,10 @@ pub mod Made
 pub mod Whole
 pub mod Laws
 -- what functions inside the crate do
-pub mod OneImage
 pub mod Commands
+pub mod OneTextCommands
+pub mod TextSoundness
+pub mod SoundCommands
 pub mod StoredEntries
 pub mod SoundLanguage
 pub mod LongerScripts

@@ -5,8 +5,8 @@ use Rattle.command_head.specs.Parts.{first_word_of}
 use Rattle.command_parts.specs.declared.text_refusal.TextRefusal.TheVariants as text_refusals
 use Rattle.command_parts.specs.declared.refusal.Refusal.{Refusal}
 use Rattle.command_parts.specs.declared.refusal.Refusal.TheVariants as refusals
-use Rattle.session_cli.specs.declared.command_word.CommandWord.{CommandWord}
-use Rattle.session_cli.specs.declared.command_word.CommandWord.TheVariants as words
+use Rattle.session_cli.specs.declared.actions.CommandWord.{CommandWord}
+use Rattle.session_cli.specs.declared.actions.CommandWord.TheVariants as words
 use Rattle.command_parts.specs.Checks.{Check, Pure, Then}
 use Rattle.definitions.specs.Trees.{Ledger}
 use Rattle.language_steps.specs.declared.op.LanguageOp.TheVariants.{Pair, One}

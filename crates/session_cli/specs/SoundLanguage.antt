@@ -16,7 +16,8 @@ use Rattle.session_cli.specs.Outcomes.{after_length, checks_of}
 use Rattle.session_cli.specs.RunOutcomes.{run_checks}
 use Rattle.session_cli.specs.SessionLanguage.{StoresEntry, ChangesFiles, script_refusal, first_ledger, session_language}
 use Rattle.command_parts.specs.StoreFailures.{failed_at}
-use Rattle.session_cli.specs.StoredEntries.{MayBeStored, AcceptedMayBeStored, may_be_there, accepted_may_be_stored}
+use Rattle.command_parts.proofs.SoundChecks.{MayBeStored, AcceptedMayBeStored}
+use Rattle.session_cli.specs.StoredEntries.{may_be_there, accepted_may_be_stored}
 
 -- bytes are stored as they are
 text_of_bytes : (custom : Custom) (folder : Folder) (there : Option (List ℕ)) → HasTextAt custom folder (option_map (λ bytes. Bytes bytes) there) there

@@ -2,22 +2,16 @@
 ghost use Rattle.session_cli.specs.Laws.{OneOutcome, OneRun, StoreFaultsCounted};
 ghost use Rattle.session_cli.specs.LongerScripts.{LongerCalls, SessionsBeginWithPrefixes};
 
-use fixed_points::laws::promotions_have_one_outcome;
-
 /// A command has at most one proper outcome.
 pub fn one_outcome()
     ensures { OneOutcome }
-{
-    promotions_have_one_outcome();
-}
+{}
 
 /// Where the store reports its files and a run ends with `Done` or `Refused`, what it printed, the store's files and the status are a function of
 /// the script and of the files at the beginning.
 pub fn one_run()
     ensures { OneRun }
-{
-    promotions_have_one_outcome();
-}
+{}
 
 /// At most as many commands are refused by the store as its count of faults rose, unless that is at its last value.
 pub fn store_faults_counted()
@@ -31,6 +25,4 @@ pub fn store_faults_counted()
 pub fn longer_runs()
     ensures alike { LongerCalls }
     ensures begin { SessionsBeginWithPrefixes }
-{
-    promotions_have_one_outcome();
-}
+{}

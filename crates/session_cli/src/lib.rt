@@ -2,7 +2,7 @@
 //!
 //! `run` (`whole.rt`) is the whole program over a source, a sink and a store; its contract is the theorem. It reads the words of
 //! the command line, and runs over a script (`script_runs`), or over the generated script of a seed (`making.rt`). A `Session`
-//! (`session.rt`) answers one command: `actions.rt` finds its first word (`command_word.rt`) and what it is to store or to print,
+//! (`session.rt`) answers one command: `actions.rt` finds its first word and what it is to store or to print,
 //! by the crate of its family (`formula_commands`, `word_commands`, `language_commands`, `listing_commands`), or here for `macro`
 //! and `morphism` (`texts.rt`); then its text is written. `answering.rt` has a session answer the commands of a run, those of
 //! loaded files among them (`loading.rt`).
@@ -14,11 +14,9 @@
 //! the next changes no answer, and no contract mentions it but by the limit.
 #![tactic(auto)]
 
-// the words with which commands begin
-mod command_word;
 // the commands `macro` and `morphism`
 mod texts;
-// what a command stores and prints, from its text
+// the commands by their words, and what each stores and prints
 mod actions;
 // one command
 mod session;

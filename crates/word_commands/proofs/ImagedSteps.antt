@@ -11,13 +11,13 @@ use Rattle.morph_words.specs.declared.morphism_kind.MorphismKind.TheVariants as 
 use Rattle.morph_words.proofs.UniformLemmas.{not_uniform, one_length}
 use Rattle.word_commands.specs.ImageSteps.{DoesImage}
 use Rattle.word_images.specs.ImageWords.{IsImageWord}
-use Rattle.command_parts.specs.declared.image_fault.ImageFault.{ImageFault}
-use Rattle.command_parts.specs.declared.image_fault.ImageFault.TheVariants as images
+use Rattle.word_commands.specs.declared.image_fault.ImageFault.{ImageFault}
+use Rattle.word_commands.specs.declared.image_fault.ImageFault.TheVariants as images
 use Rattle.word_output.specs.Words.{WordValue}
 use Rattle.system_files.specs.SystemFiles.{Custom}
 use Rattle.command_parts.specs.Checks.{Pure, Fails}
 use Rattle.command_parts.specs.FormulaSteps.{IsUnread}
-use Rattle.command_parts.specs.ImageFaults.{fault_of_imaging}
+use Rattle.word_commands.specs.ImageFaults.{fault_of_imaging}
 use Rattle.word_commands.specs.ImageMakes.{IsImaged, old_system_of}
 use Rattle.word_commands.specs.ImageOutcomes.{AreImageStepsRefused, ImagedAnswers}
 use Rattle.word_commands.specs.declared.image.ReadImage.{ReadImage}

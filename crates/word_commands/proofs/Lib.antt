@@ -37,3 +37,16 @@ pub mod TransduceReads
 pub mod TransduceTexts
 pub mod TransduceChains
 pub mod TransduceWrites
+pub mod OnePromotes
+pub mod OneCombines
+pub mod ImageOutcomeLemmas
+pub mod ImageLaws
+pub mod OneImages
+pub mod OneOldWords
+pub mod OneTransduces
+pub mod OneConverts
+pub mod PromoteSoundness
+pub mod CombineSoundness
+pub mod ImageSoundness
+pub mod TransduceSoundness
+pub mod ConvertSoundness

@@ -5,7 +5,7 @@ use Rattle.wal_outside.specs.declared.folder.Folder.TheVariants.{Words}
 use Rattle.command_head.specs.Heads.{PromoteHead}
 use Rattle.morph_words.specs.Rules.{Rules}
 use Rattle.definitions.specs.Trees.{Defined, Fixed, Ledger, custom_of}
-use Rattle.command_parts.specs.Accepting.{Success, stored}
+use Rattle.command_parts.specs.Accepting.{Success}
 use Rattle.command_parts.specs.Checks.{Check, Then}
 use Rattle.word_commands.specs.MorphismChecks.{morphism_loaded}
 use Rattle.word_commands.specs.PromoteOutcomes.{after_morphism}

@@ -26,7 +26,7 @@ use Rattle.command_parts.specs.declared.refusal.Refusal.{Refusal}
 use Rattle.command_parts.specs.declared.refusal.Refusal.TheVariants as refusals
 use Rattle.command_parts.specs.declared.fault.Fault.TheVariants as faults
 use Rattle.command_parts.specs.Accepting.{Success, stored}
-use Rattle.command_parts.specs.Checks.{Check, Passing, Pure, Then}
+use Rattle.command_parts.specs.Checks.{Check, Passing, Pure, Then, IsSingle}
 use Rattle.word_commands.specs.CombineSteps.{AreCombineSteps, AreCombineStepsRefused}
 use Rattle.command_parts.specs.FileChecks.{files_loaded}
 use Rattle.command_parts.specs.HeadAnswers.{HeadAnswers}
@@ -118,3 +118,7 @@ after_combine_head limit ledger head = Then (files_loaded ledger (listed_files h
 -- all checks of a `combine`
 abbrev pub combine_checks : ℕ → Ledger → List ℕ → Check Success
 combine_checks limit ledger text = Then (Pure (HeadAnswers DerivesCombine text)) (λ head. after_combine_head limit ledger head)
+
+-- a `combine` has at most one proper outcome
+abbrev pub CombineHasOneOutcome : Type 0
+CombineHasOneOutcome = (limit : ℕ) (ledger : Ledger) (text : List ℕ) → IsSingle (combine_checks limit ledger text)

@@ -21,7 +21,7 @@ use Rattle.command_parts.specs.declared.fault.Fault.{Fault}
 use Rattle.command_parts.specs.declared.fault.Fault.TheVariants as faults
 use Rattle.command_parts.specs.Accepting.{Success}
 use Rattle.word_commands.specs.BaseWords.{IsNameOfBase, name_of_base, named_base, over_base}
-use Rattle.command_parts.specs.Checks.{Check, Pure, Then}
+use Rattle.command_parts.specs.Checks.{Check, Pure, Then, IsSingle}
 use Rattle.word_commands.specs.ConvertSteps.{DoesConvert}
 use Rattle.command_parts.specs.FileChecks.{files_loaded}
 use Rattle.command_parts.specs.HeadAnswers.{HeadAnswers}
@@ -84,3 +84,7 @@ after_convert_head limit ledger head = Then (files_loaded ledger (first_files (o
 -- all checks of a `convert`
 abbrev pub convert_checks : ℕ → Ledger → List ℕ → Check Success
 convert_checks limit ledger text = Then (Pure (HeadAnswers DerivesConvert text)) (λ head. after_convert_head limit ledger head)
+
+-- a `convert` has at most one proper outcome
+abbrev pub ConvertHasOneOutcome : Type 0
+ConvertHasOneOutcome = (limit : ℕ) (ledger : Ledger) (text : List ℕ) → IsSingle (convert_checks limit ledger text)

@@ -20,8 +20,8 @@ use Rattle.morph_words.specs.declared.morphism_kind.MorphismKind.{MorphismKind}
 use Rattle.morph_words.specs.Rules.{Rules}
 use Rattle.morph_words.specs.Uniform.{HasLength, IsImageLength, IsLengthRefused}
 use Rattle.word_commands.specs.ImageSteps.{DoesImage}
-use Rattle.command_parts.specs.declared.image_fault.ImageFault.{ImageFault}
-use Rattle.command_parts.specs.declared.image_fault.ImageFault.TheVariants as images
+use Rattle.word_commands.specs.declared.image_fault.ImageFault.{ImageFault}
+use Rattle.word_commands.specs.declared.image_fault.ImageFault.TheVariants as images
 use Rattle.word_output.specs.Words.{WordValue}
 use Rattle.definitions.specs.Named.{IsSystemNamed}
 use Rattle.definitions.specs.Tracks as named_tracks
@@ -33,14 +33,14 @@ use Rattle.command_parts.specs.declared.refusal.Refusal.{Refusal}
 use Rattle.command_parts.specs.declared.refusal.Refusal.TheVariants as refusals
 use Rattle.command_parts.specs.declared.fault.Fault.TheVariants as faults
 use Rattle.command_parts.specs.Accepting.{Success, stored}
-use Rattle.command_parts.specs.Checks.{Check, Passing, Pure, Then}
+use Rattle.command_parts.specs.Checks.{Check, Passing, Pure, Then, IsSingle}
 use Rattle.command_parts.specs.FileChecks.{files_loaded}
 use Rattle.command_parts.specs.FormulaSteps.{AreMeant, IsReadingStopped}
 use Rattle.command_parts.specs.HeadAnswers.{HeadAnswers}
 use Rattle.word_commands.specs.MorphismChecks.{morphism_loaded}
 use Rattle.command_parts.specs.SystemChecks.{systems_known}
 use Rattle.command_parts.specs.TableReads.{TableRead, AreTablesRead, words_in}
-use Rattle.command_parts.specs.ImageFaults.{fault_of_imaging}
+use Rattle.word_commands.specs.ImageFaults.{fault_of_imaging}
 
 -- the old word is mentioned as one that is indexed at one position
 abbrev pub old_mentions : List ℕ → List Mention
@@ -123,3 +123,7 @@ after_image_head limit ledger head =
 -- all checks of an `image`
 abbrev pub image_checks : ℕ → Ledger → List ℕ → Check Success
 image_checks limit ledger text = Then (Pure (HeadAnswers (DerivesImage (codes "image")) text)) (λ head. after_image_head limit ledger head)
+
+-- an `image` has at most one proper outcome
+abbrev pub ImageHasOneOutcome : Type 0
+ImageHasOneOutcome = (limit : ℕ) (ledger : Ledger) (text : List ℕ) → IsSingle (image_checks limit ledger text)

@@ -17,8 +17,8 @@ use Rattle.combinations.specs.CombineSteps.{combine_step}
 use Rattle.word_images.specs.ImageFormula.{image_formula}
 use Rattle.word_commands.specs.RecodedWords.{IsImageLibrary, image_headers}
 use Rattle.word_images.specs.ImageWords.{AreOutputs, IsMapped, IsMissing}
-use Rattle.command_parts.specs.declared.image_fault.ImageFault.{ImageFault}
-use Rattle.command_parts.specs.declared.image_fault.ImageFault.TheVariants.{Morphism, Missing, Step}
+use Rattle.word_commands.specs.declared.image_fault.ImageFault.{ImageFault}
+use Rattle.word_commands.specs.declared.image_fault.ImageFault.TheVariants.{Morphism, Missing, Step}
 
 -- the change of the formula of a letter
 abbrev pub letter_plan : Name → ℕ → ℤ → Made

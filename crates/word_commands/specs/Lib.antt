@@ -19,3 +19,5 @@ pub mod BaseWords
 pub mod ConvertSteps
 pub mod ConvertOutcomes
 pub mod ConvertMakes
+pub mod ImageFaults
+pub mod OneImage

@@ -14,7 +14,7 @@ use Rattle.system_files.specs.SystemFiles.{Custom}
 use Rattle.command_parts.specs.declared.refusal.Refusal.{Refusal}
 use Rattle.command_parts.specs.declared.fault.Fault.TheVariants as faults
 use Rattle.command_parts.specs.Accepting.{Success, stored}
-use Rattle.command_parts.specs.Checks.{Check, Pure, Then}
+use Rattle.command_parts.specs.Checks.{Check, Pure, Then, IsSingle}
 use Rattle.command_parts.specs.HeadAnswers.{HeadAnswers}
 use Rattle.word_commands.specs.MorphismChecks.{morphism_loaded}
 use Rattle.command_parts.specs.MorphismFaults.{fault_of_promotion}
@@ -37,3 +37,7 @@ abbrev pub promote_checks : ℕ → Ledger → List ℕ → Check Success
 promote_checks limit ledger text =
     Then (Pure (HeadAnswers DerivesPromote text)) (λ (head : PromoteHead).
     Then (morphism_loaded ledger head.morphism) (λ rules. after_morphism limit (custom_of ledger) head.word rules))
+
+-- a `promote` has at most one proper outcome
+abbrev pub PromoteHasOneOutcome : Type 0
+PromoteHasOneOutcome = (limit : ℕ) (ledger : Ledger) (text : List ℕ) → IsSingle (promote_checks limit ledger text)

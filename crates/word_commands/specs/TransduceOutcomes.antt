@@ -13,7 +13,7 @@ use Rattle.definitions.specs.Trees.{Ledger, Transduced, custom_of}
 use Rattle.word_commands.specs.declared.base_system.BaseSystem.{BaseSystem}
 use Rattle.command_parts.specs.Accepting.{Success}
 use Rattle.word_commands.specs.BaseWords.{named_base, over_base}
-use Rattle.command_parts.specs.Checks.{Check, Pure, Then}
+use Rattle.command_parts.specs.Checks.{Check, Pure, Then, IsSingle}
 use Rattle.command_parts.specs.FileChecks.{files_loaded}
 use Rattle.command_parts.specs.HeadAnswers.{HeadAnswers}
 use Rattle.word_commands.specs.ImageOutcomes.{old_mentions}
@@ -42,3 +42,7 @@ after_transduce_head limit ledger head = Then (transducer_loaded ledger head.map
 -- all checks of a `transduce`
 abbrev pub transduce_checks : ℕ → Ledger → List ℕ → Check Success
 transduce_checks limit ledger text = Then (Pure (HeadAnswers (DerivesImage (codes "transduce")) text)) (λ head. after_transduce_head limit ledger head)
+
+-- a `transduce` has at most one proper outcome
+abbrev pub TransduceHasOneOutcome : Type 0
+TransduceHasOneOutcome = (limit : ℕ) (ledger : Ledger) (text : List ℕ) → IsSingle (transduce_checks limit ledger text)

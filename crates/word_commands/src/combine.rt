@@ -12,7 +12,7 @@ ghost use Rattle.definitions.specs.Trees.{Ledger, custom_of};
 ghost use Rattle.system_files.specs.SystemFiles.{Custom};
 ghost use Rattle.command_parts.specs.Checks.{Fails, Pure};
 ghost use Rattle.word_commands.specs.CombineMakes.{IsReadList, IsPossible, HasRelations, MakesAfterListed, AreListedNames, MakesAfterListedSystems, MakesWord, automata_in, first_names};
-ghost use Rattle.word_commands.specs.CombineOutcomes.{listed_names, listed_mentions, first_plain, PlainAnswers, HaveSystemsOfFirst, ShapeAnswers, IsFirstOver, after_combine_head, combine_checks};
+ghost use Rattle.word_commands.specs.CombineOutcomes.{CombineHasOneOutcome, listed_names, listed_mentions, first_plain, PlainAnswers, HaveSystemsOfFirst, ShapeAnswers, IsFirstOver, after_combine_head, combine_checks};
 ghost use Rattle.word_commands.specs.CombineSteps.{ArePartsFrom};
 ghost use Rattle.command_parts.specs.FileChanges.{Makes, ChangesFile};
 ghost use Rattle.command_parts.specs.StoreReads.{FromFiles, FromTexts};
@@ -285,3 +285,8 @@ fn word_of(alloc: Global, parts: &[Part], steps: &mut Steps) -> Result<Word, Ste
         Err(CombineFault::Shape(_, _)) => unreachable!(),
     }
 }
+
+/// A `combine` has at most one proper outcome. The call does nothing.
+pub fn one_outcome()
+    ensures { CombineHasOneOutcome }
+{}

@@ -14,7 +14,7 @@ ghost use Rattle.word_commands.specs.declared.base_system.BaseSystem.{BaseSystem
 ghost use Rattle.word_commands.specs.BaseWords.{IsNameOfBase};
 ghost use Rattle.command_parts.specs.Checks.{Fails};
 ghost use Rattle.word_commands.specs.ConvertMakes.{HasSameLetters, MakesAfterConvertSystems, MakesAfterConvertTable};
-ghost use Rattle.word_commands.specs.ConvertOutcomes.{IsChange, UnknownBaseAnswers, after_convert_head, convert_checks, is_numbered as is_numbered_name, no_unknown_base, related_base};
+ghost use Rattle.word_commands.specs.ConvertOutcomes.{ConvertHasOneOutcome, IsChange, UnknownBaseAnswers, after_convert_head, convert_checks, is_numbered as is_numbered_name, no_unknown_base, related_base};
 ghost use Rattle.word_commands.specs.ConvertSteps.{IsSealedBase};
 ghost use Rattle.word_commands.specs.OldWordMakes.{AreOldNames, IsLoadedOld};
 ghost use Rattle.command_parts.specs.FileChanges.{Makes, ChangesFile};
@@ -241,3 +241,8 @@ fn word_over(
     made.systems();
     Ok(made)
 }
+
+/// A `convert` has at most one proper outcome. The call does nothing.
+pub fn one_outcome()
+    ensures { ConvertHasOneOutcome }
+{}

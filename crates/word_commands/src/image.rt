@@ -9,7 +9,7 @@ ghost use Rattle.definitions.specs.Trees.{Ledger, custom_of};
 ghost use Rattle.system_files.specs.SystemFiles.{Custom};
 ghost use Rattle.command_parts.specs.Checks.{Fails, Pure};
 ghost use Rattle.word_commands.specs.ImageMakes.{ReadsImage, MakesAfterOld, MakesAfterOldSystems};
-ghost use Rattle.word_commands.specs.ImageOutcomes.{OneTrackAnswers, LengthsAnswers, after_image_head, image_checks};
+ghost use Rattle.word_commands.specs.ImageOutcomes.{ImageHasOneOutcome, OneTrackAnswers, LengthsAnswers, after_image_head, image_checks};
 ghost use Rattle.command_parts.specs.FileChanges.{Makes, ChangesFile};
 ghost use Rattle.word_commands.specs.OldWordMakes.{AreOldNames, IsLoadedOld};
 ghost use Rattle.command_parts.specs.StoreReads.{FromFiles, FromTexts};
@@ -157,3 +157,8 @@ fn has_one_length(morphism: &Morphism) -> Result<(), Fault>
         Some(kind) => Err(Fault::Refused(Refusal::Word(WordRefusal::Morphism(kind)))),
     }
 }
+
+/// An `image` has at most one proper outcome. The call does nothing.
+pub fn one_outcome()
+    ensures { ImageHasOneOutcome }
+{}

@@ -7,11 +7,11 @@ ghost use Rattle.formula_build.specs.Solutions.{direction_named};
 ghost use Rattle.word_commands.specs.ImageSteps.{DoesImage, DoesMapped};
 ghost use Rattle.word_images.specs.ImageWords.{IsImageWord, IsMapped};
 
+use crate::image_fault::ImageFault;
 use crate::letter_parts::{Formulas, letter_parts};
 use crate::setting::Setting;
 use combinations::combine::combine;
 use combinations::combine_fault::CombineFault;
-use command_parts::image_fault::ImageFault;
 use digit_tuple::name::Name;
 use digit_tuple::step_fault::StepFault;
 use digit_tuple::steps::Steps;

@@ -34,6 +34,9 @@ pub mod setting;
 /// The relations of letters, one after another.
 pub mod letter_parts;
 
+/// Why a word has no image.
+pub mod image_fault;
+
 /// Images of words.
 pub mod imaging;
 

@@ -9,7 +9,7 @@ ghost use Rattle.definitions.specs.Trees.{Ledger, custom_of};
 ghost use Rattle.system_files.specs.SystemFiles.{Custom};
 ghost use Rattle.word_commands.specs.BaseWords.{IsOverBase, PrintsOverBase};
 ghost use Rattle.command_parts.specs.FileChanges.{Makes, ChangesFile};
-ghost use Rattle.word_commands.specs.PromoteOutcomes.{after_morphism, promote_checks};
+ghost use Rattle.word_commands.specs.PromoteOutcomes.{PromoteHasOneOutcome, after_morphism, promote_checks};
 ghost use Rattle.command_parts.specs.StoreReads.{FromFiles};
 
 use crate::base_system::BaseSystem;
@@ -92,3 +92,8 @@ fn first_digits(systems: &[Rc<System>]) -> u32
 {
     systems[0].digits()
 }
+
+/// A `promote` has at most one proper outcome. The call does nothing.
+pub fn one_outcome()
+    ensures { PromoteHasOneOutcome }
+{}

@@ -8,7 +8,7 @@ ghost use Rattle.word_commands.specs.OldWordMakes.{AreOldNames, IsLoadedOld};
 ghost use Rattle.command_parts.specs.FileChanges.{Makes, ChangesFile};
 ghost use Rattle.command_parts.specs.StoreReads.{FromFiles, FromTexts};
 ghost use Rattle.word_commands.specs.TransduceMakes.{MakesAfterSystems, MakesAfterTable, ReadsTransducer};
-ghost use Rattle.word_commands.specs.TransduceOutcomes.{after_transduce_head, transduce_checks};
+ghost use Rattle.word_commands.specs.TransduceOutcomes.{TransduceHasOneOutcome, after_transduce_head, transduce_checks};
 
 use crate::base_system::base_of;
 use crate::old_word::{OldWord, load_old, read_old};
@@ -123,3 +123,8 @@ fn made_over(
     let tracks = [name];
     word_made(alloc, &tracks, &word, &steps, shown)
 }
+
+/// A `transduce` has at most one proper outcome. The call does nothing.
+pub fn one_outcome()
+    ensures { TransduceHasOneOutcome }
+{}

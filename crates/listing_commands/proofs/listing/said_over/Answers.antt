@@ -9,11 +9,11 @@ use Rattle.table_listings.specs.declared.question.Answer.{Answer}
 use Rattle.system_files.specs.SystemFiles.{Custom}
 use Rattle.command_parts.specs.FormulaLoads.{HasSystems}
 use Rattle.command_parts.specs.FormulaSteps.{AreMeant}
-use Rattle.command_parts.specs.ListingFaults.{fault_of_listing}
+use Rattle.listing_commands.specs.ListingFaults.{fault_of_listing}
 use Rattle.listing_commands.specs.ListingMakes.{AnswersBelow, CanBeListed, PrintsAfterSystems, answer_text}
 use Rattle.listing_commands.specs.ListingOutcomes.{listing_files, listing_systems}
 use Rattle.listing_commands.specs.declared.listing.ReadListing.{ReadListing}
-use Rattle.command_parts.specs.declared.listing_fault.ListingFault.{ListingFault}
+use Rattle.listing_commands.specs.declared.listing_fault.ListingFault.{ListingFault}
 use Rattle.listing_commands.proofs.ListingReading.{sole, some_table, said_here}
 use Rattle.listing_commands.proofs.ListingReady.{can_be_listed}
 use Rattle.listing_commands.proofs.listing.said_over.Goals as goal

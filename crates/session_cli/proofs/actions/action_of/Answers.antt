@@ -9,7 +9,7 @@ use Rattle.language_steps.specs.declared.op.OneOp.TheVariants.{Star, Reversal}
 use Rattle.language_steps.specs.declared.op.PairOp.TheVariants.{Union, Intersection, Concatenation}
 use Rattle.command_parts.specs.declared.fault.Fault.{Fault}
 use Rattle.command_parts.specs.declared.file_change.FileChange.{FileChange}
-use Rattle.session_cli.specs.declared.command_word.CommandWord.TheVariants as words
+use Rattle.session_cli.specs.declared.actions.CommandWord.TheVariants as words
 use Rattle.word_commands.specs.CombineOutcomes.{combine_checks}
 use Rattle.word_commands.specs.ConvertOutcomes.{convert_checks}
 use Rattle.formula_commands.specs.FormulaOutcomes.{formula_checks}

@@ -2,7 +2,7 @@ use Rattle.session_cli.proofs.LongerScripts.{longer_calls, sessions_begin_with_p
 use Rattle.session_cli.proofs.laws.longer_runs.Goals as goal
 
 pub returns-clause-alike : goal.returns-clause-alike
-returns-clause-alike c = longer_calls c.promotions_have_one_outcome.ensures
+returns-clause-alike c = longer_calls
 
 pub returns-clause-begin : goal.returns-clause-begin
 returns-clause-begin c = sessions_begin_with_prefixes

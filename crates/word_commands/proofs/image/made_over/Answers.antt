@@ -10,7 +10,7 @@ use Rattle.word_output.specs.Words.{WordValue}
 use Rattle.system_files.specs.SystemFiles.{Custom}
 use Rattle.definitions.specs.Trees.{custom_of}
 use Rattle.command_parts.specs.Checks.{Fails, Pure}
-use Rattle.command_parts.specs.ImageFaults.{fault_of_imaging}
+use Rattle.word_commands.specs.ImageFaults.{fault_of_imaging}
 use Rattle.word_commands.specs.ImageMakes.{head_of, old_system_of, old_tracks_of}
 use Rattle.word_commands.specs.ImageOutcomes.{OneTrackAnswers}
 use Rattle.word_commands.specs.ImageSteps.{DoesImage}
