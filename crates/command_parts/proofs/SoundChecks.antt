@@ -24,17 +24,17 @@ use Rattle.command_parts.specs.TrackSystems.{fault_of}
 use Rattle.command_parts.proofs.CheckSteps.{then_single, passing_single}
 
 -- the entry that a command stores may be in its folder, and defines no system
-abbrev pub Stands : Success → Type 0
-Stands success = (success.folder ≢ Bases) × MayBeIn success.folder (tree_of success.entry)
+abbrev pub MayBeStored : Success → Type 0
+MayBeStored success = (success.folder ≢ Bases) × MayBeIn success.folder (tree_of success.entry)
 
 -- so it is with each accepted command that stores
 abbrev pub AcceptedMayBeStored : Accepted → Type 0
-AcceptedMayBeStored (Storing success) = Stands success
+AcceptedMayBeStored (Storing success) = MayBeStored success
 AcceptedMayBeStored (Saying said) = ⊤
 
 -- what stores what checks make, where that may be in its folder; what says something stores nothing
-storing_may_be_stored : (checks : Check Success) (accepted : Accepted) → ((success : Success) → checks.answers (Ok success) → Stands success) → (storing checks).answers (Ok accepted) → AcceptedMayBeStored accepted
-storing_may_be_stored checks accepted in_some_folder (success, made, is) = subst AcceptedMayBeStored (sym is) (in_some_folder success made)
+storing_may_be_stored : (checks : Check Success) (accepted : Accepted) → ((success : Success) → checks.answers (Ok success) → MayBeStored success) → (storing checks).answers (Ok accepted) → AcceptedMayBeStored accepted
+storing_may_be_stored checks accepted may_be_stored (success, made, is) = subst AcceptedMayBeStored (sym is) (may_be_stored success made)
 
 saying_may_be_stored : (checks : Check Said) (accepted : Accepted) → (saying checks).answers (Ok accepted) → AcceptedMayBeStored accepted
 saying_may_be_stored checks accepted (said, made, is) = subst AcceptedMayBeStored (sym is) tt
@@ -89,7 +89,7 @@ no_head name law head_faults.Memory is = cc
 -- checks have one answer, what they make is right, and where they refuse by a law, the check of the systems that they name does
 pub record AreSound (Y : Type 0) (IsRight : Y → Type 0) (limit : ℕ) (ledger : Ledger) (checks : Check Y) : Type 0 where
   pub single : IsSingle checks
-  pub in_some_folder : (made : Y) → checks.answers (Ok made) → IsRight made
+  pub may_be_stored : (made : Y) → checks.answers (Ok made) → IsRight made
   pub refused : (name : List ℕ) (law : Law) → checks.answers (Err (by_law name law)) → RefusesSystem limit ledger name law
 
 -- a command that says something has one outcome, where what it says is one
@@ -110,10 +110,10 @@ saying_refuses checks refusal (inl refused) = refused
 saying_refuses checks refusal (inr (said, is_said, refused)) = absurd refused
 
 -- a command that stores what sound checks make
-pub storing_sound : (limit : ℕ) (ledger : Ledger) (checks : Check Success) → AreSound Success Stands limit ledger checks → AreSound Accepted AcceptedMayBeStored limit ledger (storing checks)
+pub storing_sound : (limit : ℕ) (ledger : Ledger) (checks : Check Success) → AreSound Success MayBeStored limit ledger checks → AreSound Accepted AcceptedMayBeStored limit ledger (storing checks)
 storing_sound limit ledger checks sound = record {
   single = storing_single checks sound.single;
-  in_some_folder = λ accepted made. storing_may_be_stored checks accepted sound.in_some_folder made;
+  may_be_stored = λ accepted made. storing_may_be_stored checks accepted sound.may_be_stored made;
   refused = λ name law refused. sound.refused name law (storing_refuses checks (by_law name law) refused);
 }
 
@@ -121,6 +121,6 @@ storing_sound limit ledger checks sound = record {
 pub saying_sound : (limit : ℕ) (ledger : Ledger) (checks : Check Said) → AreSound Said (λ said. ⊤) limit ledger checks → AreSound Accepted AcceptedMayBeStored limit ledger (saying checks)
 saying_sound limit ledger checks sound = record {
   single = saying_single checks sound.single;
-  in_some_folder = λ accepted made. saying_may_be_stored checks accepted made;
+  may_be_stored = λ accepted made. saying_may_be_stored checks accepted made;
   refused = λ name law refused. sound.refused name law (saying_refuses checks (by_law name law) refused);
 }

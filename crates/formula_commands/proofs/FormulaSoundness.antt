@@ -17,7 +17,7 @@ use Rattle.formula_resolve.specs.declared.fault.ResolveFault.{ResolveFault}
 use Rattle.formula_parse.specs.declared.fault.ParseFault.TheVariants as parses
 use Rattle.macro_loading.specs.declared.fault.ExpansionFault.TheVariants as expansions
 use Rattle.formula_resolve.specs.declared.fault.ResolveFault.TheVariants as resolves
-use Rattle.command_parts.proofs.SoundChecks.{AreSound, Stands, RefusesSystem, by_law, no_step, no_load, no_head}
+use Rattle.command_parts.proofs.SoundChecks.{AreSound, MayBeStored, RefusesSystem, by_law, no_step, no_load, no_head}
 use Rattle.formula_commands.proofs.OneFormulas.{formula_single}
 
 no_parse : (name : List ℕ) (law : Law) → (fault : ParseFault) → fault_of_formula fault ≡ faults.Refused (by_law name law) → ⊥
@@ -43,8 +43,8 @@ no_resolution name law (resolves.Direction one two) is = cc
 no_resolution name law resolves.Memory is = cc
 
 -- what it stores is no word
-formula_may_be_stored : (word : List ℕ) (folder : Folder) (limit : ℕ) (ledger : Ledger) (text : List ℕ) (success : Success) → folder ≢ Words → folder ≢ Bases → (formula_checks word folder limit ledger text).answers (Ok success) → Stands success
-formula_may_be_stored word folder limit ledger text success no_word no_base (head, h, (expansion, e, (formula, f, (tables, t, (admitted, a, (resolved, r, (lines, b, (variables, v, (verdict, d, (is, fits)))))))))) = subst Stands (sym is) (no_base, (no_word, no_base))
+formula_may_be_stored : (word : List ℕ) (folder : Folder) (limit : ℕ) (ledger : Ledger) (text : List ℕ) (success : Success) → folder ≢ Words → folder ≢ Bases → (formula_checks word folder limit ledger text).answers (Ok success) → MayBeStored success
+formula_may_be_stored word folder limit ledger text success no_word no_base (head, h, (expansion, e, (formula, f, (tables, t, (admitted, a, (resolved, r, (lines, b, (variables, v, (verdict, d, (is, fits)))))))))) = subst MayBeStored (sym is) (no_base, (no_word, no_base))
 
 -- a refusal by a law is one of its systems
 by_formula : (limit : ℕ) (ledger : Ledger) (name : List ℕ) (law : Law) → (word : List ℕ) (folder : Folder) (command : List ℕ) → (formula_checks word folder limit ledger command).answers (Err (by_law name law)) → RefusesSystem limit ledger name law
@@ -60,9 +60,9 @@ by_formula limit ledger name law word folder command (inr (head, h, inr (text, e
 by_formula limit ledger name law word folder command (inr (head, h, inr (text, e, inr (formula, f, inr (tables, t, inr (admitted, a, inr (resolved, r, inr (lines, b, inr (variables, v, inr (verdict, d, (is, long))))))))))) = absurd cc
 
 -- what is proved of its checks
-pub formula_sound : (word : List ℕ) (folder : Folder) → folder ≢ Words → folder ≢ Bases → (limit : ℕ) (ledger : Ledger) (text : List ℕ) → AreSound Success Stands limit ledger (formula_checks word folder limit ledger text)
+pub formula_sound : (word : List ℕ) (folder : Folder) → folder ≢ Words → folder ≢ Bases → (limit : ℕ) (ledger : Ledger) (text : List ℕ) → AreSound Success MayBeStored limit ledger (formula_checks word folder limit ledger text)
 formula_sound word folder no_word no_base limit ledger text = record {
   single = formula_single word folder limit ledger text;
-  in_some_folder = λ success made. formula_may_be_stored word folder limit ledger text success no_word no_base made;
+  may_be_stored = λ success made. formula_may_be_stored word folder limit ledger text success no_word no_base made;
   refused = λ at law refused. by_formula limit ledger at law word folder text refused;
 }

@@ -10,7 +10,7 @@ use Rattle.language_commands.specs.RegOutcomes.{TracksAnswers, reg_checks, syste
 use Rattle.command_parts.specs.RegexFaults.{fault_of_regex}
 use Rattle.regex_build.specs.declared.fault.RegexFault.{RegexFault}
 use Rattle.regex_build.specs.declared.fault.RegexFault.TheVariants as regexes
-use Rattle.command_parts.proofs.SoundChecks.{AreSound, Stands, RefusesSystem, by_law, no_step, no_head, automata_no_base, automata_no_word}
+use Rattle.command_parts.proofs.SoundChecks.{AreSound, MayBeStored, RefusesSystem, by_law, no_step, no_head, automata_no_base, automata_no_word}
 use Rattle.language_commands.proofs.OneRegs.{reg_single}
 
 no_regex : (name : List ℕ) (law : Law) → (fault : RegexFault) → fault_of_regex fault ≡ faults.Refused (by_law name law) → ⊥
@@ -24,8 +24,8 @@ no_track name law custom (heads.Sets sets) refused = refused
 no_track name law custom (heads.Systems names) (first, other, is, part) = cc
 
 -- what it stores is no word
-reg_may_be_stored : (limit : ℕ) (ledger : Ledger) (text : List ℕ) (success : Success) → (reg_checks limit ledger text).answers (Ok success) → Stands success
-reg_may_be_stored limit ledger text success (head, h, (admitted, a, (tracks, t, (pattern, p, (lines, l, (is, fits)))))) = subst Stands (sym is) (automata_no_base, (automata_no_word, automata_no_base))
+reg_may_be_stored : (limit : ℕ) (ledger : Ledger) (text : List ℕ) (success : Success) → (reg_checks limit ledger text).answers (Ok success) → MayBeStored success
+reg_may_be_stored limit ledger text success (head, h, (admitted, a, (tracks, t, (pattern, p, (lines, l, (is, fits)))))) = subst MayBeStored (sym is) (automata_no_base, (automata_no_word, automata_no_base))
 
 -- a refusal by a law is one of its systems
 by_reg : (limit : ℕ) (ledger : Ledger) (name : List ℕ) (law : Law) → (command : List ℕ) → (reg_checks limit ledger command).answers (Err (by_law name law)) → RefusesSystem limit ledger name law
@@ -37,9 +37,9 @@ by_reg limit ledger name law command (inr (head, h, inr (admitted, a, inr (track
 by_reg limit ledger name law command (inr (head, h, inr (admitted, a, inr (tracks, t, inr (pattern, p, inr (lines, l, (is, long))))))) = absurd cc
 
 -- what is proved of its checks
-pub reg_sound : (limit : ℕ) (ledger : Ledger) (text : List ℕ) → AreSound Success Stands limit ledger (reg_checks limit ledger text)
+pub reg_sound : (limit : ℕ) (ledger : Ledger) (text : List ℕ) → AreSound Success MayBeStored limit ledger (reg_checks limit ledger text)
 reg_sound limit ledger text = record {
   single = reg_single limit ledger text;
-  in_some_folder = λ success made. reg_may_be_stored limit ledger text success made;
+  may_be_stored = λ success made. reg_may_be_stored limit ledger text success made;
   refused = λ at law refused. by_reg limit ledger at law text refused;
 }

@@ -32,7 +32,7 @@ by_inf limit ledger name law command (inr (of, h, refused)) = by_listing limit l
 pub test_sound : (limit : ℕ) (ledger : Ledger) (text : List ℕ) → AreSound Said (λ said. ⊤) limit ledger (test_checks limit ledger text)
 test_sound limit ledger text = record {
   single = test_single limit ledger text;
-  in_some_folder = λ said made. tt;
+  may_be_stored = λ said made. tt;
   refused = λ at law refused. by_test limit ledger at law text refused;
 }
 
@@ -40,6 +40,6 @@ test_sound limit ledger text = record {
 pub inf_sound : (limit : ℕ) (ledger : Ledger) (text : List ℕ) → AreSound Said (λ said. ⊤) limit ledger (inf_checks limit ledger text)
 inf_sound limit ledger text = record {
   single = inf_single limit ledger text;
-  in_some_folder = λ said made. tt;
+  may_be_stored = λ said made. tt;
   refused = λ at law refused. by_inf limit ledger at law text refused;
 }

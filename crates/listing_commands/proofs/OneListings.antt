@@ -174,8 +174,8 @@ module _ (ledger : Ledger) (name : List ℕ) (over : Tracks) where
 
   same_listing : (a b : HasListing ledger name over) (w : List ℕ) → a.lists w ≡ b.lists w
   same_listing a b w =
-      let moved : IsTrue (b.lists w) ↔ IsListedOver (custom_of ledger) over (tree_of a.entry) w = subst (λ (e : Entry). IsTrue (b.lists w) ↔ IsListedOver (custom_of ledger) over (tree_of e) w) (sym (same_entry a b)) (b.prints_checked w) in
-      same_tests (a.lists w) (b.lists w) (λ h. moved.1 ((a.prints_checked w).0 h), λ h. (a.prints_checked w).1 (moved.0 h))
+      let moved : IsTrue (b.lists w) ↔ IsListedOver (custom_of ledger) over (tree_of a.entry) w = subst (λ (e : Entry). IsTrue (b.lists w) ↔ IsListedOver (custom_of ledger) over (tree_of e) w) (sym (same_entry a b)) (b.decides_words w) in
+      same_tests (a.lists w) (b.lists w) (λ h. moved.1 ((a.decides_words w).0 h), λ h. (a.decides_words w).1 (moved.0 h))
 
   module _ (question : Question) (up : All IsAscending (letter_sets over)) where
     -- lines are asked for, or a verdict is

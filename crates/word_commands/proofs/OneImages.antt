@@ -258,5 +258,5 @@ image_single limit ledger text =
     then_single (Pure (TrackAnswers custom (headers_of ts) head.old)) (λ track. after_track ledger head rules ts admitted track) (tracks_single custom (headers_of ts) head.old) (λ track over.
     then_single (Pure (ImagedAnswers admitted custom ts head.old track.system.name rules)) (λ lines. after_image_steps ledger head rules track lines)
     (imaged_single one_image_outcome admitted custom ts head.old track.system.name rules (derives_morphisms read.2.text rules read.2.derives) there.0 (first_files (old_mentions head.old)) there.2) (λ lines imaged.
-    then_single (Pure (OldAnswers ledger head.old)) (λ entry. stored custom (image_success head track rules entry lines)) (old_single ledger head.old) (λ entry in_some_folder.
+    then_single (Pure (OldAnswers ledger head.old)) (λ entry. stored custom (image_success head track rules entry lines)) (old_single ledger head.old) (λ entry is_old.
     stored_single custom (image_success head track rules entry lines))))))))))

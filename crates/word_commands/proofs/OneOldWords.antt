@@ -108,5 +108,5 @@ made_single ledger name old does made_of tables admitted one files named listed 
     let custom : Custom = custom_of ledger in
     then_single (old_word_done admitted custom tables old does) (λ lines. after_old_steps ledger name old made_of lines)
     (refusing_single fault_of (OldWordAnswers admitted custom tables old does) (old_one admitted custom tables old does one files named listed)) (λ lines done.
-    then_single (Pure (OldAnswers ledger old)) (λ entry. stored custom (old_word_success name made_of entry lines)) (old_single ledger old) (λ entry in_some_folder.
+    then_single (Pure (OldAnswers ledger old)) (λ entry. stored custom (old_word_success name made_of entry lines)) (old_single ledger old) (λ entry is_old.
     stored_single custom (old_word_success name made_of entry lines)))

@@ -7,12 +7,12 @@ use Rattle.dfa_loading.specs.Headers.{headers_of}
 use Rattle.formula_resolve.specs.FirstMentions.{first_systems}
 use Rattle.word_commands.specs.ImageOutcomes.{old_mentions}
 use Rattle.word_commands.specs.TransduceOutcomes.{transduce_checks}
-use Rattle.command_parts.proofs.SoundChecks.{AreSound, Stands, RefusesSystem, by_law, no_step, no_load, no_head, words_no_base}
+use Rattle.command_parts.proofs.SoundChecks.{AreSound, MayBeStored, RefusesSystem, by_law, no_step, no_load, no_head, words_no_base}
 use Rattle.word_commands.proofs.OneTransduces.{transduce_single}
 
 -- what it stores is among words
-transduce_may_be_stored : (limit : ℕ) (ledger : Ledger) (text : List ℕ) (success : Success) → (transduce_checks limit ledger text).answers (Ok success) → Stands success
-transduce_may_be_stored limit ledger text success (head, h, (t, r, (tables, f, (admitted, a, (over, o, (lines, l, (entry, e, (is, fits)))))))) = subst Stands (sym is) (words_no_base, refl)
+transduce_may_be_stored : (limit : ℕ) (ledger : Ledger) (text : List ℕ) (success : Success) → (transduce_checks limit ledger text).answers (Ok success) → MayBeStored success
+transduce_may_be_stored limit ledger text success (head, h, (t, r, (tables, f, (admitted, a, (over, o, (lines, l, (entry, e, (is, fits)))))))) = subst MayBeStored (sym is) (words_no_base, refl)
 
 -- a refusal by a law is one of its systems
 by_transduce : (limit : ℕ) (ledger : Ledger) (name : List ℕ) (law : Law) → (command : List ℕ) → (transduce_checks limit ledger command).answers (Err (by_law name law)) → RefusesSystem limit ledger name law
@@ -26,9 +26,9 @@ by_transduce limit ledger name law command (inr (head, h, inr (t, r, inr (tables
 by_transduce limit ledger name law command (inr (head, h, inr (t, r, inr (tables, l, inr (admitted, a, inr (over, o, inr (lines, d, inr (entry, e, (is, long))))))))) = absurd cc
 
 -- what is proved of its checks
-pub transduce_sound : (limit : ℕ) (ledger : Ledger) (text : List ℕ) → AreSound Success Stands limit ledger (transduce_checks limit ledger text)
+pub transduce_sound : (limit : ℕ) (ledger : Ledger) (text : List ℕ) → AreSound Success MayBeStored limit ledger (transduce_checks limit ledger text)
 transduce_sound limit ledger text = record {
   single = transduce_single limit ledger text;
-  in_some_folder = λ success made. transduce_may_be_stored limit ledger text success made;
+  may_be_stored = λ success made. transduce_may_be_stored limit ledger text success made;
   refused = λ at law refused. by_transduce limit ledger at law text refused;
 }
