@@ -81,9 +81,9 @@ returns-in-Err-States c =
     let is_states : c.in-Err-States.field-0 ≡ States = c.in-Err-States.field-0-is in
     let fault : IsErrOf c.explore_tuples.result States = c.in-Err-States.is ∙ ap Err is_states in
     let most = c.args.steps.now.limit + 1 in
-    let limit : c.begin.result + 1 ≡ most = ap (λ n. n + 1) c.begin.ensures in
+    let limit : c.begin.result.most + 1 ≡ most = ap (λ n. n + 1) c.begin.ensures in
     let apart : HasApart (LeadToOne (validity_readings d languages)) (letters_of d) most =
     subst (λ n. HasApart (LeadToOne (validity_readings d languages)) (letters_of d) n) limit
-    (subst (λ (rs : List Reading). HasApart (LeadToOne rs) (letters_of d) (c.begin.result + 1)) are
-    (subst (λ (ss : List ℕ). HasApart (LeadToOne (readings_in c.deref.result.now)) (product ss) (c.begin.result + 1)) sizes (c.explore_tuples.ensures.states fault))) in
+    (subst (λ (rs : List Reading). HasApart (LeadToOne rs) (letters_of d) (c.begin.result.most + 1)) are
+    (subst (λ (ss : List ℕ). HasApart (LeadToOne (readings_in c.deref.result.now)) (product ss) (c.begin.result.most + 1)) sizes (c.explore_tuples.ensures.states fault))) in
     ((c.next_number.ensures, record { alphabet = subst IsAlphabet sizes c.tracks.ensures.alphabet; apart = apart-valid f c.dfa-dfa.ensures.function languages fit most apart }), refl)
