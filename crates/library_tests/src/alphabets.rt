@@ -1,47 +1,33 @@
 //! Alphabets, letters and the lines of steps.
 
-ghost use Rattle.std.specs.Prelude.{◌≡◌, ◌∷◌, [], IfOk};
+ghost use Rattle.std.specs.Prelude.{◌≡◌, ◌∷◌, []};
 
-use crate::outcomes::{expect, expect_so, expect_value, lines_of};
-use crate::row_fault::RowFault;
+use crate::given::{given, no_answer};
+use crate::outcomes::{expect_text, expect_value, lines_of};
 use digit_tuple::alphabet::Alphabet;
 use digit_tuple::faults::OpFault;
 use digit_tuple::kind::Kind;
 use digit_tuple::steps::Steps;
 use std::alloc::Global;
+use std::process::Abort;
 use track_parts::track_parts::TrackParts;
 
 // The alphabet of two tracks of 2 and 3 digits, by way of a copy.
-fn two_and_three(alloc: Global) -> Result<Alphabet, RowFault>
-    ensures { IfOk result (λ alphabet. alphabet ≡ 2 ∷ 3 ∷ []) }
+fn two_and_three(rt: &impl Abort, alloc: Global) -> Alphabet
+    ensures { result ≡ 2 ∷ 3 ∷ [] }
 {
-    Ok(Alphabet::new(alloc, &[2, 3])?.copy(alloc)?)
-}
-
-// How many tracks it has, the size of the second, and the letter of the digits 1 and 2.
-fn letter_in(alloc: Global) -> Result<[u32; 3], RowFault> {
-    let alphabet = two_and_three(alloc)?;
-    let letter = alphabet.letter_of(&[1, 2]);
-    Ok([alphabet.tracks(), alphabet.size(1), letter])
-}
-
-// The digits of its letter 4.
-fn digits_in(alloc: Global) -> Result<[u32; 2], RowFault> {
-    let alphabet = two_and_three(alloc)?;
-    let mut digits = [0, 0];
-    alphabet.digits_of(4, &mut digits);
-    Ok(digits)
+    given(rt, given(rt, Alphabet::new(alloc, &[2, 3])).copy(alloc))
 }
 
 #[test]
 fn letters_and_digits_are_inverse(rt: HostRuntime) {
-    expect_value(
-        &rt,
-        "a letter",
-        &letter_in(rt.alloc()).ok(),
-        &Some([2, 3, 5]),
-    );
-    expect_value(&rt, "digits", &digits_in(rt.alloc()).ok(), &Some([1, 1]));
+    let alphabet = two_and_three(&rt, rt.alloc());
+    expect_value(&rt, "tracks", &alphabet.tracks(), &2);
+    expect_value(&rt, "a size", &alphabet.size(1), &3);
+    expect_value(&rt, "a letter", &alphabet.letter_of(&[1, 2]), &5);
+    let mut digits = [0, 0];
+    alphabet.digits_of(4, &mut digits);
+    expect_value(&rt, "digits", &digits, &[1, 1]);
 }
 
 // Sizes of tracks, and how many letters they have, if these are not too many.
@@ -57,84 +43,64 @@ static LETTERS: [(&str, &[u32], Option<u32>); 8] = [
 ];
 
 // How many letters tracks of these sizes have, if these are not too many.
-fn letters_over(alloc: Global, sizes: &[u32]) -> Result<Option<u32>, RowFault> {
+fn letters_over(rt: &impl Abort, alloc: Global, sizes: &[u32]) -> Option<u32> {
     match Alphabet::new(alloc, sizes) {
-        Ok(alphabet) => Ok(Some(alphabet.letters())),
-        Err(OpFault::Letters) => Ok(None),
-        Err(fault) => Err(RowFault::Call(fault)),
+        Ok(alphabet) => Some(alphabet.letters()),
+        Err(OpFault::Letters) => None,
+        Err(_) => no_answer(rt),
     }
 }
 
 #[test]
 fn sixteen_tracks_and_65536_letters_are_the_most(rt: HostRuntime) {
     for (row, sizes, letters) in &LETTERS {
-        let found = letters_over(rt.alloc(), sizes).ok();
-        expect_value(&rt, row, &found, &Some(*letters));
+        let found = letters_over(&rt, rt.alloc(), sizes);
+        expect_value(&rt, row, &found, letters);
     }
 }
 
 // The parts of all letters, in order.
-fn all_parts(alloc: Global, parts: &TrackParts) -> Result<Vec<u32>, RowFault> {
+fn all_parts(rt: &impl Abort, alloc: Global, parts: &TrackParts) -> Vec<u32> {
     let mut all = Vec::new(alloc);
     for letter in 0..parts.letters() {
-        all.push(parts.part(letter))?;
+        given(rt, all.push(parts.part(letter)));
     }
-    Ok(all)
+    all
 }
 
-// Whether the letters of two tracks of 2 and 3 digits are these with the tracks exchanged.
-fn are_turned(alloc: Global, parts: &[u32]) -> Result<bool, RowFault> {
-    let alphabet = Alphabet::new(alloc, &[2, 3])?;
-    let turned = Alphabet::new(alloc, &[3, 2])?;
-    let found = TrackParts::new(alloc, &alphabet, &[1, 0], &turned)?;
-    Ok(all_parts(alloc, &found)?.as_slice() == parts)
+// The letters of two tracks of 2 and 3 digits with the tracks exchanged.
+fn turned(rt: &impl Abort, alloc: Global) -> Vec<u32> {
+    let alphabet = given(rt, Alphabet::new(alloc, &[2, 3]));
+    let turned = given(rt, Alphabet::new(alloc, &[3, 2]));
+    let parts = given(rt, TrackParts::new(alloc, &alphabet, &[1, 0], &turned));
+    all_parts(rt, alloc, &parts)
 }
 
-// Whether they are these on the second track alone.
-fn are_second(alloc: Global, parts: &[u32]) -> Result<bool, RowFault> {
-    let alphabet = Alphabet::new(alloc, &[2, 3])?;
-    let second = Alphabet::new(alloc, &[3])?;
-    let found = TrackParts::new(alloc, &alphabet, &[1], &second)?;
-    Ok(all_parts(alloc, &found)?.as_slice() == parts)
+// The same on the second track alone.
+fn second(rt: &impl Abort, alloc: Global) -> Vec<u32> {
+    let alphabet = given(rt, Alphabet::new(alloc, &[2, 3]));
+    let second = given(rt, Alphabet::new(alloc, &[3]));
+    let parts = given(rt, TrackParts::new(alloc, &alphabet, &[1], &second));
+    all_parts(rt, alloc, &parts)
 }
 
 #[test]
 fn parts_are_taken_in_the_order_of_the_places(rt: HostRuntime) {
-    expect_so(
-        &rt,
-        "exchanged",
-        &are_turned(rt.alloc(), &[0, 2, 4, 1, 3, 5]),
-    );
-    expect_so(
-        &rt,
-        "the second",
-        &are_second(rt.alloc(), &[0, 1, 2, 0, 1, 2]),
-    );
-}
-
-// The steps of two that are done, one after the other.
-fn two_steps(alloc: Global) -> Result<Steps, RowFault> {
-    let mut steps = Steps::new(alloc, 1000);
-    steps.done(Kind::Product, 6, 4)?;
-    steps.done(Kind::Project, 9, 2)?;
-    Ok(steps)
-}
-
-// The limit of two steps, and the number of the next one.
-fn limit_and_next(alloc: Global) -> Result<(u32, u64), RowFault> {
-    let steps = two_steps(alloc)?;
-    Ok((steps.limit(), steps.next_number()))
-}
-
-// Their lines.
-fn two_lines(alloc: Global) -> Result<String, RowFault> {
-    lines_of(alloc, &two_steps(alloc)?)
+    let exchanged: &[u32] = &[0, 2, 4, 1, 3, 5];
+    let found = turned(&rt, rt.alloc());
+    expect_value(&rt, "exchanged", &found.as_slice(), &exchanged);
+    let alone: &[u32] = &[0, 1, 2, 0, 1, 2];
+    let found = second(&rt, rt.alloc());
+    expect_value(&rt, "the second", &found.as_slice(), &alone);
 }
 
 #[test]
 fn steps_are_kept_in_order(rt: HostRuntime) {
-    let found = limit_and_next(rt.alloc()).ok();
-    expect_value(&rt, "two steps", &found, &Some((1000, 3)));
-    let lines = two_lines(rt.alloc());
-    expect(&rt, "two steps", &lines, "product 6 4, project 9 2, ");
+    let mut steps = Steps::new(rt.alloc(), 1000);
+    given(&rt, steps.done(Kind::Product, 6, 4));
+    given(&rt, steps.done(Kind::Project, 9, 2));
+    expect_value(&rt, "the limit", &steps.limit(), &1000);
+    expect_value(&rt, "the next step", &steps.next_number(), &3);
+    let lines = lines_of(&rt, rt.alloc(), &steps);
+    expect_text(&rt, "two steps", &lines, "product 6 4, project 9 2, ");
 }

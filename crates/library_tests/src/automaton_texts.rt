@@ -2,9 +2,9 @@
 
 ghost use Rattle.std.specs.Prelude.{◌≡◌, IsTrue};
 
+use crate::given::{given, no_answer};
 use crate::headers::header_of;
-use crate::outcomes::{expect, expect_value};
-use crate::row_fault::RowFault;
+use crate::outcomes::{expect_text, expect_value};
 use crate::table_texts::listed;
 use determinise::subset_construction::determinise;
 use dfa_reading::{FileFault, FileHeader, Listed, read_relation};
@@ -12,19 +12,21 @@ use dfa_text::{print_relation, print_word};
 use digit_tuple::alphabet::Alphabet;
 use digit_tuple::dfa::Dfa;
 use digit_tuple::header::Header;
+use digit_tuple::limit::Limit;
 use digit_tuple::name::Name;
 use digit_tuple::nfa::Nfa;
 use digit_tuple::systems::Systems;
 use std::alloc::Global;
+use std::process::Abort;
 
 // The text of an automaton over the header's tracks.
-fn text_of(alloc: Global, header: &Header, line: &str) -> Result<String, RowFault> {
-    let alphabet = Alphabet::of_header(alloc, header)?;
-    let dfa = listed(alloc, line)?;
+fn text_of(rt: &impl Abort, alloc: Global, header: &Header, line: &str) -> String {
+    let alphabet = given(rt, Alphabet::of_header(alloc, header));
+    let dfa = listed(rt, alloc, line);
     if have_same_sizes(&alphabet, &dfa) {
-        string_of(alloc, &print_relation(alloc, header, &dfa)?)
+        string_of(rt, alloc, &given(rt, print_relation(alloc, header, &dfa)))
     } else {
-        Err(RowFault::Form)
+        no_answer(rt)
     }
 }
 
@@ -36,12 +38,12 @@ fn have_same_sizes(alphabet: &Alphabet, dfa: &Dfa) -> bool
 }
 
 // Bytes as a text.
-fn string_of(alloc: Global, bytes: &[u8]) -> Result<String, RowFault> {
+fn string_of(rt: &impl Abort, alloc: Global, bytes: &[u8]) -> String {
     let mut text = String::new(alloc);
     for byte in bytes {
-        text.push(char::from(*byte))?;
+        given(rt, text.push(char::from(*byte)));
     }
-    Ok(text)
+    text
 }
 
 // Sets, automata over them, and their texts.
@@ -63,67 +65,72 @@ static TEXTS: [(&[&[i32]], &str, &str); 3] = [
 ];
 
 // The text of an automaton over sets.
-fn text_over(alloc: Global, tracks: &[&[i32]], line: &str) -> Result<String, RowFault> {
-    text_of(alloc, &header_of(alloc, tracks)?, line)
+fn text_over(rt: &impl Abort, alloc: Global, tracks: &[&[i32]], line: &str) -> String {
+    text_of(rt, alloc, &header_of(rt, alloc, tracks), line)
 }
 
 #[test]
 fn automata_over_sets_have_these_texts(rt: HostRuntime) {
     for (tracks, line, wanted) in &TEXTS {
-        expect(&rt, line, &text_over(rt.alloc(), tracks, line), wanted);
+        expect_text(&rt, line, &text_over(&rt, rt.alloc(), tracks, line), wanted);
     }
 }
 
 // The header of base 2 and base 12.
-fn header_of_bases(alloc: Global) -> Result<Header, RowFault> {
+fn header_of_bases(rt: &impl Abort, alloc: Global) -> Header {
     let mut systems = Systems::new(alloc);
-    systems.push(Name::new(alloc, "msd_2")?, 2)?;
-    systems.push(Name::new(alloc, "msd_12")?, 12)?;
-    Ok(Header::Systems(systems))
+    given(rt, systems.push(given(rt, Name::new(alloc, "msd_2")), 2));
+    given(rt, systems.push(given(rt, Name::new(alloc, "msd_12")), 12));
+    Header::Systems(systems)
 }
 
 // The text of an automaton over base 2 and base 12.
-fn text_over_bases(alloc: Global, line: &str) -> Result<String, RowFault> {
-    text_of(alloc, &header_of_bases(alloc)?, line)
+fn text_over_bases(rt: &impl Abort, alloc: Global, line: &str) -> String {
+    text_of(rt, alloc, &header_of_bases(rt, alloc), line)
 }
 
 #[test]
 fn automata_over_systems_have_their_digits(rt: HostRuntime) {
-    let text = text_over_bases(rt.alloc(), "x:2 y:12 = /! 0>0 23>0");
+    let text = text_over_bases(&rt, rt.alloc(), "x:2 y:12 = /! 0>0 23>0");
     let wanted = "msd_2 msd_12\n\n0 1\n0 0 -> 0\n1 11 -> 0\n";
-    expect(&rt, "two systems", &text, wanted);
+    expect_text(&rt, "two systems", &text, wanted);
 }
 
 // The text of an automaton over the header's tracks whose states have these outputs.
 fn word_text(
+    rt: &impl Abort,
     alloc: Global,
     header: &Header,
     line: &str,
     outputs: &[Option<i32>],
-) -> Result<String, RowFault> {
-    let alphabet = Alphabet::of_header(alloc, header)?;
-    let dfa = listed(alloc, line)?;
+) -> String {
+    let alphabet = given(rt, Alphabet::of_header(alloc, header));
+    let dfa = listed(rt, alloc, line);
     if have_same_sizes(&alphabet, &dfa) && outputs.len() == dfa.states() as usize {
-        string_of(alloc, &print_word(alloc, header, &dfa, outputs)?)
+        string_of(
+            rt,
+            alloc,
+            &given(rt, print_word(alloc, header, &dfa, outputs)),
+        )
     } else {
-        Err(RowFault::Form)
+        no_answer(rt)
     }
 }
 
 // The same over base 2 and base 12.
-fn word_over_bases(alloc: Global, line: &str, outputs: &[Option<i32>]) -> Result<String, RowFault> {
-    word_text(alloc, &header_of_bases(alloc)?, line, outputs)
+fn word_over_bases(rt: &impl Abort, alloc: Global, line: &str, outputs: &[Option<i32>]) -> String {
+    word_text(rt, alloc, &header_of_bases(rt, alloc), line, outputs)
 }
 
 #[test]
 fn automata_with_outputs_have_their_letters(rt: HostRuntime) {
     let line = "x:2 y:12 = / 0>0 23>1/!";
-    let text = word_over_bases(rt.alloc(), line, &[Some(-3), Some(2147483647)]);
+    let text = word_over_bases(&rt, rt.alloc(), line, &[Some(-3), Some(2147483647)]);
     let wanted = "msd_2 msd_12\n\n0 -3\n0 0 -> 0\n1 11 -> 1\n\n1 2147483647\n";
-    expect(&rt, "outputs", &text, wanted);
-    let text = word_over_bases(rt.alloc(), line, &[None, Some(0)]);
+    expect_text(&rt, "outputs", &text, wanted);
+    let text = word_over_bases(&rt, rt.alloc(), line, &[None, Some(0)]);
     let wanted = "msd_2 msd_12\n\n0 -\n0 0 -> 0\n1 11 -> 1\n\n1 0\n";
-    expect(&rt, "no letter", &text, wanted);
+    expect_text(&rt, "no letter", &text, wanted);
 }
 
 // A file as it is printed, and one as it may be written by hand.
@@ -143,30 +150,32 @@ static WORDS: [(&str, &str, &[u32], bool); 7] = [
 ];
 
 // Whether a short file over sets accepts a word of letters.
-fn accepts_word(alloc: Global, text: &[u8], word: &[u32]) -> Result<bool, RowFault> {
+fn accepts_word(rt: &impl Abort, alloc: Global, text: &[u8], word: &[u32]) -> bool {
     if text.len() >= 1000 {
-        return Err(RowFault::Form);
+        return no_answer(rt);
     }
-    let table = table_over_sets(alloc, &read_relation(alloc, text)?)?;
-    Ok(determinise(alloc, &table, 100)?.result.accepts(word))
+    let table = table_over_sets(rt, alloc, &given(rt, read_relation(alloc, text)));
+    given(rt, determinise(alloc, &table, Limit::new(100)))
+        .result
+        .accepts(word)
 }
 
 // The table of what a file over sets lists.
-fn table_over_sets(alloc: Global, listed: &Listed) -> Result<Nfa, RowFault> {
+fn table_over_sets(rt: &impl Abort, alloc: Global, listed: &Listed) -> Nfa {
     if listed.states() == 0 {
-        return Err(RowFault::Form);
+        return no_answer(rt);
     }
     match listed.header() {
-        FileHeader::Sets(_) => Ok(listed.nfa(alloc, &[])?),
-        _ => Err(RowFault::Form),
+        FileHeader::Sets(_) => given(rt, listed.nfa(alloc, &[])),
+        _ => no_answer(rt),
     }
 }
 
 #[test]
 fn files_accept_these_words(rt: HostRuntime) {
     for (row, text, word, wanted) in &WORDS {
-        let found = accepts_word(rt.alloc(), text.as_bytes(), word).ok();
-        expect_value(&rt, row, &found, &Some(*wanted));
+        let found = accepts_word(&rt, rt.alloc(), text.as_bytes(), word);
+        expect_value(&rt, row, &found, wanted);
     }
 }
 

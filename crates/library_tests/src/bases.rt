@@ -1,11 +1,12 @@
 //! Base k, by sums worked by hand.
 
+use crate::given::{given, no_answer};
 use crate::outcomes::expect_value;
-use crate::row_fault::RowFault;
 use base_k::base_k::{BaseK, GREATEST_BASE, LEAST_BASE};
 use digit_tuple::direction::Direction;
 use num_system::num_system::NumSystem;
 use std::alloc::Global;
+use std::process::Abort;
 
 // A system by its name, its base and its direction, a word that represents 5, 7 and 12 in it, and one that represents
 // 5, 7 and 13. The letter of the digits x, y and z in base k is k * k * x + k * y + z.
@@ -21,21 +22,21 @@ pub static SUMS: [(&str, u32, Direction, &[u32], &[u32]); 8] = [
 ];
 
 // Whether a system of these digits takes the words over them alone, and the adder accepts a word.
-fn adds(alloc: Global, base: u32, direction: Direction, word: &[u32]) -> Result<bool, RowFault> {
-    let system = base_of(base, direction)?;
+fn adds(rt: &impl Abort, alloc: Global, base: u32, direction: Direction, word: &[u32]) -> bool {
+    let system = base_of(rt, base, direction);
     let is_right = form_of(&system) == (base, direction)
-        && !takes(alloc, &system, &[0, base])?
-        && takes(alloc, &system, &[0, base.saturating_sub(1)])?;
+        && !takes(rt, alloc, &system, &[0, base])
+        && takes(rt, alloc, &system, &[0, base.saturating_sub(1)]);
     if is_right {
-        adder_takes(alloc, &system, word)
+        adder_takes(rt, alloc, &system, word)
     } else {
-        Err(RowFault::Form)
+        no_answer(rt)
     }
 }
 
 /// The base with this number.
-pub fn base_of(number: u32, direction: Direction) -> Result<BaseK, RowFault> {
-    BaseK::new(number, direction).ok_or(RowFault::Form)
+pub fn base_of(rt: &impl Abort, number: u32, direction: Direction) -> BaseK {
+    BaseK::new(number, direction).expect(rt, "a base")
 }
 
 // How many digits a base has, and its direction.
@@ -44,22 +45,22 @@ fn form_of(system: &BaseK) -> (u32, Direction) {
 }
 
 // Whether a word is one of the base's language.
-fn takes(alloc: Global, system: &BaseK, word: &[u32]) -> Result<bool, RowFault> {
-    Ok(system.language(alloc)?.accepts(word))
+fn takes(rt: &impl Abort, alloc: Global, system: &BaseK, word: &[u32]) -> bool {
+    given(rt, system.language(alloc)).accepts(word)
 }
 
 // Whether the base's adder accepts a word.
-fn adder_takes(alloc: Global, system: &BaseK, word: &[u32]) -> Result<bool, RowFault> {
-    Ok(system.adder(alloc)?.accepts(word))
+fn adder_takes(rt: &impl Abort, alloc: Global, system: &BaseK, word: &[u32]) -> bool {
+    given(rt, system.adder(alloc)).accepts(word)
 }
 
 #[test]
 fn five_and_seven_are_twelve(rt: HostRuntime) {
     for (row, base, direction, right, wrong) in &SUMS {
-        let is_sum = adds(rt.alloc(), *base, *direction, right).ok();
-        expect_value(&rt, row, &is_sum, &Some(true));
-        let is_other = adds(rt.alloc(), *base, *direction, wrong).ok();
-        expect_value(&rt, row, &is_other, &Some(false));
+        let is_sum = adds(&rt, rt.alloc(), *base, *direction, right);
+        expect_value(&rt, row, &is_sum, &true);
+        let is_other = adds(&rt, rt.alloc(), *base, *direction, wrong);
+        expect_value(&rt, row, &is_other, &false);
     }
 }
 

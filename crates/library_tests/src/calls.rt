@@ -3,11 +3,10 @@
 use crate::matches::built;
 use crate::minimal::{of_sets, turned};
 use crate::orders::{equal, ordered};
-use crate::outcomes::{below_width_of, expect, width_of};
+use crate::outcomes::{expect_text, width_of};
 use crate::paddings::padded;
 use crate::products::{ProductRow, Restriction, joined, restricted};
 use crate::projections::dropped;
-use crate::row_fault::RowFault;
 use crate::sealed_systems::{between, chain, next};
 use crate::single_numbers::number_in;
 use digit_tuple::direction::Direction;
@@ -40,53 +39,59 @@ pub enum Call {
 }
 
 /// What a call gives under a limit: its width and an automaton, or why there is none.
-pub fn outcome_of(alloc: Global, call: &Call, limit: u32) -> Result<String, RowFault> {
+pub fn outcome_of(rt: &impl Abort, alloc: Global, call: &Call, limit: u32) -> String {
     match call {
-        Call::Sets(line) => of_sets(alloc, line, limit),
-        Call::Reversal(line) => turned(alloc, line, limit),
-        Call::Built(text) => built(alloc, &[2], text, limit),
-        Call::Padded(line, direction) => padded(alloc, line, *direction, limit),
-        Call::Projected(line, track, direction) => dropped(alloc, line, track, *direction, limit),
-        Call::Ordered(line, direction) => ordered(alloc, line, *direction, limit),
-        Call::Equal(line, direction) => equal(alloc, line, *direction, limit),
+        Call::Sets(line) => of_sets(rt, alloc, line, limit),
+        Call::Reversal(line) => turned(rt, alloc, line, limit),
+        Call::Built(text) => built(rt, alloc, &[2], text, limit),
+        Call::Padded(line, direction) => padded(rt, alloc, line, *direction, limit),
+        Call::Projected(line, track, direction) => dropped(
+            rt,
+            alloc,
+            (line, track),
+            *direction,
+            limit,
+        ),
+        Call::Ordered(line, direction) => ordered(rt, alloc, line, *direction, limit),
+        Call::Equal(line, direction) => equal(rt, alloc, line, *direction, limit),
         Call::Number(base, direction, number) => number_in(
-            alloc, *base, *direction, *number, limit,
+            rt,
+            alloc,
+            (*base, *direction),
+            *number,
+            limit,
         ),
-        Call::Product(row) => joined(alloc, row, limit),
+        Call::Product(row) => joined(rt, alloc, row, limit),
         Call::Restricted(direction, line, valid) => restricted(
-            alloc, *direction, line, valid, limit,
+            rt,
+            alloc,
+            *direction,
+            (line, valid),
+            limit,
         ),
-        Call::Chain(order) => chain(alloc, order, limit),
-        Call::Between(line, direction) => between(alloc, line, *direction, limit),
-        Call::Next(order, line) => next(alloc, order, line, limit),
+        Call::Chain(order) => chain(rt, alloc, order, limit),
+        Call::Between(line, direction) => between(rt, alloc, line, *direction, limit),
+        Call::Next(order, line) => next(rt, alloc, order, line, limit),
     }
-}
-
-// What a call gives under the limit of this width.
-fn at_width(alloc: Global, call: &Call, wanted: &str) -> Result<String, RowFault> {
-    outcome_of(alloc, call, width_of(wanted)?)
-}
-
-// What a call gives under the limit just below this width.
-fn below_width(alloc: Global, call: &Call, wanted: &str) -> Result<String, RowFault> {
-    outcome_of(alloc, call, below_width_of(wanted)?)
 }
 
 /// Asserts that each call gives its outcome at its width, and is refused below.
 pub fn expect_widths(rt: &impl Abort, alloc: Global, rows: &[(Call, &str)]) {
     for (call, wanted) in rows {
-        expect(rt, wanted, &at_width(alloc, call, wanted), wanted);
-        expect(rt, wanted, &below_width(alloc, call, wanted), "States");
+        let width = width_of(rt, wanted);
+        let below = width.saturating_sub(1);
+        expect_text(rt, wanted, &outcome_of(rt, alloc, call, width), wanted);
+        expect_text(rt, wanted, &outcome_of(rt, alloc, call, below), "States");
     }
 }
 
 /// Asserts that each call is refused for its letters, before the limit is looked at.
 pub fn expect_letters(rt: &impl Abort, alloc: Global, calls: &[Call]) {
     for call in calls {
-        expect(
+        expect_text(
             rt,
             "a large alphabet",
-            &outcome_of(alloc, call, 0),
+            &outcome_of(rt, alloc, call, 0),
             "Letters",
         );
     }

@@ -1,8 +1,8 @@
 //! Words of several relations: the line of the step and some letters, or why there is no word.
 
-use crate::outcomes::{after_lines, expect, letter_text};
+use crate::given::{given, no_answer};
+use crate::outcomes::{after_lines, expect_text, letter_text};
 use crate::reading_steps::{Base, relation_over, systems_for};
-use crate::row_fault::RowFault;
 use combinations::combine::combine;
 use combinations::combine_fault::CombineFault;
 use combinations::part::Part;
@@ -11,6 +11,7 @@ use digit_tuple::steps::Steps;
 use num_system::system::System;
 use number_relations::relation::Relation;
 use std::alloc::Global;
+use std::process::Abort;
 use std::rc::Rc;
 use word_output::word::Word;
 
@@ -22,49 +23,52 @@ enum Listed {
 }
 
 // The relation.
-fn relation_of(alloc: Global, listed: Listed) -> Result<Relation, RowFault> {
+fn relation_of(rt: &impl Abort, alloc: Global, listed: Listed) -> Relation {
     match listed {
-        Listed::Truth => Ok(Relation::truth(alloc, true)?),
+        Listed::Truth => given(rt, Relation::truth(alloc, true)),
         Listed::File(text, direction, bases) => {
-            let systems = systems_for(alloc, bases, direction)?;
+            let systems = systems_for(rt, alloc, bases, direction);
             let mut steps = Steps::new(alloc, 1000);
-            relation_over(alloc, text, &systems, &mut steps)
+            given(rt, relation_over(rt, alloc, text, &systems, &mut steps))
         }
     }
 }
 
 // Relations, each with its letter.
-fn parts_of(alloc: Global, list: &[(Listed, i32)]) -> Result<Vec<Part>, RowFault> {
+fn parts_of(rt: &impl Abort, alloc: Global, list: &[(Listed, i32)]) -> Vec<Part> {
     let mut parts = Vec::new(alloc);
     for (listed, letter) in list {
-        let relation = Rc::new(alloc, relation_of(alloc, *listed)?)?;
-        parts.push(Part::new(relation, *letter))?;
+        let relation = given(rt, Rc::new(alloc, relation_of(rt, alloc, *listed)));
+        given(rt, parts.push(Part::new(relation, *letter)));
     }
-    Ok(parts)
+    parts
 }
 
 // The word of relations over the systems of the first, or of none over one system.
 fn word_of(
+    rt: &impl Abort,
     alloc: Global,
-    parts: &[Part],
-    systems: &[Rc<System>],
+    (parts, systems): (&[Part], &[Rc<System>]),
     rest: Option<i32>,
     steps: &mut Steps,
-) -> Result<Result<Word, CombineFault>, RowFault> {
+) -> Result<Word, CombineFault> {
     match (parts, systems) {
-        ([first, ..], _) => Ok(combine(alloc, parts, first.relation().systems(), rest, steps)),
-        ([], [_]) => Ok(combine(alloc, parts, systems, rest, steps)),
-        _ => Err(RowFault::Form),
+        ([first, ..], _) => combine(alloc, parts, first.relation().systems(), rest, steps),
+        ([], [_]) => combine(alloc, parts, systems, rest, steps),
+        _ => no_answer(rt),
     }
 }
 
 // The letters of some words.
-fn letters_of(alloc: Global, word: &Word, words: &[&[u32]]) -> Result<String, RowFault> {
+fn letters_of(rt: &impl Abort, alloc: Global, word: &Word, words: &[&[u32]]) -> String {
     let mut text = String::new(alloc);
     for digits in words {
-        text.push_str(&letter_text(alloc, word.value(digits))?)?;
+        given(
+            rt,
+            text.push_str(&letter_text(rt, alloc, word.value(digits))),
+        );
     }
-    Ok(text)
+    text
 }
 
 // A name, relations with their letters, the system where there is none, the letter where none holds, the limit, words of digits, and what
@@ -82,24 +86,25 @@ struct Row {
 
 // The letters of some words, or the fault.
 fn letters_or_fault(
+    rt: &impl Abort,
     alloc: Global,
     word: &Result<Word, CombineFault>,
     words: &[&[u32]],
-) -> Result<String, RowFault> {
+) -> String {
     match word {
-        Ok(word) => letters_of(alloc, word, words),
-        Err(fault) => Ok(format!(in alloc; "{fault:?}")?),
+        Ok(word) => letters_of(rt, alloc, word, words),
+        Err(fault) => given(rt, format!(in alloc; "{fault:?}")),
     }
 }
 
 // The lines of the steps and the letters of some words, or the lines and the fault.
-fn combined(alloc: Global, row: &Row) -> Result<String, RowFault> {
-    let parts = parts_of(alloc, row.list)?;
-    let systems = systems_for(alloc, &[row.system], Direction::Msd)?;
+fn combined(rt: &impl Abort, alloc: Global, row: &Row) -> String {
+    let parts = parts_of(rt, alloc, row.list);
+    let systems = systems_for(rt, alloc, &[row.system], Direction::Msd);
     let mut steps = Steps::new(alloc, row.limit);
-    let word = word_of(alloc, &parts, &systems, row.rest, &mut steps)?;
-    let answer = letters_or_fault(alloc, &word, row.words)?;
-    after_lines(alloc, &steps, &answer)
+    let word = word_of(rt, alloc, (&parts, &systems), row.rest, &mut steps);
+    let answer = letters_or_fault(rt, alloc, &word, row.words);
+    after_lines(rt, alloc, &steps, &answer)
 }
 
 // The numbers below 3 and those below 5, in msd_2.
@@ -263,8 +268,8 @@ static WORDS: [Row; 12] = [
 #[test]
 fn words_have_the_letter_of_the_first_relation_that_holds(rt: HostRuntime) {
     for row in &WORDS {
-        let found = combined(rt.alloc(), row);
-        expect(&rt, row.name, &found, row.wanted);
+        let found = combined(&rt, rt.alloc(), row);
+        expect_text(&rt, row.name, &found, row.wanted);
     }
 }
 
@@ -342,7 +347,7 @@ fn relations_of_several_shapes_and_words_past_the_limit_are_refused(rt: HostRunt
             words: NUMBERS,
             wanted: *wanted,
         };
-        let found = combined(rt.alloc(), &row);
-        expect(&rt, row.name, &found, row.wanted);
+        let found = combined(&rt, rt.alloc(), &row);
+        expect_text(&rt, row.name, &found, row.wanted);
     }
 }

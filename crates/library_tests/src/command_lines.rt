@@ -1,30 +1,30 @@
 //! The words of the command line: the options that they give, or that they are refused.
 
-use crate::outcomes::expect;
-use crate::row_fault::RowFault;
+use crate::given::{given, no_answer};
+use crate::outcomes::expect_text;
 use command_line::{Options, WordsFault, options_of};
-use digit_tuple::faults::OutOfMemory;
 use std::alloc::Global;
+use std::process::Abort;
 
 // The limit, and after it `stop` and the seed, where they are given.
-fn shown(alloc: Global, options: Options) -> Result<String, RowFault> {
+fn shown(rt: &impl Abort, alloc: Global, options: Options) -> String {
     let stop = if options.stop { " stop" } else { "" };
     match options.seed {
-        Some(seed) => Ok(format!(in alloc; "{}{stop} {seed}", options.limit)?),
-        None => Ok(format!(in alloc; "{}{stop}", options.limit)?),
+        Some(seed) => given(rt, format!(in alloc; "{}{stop} {seed}", options.limit)),
+        None => given(rt, format!(in alloc; "{}{stop}", options.limit)),
     }
 }
 
 // What the words of a line give, of which a blank is between each two.
-fn given(alloc: Global, line: &str) -> Result<String, RowFault> {
+fn options_in(rt: &impl Abort, alloc: Global, line: &str) -> String {
     let mut words = Vec::new(alloc);
     for word in line.split(' ') {
-        words.push(String::from_str(alloc, word)?)?;
+        given(rt, words.push(given(rt, String::from_str(alloc, word))));
     }
     match options_of(alloc, &words) {
-        Ok(options) => shown(alloc, options),
-        Err(WordsFault::Refused) => Ok(String::from_str(alloc, "refused")?),
-        Err(WordsFault::Memory) => Err(RowFault::from(OutOfMemory)),
+        Ok(options) => shown(rt, alloc, options),
+        Err(WordsFault::Refused) => given(rt, String::from_str(alloc, "refused")),
+        Err(WordsFault::Memory) => no_answer(rt),
     }
 }
 
@@ -54,7 +54,7 @@ static GIVEN: [(&str, &str); 16] = [
 #[test]
 fn words_give_options_in_any_order(rt: HostRuntime) {
     for (line, wanted) in &GIVEN {
-        expect(&rt, line, &given(rt.alloc(), line), wanted);
+        expect_text(&rt, line, &options_in(&rt, rt.alloc(), line), wanted);
     }
 }
 
@@ -97,6 +97,6 @@ static REFUSED: [&str; 32] = [
 #[test]
 fn other_words_are_refused(rt: HostRuntime) {
     for line in &REFUSED {
-        expect(&rt, line, &given(rt.alloc(), line), "refused");
+        expect_text(&rt, line, &options_in(&rt, rt.alloc(), line), "refused");
     }
 }

@@ -5,8 +5,8 @@
 ghost use Rattle.std.specs.Prelude.{◌≡◌, ◌<◌, IfOk};
 ghost use Rattle.minimise.specs.Canonical.{IsCanonical};
 
-use crate::outcomes::expect;
-use crate::row_fault::RowFault;
+use crate::given::{given, no_answer};
+use crate::outcomes::expect_text;
 use crate::table_texts::listed;
 use digit_tuple::dfa::Dfa;
 use digit_tuple::faults::OutOfMemory;
@@ -15,6 +15,7 @@ use minimise::comparison::same;
 use minimise::looks::Looks;
 use std::alloc::Global;
 use std::marker::Brand;
+use std::process::Abort;
 use std::sync::ledger::{Blank, Ledger};
 
 // The canonical automaton, with a count of looks that begins and ends here.
@@ -30,13 +31,13 @@ fn counted<L: Ledger>(alloc: Global, dfa: &Dfa, blank: Blank) -> Result<Dfa, Out
 }
 
 // How many states the canonical automaton of a line with a table has, if it is the one that `canonical` gives.
-fn minimal_states(alloc: Global, line: &str) -> Result<String, RowFault> {
-    let dfa = listed(alloc, line)?;
-    let minimal = counted::<Brand>(alloc, &dfa, Blank::new(1))?;
-    if same(&minimal, &canonical(alloc, &dfa)?) {
-        Ok(format!(in alloc; "{}", minimal.states())?)
+fn minimal_states(rt: &impl Abort, alloc: Global, line: &str) -> String {
+    let dfa = listed(rt, alloc, line);
+    let minimal = given(rt, counted::<Brand>(alloc, &dfa, Blank::new(1)));
+    if same(&minimal, &given(rt, canonical(alloc, &dfa))) {
+        given(rt, format!(in alloc; "{}", minimal.states()))
     } else {
-        Err(RowFault::Form)
+        no_answer(rt)
     }
 }
 
@@ -59,7 +60,7 @@ static RANDOM: [(&str, &str); 3] = [
 #[test]
 fn random_tables_have_their_minimal_states(rt: HostRuntime) {
     for (line, states) in &RANDOM {
-        expect(&rt, line, &minimal_states(rt.alloc(), line), states);
+        expect_text(&rt, line, &minimal_states(&rt, rt.alloc(), line), states);
     }
 }
 
@@ -114,32 +115,35 @@ static IN_LINE: [LineRow; 7] = [
 ];
 
 // The line of a row's table.
-fn line_of_row(alloc: Global, row: &LineRow) -> Result<String, RowFault> {
-    let mut line = String::from_str(alloc, "x:1 = ")?;
+fn line_of_row(rt: &impl Abort, alloc: Global, row: &LineRow) -> String {
+    let mut line = given(rt, String::from_str(alloc, "x:1 = "));
     let mut next: usize = 0;
     for bit in row.bits.bytes() {
         next = next.wrapping_add(1);
-        line.push_str(if bit == b'1' { "/!" } else { "/" })?;
+        given(rt, line.push_str(if bit == b'1' { "/!" } else { "/" }));
         if next < row.bits.len() {
-            line.push_str(&format!(in alloc; " 0>{next}")?)?;
+            given(
+                rt,
+                line.push_str(&given(rt, format!(in alloc; " 0>{next}"))),
+            );
         }
     }
-    line.push_str(if row.is_cycle { " 0>0" } else { "" })?;
-    Ok(line)
+    given(rt, line.push_str(if row.is_cycle { " 0>0" } else { "" }));
+    line
 }
 
 // How many states the minimal automaton of a row has.
-fn minimal_states_of_row(alloc: Global, row: &LineRow) -> Result<String, RowFault> {
-    minimal_states(alloc, &line_of_row(alloc, row)?)
+fn minimal_states_of_row(rt: &impl Abort, alloc: Global, row: &LineRow) -> String {
+    minimal_states(rt, alloc, &line_of_row(rt, alloc, row))
 }
 
 #[test]
 fn cycles_and_chains_have_their_minimal_states(rt: HostRuntime) {
     for row in &IN_LINE {
-        expect(
+        expect_text(
             &rt,
             row.bits,
-            &minimal_states_of_row(rt.alloc(), row),
+            &minimal_states_of_row(&rt, rt.alloc(), row),
             row.states,
         );
     }

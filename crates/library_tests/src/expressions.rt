@@ -1,8 +1,8 @@
 //! Texts of expressions, with their trees by hand, and texts that are none.
 
+use crate::given::given;
 use crate::headers::header_of;
-use crate::outcomes::{expect, expect_value};
-use crate::row_fault::RowFault;
+use crate::outcomes::{expect_text, expect_value};
 use digit_tuple::header::Header;
 use reference::words::{Word, all_words};
 use regex_build::fault::RegexFault;
@@ -10,13 +10,16 @@ use regex_build::parse;
 use regex_build::postfix_symbol::PostfixSymbol;
 use regex_build::regex::Regex;
 use std::alloc::Global;
+use std::process::Abort;
 
 // Writes the members of a letter.
-fn show_members(alloc: Global, members: &[i32], text: &mut String) -> Result<(), RowFault> {
+fn show_members(rt: &impl Abort, alloc: Global, members: &[i32], text: &mut String) {
     for member in members {
-        text.push_str(&format!(in alloc; "'{member}")?)?;
+        given(
+            rt,
+            text.push_str(&given(rt, format!(in alloc; "'{member}"))),
+        );
     }
-    Ok(())
 }
 
 // The sign of a symbol, but for a letter: `&` for one after the other.
@@ -34,20 +37,20 @@ fn sign_of(symbol: &PostfixSymbol) -> &'static str {
 }
 
 // Writes a symbol: a letter by its members, or its sign.
-fn show_symbol(alloc: Global, symbol: &PostfixSymbol, text: &mut String) -> Result<(), RowFault> {
+fn show_symbol(rt: &impl Abort, alloc: Global, symbol: &PostfixSymbol, text: &mut String) {
     match symbol {
-        PostfixSymbol::Letter(letter) => show_members(alloc, letter.members(), text),
-        _ => Ok(text.push_str(sign_of(symbol))?),
+        PostfixSymbol::Letter(letter) => show_members(rt, alloc, letter.members(), text),
+        _ => given(rt, text.push_str(sign_of(symbol))),
     }
 }
 
 // The symbols in postfix order.
-fn shown(alloc: Global, regex: &Regex) -> Result<String, RowFault> {
+fn shown(rt: &impl Abort, alloc: Global, regex: &Regex) -> String {
     let mut text = String::new(alloc);
     for symbol in regex.symbols() {
-        show_symbol(alloc, symbol, &mut text)?;
+        show_symbol(rt, alloc, symbol, &mut text);
     }
-    Ok(text)
+    text
 }
 
 // Texts over the set of -1, 0, 1, 7 and 10, and their symbols in postfix order.
@@ -66,16 +69,20 @@ static TREES: [(&str, &str); 11] = [
 ];
 
 // The symbols in postfix order of the expression of a text over sets.
-fn tree(alloc: Global, tracks: &[&[i32]], text: &str) -> Result<String, RowFault> {
-    let header = header_of(alloc, tracks)?;
-    shown(alloc, &parse(alloc, text.as_bytes(), &header)?)
+fn tree(rt: &impl Abort, alloc: Global, tracks: &[&[i32]], text: &str) -> String {
+    let header = header_of(rt, alloc, tracks);
+    shown(
+        rt,
+        alloc,
+        &given(rt, parse(alloc, text.as_bytes(), &header)),
+    )
 }
 
 #[test]
 fn trees_over_one_set(rt: HostRuntime) {
     for (text, symbols) in &TREES {
-        let found = tree(rt.alloc(), &[&[-1, 0, 1, 7, 10]], text);
-        expect(&rt, text, &found, symbols);
+        let found = tree(&rt, rt.alloc(), &[&[-1, 0, 1, 7, 10]], text);
+        expect_text(&rt, text, &found, symbols);
     }
 }
 
@@ -86,7 +93,7 @@ const TWO_SETS: &[&[i32]] = &[&[0, 1], &[-2147483648, 2147483647]];
 fn trees_over_two_sets(rt: HostRuntime) {
     let text = "[0,-2147483648].|[1,2147483647]*";
     let symbols = "'0'-2147483648.&'1'2147483647*|";
-    expect(&rt, text, &tree(rt.alloc(), TWO_SETS, text), symbols);
+    expect_text(&rt, text, &tree(&rt, rt.alloc(), TWO_SETS, text), symbols);
 }
 
 // Sets, texts over them, and their faults.
@@ -127,77 +134,66 @@ static FAULTS: [(&[&[i32]], &str, Option<RegexFault>); 30] = [
     (&[&[0, 1], &[0]], "[1,0]", None),
 ];
 
-// The fault of a text, if it has one.
-fn fault_of(alloc: Global, header: &Header, text: &[u8]) -> Option<RegexFault> {
-    parse(alloc, text, header).err()
-}
-
 // The fault of a text over sets, if it has one.
-fn fault_over(
-    alloc: Global,
-    tracks: &[&[i32]],
-    text: &str,
-) -> Result<Option<RegexFault>, RowFault> {
-    let header = header_of(alloc, tracks)?;
-    Ok(fault_of(alloc, &header, text.as_bytes()))
+fn fault_over(rt: &impl Abort, alloc: Global, tracks: &[&[i32]], text: &str) -> Option<RegexFault> {
+    let header = header_of(rt, alloc, tracks);
+    parse(alloc, text.as_bytes(), &header).err()
 }
 
 #[test]
 fn texts_have_these_faults(rt: HostRuntime) {
     for (tracks, text, fault) in &FAULTS {
-        let found = fault_over(rt.alloc(), tracks, text).ok();
-        expect_value(&rt, text, &found, &Some(*fault));
+        let found = fault_over(&rt, rt.alloc(), tracks, text);
+        expect_value(&rt, text, &found, fault);
     }
 }
 
 // The fault of so many parentheses in one another, if they have one.
-fn fault_of_nesting(alloc: Global, depth: usize) -> Result<Option<RegexFault>, RowFault> {
-    let mut text = "(".repeat(alloc, depth)?;
-    text.push_str(&")".repeat(alloc, depth)?)?;
-    fault_over(alloc, &[&[0]], &text)
+fn fault_of_nesting(rt: &impl Abort, alloc: Global, depth: usize) -> Option<RegexFault> {
+    let mut text = given(rt, "(".repeat(alloc, depth));
+    given(rt, text.push_str(&given(rt, ")".repeat(alloc, depth))));
+    fault_over(rt, alloc, &[&[0]], &text)
 }
 
 #[test]
 fn parentheses_nest_128_deep(rt: HostRuntime) {
-    let most = fault_of_nesting(rt.alloc(), 128).ok();
-    expect_value(&rt, "128", &most, &Some(None));
-    let more = fault_of_nesting(rt.alloc(), 129).ok();
-    expect_value(&rt, "129", &more, &Some(Some(RegexFault::Depth(128))));
+    let most = fault_of_nesting(&rt, rt.alloc(), 128);
+    expect_value(&rt, "128", &most, &None);
+    let more = fault_of_nesting(&rt, rt.alloc(), 129);
+    expect_value(&rt, "129", &more, &Some(RegexFault::Depth(128)));
 }
 
 // How many texts over these bytes have an expression, up to a length.
-fn read(alloc: Global, header: &Header, bytes: &[u8], longest: usize) -> Result<usize, RowFault> {
+fn read(rt: &impl Abort, alloc: Global, header: &Header, bytes: &[u8], longest: usize) -> usize {
     let mut count: usize = 0;
-    let letters = u32::try_from(bytes.len())?;
+    let letters = given(rt, u32::try_from(bytes.len()));
     for length in 0..=longest {
-        let words = all_words(alloc, letters, length)?;
-        count = count.saturating_add(read_of(alloc, header, bytes, &words)?);
+        let words = given(rt, all_words(alloc, letters, length));
+        count = count.saturating_add(read_of(rt, alloc, header, bytes, &words));
     }
-    Ok(count)
+    count
 }
 
 // How many of these words, their letters indices into the bytes, are the text of an expression.
-fn read_of(
-    alloc: Global,
-    header: &Header,
-    bytes: &[u8],
-    words: &[Word],
-) -> Result<usize, RowFault> {
+fn read_of(rt: &impl Abort, alloc: Global, header: &Header, bytes: &[u8], words: &[Word]) -> usize {
     let mut count: usize = 0;
     for word in words {
-        let text = bytes_at(alloc, bytes, word.letters())?;
+        let text = bytes_at(rt, alloc, bytes, word.letters());
         count = count.saturating_add(usize::from(is_expression(alloc, header, &text)));
     }
-    Ok(count)
+    count
 }
 
 // The bytes at these places.
-fn bytes_at(alloc: Global, bytes: &[u8], places: &[u32]) -> Result<Vec<u8>, RowFault> {
+fn bytes_at(rt: &impl Abort, alloc: Global, bytes: &[u8], places: &[u32]) -> Vec<u8> {
     let mut text = Vec::new(alloc);
     for place in places {
-        text.push(*bytes.get(*place as usize).ok_or(RowFault::Form)?)?;
+        given(
+            rt,
+            text.push(*bytes.get(*place as usize).expect(rt, "a row in form")),
+        );
     }
-    Ok(text)
+    text
 }
 
 // Whether a text is an expression.
@@ -217,19 +213,20 @@ static READ: [(&[&[i32]], &str, usize, usize); 5] = [
 
 // How many texts over these bytes have an expression over sets, up to a length.
 fn read_over(
+    rt: &impl Abort,
     alloc: Global,
     tracks: &[&[i32]],
     bytes: &str,
     longest: usize,
-) -> Result<usize, RowFault> {
-    let header = header_of(alloc, tracks)?;
-    read(alloc, &header, bytes.as_bytes(), longest)
+) -> usize {
+    let header = header_of(rt, alloc, tracks);
+    read(rt, alloc, &header, bytes.as_bytes(), longest)
 }
 
 #[test]
 fn expressions_are_counted(rt: HostRuntime) {
     for (tracks, bytes, longest, count) in &READ {
-        let found = read_over(rt.alloc(), tracks, bytes, *longest).ok();
-        expect_value(&rt, bytes, &found, &Some(*count));
+        let found = read_over(&rt, rt.alloc(), tracks, bytes, *longest);
+        expect_value(&rt, bytes, &found, count);
     }
 }

@@ -2,85 +2,69 @@
 
 ghost use Rattle.std.specs.Prelude.{◌<◌, ◌^◌, length};
 
-use crate::outcomes::{expect, expect_bytes, expect_value};
-use crate::row_fault::RowFault;
+use crate::given::{given, no_answer};
+use crate::outcomes::{expect_bytes, expect_text, expect_value};
 use command_head::{Alphabets, HeadFault, RegParts, first_word, named_parts, reg_parts};
 use digit_tuple::letter_set::LetterSet;
 use digit_tuple::name::Name;
 use std::alloc::Global;
+use std::process::Abort;
 
 // Writes sets, each in braces.
-fn show_sets(alloc: Global, sets: &[LetterSet], text: &mut String) -> Result<(), RowFault> {
+fn show_sets(rt: &impl Abort, alloc: Global, sets: &[LetterSet], text: &mut String) {
     for set in sets {
-        show_set(alloc, set.members(), text)?;
+        show_set(rt, alloc, set.members(), text);
     }
-    Ok(())
 }
 
 // Writes a set in braces.
-fn show_set(alloc: Global, members: &[i32], text: &mut String) -> Result<(), RowFault> {
+fn show_set(rt: &impl Abort, alloc: Global, members: &[i32], text: &mut String) {
     let mut before = "{";
     for member in members {
-        text.push_str(&format!(in alloc; "{before}{member}")?)?;
+        given(
+            rt,
+            text.push_str(&given(rt, format!(in alloc; "{before}{member}"))),
+        );
         before = ",";
     }
-    text.push('}')?;
-    Ok(())
+    given(rt, text.push('}'));
 }
 
 // Writes names, each after a blank.
-fn show_names(names: &[Name], text: &mut String) -> Result<(), RowFault> {
+fn show_names(rt: &impl Abort, names: &[Name], text: &mut String) {
     for name in names {
-        text.push(' ')?;
-        text.push_str(name.as_str())?;
+        given(rt, text.push(' '));
+        given(rt, text.push_str(name.as_str()));
     }
-    Ok(())
 }
 
 // The name, the sets or systems, and after `=` the quoted text.
-fn shown(alloc: Global, parts: &RegParts<'_>) -> Result<String, RowFault> {
-    let mut text = String::from_str(alloc, parts.name.as_str())?;
+fn shown(rt: &impl Abort, alloc: Global, parts: &RegParts<'_>) -> String {
+    let mut text = given(rt, String::from_str(alloc, parts.name.as_str()));
     match &parts.alphabets {
-        Alphabets::Sets(sets) => show_sets(alloc, sets.as_slice(), &mut text)?,
-        Alphabets::Systems(names) => show_names(names, &mut text)?,
+        Alphabets::Sets(sets) => show_sets(rt, alloc, sets.as_slice(), &mut text),
+        Alphabets::Systems(names) => show_names(rt, names, &mut text),
     }
-    push_body(&mut text, parts.body)?;
-    Ok(text)
+    push_body(rt, &mut text, parts.body);
+    text
 }
 
 // Writes `=` and a quoted text.
-fn push_body(text: &mut String, body: &[u8]) -> Result<(), RowFault> {
-    text.push('=')?;
+fn push_body(rt: &impl Abort, text: &mut String, body: &[u8]) {
+    given(rt, text.push('='));
     for byte in body {
-        text.push(char::from(*byte))?;
+        given(rt, text.push(char::from(*byte)));
     }
-    Ok(())
 }
 
 // What a short text has, as a text, or its fault.
-fn read(alloc: Global, text: &str) -> Result<Result<String, HeadFault>, RowFault> {
+fn read(rt: &impl Abort, alloc: Global, text: &str) -> Result<String, HeadFault> {
     if text.len() > 1000 {
-        return Err(RowFault::Form);
+        return no_answer(rt);
     }
     match reg_parts(alloc, text.as_bytes()) {
-        Ok(parts) => Ok(Ok(shown(alloc, &parts)?)),
-        Err(fault) => Ok(Err(fault)),
-    }
-}
-
-// What a text has that has no fault.
-fn whole(found: Result<Result<String, HeadFault>, RowFault>) -> Result<String, RowFault> {
-    match found {
-        Ok(Ok(text)) => Ok(text),
-        _ => Err(RowFault::Form),
-    }
-}
-
-// The fault of a text that has one.
-fn fault_in(found: Result<Result<String, HeadFault>, RowFault>) -> Option<HeadFault> {
-    match found {
-        Ok(Err(fault)) => Some(fault),
-        _ => None,
+        Ok(parts) => Ok(shown(rt, alloc, &parts)),
+        Err(fault) => Err(fault),
     }
 }
 
@@ -110,7 +94,7 @@ static HEADS: [(&str, &str); 10] = [
 #[test]
 fn heads_are_read(rt: HostRuntime) {
     for (text, wanted) in &HEADS {
-        expect(&rt, text, &whole(read(rt.alloc(), text)), wanted);
+        expect_text(&rt, text, &given(&rt, read(&rt, rt.alloc(), text)), wanted);
     }
 }
 
@@ -157,20 +141,20 @@ static FAULTS: [(&str, HeadFault); 30] = [
 #[test]
 fn faults_are_the_first(rt: HostRuntime) {
     for (text, wanted) in &FAULTS {
-        let found = fault_in(read(rt.alloc(), text));
+        let found = read(&rt, rt.alloc(), text).err();
         expect_value(&rt, text, &found, &Some(*wanted));
     }
 }
 
 // The name and after `=` the quoted text of a head with the word `def`, or its fault.
-fn read_named(alloc: Global, text: &str) -> Result<Result<String, HeadFault>, RowFault> {
+fn read_named(rt: &impl Abort, alloc: Global, text: &str) -> Result<String, HeadFault> {
     match named_parts(alloc, b"def", text.as_bytes()) {
         Ok(parts) => {
-            let mut shown = String::from_str(alloc, parts.name.as_str())?;
-            push_body(&mut shown, parts.body)?;
-            Ok(Ok(shown))
+            let mut shown = given(rt, String::from_str(alloc, parts.name.as_str()));
+            push_body(rt, &mut shown, parts.body);
+            Ok(shown)
         }
-        Err(fault) => Ok(Err(fault)),
+        Err(fault) => Err(fault),
     }
 }
 
@@ -197,14 +181,19 @@ static NOT_NAMED: [(&str, HeadFault); 8] = [
 #[test]
 fn named_heads_are_read(rt: HostRuntime) {
     for (text, wanted) in &NAMED {
-        expect(&rt, text, &whole(read_named(rt.alloc(), text)), wanted);
+        expect_text(
+            &rt,
+            text,
+            &given(&rt, read_named(&rt, rt.alloc(), text)),
+            wanted,
+        );
     }
 }
 
 #[test]
 fn other_heads_are_refused(rt: HostRuntime) {
     for (text, wanted) in &NOT_NAMED {
-        let found = fault_in(read_named(rt.alloc(), text));
+        let found = read_named(&rt, rt.alloc(), text).err();
         expect_value(&rt, text, &found, &Some(*wanted));
     }
 }

@@ -1,7 +1,7 @@
 //! Sources, sinks and stores in memory: which calls fail, and how pieces are cut.
 
+use crate::given::given;
 use crate::outcomes::{expect_bytes, expect_so, expect_value};
-use crate::row_fault::RowFault;
 use std::alloc::Global;
 use std::process::Abort;
 use wal_outside::{
@@ -34,17 +34,20 @@ fn expect_reads(rt: &impl Abort, source: &mut MemSource) {
 }
 
 // A source of six bytes, of which the second call fails.
-fn six_bytes(alloc: Global) -> Result<MemSource, RowFault> {
-    let bytes = Vec::from_slice(alloc, b"abcdef")?;
-    Ok(MemSource::new(bytes, vec![in alloc; 2, 0]?, vec![in alloc; 2]?))
+fn six_bytes(rt: &impl Abort, alloc: Global) -> MemSource {
+    let bytes = given(rt, Vec::from_slice(alloc, b"abcdef"));
+    MemSource::new(
+        bytes,
+        given(rt, vec![in alloc; 2, 0]),
+        given(rt, vec![in alloc; 2]),
+    )
 }
 
 #[test]
-fn sources_cut_and_fail_as_listed(rt: HostRuntime) -> Result<(), RowFault> {
-    let mut source = six_bytes(rt.alloc())?;
+fn sources_cut_and_fail_as_listed(rt: HostRuntime) {
+    let mut source = six_bytes(&rt, rt.alloc());
     expect_reads(&rt, &mut source);
     expect_value(&rt, "calls", &source.calls(), &5);
-    Ok(())
 }
 
 // Pieces, and what the calls of a sink give.
@@ -68,18 +71,17 @@ fn expect_writes(rt: &impl Abort, sink: &mut MemSink) {
 }
 
 // A sink that takes pieces of these lengths, and whose call of this number fails.
-fn sink_of(alloc: Global, pieces: &[usize], failing: u64) -> Result<MemSink, RowFault> {
-    let pieces = Vec::from_slice(alloc, pieces)?;
-    Ok(MemSink::new(alloc, pieces, vec![in alloc; failing]?))
+fn sink_of(rt: &impl Abort, alloc: Global, pieces: &[usize], failing: u64) -> MemSink {
+    let pieces = given(rt, Vec::from_slice(alloc, pieces));
+    MemSink::new(alloc, pieces, given(rt, vec![in alloc; failing]))
 }
 
 #[test]
-fn sinks_take_and_fail_as_listed(rt: HostRuntime) -> Result<(), RowFault> {
-    let mut sink = sink_of(rt.alloc(), &[1, 0], 3)?;
+fn sinks_take_and_fail_as_listed(rt: HostRuntime) {
+    let mut sink = sink_of(&rt, rt.alloc(), &[1, 0], 3);
     expect_writes(&rt, &mut sink);
     expect_bytes(&rt, "the sink", sink.held(), b"abc");
     expect_value(&rt, "calls", &sink.calls(), &4);
-    Ok(())
 }
 
 // Sends these pieces by the call for one, two or four.
@@ -122,19 +124,17 @@ fn expect_sent(rt: &impl Abort, sink: &mut MemSink) {
 }
 
 #[test]
-fn pieces_are_sent_whole_or_a_prefix_of_them(rt: HostRuntime) -> Result<(), RowFault> {
-    let mut sink = sink_of(rt.alloc(), &[1, 2], 6)?;
+fn pieces_are_sent_whole_or_a_prefix_of_them(rt: HostRuntime) {
+    let mut sink = sink_of(&rt, rt.alloc(), &[1, 2], 6);
     expect_sent(&rt, &mut sink);
-    Ok(())
 }
 
 #[test]
-fn a_sink_that_takes_nothing_stops_a_piece(rt: HostRuntime) -> Result<(), RowFault> {
-    let mut stuck = sink_of(rt.alloc(), &[1, 0], 9)?;
+fn a_sink_that_takes_nothing_stops_a_piece(rt: HostRuntime) {
+    let mut stuck = sink_of(&rt, rt.alloc(), &[1, 0], 9);
     let found = sent(&mut stuck, &[b"ab"]);
     expect_value(&rt, "a piece", &found, &Err(WriteFault::Failed));
     expect_bytes(&rt, "the sink", stuck.held(), b"a");
-    Ok(())
 }
 
 // A call of a store, with the text that it writes, and what it gives; or what it finds under a name, and reads there.
@@ -167,17 +167,11 @@ fn expect_call(rt: &impl Abort, store: &mut MemStore, into: &mut Vec<u8>, row: &
 }
 
 // Asserts that the calls of a store give this.
-fn expect_calls(
-    rt: &impl Abort,
-    alloc: Global,
-    store: &mut MemStore,
-    rows: &[StoreRow],
-) -> Result<(), RowFault> {
-    let mut into = Vec::from_slice(alloc, b"old")?;
+fn expect_calls(rt: &impl Abort, alloc: Global, store: &mut MemStore, rows: &[StoreRow]) {
+    let mut into = given(rt, Vec::from_slice(alloc, b"old"));
     for row in rows {
         expect_call(rt, store, &mut into, row);
     }
-    Ok(())
 }
 
 // The text of a store under a name, or none.
@@ -186,10 +180,10 @@ fn text_in<'a>(store: &'a MemStore, folder: Folder, name: &str) -> &'a [u8] {
 }
 
 // A store with one text.
-fn store_of_one(alloc: Global) -> Result<MemStore, RowFault> {
+fn store_of_one(rt: &impl Abort, alloc: Global) -> MemStore {
     let mut store = MemStore::new(alloc, Vec::new(alloc));
-    store.put(Folder::Macros, "a", b"one")?;
-    Ok(store)
+    given(rt, store.put(Folder::Macros, "a", b"one"));
+    store
 }
 
 // What its calls give.
@@ -201,13 +195,12 @@ static KEPT: [StoreRow; 4] = [
 ];
 
 #[test]
-fn stores_keep_what_is_written(rt: HostRuntime) -> Result<(), RowFault> {
-    let mut store = store_of_one(rt.alloc())?;
-    expect_calls(&rt, rt.alloc(), &mut store, &KEPT)?;
+fn stores_keep_what_is_written(rt: HostRuntime) {
+    let mut store = store_of_one(&rt, rt.alloc());
+    expect_calls(&rt, rt.alloc(), &mut store, &KEPT);
     expect_bytes(&rt, "a", text_in(&store, Folder::Macros, "a"), b"three");
     expect_value(&rt, "texts", &store.len(), &2);
     expect_value(&rt, "calls", &store.calls(), &4);
-    Ok(())
 }
 
 // Whether a file's call is the one that failed last.
@@ -232,48 +225,51 @@ static LATER: [StoreRow; 2] = [
 ];
 
 // A store whose first and third call fail.
-fn failing_store(alloc: Global) -> Result<MemStore, RowFault> {
-    Ok(MemStore::new(alloc, vec![in alloc; 1, 3]?))
+fn failing_store(rt: &impl Abort, alloc: Global) -> MemStore {
+    MemStore::new(alloc, given(rt, vec![in alloc; 1, 3]))
 }
 
 #[test]
-fn stores_fail_as_listed(rt: HostRuntime) -> Result<(), RowFault> {
-    let mut store = failing_store(rt.alloc())?;
+fn stores_fail_as_listed(rt: HostRuntime) {
+    let mut store = failing_store(&rt, rt.alloc());
     expect_value(&rt, "no call", &store.failed().is_none(), &true);
-    expect_calls(&rt, rt.alloc(), &mut store, &FIRST)?;
+    expect_calls(&rt, rt.alloc(), &mut store, &FIRST);
     expect_value(&rt, "texts", &store.len(), &0);
     expect_value(&rt, "a", &has_failed(&store, Folder::Macros, "a"), &true);
-    expect_calls(&rt, rt.alloc(), &mut store, &LATER)?;
+    expect_calls(&rt, rt.alloc(), &mut store, &LATER);
     expect_value(&rt, "b", &has_failed(&store, Folder::Words, "b"), &true);
-    Ok(())
 }
 
 // Whether a store that never fails gives back what was written.
-fn reads_again(alloc: Global, text: &[u8]) -> Result<bool, RowFault> {
+fn reads_again(rt: &impl Abort, alloc: Global, text: &[u8]) -> bool {
     let mut store = SureStore::new(alloc);
     let mut into = Vec::new(alloc);
     let written = store.write(Folder::Words, "a", text);
     let found = store.read(Folder::Words, "a", &mut into);
     let is_alone = store.text(Folder::Words, "b").is_none();
-    Ok(written.is_ok() && found == Found::Found && is_alone && into.as_slice() == text)
+    written.is_ok() && found == Found::Found && is_alone && into.as_slice() == text
 }
 
 // Whether a source that never fails gives some bytes, and a sink that never fails holds them.
-fn passes_on(alloc: Global, bytes: &[u8]) -> Result<bool, RowFault> {
+fn passes_on(rt: &impl Abort, alloc: Global, bytes: &[u8]) -> bool {
     let mut buf = [0u8; 4];
-    let mut source = SureSource::new(Vec::from_slice(alloc, bytes)?);
+    let mut source = SureSource::new(given(rt, Vec::from_slice(alloc, bytes)));
     let mut sink = SureSink::new(alloc);
     match source.read(&mut buf) {
         Ok(count) => {
             let taken = sink.write(&buf[..count]);
-            Ok(taken == Ok(bytes.len()) && source.left().is_empty() && sink.held() == bytes)
+            taken == Ok(bytes.len()) && source.left().is_empty() && sink.held() == bytes
         }
-        Err(_) => Ok(false),
+        Err(_) => false,
     }
 }
 
 #[test]
 fn sure_objects_never_fail(rt: HostRuntime) {
-    expect_so(&rt, "a source and a sink", &passes_on(rt.alloc(), b"ab"));
-    expect_so(&rt, "a store", &reads_again(rt.alloc(), b"four"));
+    expect_so(
+        &rt,
+        "a source and a sink",
+        passes_on(&rt, rt.alloc(), b"ab"),
+    );
+    expect_so(&rt, "a store", reads_again(&rt, rt.alloc(), b"four"));
 }

@@ -1,30 +1,28 @@
 //! The heads of commands that make languages of others: what they have, and their first faults.
 
+use crate::given::given;
+use crate::outcomes::{expect_text, expect_value};
 use command_head::{HeadFault, LanguagesParts, language_parts, languages_parts};
 use std::alloc::Global;
 use std::process::Abort;
-use std::test::Fail;
 
 // The new name, and the others in their order.
-fn shown(alloc: Global, parts: &LanguagesParts) -> Result<String, Fail> {
-    let mut text = String::from_str(alloc, parts.name.as_str())?;
+fn shown(rt: &impl Abort, alloc: Global, parts: &LanguagesParts) -> String {
+    let mut text = given(rt, String::from_str(alloc, parts.name.as_str()));
     for language in parts.languages.iter() {
-        text.push_str(" ")?;
-        text.push_str(language.as_str())?;
+        given(rt, text.push_str(" "));
+        given(rt, text.push_str(language.as_str()));
     }
-    Ok(text)
+    text
 }
 
 // What a `union` or a `star` has, or its fault.
-fn read(alloc: Global, text: &str) -> Result<Result<String, HeadFault>, Fail> {
-    let found = match text.as_bytes() {
+fn read(rt: &impl Abort, alloc: Global, text: &str) -> Result<String, HeadFault> {
+    let parts = match text.as_bytes() {
         [b'u', ..] => languages_parts(alloc, b"union", text.as_bytes()),
         _ => language_parts(alloc, b"star", text.as_bytes()),
     };
-    match found {
-        Ok(parts) => Ok(Ok(shown(alloc, &parts)?)),
-        Err(fault) => Ok(Err(fault)),
-    }
+    Ok(shown(rt, alloc, &parts?))
 }
 
 // Heads and what they have.
@@ -43,19 +41,15 @@ static HEADS: [(&str, &str); 8] = [
 ];
 
 // Asserts that each text has this.
-fn expect_heads(rt: &impl Abort, alloc: Global, rows: &[(&str, &str)]) -> Result<(), Fail> {
+fn expect_heads(rt: &impl Abort, alloc: Global, rows: &[(&str, &str)]) {
     for (text, wanted) in rows {
-        match read(alloc, text)? {
-            Ok(found) => assert_eq!(rt; found.as_str(), *wanted, "of {text}"),
-            Err(_) => return Err(Fail::from("a head")),
-        }
+        expect_text(rt, text, &given(rt, read(rt, alloc, text)), wanted);
     }
-    Ok(())
 }
 
 #[test]
-fn heads_of_languages_are_read(rt: HostRuntime) -> Result<(), Fail> {
-    expect_heads(&rt, rt.alloc(), &HEADS)
+fn heads_of_languages_are_read(rt: HostRuntime) {
+    expect_heads(&rt, rt.alloc(), &HEADS);
 }
 
 // Texts and their first faults.
@@ -86,15 +80,13 @@ static FAULTS: [(&str, HeadFault); 20] = [
 ];
 
 // Asserts that each text has its fault.
-fn expect_faults(rt: &impl Abort, alloc: Global, rows: &[(&str, HeadFault)]) -> Result<(), Fail> {
+fn expect_faults(rt: &impl Abort, alloc: Global, rows: &[(&str, HeadFault)]) {
     for (text, wanted) in rows {
-        let found = read(alloc, text)?.err();
-        assert_eq!(rt; found, Some(*wanted), "of {text}");
+        expect_value(rt, text, &read(rt, alloc, text).err(), &Some(*wanted));
     }
-    Ok(())
 }
 
 #[test]
-fn faults_of_languages_are_the_first(rt: HostRuntime) -> Result<(), Fail> {
-    expect_faults(&rt, rt.alloc(), &FAULTS)
+fn faults_of_languages_are_the_first(rt: HostRuntime) {
+    expect_faults(&rt, rt.alloc(), &FAULTS);
 }

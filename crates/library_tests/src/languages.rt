@@ -1,8 +1,11 @@
 //! Operations on languages: what each makes, the lines of its steps, and its refusal. The rows are those of a program from
 //! outside, which counts values of words by the definitions of the widths.
 
-use crate::outcomes::{expect, expect_value, lines_of};
-use crate::row_fault::RowFault;
+ghost use Rattle.std.specs.Prelude.{◌≡◌, IsTrue};
+ghost use Rattle.minimise.specs.Canonical.{IsCanonical};
+
+use crate::given::{given, no_answer};
+use crate::outcomes::{expect_text, expect_value, lines_of};
 use crate::table_texts::{language, table_of};
 use automaton_steps::reverse_step::reverse_step;
 use digit_tuple::dfa::Dfa;
@@ -26,68 +29,76 @@ enum Operation {
     Reverse,
 }
 
-// The operation's step on two automata, if they are canonical and over the same tracks.
+// Whether two automata are canonical and over the same tracks.
+fn go_together(rt: &impl Abort, alloc: Global, a: &Dfa, b: &Dfa) -> bool
+    ensures first { IsTrue result → IsCanonical a.now }
+    ensures second { IsTrue result → IsCanonical b.now }
+    ensures sizes { IsTrue result → b.now.sizes ≡ a.now.sizes }
+{
+    given(rt, is_canonical(alloc, a))
+        && given(rt, is_canonical(alloc, b))
+        && b.alphabet().sizes() == a.alphabet().sizes()
+}
+
+// The operation's step on two automata, if they go together.
 fn of_two(
+    rt: &impl Abort,
     alloc: Global,
     operation: Operation,
-    a: &Dfa,
-    b: &Dfa,
+    (a, b): (&Dfa, &Dfa),
     steps: &mut Steps,
-) -> Result<Dfa, RowFault> {
-    if !is_canonical(alloc, a)? || !is_canonical(alloc, b)? {
-        return Err(RowFault::Form);
-    }
-    if b.alphabet().sizes() != a.alphabet().sizes() {
-        return Err(RowFault::Form);
+) -> Result<Dfa, StepFault> {
+    if !go_together(rt, alloc, a, b) {
+        return no_answer(rt);
     }
     match operation {
-        Operation::Union => Ok(product_step(alloc, a, b, Op::Or, steps)?),
-        Operation::Intersection => Ok(product_step(alloc, a, b, Op::And, steps)?),
-        Operation::Concat => Ok(concat_step(alloc, a, b, steps)?),
-        Operation::Star | Operation::Reverse => Err(RowFault::Form),
+        Operation::Union => product_step(alloc, a, b, Op::Or, steps),
+        Operation::Intersection => product_step(alloc, a, b, Op::And, steps),
+        Operation::Concat => concat_step(alloc, a, b, steps),
+        Operation::Star | Operation::Reverse => no_answer(rt),
     }
 }
 
 // The operation's step on one automaton.
 fn of_one(
+    rt: &impl Abort,
     alloc: Global,
     operation: Operation,
     line: &str,
     steps: &mut Steps,
-) -> Result<Dfa, RowFault> {
-    let a = language(alloc, line)?;
+) -> Result<Dfa, StepFault> {
+    let a = language(rt, alloc, line);
     match operation {
-        Operation::Star => Ok(star_step(alloc, &a, steps)?),
-        Operation::Reverse => Ok(reverse_step(alloc, &a, steps)?),
+        Operation::Star => star_step(alloc, &a, steps),
+        Operation::Reverse => reverse_step(alloc, &a, steps),
         _ => Ok(a),
     }
 }
 
 // The operation on the languages of all lines, from the left.
 fn of_all(
+    rt: &impl Abort,
     alloc: Global,
     operation: Operation,
     lines: &[&str],
     steps: &mut Steps,
-) -> Result<Dfa, RowFault> {
-    let Some((first, others)) = lines.split_first() else {
-        return Err(RowFault::Form);
-    };
-    let mut made = of_one(alloc, operation, first, steps)?;
+) -> Result<Dfa, StepFault> {
+    let (first, others) = lines.split_first().expect(rt, "a language");
+    let mut made = of_one(rt, alloc, operation, first, steps)?;
     for line in others {
-        let next = language(alloc, line)?;
-        made = of_two(alloc, operation, &made, &next, steps)?;
+        let next = language(rt, alloc, line);
+        made = of_two(rt, alloc, operation, (&made, &next), steps)?;
     }
     Ok(made)
 }
 
 // The lines of an operation's steps, and its table.
-fn outcome(alloc: Global, operation: Operation, lines: &[&str]) -> Result<String, RowFault> {
+fn outcome(rt: &impl Abort, alloc: Global, operation: Operation, lines: &[&str]) -> String {
     let mut steps = Steps::new(alloc, 5000);
-    let made = of_all(alloc, operation, lines, &mut steps)?;
-    let mut text = lines_of(alloc, &steps)?;
-    text.push_str(&table_of(alloc, &made)?)?;
-    Ok(text)
+    let made = given(rt, of_all(rt, alloc, operation, lines, &mut steps));
+    let mut text = lines_of(rt, alloc, &steps);
+    given(rt, text.push_str(&table_of(rt, alloc, &made)));
+    text
 }
 
 // An operation, its languages, and the lines of its steps with what it makes.
@@ -285,8 +296,8 @@ static PAIRS: [Row; 9] = [
 // Asserts that operations have these steps, and make this.
 fn expect_rows(rt: &impl Abort, alloc: Global, rows: &[Row]) {
     for row in rows {
-        let found = outcome(alloc, row.operation, row.lines);
-        expect(rt, row.made, &found, row.made);
+        let found = outcome(rt, alloc, row.operation, row.lines);
+        expect_text(rt, row.made, &found, row.made);
     }
 }
 
@@ -305,19 +316,17 @@ fn connectives_have_these_widths(rt: HostRuntime) {
     expect_rows(&rt, rt.alloc(), &PAIRS);
 }
 
-// Why an operation is refused under a limit, and how many steps were done before; (None, 0) where there is another fault.
+// Why an operation is refused under a limit, if it is, and how many steps were done before.
 fn refusal(
+    rt: &impl Abort,
     alloc: Global,
     operation: Operation,
     lines: &[&str],
     limit: u32,
 ) -> (Option<StepFault>, u64) {
     let mut steps = Steps::new(alloc, limit);
-    match of_all(alloc, operation, lines, &mut steps) {
-        Ok(_) => (None, steps.count()),
-        Err(RowFault::Step(fault)) => (Some(fault), steps.count()),
-        Err(_) => (None, 0),
-    }
+    let fault = of_all(rt, alloc, operation, lines, &mut steps).err();
+    (fault, steps.count())
 }
 
 // An operation under a limit: the number of the step that is refused, or 0, and the steps that are done.
@@ -453,7 +462,7 @@ fn wanted(row: &Limited) -> (Option<StepFault>, u64) {
 #[test]
 fn the_first_step_past_the_limit_is_refused(rt: HostRuntime) {
     for row in &LIMITS {
-        let found = refusal(rt.alloc(), row.operation, row.lines, row.limit);
+        let found = refusal(&rt, rt.alloc(), row.operation, row.lines, row.limit);
         expect_value(&rt, row.lines.first().unwrap_or(&""), &found, &wanted(row));
     }
 }
@@ -519,27 +528,32 @@ static EXPRESSIONS: [(Operation, &[&str], &str); 20] = [
 ];
 
 // The table that an operation makes.
-fn made_table(alloc: Global, operation: Operation, lines: &[&str]) -> Result<String, RowFault> {
+fn made_table(rt: &impl Abort, alloc: Global, operation: Operation, lines: &[&str]) -> String {
     let mut steps = Steps::new(alloc, 5000);
-    table_of(alloc, &of_all(alloc, operation, lines, &mut steps)?)
+    table_of(
+        rt,
+        alloc,
+        &given(rt, of_all(rt, alloc, operation, lines, &mut steps)),
+    )
 }
 
 // Whether the operation makes the table of the expression.
 fn makes(
+    rt: &impl Abort,
     alloc: Global,
     operation: Operation,
     lines: &[&str],
     expression: &str,
-) -> Result<bool, RowFault> {
-    let made = made_table(alloc, operation, lines)?;
-    let wanted = table_of(alloc, &language(alloc, expression)?)?;
-    Ok(made.as_str() == wanted.as_str())
+) -> bool {
+    let made = made_table(rt, alloc, operation, lines);
+    let wanted = table_of(rt, alloc, &language(rt, alloc, expression));
+    made.as_str() == wanted.as_str()
 }
 
 #[test]
 fn operations_make_what_expressions_match(rt: HostRuntime) {
     for (operation, lines, expression) in &EXPRESSIONS {
-        let found = makes(rt.alloc(), *operation, lines, expression).ok();
-        expect_value(&rt, expression, &found, &Some(true));
+        let found = makes(&rt, rt.alloc(), *operation, lines, expression);
+        expect_value(&rt, expression, &found, &true);
     }
 }

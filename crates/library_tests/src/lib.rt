@@ -2,16 +2,21 @@
 //! its number and one more, and each call once with ample memory.
 //!
 //! Each call that is tried has a function of its own that says nothing of what it gives: it makes the arguments from lines
-//! of text, calls, and hands on a text. So a row costs no proof.
+//! of text, calls, and hands on a text. So a row costs no proof. A call that is to succeed is taken by `given`, which fails the test
+//! where it is refused: so there is one way through each function, and a value is let go once.
 #![tactic(auto)]
 
-// why a row can't be worked out
+// what calls give, without their refusals
 #[cfg(test)]
-mod row_fault;
+mod given;
 
 // automata as lines of text
 #[cfg(test)]
 mod table_texts;
+
+// tables as texts
+#[cfg(test)]
+mod text_rows;
 
 // what calls give, as texts
 #[cfg(test)]

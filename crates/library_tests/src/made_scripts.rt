@@ -1,9 +1,10 @@
 //! Generated scripts, as a program from outside makes them: how many bytes they have, and a checksum.
 
-use crate::outcomes::{expect_text, expect_value};
-use crate::row_fault::RowFault;
+use crate::given::given;
+use crate::outcomes::expect_value;
 use made_script::generated_script;
 use std::alloc::Global;
+use std::process::Abort;
 
 // The checksum FNV-1a, of 64 bits.
 fn checksum(bytes: &[u8]) -> u64 {
@@ -15,9 +16,9 @@ fn checksum(bytes: &[u8]) -> u64 {
 }
 
 // The length of a seed's script, and its checksum.
-fn measured(alloc: Global, seed: u64) -> Result<(usize, u64), RowFault> {
-    let text = generated_script(alloc, seed)?;
-    Ok((text.len(), checksum(&text)))
+fn measured(rt: &impl Abort, alloc: Global, seed: u64) -> (usize, u64) {
+    let text = given(rt, generated_script(alloc, seed));
+    (text.len(), checksum(&text))
 }
 
 // Seeds, with the length and the checksum of their scripts.
@@ -30,9 +31,7 @@ static SCRIPTS: [(u64, usize, u64); 3] = [
 #[test]
 fn scripts_are_made_as_a_program_from_outside_makes_them(rt: HostRuntime) {
     for (seed, length, sum) in &SCRIPTS {
-        match measured(rt.alloc(), *seed) {
-            Ok(found) => expect_value(&rt, "a seed", &found, &(*length, *sum)),
-            Err(_) => expect_text(&rt, "a seed", "no answer", "a script"),
-        }
+        let found = measured(&rt, rt.alloc(), *seed);
+        expect_value(&rt, "a seed", &found, &(*length, *sum));
     }
 }

@@ -1,11 +1,11 @@
 //! The subset construction, the reversal and the minimal automaton, worked by hand.
 
-ghost use Rattle.std.specs.Prelude.{◌≡◌, ◌∷◌, [], IfOk};
+ghost use Rattle.std.specs.Prelude.{◌≡◌, ◌∷◌, []};
 ghost use Rattle.digit_tuple.specs.Deterministic.{states_of};
 
 use crate::calls::{Call, expect_widths};
-use crate::outcomes::{expect, expect_value, table_outcome};
-use crate::row_fault::RowFault;
+use crate::given::{given, no_answer};
+use crate::outcomes::{expect_text, expect_value, table_outcome};
 use crate::table_texts::{language, line_of, listed, table, table_of, tracked};
 use determinise::reversal::reverse;
 use determinise::subset_construction::determinise;
@@ -13,11 +13,13 @@ use determinise::trimmed::trimmed;
 use digit_tuple::alphabet::Alphabet;
 use digit_tuple::dfa::Dfa;
 use digit_tuple::dfa_builder::DfaBuilder;
+use digit_tuple::limit::Limit;
 use digit_tuple::name::Name;
 use minimise::canonical::canonical;
 use minimise::comparison::{is_canonical, same};
 use minimise::tracked::Tracked;
 use std::alloc::Global;
+use std::process::Abort;
 
 // The words whose third letter from the end is 1.
 const THIRD: &str = "x:2 = / 0>0 1>0 1>1/ 0>2 1>2/ 0>3 1>3/!";
@@ -34,9 +36,9 @@ static SETS: [(Call, &str); 2] = [
 ];
 
 // The subset construction under a limit, or why there is none.
-pub fn of_sets(alloc: Global, line: &str, limit: u32) -> Result<String, RowFault> {
-    let table = table(alloc, line)?;
-    table_outcome(alloc, determinise(alloc, &table, limit))
+pub fn of_sets(rt: &impl Abort, alloc: Global, line: &str, limit: u32) -> String {
+    let table = table(rt, alloc, line);
+    table_outcome(rt, alloc, determinise(alloc, &table, Limit::new(limit)))
 }
 
 #[test]
@@ -53,9 +55,9 @@ static REVERSALS: [(Call, &str); 2] = [
 ];
 
 // The reversal under a limit, or why there is none.
-pub fn turned(alloc: Global, line: &str, limit: u32) -> Result<String, RowFault> {
-    let dfa = listed(alloc, line)?;
-    table_outcome(alloc, reverse(alloc, &dfa, limit))
+pub fn turned(rt: &impl Abort, alloc: Global, line: &str, limit: u32) -> String {
+    let dfa = listed(rt, alloc, line);
+    table_outcome(rt, alloc, reverse(alloc, &dfa, Limit::new(limit)))
 }
 
 #[test]
@@ -75,15 +77,11 @@ static MINIMAL: [(&str, &str); 4] = [
     ("x:2 = / 0>1 1>2/! 0>1/!", "/ 0>1 1>2/! 0>1/!"),
 ];
 
-// The table of the minimal automaton of a line.
-fn minimal_table(alloc: Global, line: &str) -> Result<String, RowFault> {
-    table_of(alloc, &language(alloc, line)?)
-}
-
 #[test]
 fn states_are_residuals_that_are_not_empty(rt: HostRuntime) {
     for (line, wanted) in &MINIMAL {
-        expect(&rt, line, &minimal_table(rt.alloc(), line), wanted);
+        let minimal = language(&rt, rt.alloc(), line);
+        expect_text(&rt, line, &table_of(&rt, rt.alloc(), &minimal), wanted);
     }
 }
 
@@ -124,59 +122,50 @@ static BUILT: [BuiltRow; 3] = [
 ];
 
 // A builder over two letters with three states, of which these accept.
-fn three_states(alloc: Global, accepting: [bool; 3]) -> Result<DfaBuilder, RowFault>
-    ensures sizes { IfOk result (λ builder. builder.sizes ≡ 2 ∷ []) }
-    ensures states { IfOk result (λ builder. states_of builder ≡ 3) }
+fn three_states(rt: &impl Abort, alloc: Global, accepting: [bool; 3]) -> DfaBuilder
+    ensures sizes { result.sizes ≡ 2 ∷ [] }
+    ensures states { states_of result ≡ 3 }
 {
-    let mut builder = DfaBuilder::new(alloc, Alphabet::new(alloc, &[2])?)?;
-    builder.add_state(accepting[0])?;
-    builder.add_state(accepting[1])?;
-    builder.add_state(accepting[2])?;
-    Ok(builder)
+    let mut builder = given(
+        rt,
+        DfaBuilder::new(alloc, given(rt, Alphabet::new(alloc, &[2]))),
+    );
+    given(rt, builder.add_state(accepting[0]));
+    given(rt, builder.add_state(accepting[1]));
+    given(rt, builder.add_state(accepting[2]));
+    builder
 }
 
 // The automaton of the row, its states as they were made.
-fn built(alloc: Global, row: &BuiltRow) -> Result<Dfa, RowFault> {
-    let mut builder = three_states(alloc, row.accepting)?;
+fn built(rt: &impl Abort, alloc: Global, row: &BuiltRow) -> Dfa {
+    let mut builder = three_states(rt, alloc, row.accepting);
     let [[from, letter, to], second, third] = row.transitions;
-    builder.set(from % 3, letter % 2, to % 3)?;
-    builder.set(second[0] % 3, second[1] % 2, second[2] % 3)?;
-    builder.set(third[0] % 3, third[1] % 2, third[2] % 3)?;
-    Ok(builder.finish()?)
+    given(rt, builder.set(from % 3, letter % 2, to % 3));
+    given(rt, builder.set(second[0] % 3, second[1] % 2, second[2] % 3));
+    given(rt, builder.set(third[0] % 3, third[1] % 2, third[2] % 3));
+    given(rt, builder.finish())
 }
 
-// The table of the row's automaton.
-fn built_table(alloc: Global, row: &BuiltRow) -> Result<String, RowFault> {
-    table_of(alloc, &built(alloc, row)?)
-}
-
-// The table of the row's automaton without the states that no word leads to.
-fn trimmed_table(alloc: Global, row: &BuiltRow) -> Result<String, RowFault> {
-    table_of(alloc, &trimmed(alloc, &built(alloc, row)?)?)
-}
-
-// The table of the row's minimal automaton, if that is canonical and the automaton is not.
-fn canonical_table(alloc: Global, row: &BuiltRow) -> Result<String, RowFault> {
-    let dfa = built(alloc, row)?;
-    let minimal = canonical(alloc, &dfa)?;
-    if is_canonical(alloc, &minimal)? && !is_canonical(alloc, &dfa)? {
-        table_of(alloc, &minimal)
-    } else {
-        Err(RowFault::Form)
-    }
+// Asserts that an automaton has this table, and the row's trimmed and minimal ones, of which the last alone is canonical.
+fn expect_minimal(rt: &impl Abort, alloc: Global, row: &BuiltRow, dfa: &Dfa) {
+    expect_text(rt, row.table, &table_of(rt, alloc, dfa), row.table);
+    let trimmed = given(rt, trimmed(alloc, dfa));
+    expect_text(rt, row.table, &table_of(rt, alloc, &trimmed), row.trimmed);
+    let minimal = given(rt, canonical(alloc, dfa));
+    expect_text(rt, row.table, &table_of(rt, alloc, &minimal), row.minimal);
+    expect_value(
+        rt,
+        row.table,
+        &given(rt, is_canonical(alloc, &minimal)),
+        &true,
+    );
+    expect_value(rt, row.table, &given(rt, is_canonical(alloc, dfa)), &false);
 }
 
 #[test]
 fn states_are_numbered_by_first_words(rt: HostRuntime) {
     for row in &BUILT {
-        expect(&rt, row.table, &built_table(rt.alloc(), row), row.table);
-        expect(&rt, row.table, &trimmed_table(rt.alloc(), row), row.trimmed);
-        expect(
-            &rt,
-            row.table,
-            &canonical_table(rt.alloc(), row),
-            row.minimal,
-        );
+        expect_minimal(&rt, rt.alloc(), row, &built(&rt, rt.alloc(), row));
     }
 }
 
@@ -188,53 +177,54 @@ static SAME: [(&str, &str, bool); 3] = [
 ];
 
 // Whether two lines over the same tracks have one language.
-fn are_same(alloc: Global, one: &str, other: &str) -> Result<bool, RowFault> {
-    let first = language(alloc, one)?;
-    let second = language(alloc, other)?;
+fn are_same(rt: &impl Abort, alloc: Global, one: &str, other: &str) -> bool {
+    let first = language(rt, alloc, one);
+    let second = language(rt, alloc, other);
     if first.alphabet().sizes() == second.alphabet().sizes() {
-        Ok(same(&first, &second))
+        same(&first, &second)
     } else {
-        Err(RowFault::Form)
+        no_answer(rt)
     }
 }
 
 #[test]
 fn canonical_automata_of_one_language_are_equal(rt: HostRuntime) {
     for (one, other, wanted) in &SAME {
-        let found = are_same(rt.alloc(), one, other).ok();
-        expect_value(&rt, one, &found, &Some(*wanted));
+        let found = are_same(&rt, rt.alloc(), one, other);
+        expect_value(&rt, one, &found, wanted);
     }
 }
 
 // The line of a table's minimal automaton with its track under a name, if it has one track.
-fn named(alloc: Global, line: &str, name: &str) -> Result<String, RowFault> {
-    let dfa = listed(alloc, line)?;
-    let name = Name::new(alloc, name)?;
+fn named(rt: &impl Abort, alloc: Global, line: &str, name: &str) -> String {
+    let dfa = listed(rt, alloc, line);
+    let name = given(rt, Name::new(alloc, name));
     if dfa.alphabet().sizes().len() == 1 {
-        line_of(alloc, &Tracked::new(alloc, &dfa, &[name])?)
+        line_of(rt, alloc, &given(rt, Tracked::new(alloc, &dfa, &[name])))
     } else {
-        Err(RowFault::Form)
+        no_answer(rt)
     }
 }
 
 // The line of an automaton with its track under another name, if it has one track.
-fn renamed(alloc: Global, line: &str, name: &str) -> Result<String, RowFault> {
-    let minimal = tracked(alloc, line)?.into_dfa();
-    let name = Name::new(alloc, name)?;
+fn renamed(rt: &impl Abort, alloc: Global, line: &str, name: &str) -> String {
+    let minimal = tracked(rt, alloc, line).into_dfa();
+    let name = given(rt, Name::new(alloc, name));
     if minimal.alphabet().sizes().len() == 1 {
         line_of(
+            rt,
             alloc,
-            &Tracked::of_canonical(minimal, vec![in alloc; name]?),
+            &Tracked::of_canonical(minimal, given(rt, vec![in alloc; name])),
         )
     } else {
-        Err(RowFault::Form)
+        no_answer(rt)
     }
 }
 
 #[test]
 fn tracks_have_names(rt: HostRuntime) {
     let line = "x:2 = / 0>1 1>2/! 0>1/!";
-    expect(&rt, line, &named(rt.alloc(), line, "x"), line);
+    expect_text(&rt, line, &named(&rt, rt.alloc(), line, "x"), line);
     let other = "y:2 = / 0>1 1>2/! 0>1/!";
-    expect(&rt, line, &renamed(rt.alloc(), line, "y"), other);
+    expect_text(&rt, line, &renamed(&rt, rt.alloc(), line, "y"), other);
 }

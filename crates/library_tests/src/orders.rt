@@ -3,13 +3,15 @@
 ghost use Rattle.std.specs.Prelude.{◌≡◌, ◌<◌, length};
 
 use crate::calls::{Call, expect_letters, expect_widths};
-use crate::outcomes::{expect, table_outcome};
-use crate::row_fault::RowFault;
+use crate::given::{given, no_answer};
+use crate::outcomes::{expect_text, table_outcome};
 use crate::table_texts::{language, table_of};
 use digit_tuple::direction::Direction;
+use digit_tuple::limit::Limit;
 use number_order::order::{equality_of, order_of};
 use number_order::zero::zero_of;
 use std::alloc::Global;
+use std::process::Abort;
 
 // All words of two digits, and those without two 1s in a row.
 const BINARY: &str = "x:2 = .*";
@@ -18,31 +20,41 @@ const SPARSE: &str = "x:2 = (0|10)*1?";
 
 // The order of a language's numbers under a limit, if it has one track, or why there is none.
 pub fn ordered(
+    rt: &impl Abort,
     alloc: Global,
     line: &str,
     direction: Direction,
     limit: u32,
-) -> Result<String, RowFault> {
-    let language = language(alloc, line)?;
+) -> String {
+    let language = language(rt, alloc, line);
     if language.alphabet().sizes().len() == 1 {
-        table_outcome(alloc, order_of(alloc, &language, direction, limit))
+        table_outcome(
+            rt,
+            alloc,
+            order_of(alloc, &language, direction, Limit::new(limit)),
+        )
     } else {
-        Err(RowFault::Form)
+        no_answer(rt)
     }
 }
 
 // The equality of a language's numbers under a limit, if it has one track, or why there is none.
 pub fn equal(
+    rt: &impl Abort,
     alloc: Global,
     line: &str,
     direction: Direction,
     limit: u32,
-) -> Result<String, RowFault> {
-    let language = language(alloc, line)?;
+) -> String {
+    let language = language(rt, alloc, line);
     if language.alphabet().sizes().len() == 1 {
-        table_outcome(alloc, equality_of(alloc, &language, direction, limit))
+        table_outcome(
+            rt,
+            alloc,
+            equality_of(alloc, &language, direction, Limit::new(limit)),
+        )
     } else {
-        Err(RowFault::Form)
+        no_answer(rt)
     }
 }
 
@@ -96,16 +108,16 @@ fn two_tracks_of_300_digits_are_too_large(rt: HostRuntime) {
 }
 
 // The number 0 over a language's digits, if there are some.
-fn zero(alloc: Global, line: &str) -> Result<String, RowFault> {
-    let language = language(alloc, line)?;
+fn zero(rt: &impl Abort, alloc: Global, line: &str) -> String {
+    let language = language(rt, alloc, line);
     if language.alphabet().letters() > 0 {
-        table_of(alloc, &zero_of(alloc, &language)?)
+        table_of(rt, alloc, &given(rt, zero_of(alloc, &language)))
     } else {
-        Err(RowFault::Form)
+        no_answer(rt)
     }
 }
 
 #[test]
 fn zeros_alone_are_zero(rt: HostRuntime) {
-    expect(&rt, SPARSE, &zero(rt.alloc(), SPARSE), "/! 0>0");
+    expect_text(&rt, SPARSE, &zero(&rt, rt.alloc(), SPARSE), "/! 0>0");
 }

@@ -1,6 +1,6 @@
 //! What calls give, as texts: the width and the automaton, or why there is none.
 
-use crate::row_fault::RowFault;
+use crate::given::{given, no_answer};
 use crate::table_texts::{line_of, table_of};
 use digit_tuple::dfa::Dfa;
 use digit_tuple::faults::OpFault;
@@ -12,76 +12,85 @@ use std::fmt::Debug;
 use std::process::Abort;
 
 /// The width and the line of an automaton with names, or why there is none.
-pub fn outcome(alloc: Global, made: Result<Stepped<Tracked>, OpFault>) -> Result<String, RowFault> {
+pub fn outcome(rt: &impl Abort, alloc: Global, made: Result<Stepped<Tracked>, OpFault>) -> String {
     match made {
-        Ok(stepped) => with_width(alloc, stepped.width, &line_of(alloc, &stepped.result)?),
-        Err(fault) => refusal(alloc, fault),
+        Ok(stepped) => with_width(
+            rt,
+            alloc,
+            stepped.width,
+            &line_of(rt, alloc, &stepped.result),
+        ),
+        Err(fault) => refusal(rt, alloc, fault),
     }
 }
 
 /// The width and the table of an automaton, or why there is none.
 pub fn table_outcome(
+    rt: &impl Abort,
     alloc: Global,
     made: Result<Stepped<Dfa>, OpFault>,
-) -> Result<String, RowFault> {
+) -> String {
     match made {
-        Ok(stepped) => with_width(alloc, stepped.width, &table_of(alloc, &stepped.result)?),
-        Err(fault) => refusal(alloc, fault),
+        Ok(stepped) => with_width(
+            rt,
+            alloc,
+            stepped.width,
+            &table_of(rt, alloc, &stepped.result),
+        ),
+        Err(fault) => refusal(rt, alloc, fault),
     }
 }
 
 // A width and a text.
-fn with_width(alloc: Global, width: u32, text: &str) -> Result<String, RowFault> {
-    Ok(format!(in alloc; "{width} {text}")?)
+fn with_width(rt: &impl Abort, alloc: Global, width: u32, text: &str) -> String {
+    given(rt, format!(in alloc; "{width} {text}"))
 }
 
 // The text of a refusal.
-fn refusal(alloc: Global, fault: OpFault) -> Result<String, RowFault> {
+fn refusal(rt: &impl Abort, alloc: Global, fault: OpFault) -> String {
     match fault {
-        OpFault::States => Ok(String::from_str(alloc, "States")?),
-        OpFault::Letters => Ok(String::from_str(alloc, "Letters")?),
-        OpFault::Memory => Err(RowFault::Call(fault)),
+        OpFault::States => given(rt, String::from_str(alloc, "States")),
+        OpFault::Letters => given(rt, String::from_str(alloc, "Letters")),
+        OpFault::Memory => no_answer(rt),
     }
 }
 
 /// The width with which the text of an outcome begins.
-pub fn width_of(text: &str) -> Result<u32, RowFault> {
-    let (width, _) = text.split_once(' ').ok_or(RowFault::Form)?;
-    Ok(width.parse()?)
-}
-
-/// The limit that this width is just past.
-pub fn below_width_of(text: &str) -> Result<u32, RowFault> {
-    Ok(width_of(text)?.saturating_sub(1))
+pub fn width_of(rt: &impl Abort, text: &str) -> u32 {
+    let (width, _) = text.split_once(' ').expect(rt, "a row in form");
+    given(rt, width.parse())
 }
 
 /// The lines of steps, each its kind, its width and its size.
-pub fn lines_of(alloc: Global, steps: &Steps) -> Result<String, RowFault> {
+pub fn lines_of(rt: &impl Abort, alloc: Global, steps: &Steps) -> String {
     let mut text = String::new(alloc);
     for number in 0..steps.count() {
-        text.push_str(&line_text(alloc, steps.line(number))?)?;
+        given(rt, text.push_str(&line_text(rt, alloc, steps.line(number))));
     }
-    Ok(text)
+    text
 }
 
 /// The lines of steps, and after them what the steps give.
-pub fn after_lines(alloc: Global, steps: &Steps, answer: &str) -> Result<String, RowFault> {
-    let mut text = lines_of(alloc, steps)?;
-    text.push_str(answer)?;
-    Ok(text)
+pub fn after_lines(rt: &impl Abort, alloc: Global, steps: &Steps, answer: &str) -> String {
+    let mut text = lines_of(rt, alloc, steps);
+    given(rt, text.push_str(answer));
+    text
 }
 
 // The text of a step's line.
-fn line_text(alloc: Global, line: StepLine) -> Result<String, RowFault> {
+fn line_text(rt: &impl Abort, alloc: Global, line: StepLine) -> String {
     let kind = line.kind.name();
-    Ok(format!(in alloc; "{kind} {} {}, ", line.width, line.size)?)
+    given(
+        rt,
+        format!(in alloc; "{kind} {} {}, ", line.width, line.size),
+    )
 }
 
 /// A blank and a letter, or a blank and a dash where there is none.
-pub fn letter_text(alloc: Global, letter: Option<i32>) -> Result<String, RowFault> {
+pub fn letter_text(rt: &impl Abort, alloc: Global, letter: Option<i32>) -> String {
     match letter {
-        Some(letter) => Ok(format!(in alloc; " {letter}")?),
-        None => Ok(String::from_str(alloc, " -")?),
+        Some(letter) => given(rt, format!(in alloc; " {letter}")),
+        None => given(rt, String::from_str(alloc, " -")),
     }
 }
 
@@ -100,18 +109,7 @@ pub fn expect_value<T: Debug + PartialEq>(rt: &impl Abort, row: &str, found: &T,
     assert!(rt; found == wanted, "of {row}: {found:?}, not {wanted:?}");
 }
 
-/// Asserts that a row is worked out, and has this text.
-pub fn expect(rt: &impl Abort, row: &str, found: &Result<String, RowFault>, wanted: &str) {
-    match found {
-        Ok(text) => expect_text(rt, row, text, wanted),
-        Err(_) => expect_text(rt, row, "no answer", wanted),
-    }
-}
-
-/// Asserts that a row is worked out, and is so.
-pub fn expect_so(rt: &impl Abort, row: &str, found: &Result<bool, RowFault>) {
-    match found {
-        Ok(is_so) => expect_value(rt, row, is_so, &true),
-        Err(_) => expect_text(rt, row, "no answer", "an answer"),
-    }
+/// Asserts that a row is so.
+pub fn expect_so(rt: &impl Abort, row: &str, is_so: bool) {
+    expect_value(rt, row, &is_so, &true);
 }

@@ -2,11 +2,12 @@
 
 use crate::calls::{Call, expect_widths};
 use crate::outcomes::table_outcome;
-use crate::row_fault::RowFault;
 use crate::table_texts::language;
 use digit_tuple::direction::Direction;
+use digit_tuple::limit::Limit;
 use project_close::padding::pad;
 use std::alloc::Global;
+use std::process::Abort;
 
 // Automata and directions, and their closures.
 static PADDINGS: [(Call, &str); 8] = [
@@ -35,13 +36,14 @@ static PADDINGS: [(Call, &str); 8] = [
 
 // The closure under a limit, or why there is none.
 pub fn padded(
+    rt: &impl Abort,
     alloc: Global,
     line: &str,
     direction: Direction,
     limit: u32,
-) -> Result<String, RowFault> {
-    let a = language(alloc, line)?;
-    table_outcome(alloc, pad(alloc, &a, direction, limit))
+) -> String {
+    let a = language(rt, alloc, line);
+    table_outcome(rt, alloc, pad(alloc, &a, direction, Limit::new(limit)))
 }
 
 #[test]

@@ -1,17 +1,19 @@
 //! Products, complements and valid parts, worked by hand.
 
-ghost use Rattle.std.specs.Prelude.{◌≡◌, IfOk, IsTrue, map};
+ghost use Rattle.std.specs.Prelude.{◌≡◌, IsTrue, map};
 ghost use Rattle.std.specs.Rc.{rc_value};
 ghost use Rattle.product_op.specs.Connectives.{among_valid};
 ghost use Rattle.product_op.specs.Tracks.{joint_sizes};
 ghost use Rattle.product_op.specs.Validity.{AreLanguages};
 
 use crate::calls::{Call, expect_letters, expect_widths};
-use crate::outcomes::{expect, expect_so, expect_value, outcome};
-use crate::row_fault::RowFault;
+use crate::given::{given, no_answer};
+use crate::outcomes::{expect_text, expect_value, outcome};
 use crate::table_texts::{languages, tracked};
+use automaton_steps::join_step::Joining;
 use digit_tuple::dfa::Dfa;
 use digit_tuple::faults::OpFault;
+use digit_tuple::limit::Limit;
 use digit_tuple::name::Name;
 use digit_tuple::names::joint_names;
 use digit_tuple::stepped::Stepped;
@@ -23,6 +25,7 @@ use product_op::product::product;
 use product_op::validity::{complement_in, valid_part};
 use reference::words::all_words;
 use std::alloc::Global;
+use std::process::Abort;
 use std::rc::Rc;
 
 // Words with an even number of 1s, words that end in 1, and words without two 1s in a row.
@@ -116,65 +119,51 @@ static PRODUCTS: [(Call, &str); 6] = [
     ),
 ];
 
-// The product of a row's automata under a limit, if these go together, or why there is none.
-pub fn joined(alloc: Global, row: &ProductRow, limit: u32) -> Result<String, RowFault> {
-    let a = tracked(alloc, row.a)?;
-    let b = tracked(alloc, row.b)?;
-    let valid = languages(alloc, row.valid)?;
-    product_text(alloc, (&a, &b), row.op, &valid, limit)
-}
-
-// The product of two under a limit, if they go together, or why there is none.
-fn product_text(
-    alloc: Global,
-    (a, b): (&Tracked, &Tracked),
-    op: Op,
-    valid: &[Rc<Dfa>],
-    limit: u32,
-) -> Result<String, RowFault> {
-    if agree_on_shared(a, b) && have_languages(alloc, a, b, op, valid)? {
-        outcome(alloc, product(alloc, a, b, op, valid, limit))
+/// The product of a row's automata under a limit, or why there is none.
+pub fn joined(rt: &impl Abort, alloc: Global, row: &ProductRow, limit: u32) -> String {
+    let a = tracked(rt, alloc, row.a);
+    let b = tracked(rt, alloc, row.b);
+    let languages = &languages(rt, alloc, row.valid);
+    let joining = Joining {
+        op: row.op,
+        languages,
+    };
+    if agree_on_shared(&a, &b) && have_languages(rt, alloc, &a, &b, joining) {
+        let made = product(alloc, &a, &b, row.op, languages, Limit::new(limit));
+        outcome(rt, alloc, made)
     } else {
-        Err(RowFault::Form)
+        no_answer(rt)
     }
 }
 
 /// Whether there is a language for each track of two automata, where the connective counts these.
 pub fn have_languages(
+    rt: &impl Abort,
     alloc: Global,
     a: &Tracked,
     b: &Tracked,
-    op: Op,
-    valid: &[Rc<Dfa>],
-) -> Result<bool, RowFault>
-    ensures { IfOk result (λ have. IsTrue have → IsTrue (among_valid op) → AreLanguages (joint_sizes a.now b.now) (map rc_value valid.now)) }
+    joining: Joining<'_>,
+) -> bool
+    ensures { IsTrue result → IsTrue (among_valid joining.entry.op) → AreLanguages (joint_sizes a.now b.now) (map rc_value joining.entry.languages.now) }
 {
-    if op.is_among_valid() {
-        each_has_one(alloc, a, b, valid)
-    } else {
-        Ok(true)
-    }
+    let Joining { op, languages } = joining;
+    !op.is_among_valid() || each_has_one(rt, alloc, a, b, languages)
 }
 
 // Whether there is a language for each track of two automata.
-fn each_has_one(
-    alloc: Global,
-    a: &Tracked,
-    b: &Tracked,
-    valid: &[Rc<Dfa>],
-) -> Result<bool, RowFault>
-    ensures { IfOk result (λ have. IsTrue have → AreLanguages (joint_sizes a.now b.now) (map rc_value valid.now)) }
+fn each_has_one(rt: &impl Abort, alloc: Global, a: &Tracked, b: &Tracked, valid: &[Rc<Dfa>]) -> bool
+    ensures { IsTrue result → AreLanguages (joint_sizes a.now b.now) (map rc_value valid.now) }
 {
-    let sizes = joint_sizes_of(alloc, a, b)?;
-    Ok(are_languages(alloc, &sizes, valid)?)
+    let sizes = joint_sizes_of(rt, alloc, a, b);
+    given(rt, are_languages(alloc, &sizes, valid))
 }
 
 // The sizes of the tracks of both.
-fn joint_sizes_of(alloc: Global, a: &Tracked, b: &Tracked) -> Result<Vec<u32>, RowFault>
-    ensures { IfOk result (λ sizes. sizes.items ≡ joint_sizes a.now b.now) }
+fn joint_sizes_of(rt: &impl Abort, alloc: Global, a: &Tracked, b: &Tracked) -> Vec<u32>
+    ensures { result.items ≡ joint_sizes a.now b.now }
 {
-    let names = joint_names(alloc, a.names(), b.names())?;
-    Ok(sizes_of_names(alloc, &names, a, b)?)
+    let names = given(rt, joint_names(alloc, a.names(), b.names()));
+    given(rt, sizes_of_names(alloc, &names, a, b))
 }
 
 #[test]
@@ -254,76 +243,48 @@ static COUNTS: [CountRow; 5] = [
 ];
 
 // How many words up to a length the automaton accepts.
-fn accepted(alloc: Global, dfa: &Dfa, longest: usize) -> Result<usize, RowFault> {
+fn accepted(rt: &impl Abort, alloc: Global, dfa: &Dfa, longest: usize) -> usize {
     let mut count: usize = 0;
     for length in 0..=longest {
-        count = count.saturating_add(accepted_of(alloc, dfa, length)?);
+        count = count.saturating_add(accepted_of(rt, alloc, dfa, length));
     }
-    Ok(count)
+    count
 }
 
 // How many words of a length it accepts.
-fn accepted_of(alloc: Global, dfa: &Dfa, length: usize) -> Result<usize, RowFault> {
+fn accepted_of(rt: &impl Abort, alloc: Global, dfa: &Dfa, length: usize) -> usize {
     let mut count: usize = 0;
-    for word in &all_words(alloc, dfa.alphabet().letters(), length)? {
+    for word in &given(rt, all_words(alloc, dfa.alphabet().letters(), length)) {
         count = count.saturating_add(usize::from(dfa.accepts(word.letters())));
     }
-    Ok(count)
-}
-
-// How many words up to a length an automaton that was made accepts.
-fn accepted_in(
-    alloc: Global,
-    made: Result<Stepped<Tracked>, OpFault>,
-    longest: usize,
-) -> Result<usize, RowFault> {
-    match made {
-        Ok(stepped) => accepted(alloc, stepped.result.dfa(), longest),
-        Err(fault) => Err(RowFault::Call(fault)),
-    }
+    count
 }
 
 // How many words up to the row's length are in its product by a connective.
-fn joined_count(alloc: Global, row: &CountRow, op: Op) -> Result<usize, RowFault> {
-    let a = tracked(alloc, row.a)?;
-    let b = tracked(alloc, row.b)?;
-    let valid = languages(alloc, row.valid)?;
-    product_count(alloc, (&a, &b), op, &valid, row.longest)
-}
-
-// How many words up to a length are in the product of two, if they go together.
-fn product_count(
-    alloc: Global,
-    (a, b): (&Tracked, &Tracked),
-    op: Op,
-    valid: &[Rc<Dfa>],
-    longest: usize,
-) -> Result<usize, RowFault> {
-    if agree_on_shared(a, b) && have_languages(alloc, a, b, op, valid)? {
-        accepted_in(alloc, product(alloc, a, b, op, valid, 1000), longest)
+fn joined_count(rt: &impl Abort, alloc: Global, row: &CountRow, op: Op) -> usize {
+    let a = tracked(rt, alloc, row.a);
+    let b = tracked(rt, alloc, row.b);
+    let languages = &languages(rt, alloc, row.valid);
+    let joining = Joining { op, languages };
+    if agree_on_shared(&a, &b) && have_languages(rt, alloc, &a, &b, joining) {
+        let made = given(rt, product(alloc, &a, &b, op, languages, Limit::new(1000)));
+        accepted(rt, alloc, made.result.dfa(), row.longest)
     } else {
-        Err(RowFault::Form)
+        no_answer(rt)
     }
 }
 
-// How many words up to the row's length are in its products by the connectives of `OPS`.
-fn joined_counts(alloc: Global, row: &CountRow) -> Result<Vec<usize>, RowFault> {
-    let mut counts = Vec::new(alloc);
-    for op in &OPS {
-        counts.push(joined_count(alloc, row, *op)?)?;
+// Asserts that so many words up to the row's length are in its products by the connectives of `OPS`.
+fn expect_counts(rt: &impl Abort, alloc: Global, row: &CountRow) {
+    for (op, wanted) in OPS.iter().zip(&row.counts) {
+        expect_value(rt, row.a, &joined_count(rt, alloc, row, *op), wanted);
     }
-    Ok(counts)
-}
-
-// Whether these are the row's.
-fn has_counts(alloc: Global, row: &CountRow) -> Result<bool, RowFault> {
-    Ok(joined_counts(alloc, row)?.as_slice() == row.counts.as_slice())
 }
 
 #[test]
 fn words_in_products_are_counted(rt: HostRuntime) {
     for row in &COUNTS {
-        expect_so(&rt, row.a, &has_counts(rt.alloc(), row));
+        expect_counts(&rt, rt.alloc(), row);
     }
 }
 
@@ -334,46 +295,38 @@ pub enum Restriction {
     ValidPart,
 }
 
-// The complement or the valid part of an automaton under a limit, if there is a language for each track.
+// The complement or the valid part of the automaton of a line under a limit, if there is a language for each track.
 fn made(
+    rt: &impl Abort,
     alloc: Global,
-    direction: Restriction,
-    a: &Tracked,
-    languages: &[Rc<Dfa>],
+    restriction: Restriction,
+    (line, valid): (&str, &[&str]),
     limit: u32,
-) -> Result<Result<Stepped<Tracked>, OpFault>, RowFault> {
-    if are_languages(alloc, a.dfa().alphabet().sizes(), languages)? {
-        Ok(match direction {
-            Restriction::Complement => complement_in(alloc, a, languages, limit),
-            Restriction::ValidPart => valid_part(alloc, a, languages, limit),
-        })
+) -> Result<Stepped<Tracked>, OpFault> {
+    let a = tracked(rt, alloc, line);
+    let languages = languages(rt, alloc, valid);
+    if given(
+        rt,
+        are_languages(alloc, a.dfa().alphabet().sizes(), &languages),
+    ) {
+        match restriction {
+            Restriction::Complement => complement_in(alloc, &a, &languages, Limit::new(limit)),
+            Restriction::ValidPart => valid_part(alloc, &a, &languages, Limit::new(limit)),
+        }
     } else {
-        Err(RowFault::Form)
+        no_answer(rt)
     }
-}
-
-// The same of the automaton and the languages of lines.
-fn made_of(
-    alloc: Global,
-    direction: Restriction,
-    line: &str,
-    valid: &[&str],
-    limit: u32,
-) -> Result<Result<Stepped<Tracked>, OpFault>, RowFault> {
-    let a = tracked(alloc, line)?;
-    let languages = languages(alloc, valid)?;
-    made(alloc, direction, &a, &languages, limit)
 }
 
 /// The complement or the valid part under a limit, or why there is none.
 pub fn restricted(
+    rt: &impl Abort,
     alloc: Global,
-    direction: Restriction,
-    line: &str,
-    valid: &[&str],
+    restriction: Restriction,
+    row: (&str, &[&str]),
     limit: u32,
-) -> Result<String, RowFault> {
-    outcome(alloc, made_of(alloc, direction, line, valid, limit)?)
+) -> String {
+    outcome(rt, alloc, made(rt, alloc, restriction, row, limit))
 }
 
 // Of the automaton `ENDS`.
@@ -409,64 +362,50 @@ static VALID_WORDS: [(&str, &[&str], usize, usize, usize); 3] = [
 
 // How many words up to a length are in the complement or the valid part.
 fn restricted_count(
+    rt: &impl Abort,
     alloc: Global,
-    direction: Restriction,
-    line: &str,
-    valid: &[&str],
+    restriction: Restriction,
+    row: (&str, &[&str]),
     longest: usize,
-) -> Result<usize, RowFault> {
-    accepted_in(
-        alloc,
-        made_of(alloc, direction, line, valid, 1000)?,
-        longest,
-    )
-}
-
-// How many are in the complement, and how many in the valid part.
-fn valid_counts(
-    alloc: Global,
-    line: &str,
-    valid: &[&str],
-    longest: usize,
-) -> Result<(usize, usize), RowFault> {
-    let others = restricted_count(alloc, Restriction::Complement, line, valid, longest)?;
-    let some = restricted_count(alloc, Restriction::ValidPart, line, valid, longest)?;
-    Ok((others, some))
+) -> usize {
+    let part = given(rt, made(rt, alloc, restriction, row, 1000));
+    accepted(rt, alloc, part.result.dfa(), longest)
 }
 
 #[test]
 fn valid_words_are_counted(rt: HostRuntime) {
     for (line, valid, longest, others, some) in &VALID_WORDS {
-        let found = valid_counts(rt.alloc(), line, valid, *longest).ok();
-        expect_value(&rt, line, &found, &Some((*others, *some)));
+        let row: (&str, &[&str]) = (line, valid);
+        let found = restricted_count(&rt, rt.alloc(), Restriction::Complement, row, *longest);
+        expect_value(&rt, line, &found, others);
+        let found = restricted_count(&rt, rt.alloc(), Restriction::ValidPart, row, *longest);
+        expect_value(&rt, line, &found, some);
     }
 }
 
 // The tracks of two automata as one list, where they agree on those of one name.
-fn joint(alloc: Global, a: &str, b: &str) -> Result<String, RowFault> {
-    let a = tracked(alloc, a)?;
-    let b = tracked(alloc, b)?;
+fn joint(rt: &impl Abort, alloc: Global, a: &str, b: &str) -> String {
+    let a = tracked(rt, alloc, a);
+    let b = tracked(rt, alloc, b);
     if agree_on_shared(&a, &b) {
-        joint_text(alloc, &a, &b)
+        let joint = given(rt, joint_tracks(alloc, &a, &b));
+        let sizes = given(rt, sizes_of_names(alloc, &joint.names, &a, &b));
+        track_texts(rt, alloc, &joint.names, &sizes)
     } else {
-        Ok(String::new(alloc))
+        String::new(alloc)
     }
-}
-
-// The tracks of two automata as one list, each its name and its size.
-fn joint_text(alloc: Global, a: &Tracked, b: &Tracked) -> Result<String, RowFault> {
-    let joint = joint_tracks(alloc, a, b)?;
-    let sizes = sizes_of_names(alloc, &joint.names, a, b)?;
-    track_texts(alloc, &joint.names, &sizes)
 }
 
 // Names and sizes as a text.
-fn track_texts(alloc: Global, names: &[Name], sizes: &[u32]) -> Result<String, RowFault> {
+fn track_texts(rt: &impl Abort, alloc: Global, names: &[Name], sizes: &[u32]) -> String {
     let mut text = String::new(alloc);
     for (name, size) in names.iter().zip(sizes) {
-        text.push_str(&format!(in alloc; "{}:{size} ", name.as_str())?)?;
+        given(
+            rt,
+            text.push_str(&given(rt, format!(in alloc; "{}:{size} ", name.as_str()))),
+        );
     }
-    Ok(text)
+    text
 }
 
 // Two automata, and their joint tracks, or none where they do not agree.
@@ -480,7 +419,7 @@ static JOINT: [(&str, &str, &str); 4] = [
 #[test]
 fn tracks_of_one_name_are_one_track(rt: HostRuntime) {
     for (a, b, wanted) in &JOINT {
-        expect(&rt, a, &joint(rt.alloc(), a, b), wanted);
+        expect_text(&rt, a, &joint(&rt, rt.alloc(), a, b), wanted);
     }
 }
 
@@ -493,17 +432,20 @@ static LANGUAGES: [(&str, &[&str], bool); 4] = [
 ];
 
 // Whether there is a language for each track of an automaton.
-fn has_languages(alloc: Global, line: &str, valid: &[&str]) -> Result<bool, RowFault> {
-    let a = tracked(alloc, line)?;
-    let languages = languages(alloc, valid)?;
-    Ok(are_languages(alloc, a.dfa().alphabet().sizes(), &languages)?)
+fn has_languages(rt: &impl Abort, alloc: Global, line: &str, valid: &[&str]) -> bool {
+    let a = tracked(rt, alloc, line);
+    let languages = languages(rt, alloc, valid);
+    given(
+        rt,
+        are_languages(alloc, a.dfa().alphabet().sizes(), &languages),
+    )
 }
 
 #[test]
 fn each_track_has_a_language(rt: HostRuntime) {
     for (line, valid, wanted) in &LANGUAGES {
-        let found = has_languages(rt.alloc(), line, valid).ok();
-        expect_value(&rt, line, &found, &Some(*wanted));
+        let found = has_languages(&rt, rt.alloc(), line, valid);
+        expect_value(&rt, line, &found, wanted);
     }
 }
 

@@ -1,15 +1,17 @@
 //! Projections, worked by hand, and the states that zeros lead to.
 
 use crate::calls::{Call, expect_letters, expect_widths};
+use crate::given::{given, no_answer};
 use crate::outcomes::{expect_so, outcome};
-use crate::row_fault::RowFault;
 use crate::table_texts::{table, tracked};
 use digit_tuple::direction::Direction;
+use digit_tuple::limit::Limit;
 use digit_tuple::name::Name;
 use digit_tuple::names::find_name;
 use project_close::projection::project;
 use project_close::zero_closure::{flagged, zero_closure};
 use std::alloc::Global;
+use std::process::Abort;
 
 // The pairs of x and y = 2 * x in base 2. With the most significant digit first a digit of y is the next digit of x;
 // else it is the one before.
@@ -62,18 +64,22 @@ static PROJECTIONS: [(Call, &str); 8] = [
 
 // The projection under a limit, if the track is there, or why there is none.
 pub fn dropped(
+    rt: &impl Abort,
     alloc: Global,
-    line: &str,
-    track: &str,
+    (line, track): (&str, &str),
     direction: Direction,
     limit: u32,
-) -> Result<String, RowFault> {
-    let a = tracked(alloc, line)?;
-    let track = Name::new(alloc, track)?;
+) -> String {
+    let a = tracked(rt, alloc, line);
+    let track = given(rt, Name::new(alloc, track));
     if find_name(a.names(), &track).is_some() {
-        outcome(alloc, project(alloc, &a, &track, direction, limit))
+        outcome(
+            rt,
+            alloc,
+            project(alloc, &a, &track, direction, Limit::new(limit)),
+        )
     } else {
-        Err(RowFault::Form)
+        no_answer(rt)
     }
 }
 
@@ -98,25 +104,25 @@ static AFTER_ZEROS: [(&str, &[u32]); 3] = [
 ];
 
 // Whether zeros alone lead to these states in the table of a line.
-fn lead_to(alloc: Global, line: &str, states: &[u32]) -> Result<bool, RowFault> {
-    let table = table(alloc, line)?;
-    Ok(zero_closure(alloc, &table)?.as_slice() == states)
+fn lead_to(rt: &impl Abort, alloc: Global, line: &str, states: &[u32]) -> bool {
+    let table = table(rt, alloc, line);
+    given(rt, zero_closure(alloc, &table)).as_slice() == states
 }
 
 #[test]
 fn zeros_lead_to_these_states(rt: HostRuntime) {
     for (line, states) in &AFTER_ZEROS {
-        expect_so(&rt, line, &lead_to(rt.alloc(), line, states));
+        expect_so(&rt, line, lead_to(&rt, rt.alloc(), line, states));
     }
 }
 
 // Whether flags are those of these states.
-fn are_flags_of(alloc: Global, flags: &[bool; 3], states: &[u32]) -> Result<bool, RowFault> {
-    Ok(flagged(alloc, flags)?.as_slice() == states)
+fn are_flags_of(rt: &impl Abort, alloc: Global, flags: &[bool; 3], states: &[u32]) -> bool {
+    given(rt, flagged(alloc, flags)).as_slice() == states
 }
 
 #[test]
 fn flagged_states_are_listed(rt: HostRuntime) {
-    let found = are_flags_of(rt.alloc(), &[true, false, true], &[0, 2]);
-    expect_so(&rt, "flags", &found);
+    let found = are_flags_of(&rt, rt.alloc(), &[true, false, true], &[0, 2]);
+    expect_so(&rt, "flags", found);
 }

@@ -1,12 +1,13 @@
 //! Fixed points of morphisms: the line of the step and the letters at the first positions, or why there is no word.
 
-use crate::outcomes::{after_lines, expect, letter_text};
-use crate::row_fault::RowFault;
+use crate::given::given;
+use crate::outcomes::{after_lines, expect_text, letter_text};
 use digit_tuple::steps::Steps;
 use fixed_points::promote_fault::PromoteFault;
 use fixed_points::promotion::promote;
 use morph_words::Morphism;
 use std::alloc::Global;
+use std::process::Abort;
 use word_output::word::Word;
 
 // So many first positions are looked at.
@@ -20,33 +21,37 @@ fn letter_at(word: &Word, base: u32, place: u32) -> Option<i32> {
 }
 
 // The letters at the first positions, each after a blank, and a dash where there is none.
-fn letters_of(alloc: Global, word: &Word, base: u32) -> Result<String, RowFault> {
+fn letters_of(rt: &impl Abort, alloc: Global, word: &Word, base: u32) -> String {
     let mut text = String::new(alloc);
     for place in 0..SOME {
-        text.push_str(&letter_text(alloc, letter_at(word, base, place))?)?;
+        given(
+            rt,
+            text.push_str(&letter_text(rt, alloc, letter_at(word, base, place))),
+        );
     }
-    Ok(text)
+    text
 }
 
 // The letters at the first positions, or the fault.
 fn letters_or_fault(
+    rt: &impl Abort,
     alloc: Global,
     word: &Result<Word, PromoteFault>,
     base: u32,
-) -> Result<String, RowFault> {
+) -> String {
     match word {
-        Ok(word) => letters_of(alloc, word, base),
-        Err(fault) => Ok(format!(in alloc; "{fault:?}")?),
+        Ok(word) => letters_of(rt, alloc, word, base),
+        Err(fault) => given(rt, format!(in alloc; "{fault:?}")),
     }
 }
 
 // The lines of the steps, and the letters of the fixed point of rules in this base; or the lines and the fault.
-fn promoted(alloc: Global, rules: &str, limit: u32, base: u32) -> Result<String, RowFault> {
-    let morphism = Morphism::parse(alloc, rules.as_bytes())?;
+fn promoted(rt: &impl Abort, alloc: Global, rules: &str, limit: u32, base: u32) -> String {
+    let morphism = given(rt, Morphism::parse(alloc, rules.as_bytes()));
     let mut steps = Steps::new(alloc, limit);
     let word = promote(alloc, &morphism, &mut steps);
-    let answer = letters_or_fault(alloc, &word, base)?;
-    after_lines(alloc, &steps, &answer)
+    let answer = letters_or_fault(rt, alloc, &word, base);
+    after_lines(rt, alloc, &steps, &answer)
 }
 
 // Rules, the limit, the base of the word, and what is given: the line of the step and the letters at the positions 0 to 7, or the fault
@@ -128,10 +133,10 @@ static ROWS: [(&str, u32, u32, &str); 33] = [
 #[test]
 fn fixed_points_are_those_worked_out(rt: HostRuntime) {
     for (rules, limit, base, wanted) in &ROWS {
-        expect(
+        expect_text(
             &rt,
             rules,
-            &promoted(rt.alloc(), rules, *limit, *base),
+            &promoted(&rt, rt.alloc(), rules, *limit, *base),
             wanted,
         );
     }

@@ -5,12 +5,13 @@ ghost use Rattle.std.specs.Rc.{rc_value};
 ghost use Rattle.numeration.specs.Representation.{sizes_of};
 ghost use Rattle.num_system.specs.Tracks.{ShareDirection, systems_of};
 
+use crate::given::{given, no_answer};
 use crate::outcomes::expect_value;
-use crate::row_fault::RowFault;
 use base_k::base_k::BaseK;
 use dfa_reading::{FileHeader, Listed, read_relation};
 use digit_tuple::direction::Direction;
 use digit_tuple::faults::OpFault;
+use digit_tuple::limit::Limit;
 use digit_tuple::nfa::Nfa;
 use digit_tuple::step_fault::StepFault;
 use digit_tuple::steps::Steps;
@@ -20,34 +21,40 @@ use num_system::system::System;
 use number_relations::reading::reading_steps;
 use number_relations::relation::Relation;
 use std::alloc::Global;
+use std::process::Abort;
 use std::rc::Rc;
 
 // The branching automaton of a short file, whose systems have so many digits.
-fn branching(alloc: Global, text: &[u8], digits: &[u32]) -> Result<Nfa, RowFault> {
+fn branching(rt: &impl Abort, alloc: Global, text: &[u8], digits: &[u32]) -> Result<Nfa, OpFault> {
     if text.len() >= 1000 {
-        return Err(RowFault::Form);
+        return no_answer(rt);
     }
-    let listed = read_relation(alloc, text)?;
-    with_digits(alloc, &listed, digits)
+    let listed = given(rt, read_relation(alloc, text));
+    with_digits(rt, alloc, &listed, digits)
 }
 
 // The branching automaton of what is listed, if there is a number of digits for each system.
-fn with_digits(alloc: Global, listed: &Listed, digits: &[u32]) -> Result<Nfa, RowFault> {
+fn with_digits(
+    rt: &impl Abort,
+    alloc: Global,
+    listed: &Listed,
+    digits: &[u32],
+) -> Result<Nfa, OpFault> {
     if listed.states() == 0 {
-        return Err(RowFault::Form);
+        return no_answer(rt);
     }
     match listed.header() {
-        FileHeader::Systems(names) if names.len() != digits.len() => Err(RowFault::Form),
-        _ => Ok(listed.nfa(alloc, digits)?),
+        FileHeader::Systems(names) if names.len() != digits.len() => no_answer(rt),
+        _ => listed.nfa(alloc, digits),
     }
 }
 
 // How many transitions the initial state has, or None where there are too many letters.
-fn transitions_of(alloc: Global, text: &[u8], digits: &[u32]) -> Result<Option<usize>, RowFault> {
-    match branching(alloc, text, digits) {
-        Ok(table) => Ok(Some(first_transitions(&table))),
-        Err(RowFault::Call(OpFault::Letters)) => Ok(None),
-        Err(fault) => Err(fault),
+fn transitions_of(rt: &impl Abort, alloc: Global, text: &[u8], digits: &[u32]) -> Option<usize> {
+    match branching(rt, alloc, text, digits) {
+        Ok(table) => Some(first_transitions(&table)),
+        Err(OpFault::Letters) => None,
+        Err(_) => no_answer(rt),
     }
 }
 
@@ -106,34 +113,34 @@ static TRANSITIONS: [(&[u8], &[u32], Option<usize>); 13] = [
 
 // The number of the first of these files whose first state has not so many transitions, counted from 0; how many they are, if
 // each has.
-fn first_other(alloc: Global, rows: &[(&[u8], &[u32], Option<usize>)]) -> Result<usize, RowFault> {
+fn first_other(rt: &impl Abort, alloc: Global, rows: &[(&[u8], &[u32], Option<usize>)]) -> usize {
     let mut count: usize = 0;
     for (text, digits, transitions) in rows {
-        if transitions_of(alloc, text, digits)? != *transitions {
-            return Ok(count);
+        if transitions_of(rt, alloc, text, digits) != *transitions {
+            return count;
         }
         count = count.saturating_add(1);
     }
-    Ok(count)
+    count
 }
 
 #[test]
 fn files_have_these_transitions(rt: HostRuntime) {
-    let found = first_other(rt.alloc(), &TRANSITIONS).ok();
-    expect_value(&rt, "files", &found, &Some(TRANSITIONS.len()));
+    let found = first_other(&rt, rt.alloc(), &TRANSITIONS);
+    expect_value(&rt, "files", &found, &TRANSITIONS.len());
 }
 
 /// The base of a system, or None for the Fibonacci system.
 pub type Base = Option<u32>;
 
 // The sealed system.
-fn sealed(alloc: Global, base: Base, direction: Direction) -> Result<System, RowFault> {
+fn sealed(rt: &impl Abort, alloc: Global, base: Base, direction: Direction) -> System {
     match base {
         Some(number) => {
-            let system = BaseK::new(number, direction).ok_or(RowFault::Form)?;
-            Ok(seal(alloc, &system, 1000)?)
+            let system = BaseK::new(number, direction).expect(rt, "a row in form");
+            given(rt, seal(alloc, &system, Limit::new(1000)))
         }
-        None => Ok(seal(alloc, &Fib::new(direction), 1000)?),
+        None => given(rt, seal(alloc, &Fib::new(direction), Limit::new(1000))),
     }
 }
 
@@ -274,24 +281,28 @@ static ROWS: [Row; 11] = [
 
 /// Systems of one direction, sealed.
 pub fn systems_for(
+    rt: &impl Abort,
     alloc: Global,
     listed: &[Base],
     direction: Direction,
-) -> Result<Vec<Rc<System>>, RowFault> {
+) -> Vec<Rc<System>> {
     let mut systems = Vec::new(alloc);
     for base in listed {
-        systems.push(Rc::new(alloc, sealed(alloc, *base, direction)?)?)?;
+        given(
+            rt,
+            systems.push(given(rt, Rc::new(alloc, sealed(rt, alloc, *base, direction)))),
+        );
     }
-    Ok(systems)
+    systems
 }
 
 // How many digits each system has.
-fn digits_of(alloc: Global, systems: &[Rc<System>]) -> Result<Vec<u32>, RowFault> {
+fn digits_of(rt: &impl Abort, alloc: Global, systems: &[Rc<System>]) -> Vec<u32> {
     let mut digits = Vec::new(alloc);
     for system in systems {
-        digits.push(system.as_ref().digits())?;
+        given(rt, digits.push(system.as_ref().digits()));
     }
-    Ok(digits)
+    digits
 }
 
 // Whether tracks of these sizes may be over one or two systems of one direction.
@@ -312,24 +323,30 @@ fn may_be_header(sizes: &[u32], systems: &[Rc<System>]) -> bool
 
 /// The relation of a file over systems, by the next steps.
 pub fn relation_over(
+    rt: &impl Abort,
     alloc: Global,
     text: &[u8],
     systems: &[Rc<System>],
     steps: &mut Steps,
-) -> Result<Relation, RowFault> {
-    let digits = digits_of(alloc, systems)?;
-    let table = branching(alloc, text, &digits)?;
+) -> Result<Relation, StepFault> {
+    let digits = digits_of(rt, alloc, systems);
+    let table = given(rt, branching(rt, alloc, text, &digits));
     if may_be_header(table.alphabet().sizes(), systems) {
-        Ok(reading_steps(alloc, &table, systems, steps)?)
+        reading_steps(alloc, &table, systems, steps)
     } else {
-        Err(RowFault::Form)
+        no_answer(rt)
     }
 }
 
 // The relation of a row, by the next steps.
-fn relation_of(alloc: Global, row: &Row, steps: &mut Steps) -> Result<Relation, RowFault> {
-    let systems = systems_for(alloc, row.systems, row.direction)?;
-    relation_over(alloc, row.text, &systems, steps)
+fn relation_of(
+    rt: &impl Abort,
+    alloc: Global,
+    row: &Row,
+    steps: &mut Steps,
+) -> Result<Relation, StepFault> {
+    let systems = systems_for(rt, alloc, row.systems, row.direction);
+    relation_over(rt, alloc, row.text, &systems, steps)
 }
 
 // The step of this name, width and size has this number, counted from 0.
@@ -359,32 +376,28 @@ fn answers(relation: &Relation, words: &[&[u32]], wanted: bool) -> bool {
 }
 
 // Whether a file has its steps, and its relation accepts the words that it is to accept, and none of the others.
-fn is_row(alloc: Global, row: &Row) -> Result<[bool; 3], RowFault> {
+fn is_row(rt: &impl Abort, alloc: Global, row: &Row) -> [bool; 3] {
     let mut steps = Steps::new(alloc, 1000);
-    let relation = relation_of(alloc, row, &mut steps)?;
-    Ok([
+    let relation = given(rt, relation_of(rt, alloc, row, &mut steps));
+    [
         are_lines_of(&steps, row),
         answers(&relation, row.accepted, true),
         answers(&relation, row.refused, false),
-    ])
+    ]
 }
 
 #[test]
 fn files_have_these_steps(rt: HostRuntime) {
     for row in &ROWS {
-        let found = is_row(rt.alloc(), row).ok();
-        expect_value(&rt, row.name, &found, &Some([true, true, true]));
+        let found = is_row(&rt, rt.alloc(), row);
+        expect_value(&rt, row.name, &found, &[true, true, true]);
     }
 }
 
 // Why the steps of a row are refused under a limit, if they are.
-fn refusal(alloc: Global, row: &Row, limit: u32) -> Result<Option<StepFault>, RowFault> {
+fn refusal(rt: &impl Abort, alloc: Global, row: &Row, limit: u32) -> Option<StepFault> {
     let mut steps = Steps::new(alloc, limit);
-    match relation_of(alloc, row, &mut steps) {
-        Ok(_) => Ok(None),
-        Err(RowFault::Step(fault)) => Ok(Some(fault)),
-        Err(fault) => Err(fault),
-    }
+    relation_of(rt, alloc, row, &mut steps).err()
 }
 
 // The first of three steps with these widths that passes a limit.
@@ -402,19 +415,19 @@ fn first_past(widths: [u32; 3], limit: u32) -> Option<StepFault> {
 }
 
 // The first limit up to 12 under which the first step that passes it is not the one that is refused, if there is one.
-fn first_unkept(alloc: Global, row: &Row) -> Result<Option<u32>, RowFault> {
+fn first_unkept(rt: &impl Abort, alloc: Global, row: &Row) -> Option<u32> {
     for limit in 0..13 {
-        if refusal(alloc, row, limit)? != first_past(row.widths, limit) {
-            return Ok(Some(limit));
+        if refusal(rt, alloc, row, limit) != first_past(row.widths, limit) {
+            return Some(limit);
         }
     }
-    Ok(None)
+    None
 }
 
 #[test]
 fn the_first_step_past_the_limit_is_refused(rt: HostRuntime) {
     for row in &ROWS {
-        let found = first_unkept(rt.alloc(), row).ok();
-        expect_value(&rt, row.name, &found, &Some(None));
+        let found = first_unkept(&rt, rt.alloc(), row);
+        expect_value(&rt, row.name, &found, &None);
     }
 }

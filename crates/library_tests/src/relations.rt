@@ -1,13 +1,12 @@
 //! Relations on numbers in some bases, against arithmetic.
 
+use crate::given::{given, no_answer};
 use crate::headers::names_of;
-use crate::outcomes::{expect, expect_value, lines_of};
-use crate::row_fault::RowFault;
+use crate::outcomes::{expect_text, expect_value, lines_of};
 use crate::sealed_systems::sealed;
 use digit_tuple::direction::Direction;
 use digit_tuple::name::Name;
 use digit_tuple::names::{are_distinct, find_name};
-use digit_tuple::step_fault::StepFault;
 use digit_tuple::steps::Steps;
 use num_system::comparison::Comparison;
 use num_system::system::System;
@@ -17,6 +16,7 @@ use number_relations::multiple::{MultipleNames, multiple_steps};
 use number_relations::projection::project_step;
 use number_relations::relation::Relation;
 use std::alloc::Global;
+use std::process::Abort;
 use std::rc::Rc;
 
 // Some bases, each in both directions.
@@ -38,13 +38,13 @@ struct Shared {
 }
 
 // The base with this number, sealed.
-fn shared_base(alloc: Global, base: u32, direction: Direction) -> Result<Shared, RowFault> {
-    let system = Rc::new(alloc, sealed(alloc, base, direction, 1000)?)?;
-    Ok(Shared {
+fn shared_base(rt: &impl Abort, alloc: Global, base: u32, direction: Direction) -> Shared {
+    let system = given(rt, Rc::new(alloc, sealed(rt, alloc, base, direction, 1000)));
+    Shared {
         base,
         direction,
         system,
-    })
+    }
 }
 
 // The letter of the digits of some numbers at the place of this weight.
@@ -59,21 +59,22 @@ fn letter_at(base: u32, weight: u32, numbers: &[u32]) -> u32 {
 
 // The word of so many letters that represents numbers with no more digits.
 fn word_of(
+    rt: &impl Abort,
     alloc: Global,
     shared: &Shared,
     length: u32,
     numbers: &[u32],
-) -> Result<Vec<u32>, RowFault> {
+) -> Vec<u32> {
     let mut word = Vec::new(alloc);
     let mut weight: u32 = 1;
     for _ in 0..length {
-        word.push(letter_at(shared.base, weight, numbers))?;
+        given(rt, word.push(letter_at(shared.base, weight, numbers)));
         weight = weight.wrapping_mul(shared.base);
     }
     if shared.direction == Direction::Msd {
         word.reverse();
     }
-    Ok(word)
+    word
 }
 
 // The number of the track of this name.
@@ -87,25 +88,25 @@ fn number_of(name: &str, numbers: [u32; 3]) -> u32 {
 }
 
 // The numbers of a relation's tracks.
-fn numbers_of(alloc: Global, relation: &Relation, numbers: [u32; 3]) -> Result<Vec<u32>, RowFault> {
+fn numbers_of(rt: &impl Abort, alloc: Global, relation: &Relation, numbers: [u32; 3]) -> Vec<u32> {
     let mut tuple = Vec::new(alloc);
     for name in relation.names() {
-        tuple.push(number_of(name.as_str(), numbers))?;
+        given(rt, tuple.push(number_of(name.as_str(), numbers)));
     }
-    Ok(tuple)
+    tuple
 }
 
 // Whether the relation's automaton accepts the word of so many letters for these numbers.
 fn holds(
+    rt: &impl Abort,
     alloc: Global,
     shared: &Shared,
     relation: &Relation,
-    length: u32,
-    numbers: [u32; 3],
-) -> Result<bool, RowFault> {
-    let tuple = numbers_of(alloc, relation, numbers)?;
-    let word = word_of(alloc, shared, length, &tuple)?;
-    Ok(relation.dfa().accepts(&word))
+    (length, numbers): (u32, [u32; 3]),
+) -> bool {
+    let tuple = numbers_of(rt, alloc, relation, numbers);
+    let word = word_of(rt, alloc, shared, length, &tuple);
+    relation.dfa().accepts(&word)
 }
 
 // A relation that is made without a step, under the names x, y and z.
@@ -118,40 +119,43 @@ enum Made {
 }
 
 // The relation in a base.
-fn made_in(alloc: Global, shared: &Shared, made: Made) -> Result<Relation, RowFault> {
+fn made_in(rt: &impl Abort, alloc: Global, shared: &Shared, made: Made) -> Relation {
     match made {
-        Made::Compared(comparison, a, b) => compared(alloc, shared, comparison, a, b),
-        Made::Sum(a, b, c) => sum(alloc, shared, a, b, c),
-        Made::Number(a) => number(alloc, shared, a),
-        Made::Truth(truth) => Ok(Relation::truth(alloc, truth)?),
+        Made::Compared(comparison, a, b) => compared(rt, alloc, shared, comparison, (a, b)),
+        Made::Sum(a, b, c) => sum(rt, alloc, shared, (a, b, c)),
+        Made::Number(a) => number(rt, alloc, shared, a),
+        Made::Truth(truth) => given(rt, Relation::truth(alloc, truth)),
     }
 }
 
 // The numbers that compare so.
 fn compared(
+    rt: &impl Abort,
     alloc: Global,
     shared: &Shared,
     comparison: Comparison,
-    a: &str,
-    b: &str,
-) -> Result<Relation, RowFault> {
-    let first = Name::new(alloc, a)?;
-    let second = Name::new(alloc, b)?;
-    Ok(Relation::comparison(alloc, &shared.system, comparison, &first, &second)?)
+    (a, b): (&str, &str),
+) -> Relation {
+    let first = given(rt, Name::new(alloc, a));
+    let second = given(rt, Name::new(alloc, b));
+    given(
+        rt,
+        Relation::comparison(alloc, &shared.system, comparison, &first, &second),
+    )
 }
 
 // The numbers of which the third is the sum of the others.
-fn sum(alloc: Global, shared: &Shared, a: &str, b: &str, c: &str) -> Result<Relation, RowFault> {
-    let x = Name::new(alloc, a)?;
-    let y = Name::new(alloc, b)?;
-    let z = Name::new(alloc, c)?;
-    Ok(Relation::sum(alloc, &shared.system, &x, &y, &z)?)
+fn sum(rt: &impl Abort, alloc: Global, shared: &Shared, (a, b, c): (&str, &str, &str)) -> Relation {
+    let x = given(rt, Name::new(alloc, a));
+    let y = given(rt, Name::new(alloc, b));
+    let z = given(rt, Name::new(alloc, c));
+    given(rt, Relation::sum(alloc, &shared.system, &x, &y, &z))
 }
 
 // Any number.
-fn number(alloc: Global, shared: &Shared, a: &str) -> Result<Relation, RowFault> {
-    let name = Name::new(alloc, a)?;
-    Ok(Relation::number(alloc, &shared.system, &name)?)
+fn number(rt: &impl Abort, alloc: Global, shared: &Shared, a: &str) -> Relation {
+    let name = given(rt, Name::new(alloc, a));
+    given(rt, Relation::number(alloc, &shared.system, &name))
 }
 
 // Whether two numbers compare so.
@@ -191,57 +195,49 @@ enum Tried {
 }
 
 // The relation in a base.
-fn tried_in(alloc: Global, shared: &Shared, tried: Tried) -> Result<Relation, RowFault> {
+fn tried_in(rt: &impl Abort, alloc: Global, shared: &Shared, tried: Tried) -> Relation {
     match tried {
-        Tried::Made(made) => made_in(alloc, shared, made),
-        Tried::Constant(number, a) => constant(alloc, shared, number, a),
-        Tried::Complement(made) => complement(alloc, &made_in(alloc, shared, made)?),
-        Tried::Projected(made, a) => projected(alloc, &made_in(alloc, shared, made)?, a),
-        Tried::Renamed(made, a, b) => renamed(alloc, &made_in(alloc, shared, made)?, a, b),
-    }
-}
-
-// The relation that a step made.
-fn by_a_step(made: Result<Relation, StepFault>) -> Result<Relation, RowFault> {
-    match made {
-        Ok(relation) => Ok(relation),
-        Err(fault) => Err(RowFault::Step(fault)),
+        Tried::Made(made) => made_in(rt, alloc, shared, made),
+        Tried::Constant(number, a) => constant(rt, alloc, shared, number, a),
+        Tried::Complement(made) => complement(rt, alloc, &made_in(rt, alloc, shared, made)),
+        Tried::Projected(made, a) => projected(rt, alloc, &made_in(rt, alloc, shared, made), a),
+        Tried::Renamed(made, a, b) => renamed(rt, alloc, &made_in(rt, alloc, shared, made), a, b),
     }
 }
 
 // One number alone.
-fn constant(alloc: Global, shared: &Shared, number: u64, a: &str) -> Result<Relation, RowFault> {
+fn constant(rt: &impl Abort, alloc: Global, shared: &Shared, number: u64, a: &str) -> Relation {
     let mut steps = Steps::new(alloc, 1000);
-    let name = Name::new(alloc, a)?;
+    let name = given(rt, Name::new(alloc, a));
     let made = constant_step(alloc, &shared.system, number, &name, &mut steps);
-    by_a_step(made)
+    given(rt, made)
 }
 
 // The numbers of which the relation does not hold.
-fn complement(alloc: Global, relation: &Relation) -> Result<Relation, RowFault> {
+fn complement(rt: &impl Abort, alloc: Global, relation: &Relation) -> Relation {
     let mut steps = Steps::new(alloc, 1000);
-    by_a_step(complement_step(alloc, relation, &mut steps))
+    given(rt, complement_step(alloc, relation, &mut steps))
 }
 
 // The relation without a track, if it is there.
-fn projected(alloc: Global, relation: &Relation, a: &str) -> Result<Relation, RowFault> {
+fn projected(rt: &impl Abort, alloc: Global, relation: &Relation, a: &str) -> Relation {
     let mut steps = Steps::new(alloc, 1000);
-    let name = Name::new(alloc, a)?;
+    let name = given(rt, Name::new(alloc, a));
     if find_name(relation.names(), &name).is_some() {
-        by_a_step(project_step(alloc, relation, &name, &mut steps))
+        given(rt, project_step(alloc, relation, &name, &mut steps))
     } else {
-        Err(RowFault::Form)
+        no_answer(rt)
     }
 }
 
 // The relation with a track under a name that no track has.
-fn renamed(alloc: Global, relation: &Relation, a: &str, b: &str) -> Result<Relation, RowFault> {
-    let from = Name::new(alloc, a)?;
-    let to = Name::new(alloc, b)?;
+fn renamed(rt: &impl Abort, alloc: Global, relation: &Relation, a: &str, b: &str) -> Relation {
+    let from = given(rt, Name::new(alloc, a));
+    let to = given(rt, Name::new(alloc, b));
     if find_name(relation.names(), &to).is_none() {
-        Ok(relation.renamed(alloc, &from, &to)?)
+        given(rt, relation.renamed(alloc, &from, &to))
     } else {
-        Err(RowFault::Form)
+        no_answer(rt)
     }
 }
 
@@ -325,56 +321,50 @@ static CHANGED: [Tried; 13] = [
 ];
 
 // Whether the relation holds as arithmetic has it, of all x, y and z below 8, by words of so many letters.
-fn is_right(alloc: Global, shared: &Shared, tried: Tried, length: u32) -> Result<bool, RowFault> {
-    let relation = tried_in(alloc, shared, tried)?;
+fn is_right(rt: &impl Abort, alloc: Global, shared: &Shared, tried: Tried, length: u32) -> bool {
+    let relation = tried_in(rt, alloc, shared, tried);
     let mut right = true;
     for number in 0..512 {
         let numbers = [number / 64, number / 8 % 8, number % 8];
-        let found = holds(alloc, shared, &relation, length, numbers)?;
+        let found = holds(rt, alloc, shared, &relation, (length, numbers));
         right = right && found == is_tried_so(tried, numbers);
     }
-    Ok(right)
+    right
 }
 
 // The number of the first relation that does not hold so in a base, counted from 0; how many they are, if each does.
 fn first_wrong(
+    rt: &impl Abort,
     alloc: Global,
-    base: u32,
-    direction: Direction,
+    (base, direction): (u32, Direction),
     rows: &[Tried],
     length: u32,
-) -> Result<usize, RowFault> {
-    let shared = shared_base(alloc, base, direction)?;
+) -> usize {
+    let shared = shared_base(rt, alloc, base, direction);
     let mut count: usize = 0;
     for tried in rows {
-        if !is_right(alloc, &shared, *tried, length)? {
-            return Ok(count);
+        if !is_right(rt, alloc, &shared, *tried, length) {
+            return count;
         }
         count = count.saturating_add(1);
     }
-    Ok(count)
+    count
 }
 
 #[test]
 fn relations_hold_of_the_numbers_of_arithmetic(rt: HostRuntime) {
     for (row, base, direction) in &BASES {
-        let found = first_wrong(rt.alloc(), *base, *direction, &MADE, 3).ok();
-        expect_value(&rt, row, &found, &Some(MADE.len()));
+        let found = first_wrong(&rt, rt.alloc(), (*base, *direction), &MADE, 3);
+        expect_value(&rt, row, &found, &MADE.len());
     }
 }
 
 #[test]
 fn changed_relations_hold_of_the_numbers_of_arithmetic(rt: HostRuntime) {
     for (row, base, direction) in &BASES {
-        let found = first_wrong(rt.alloc(), *base, *direction, &CHANGED, 4).ok();
-        expect_value(&rt, row, &found, &Some(CHANGED.len()));
+        let found = first_wrong(&rt, rt.alloc(), (*base, *direction), &CHANGED, 4);
+        expect_value(&rt, row, &found, &CHANGED.len());
     }
-}
-
-// Whether the relation is true, if it has no track.
-fn verdict(alloc: Global, made: Made) -> Result<Option<bool>, RowFault> {
-    let shared = shared_base(alloc, 2, Direction::Msd)?;
-    Ok(made_in(alloc, &shared, made)?.verdict())
 }
 
 // Relations, and whether they are true, if they have no track.
@@ -386,19 +376,22 @@ static VERDICTS: [(&str, Made, Option<bool>); 3] = [
 
 #[test]
 fn sentences_are_true_or_false(rt: HostRuntime) {
+    let shared = shared_base(&rt, rt.alloc(), 2, Direction::Msd);
     for (row, made, wanted) in &VERDICTS {
-        expect_value(&rt, row, &verdict(rt.alloc(), *made).ok(), &Some(*wanted));
+        let relation = made_in(&rt, rt.alloc(), &shared, *made);
+        expect_value(&rt, row, &relation.verdict(), wanted);
     }
 }
 
 // The relation that y is so many times x, by the next steps.
 fn multiple(
+    rt: &impl Abort,
     alloc: Global,
     shared: &Shared,
     factor: u64,
     steps: &mut Steps,
-) -> Result<Relation, RowFault> {
-    let names = names_of(alloc, &["x", "y", "z"])?;
+) -> Relation {
+    let names = names_of(rt, alloc, &["x", "y", "z"]);
     match names.as_slice() {
         [number, multiple, between] if are_distinct(&names) => {
             let names = MultipleNames {
@@ -406,64 +399,67 @@ fn multiple(
                 multiple,
                 between,
             };
-            by_a_step(multiple_steps(alloc, &shared.system, factor, names, steps))
+            given(
+                rt,
+                multiple_steps(alloc, &shared.system, factor, names, steps),
+            )
         }
-        _ => Err(RowFault::Form),
+        _ => no_answer(rt),
     }
 }
 
 // Whether the multiple of a number alone is reported, of some numbers and of its multiple.
 fn is_multiple_of(
+    rt: &impl Abort,
     alloc: Global,
     shared: &Shared,
     relation: &Relation,
-    factor: u32,
-    x: u32,
-) -> Result<bool, RowFault> {
+    (factor, x): (u32, u32),
+) -> bool {
     let multiple = factor.wrapping_mul(x);
-    let mut right = holds(alloc, shared, relation, 13, [x, multiple, 0])?;
+    let mut right = holds(rt, alloc, shared, relation, (13, [x, multiple, 0]));
     for y in 0..41 {
-        right = right && holds(alloc, shared, relation, 13, [x, y, 0])? == (y == multiple);
+        right = right && holds(rt, alloc, shared, relation, (13, [x, y, 0])) == (y == multiple);
     }
-    Ok(right)
+    right
 }
 
 // Whether it is, of all numbers up to 40.
-fn multiplies(alloc: Global, shared: &Shared, factor: u32) -> Result<bool, RowFault> {
+fn multiplies(rt: &impl Abort, alloc: Global, shared: &Shared, factor: u32) -> bool {
     let mut steps = Steps::new(alloc, 100_000);
-    let relation = multiple(alloc, shared, u64::from(factor), &mut steps)?;
+    let relation = multiple(rt, alloc, shared, u64::from(factor), &mut steps);
     let mut right = true;
     for x in 0..41 {
-        right = right && is_multiple_of(alloc, shared, &relation, factor, x)?;
+        right = right && is_multiple_of(rt, alloc, shared, &relation, (factor, x));
     }
-    Ok(right)
+    right
 }
 
 // The first factor up to 100 by which numbers are not multiplied so in base 2, if there is one.
-fn first_wrong_factor(alloc: Global, direction: Direction) -> Result<Option<u32>, RowFault> {
-    let shared = shared_base(alloc, 2, direction)?;
+fn first_wrong_factor(rt: &impl Abort, alloc: Global, direction: Direction) -> Option<u32> {
+    let shared = shared_base(rt, alloc, 2, direction);
     for factor in 0..=100 {
-        if !multiplies(alloc, &shared, factor)? {
-            return Ok(Some(factor));
+        if !multiplies(rt, alloc, &shared, factor) {
+            return Some(factor);
         }
     }
-    Ok(None)
+    None
 }
 
 #[test]
 fn multiples_are_those_of_multiplication(rt: HostRuntime) {
-    let msd = first_wrong_factor(rt.alloc(), Direction::Msd).ok();
-    expect_value(&rt, "msd_2", &msd, &Some(None));
-    let lsd = first_wrong_factor(rt.alloc(), Direction::Lsd).ok();
-    expect_value(&rt, "lsd_2", &lsd, &Some(None));
+    let msd = first_wrong_factor(&rt, rt.alloc(), Direction::Msd);
+    expect_value(&rt, "msd_2", &msd, &None);
+    let lsd = first_wrong_factor(&rt, rt.alloc(), Direction::Lsd);
+    expect_value(&rt, "lsd_2", &lsd, &None);
 }
 
 // The lines of the steps of a multiple in base 2.
-fn multiple_lines(alloc: Global, factor: u64) -> Result<String, RowFault> {
-    let shared = shared_base(alloc, 2, Direction::Msd)?;
+fn multiple_lines(rt: &impl Abort, alloc: Global, factor: u64) -> String {
+    let shared = shared_base(rt, alloc, 2, Direction::Msd);
     let mut steps = Steps::new(alloc, 1000);
-    multiple(alloc, &shared, factor, &mut steps)?;
-    lines_of(alloc, &steps)
+    multiple(rt, alloc, &shared, factor, &mut steps);
+    lines_of(rt, alloc, &steps)
 }
 
 // Factors, and the steps that make their multiples.
@@ -481,6 +477,6 @@ static MULTIPLES: [(u64, &str, &str); 4] = [
 #[test]
 fn multiples_have_these_steps(rt: HostRuntime) {
     for (factor, row, wanted) in &MULTIPLES {
-        expect(&rt, row, &multiple_lines(rt.alloc(), *factor), wanted);
+        expect_text(&rt, row, &multiple_lines(&rt, rt.alloc(), *factor), wanted);
     }
 }

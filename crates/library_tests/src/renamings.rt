@@ -1,31 +1,32 @@
 //! Automata under other names and with two tracks as one, worked by hand.
 
-use crate::outcomes::expect;
-use crate::row_fault::RowFault;
+use crate::given::{given, no_answer};
+use crate::outcomes::expect_text;
 use crate::table_texts::{line_of, tracked};
 use digit_tuple::name::Name;
 use digit_tuple::names::are_distinct;
 use project_close::renaming::rename;
 use project_close::restriction::{are_two_tracks, restrict};
 use std::alloc::Global;
+use std::process::Abort;
 
 // The names in a text, with blanks between.
-fn names_in(alloc: Global, text: &str) -> Result<Vec<Name>, RowFault> {
+fn names_in(rt: &impl Abort, alloc: Global, text: &str) -> Vec<Name> {
     let mut names = Vec::new(alloc);
     for name in text.split_whitespace() {
-        names.push(Name::new(alloc, name)?)?;
+        given(rt, names.push(given(rt, Name::new(alloc, name))));
     }
-    Ok(names)
+    names
 }
 
 // The automaton with new names, if they are one for each track.
-fn renamed(alloc: Global, line: &str, names: &str) -> Result<String, RowFault> {
-    let a = tracked(alloc, line)?;
-    let names = names_in(alloc, names)?;
+fn renamed(rt: &impl Abort, alloc: Global, line: &str, names: &str) -> String {
+    let a = tracked(rt, alloc, line);
+    let names = names_in(rt, alloc, names);
     if names.len() == a.names().len() && are_distinct(&names) {
-        line_of(alloc, &rename(alloc, &a, &names)?)
+        line_of(rt, alloc, &given(rt, rename(alloc, &a, &names)))
     } else {
-        Err(RowFault::Form)
+        no_answer(rt)
     }
 }
 
@@ -49,19 +50,19 @@ static RENAMINGS: [(&str, &str, &str); 4] = [
 #[test]
 fn tracks_move_with_their_names(rt: HostRuntime) {
     for (line, names, wanted) in &RENAMINGS {
-        expect(&rt, line, &renamed(rt.alloc(), line, names), wanted);
+        expect_text(&rt, line, &renamed(&rt, rt.alloc(), line, names), wanted);
     }
 }
 
 // The automaton on words with equal tracks, if they are two of one size, else nothing.
-fn restricted(alloc: Global, line: &str, kept: &str, dropped: &str) -> Result<String, RowFault> {
-    let a = tracked(alloc, line)?;
-    let kept = Name::new(alloc, kept)?;
-    let dropped = Name::new(alloc, dropped)?;
+fn restricted(rt: &impl Abort, alloc: Global, line: &str, kept: &str, dropped: &str) -> String {
+    let a = tracked(rt, alloc, line);
+    let kept = given(rt, Name::new(alloc, kept));
+    let dropped = given(rt, Name::new(alloc, dropped));
     if are_two_tracks(&a, &kept, &dropped) {
-        line_of(alloc, &restrict(alloc, &a, &kept, &dropped)?)
+        line_of(rt, alloc, &given(rt, restrict(alloc, &a, &kept, &dropped)))
     } else {
-        Ok(String::new(alloc))
+        String::new(alloc)
     }
 }
 
@@ -82,10 +83,10 @@ static RESTRICTIONS: [(&str, &str, &str, &str); 7] = [
 #[test]
 fn words_with_equal_tracks_stay(rt: HostRuntime) {
     for (line, kept, dropped, wanted) in &RESTRICTIONS {
-        expect(
+        expect_text(
             &rt,
             line,
-            &restricted(rt.alloc(), line, kept, dropped),
+            &restricted(&rt, rt.alloc(), line, kept, dropped),
             wanted,
         );
     }

@@ -1,16 +1,15 @@
 //! The heads of commands that load a file or end a run: what they have, and their first faults.
 
+use crate::given::given;
+use crate::outcomes::{expect_text, expect_value};
 use command_head::{HeadFault, load_name, word_alone};
 use std::alloc::Global;
 use std::process::Abort;
-use std::test::Fail;
 
 // The name in a `load`, or its fault.
-fn read_load(alloc: Global, text: &str) -> Result<Result<String, HeadFault>, Fail> {
-    match load_name(alloc, text.as_bytes()) {
-        Ok(name) => Ok(Ok(String::from_str(alloc, name.as_str())?)),
-        Err(fault) => Ok(Err(fault)),
-    }
+fn read_load(rt: &impl Abort, alloc: Global, text: &str) -> Result<String, HeadFault> {
+    let name = load_name(alloc, text.as_bytes())?;
+    Ok(given(rt, String::from_str(alloc, name.as_str())))
 }
 
 // Heads of loads and their files.
@@ -48,17 +47,15 @@ static LOAD_FAULTS: [(&str, usize); 11] = [
 ];
 
 #[test]
-fn heads_of_loads_are_read(rt: HostRuntime) -> Result<(), Fail> {
+fn heads_of_loads_are_read(rt: HostRuntime) {
     for (text, wanted) in &LOADS {
-        let found = read_load(rt.alloc(), text)?;
-        let wanted = Ok(String::from_str(rt.alloc(), wanted)?);
-        assert!(rt; found == wanted, "of {text}");
+        let found = given(&rt, read_load(&rt, rt.alloc(), text));
+        expect_text(&rt, text, &found, wanted);
     }
     for (text, at) in &LOAD_FAULTS {
-        let found = read_load(rt.alloc(), text)?;
-        assert!(rt; found == Err(HeadFault::Syntax(*at)), "of {text}");
+        let fault = read_load(&rt, rt.alloc(), text).err();
+        expect_value(&rt, text, &fault, &Some(HeadFault::Syntax(*at)));
     }
-    Ok(())
 }
 
 // Texts, and the byte at which each is not the word `exit` alone.
@@ -74,7 +71,6 @@ static ALONE: [(&str, Result<(), HeadFault>); 6] = [
 #[test]
 fn words_are_alone_or_not(rt: HostRuntime) {
     for (text, wanted) in &ALONE {
-        let found = word_alone(b"exit", text.as_bytes());
-        assert!(rt; found == *wanted, "of {text}");
+        expect_value(&rt, text, &word_alone(b"exit", text.as_bytes()), wanted);
     }
 }

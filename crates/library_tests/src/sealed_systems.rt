@@ -1,23 +1,25 @@
 //! Sealed systems: the relations of bases against counting, and the steps of the successor worked by hand.
 
-ghost use Rattle.std.specs.Prelude.{◌≡◌, ℕ, ◌∷◌, [], IfOk, IsTrue};
+ghost use Rattle.std.specs.Prelude.{◌≡◌, ℕ, ◌∷◌, [], IsTrue};
 ghost use Rattle.num_system.specs.SuccessorSteps.{name_u, name_x, name_y};
 
 use crate::bases::{SUMS, base_of};
 use crate::calls::{Call, expect_widths};
-use crate::outcomes::{expect, expect_so, expect_value, outcome, table_outcome};
-use crate::row_fault::RowFault;
+use crate::given::{given, no_answer};
+use crate::outcomes::{expect_so, expect_text, expect_value, outcome, table_outcome};
 use crate::table_texts::{language, table_of};
 use base_k::base_k::{BaseK, GREATEST_BASE, LEAST_BASE};
 use digit_tuple::dfa::Dfa;
 use digit_tuple::direction::Direction;
 use digit_tuple::faults::OpFault;
+use digit_tuple::limit::Limit;
 use digit_tuple::name::Name;
 use minimise::tracked::Tracked;
 use num_system::seal::{seal, seal_built_in};
 use num_system::successor::{between_of, chain_of, next_of, successor_of};
 use num_system::system::System;
 use std::alloc::Global;
+use std::process::Abort;
 
 // A limit that every base keeps to.
 const LIMIT: u32 = 1024;
@@ -27,39 +29,43 @@ const SOME: u32 = 30;
 
 /// The sealed system of a base.
 pub fn sealed(
+    rt: &impl Abort,
     alloc: Global,
     number: u32,
     direction: Direction,
     limit: u32,
-) -> Result<System, RowFault> {
-    Ok(seal(alloc, &base_of(number, direction)?, limit)?)
+) -> System {
+    given(
+        rt,
+        seal(alloc, &base_of(rt, number, direction), Limit::new(limit)),
+    )
 }
 
 // The word of so many letters that represents two numbers in a base, if they have no more digits.
 fn word_of(
+    rt: &impl Abort,
     alloc: Global,
     system: BaseK,
     length: u32,
-    x: u32,
-    y: u32,
-) -> Result<Option<Vec<u32>>, RowFault> {
+    (x, y): (u32, u32),
+) -> Option<Vec<u32>> {
     let mut word = Vec::new(alloc);
     let mut first = x;
     let mut second = y;
     for _ in 0..length {
         let letter = (first % system.base).wrapping_mul(system.base);
-        word.push(letter.wrapping_add(second % system.base))?;
+        given(rt, word.push(letter.wrapping_add(second % system.base)));
         first /= system.base;
         second /= system.base;
     }
     if system.direction == Direction::Msd {
         word.reverse();
     }
-    Ok(if first == 0 && second == 0 {
+    if first == 0 && second == 0 {
         Some(word)
     } else {
         None
-    })
+    }
 }
 
 // Whether the relations say what they should of two numbers, by a word that represents them. Where the first is 0,
@@ -73,42 +79,37 @@ fn say(sealed: &System, word: &[u32], x: u32, y: u32) -> bool {
 
 // Whether they do so of two numbers, by the word of so many letters, if there is one.
 fn say_of_word(
+    rt: &impl Abort,
     alloc: Global,
-    system: BaseK,
-    sealed: &System,
+    (system, sealed): (BaseK, &System),
     length: u32,
     (x, y): (u32, u32),
-) -> Result<bool, RowFault> {
-    match word_of(alloc, system, length, x, y)? {
-        Some(word) => Ok(say(sealed, &word, x, y)),
-        None => Ok(true),
+) -> bool {
+    match word_of(rt, alloc, system, length, (x, y)) {
+        Some(word) => say(sealed, &word, x, y),
+        None => true,
     }
 }
 
 // Whether they do so of all pairs of some numbers, by words of so many letters.
-fn say_of_all(
-    alloc: Global,
-    system: BaseK,
-    sealed: &System,
-    length: u32,
-) -> Result<bool, RowFault> {
+fn say_of_all(rt: &impl Abort, alloc: Global, system: BaseK, sealed: &System, length: u32) -> bool {
     let mut right = true;
     for pair in 0..SOME * SOME {
         let numbers = (pair / SOME, pair % SOME);
-        right = right && say_of_word(alloc, system, sealed, length, numbers)?;
+        right = right && say_of_word(rt, alloc, (system, sealed), length, numbers);
     }
-    Ok(right)
+    right
 }
 
 // Whether they do so by words of up to three letters.
-fn say_of_lengths(alloc: Global, number: u32, direction: Direction) -> Result<bool, RowFault> {
-    let system = base_of(number, direction)?;
-    let sealed = sealed(alloc, number, direction, LIMIT)?;
+fn say_of_lengths(rt: &impl Abort, alloc: Global, number: u32, direction: Direction) -> bool {
+    let system = base_of(rt, number, direction);
+    let sealed = sealed(rt, alloc, number, direction, LIMIT);
     let mut right = true;
     for length in 0..4 {
-        right = right && say_of_all(alloc, system, &sealed, length)?;
+        right = right && say_of_all(rt, alloc, system, &sealed, length);
     }
-    Ok(right)
+    right
 }
 
 // Bases.
@@ -124,39 +125,43 @@ static SAID: [(&str, u32, Direction); 6] = [
 #[test]
 fn relations_are_those_of_numbers(rt: HostRuntime) {
     for (row, number, direction) in &SAID {
-        expect_so(&rt, row, &say_of_lengths(rt.alloc(), *number, *direction));
+        expect_so(
+            &rt,
+            row,
+            say_of_lengths(&rt, rt.alloc(), *number, *direction),
+        );
     }
 }
 
 // Whether a base is sealed with its digits and its direction.
-fn is_sealed(alloc: Global, number: u32, direction: Direction) -> Result<bool, RowFault> {
-    let system = sealed(alloc, number, direction, LIMIT)?;
-    Ok(system.digits() == number && system.direction() == direction)
+fn is_sealed(rt: &impl Abort, alloc: Global, number: u32, direction: Direction) -> bool {
+    let system = sealed(rt, alloc, number, direction, LIMIT);
+    system.digits() == number && system.direction() == direction
 }
 
 // The first base that is not sealed so in both directions, if there is one.
-fn first_unsealed(alloc: Global) -> Result<Option<u32>, RowFault> {
+fn first_unsealed(rt: &impl Abort, alloc: Global) -> Option<u32> {
     for number in LEAST_BASE..=GREATEST_BASE {
-        let is_msd = is_sealed(alloc, number, Direction::Msd)?;
-        if !is_msd || !is_sealed(alloc, number, Direction::Lsd)? {
-            return Ok(Some(number));
+        let is_msd = is_sealed(rt, alloc, number, Direction::Msd);
+        if !is_msd || !is_sealed(rt, alloc, number, Direction::Lsd) {
+            return Some(number);
         }
     }
-    Ok(None)
+    None
 }
 
 #[test]
 fn every_base_is_sealed(rt: HostRuntime) {
-    let found = first_unsealed(rt.alloc()).ok();
-    expect_value(&rt, "the bases", &found, &Some(None));
+    let found = first_unsealed(&rt, rt.alloc());
+    expect_value(&rt, "the bases", &found, &None);
 }
 
 // Whether base 2 is sealed under a limit, and not refused by it.
-fn is_sealed_under(alloc: Global, limit: u32) -> Result<bool, RowFault> {
-    match sealed(alloc, 2, Direction::Msd, limit) {
-        Ok(_) => Ok(true),
-        Err(RowFault::Call(OpFault::States)) => Ok(false),
-        Err(fault) => Err(fault),
+fn is_sealed_under(rt: &impl Abort, alloc: Global, limit: u32) -> bool {
+    match seal(alloc, &base_of(rt, 2, Direction::Msd), Limit::new(limit)) {
+        Ok(_) => true,
+        Err(OpFault::States) => false,
+        Err(_) => no_answer(rt),
     }
 }
 
@@ -166,8 +171,8 @@ static SEALED: [(&str, u32, bool); 3] = [("2", 2, false), ("8", 8, false), ("9",
 #[test]
 fn the_order_and_its_successor_keep_to_the_limit(rt: HostRuntime) {
     for (row, limit, wanted) in &SEALED {
-        let found = is_sealed_under(rt.alloc(), *limit).ok();
-        expect_value(&rt, row, &found, &Some(*wanted));
+        let found = is_sealed_under(&rt, rt.alloc(), *limit);
+        expect_value(&rt, row, &found, wanted);
     }
 }
 
@@ -181,42 +186,33 @@ fn is_right_adder(system: &System, right: &[u32], wrong: &[u32]) -> bool {
 
 // Whether they are so in a base.
 fn adds_rightly(
+    rt: &impl Abort,
     alloc: Global,
     number: u32,
     direction: Direction,
-    right: &[u32],
-    wrong: &[u32],
-) -> Result<bool, RowFault> {
-    let system = sealed(alloc, number, direction, LIMIT)?;
-    Ok(is_right_adder(&system, right, wrong))
+    (right, wrong): (&[u32], &[u32]),
+) -> bool {
+    let system = sealed(rt, alloc, number, direction, LIMIT);
+    is_right_adder(&system, right, wrong)
 }
 
 #[test]
 fn adders_have_a_state_for_each_carry(rt: HostRuntime) {
     for (row, number, direction, right, wrong) in &SUMS {
-        let found = adds_rightly(rt.alloc(), *number, *direction, right, wrong);
-        expect_so(&rt, row, &found);
+        let found = adds_rightly(&rt, rt.alloc(), *number, *direction, (right, wrong));
+        expect_so(&rt, row, found);
     }
-}
-
-// Base 2, sealed without a limit.
-fn built_in(alloc: Global) -> Result<System, RowFault> {
-    let system = BaseK {
-        base: 2,
-        direction: Direction::Msd,
-    };
-    Ok(seal_built_in(alloc, &system)?)
-}
-
-// The table of the order of base 2, sealed without a limit.
-fn order_in(alloc: Global) -> Result<String, RowFault> {
-    table_of(alloc, built_in(alloc)?.less())
 }
 
 #[test]
 fn systems_of_the_program_are_sealed_without_a_limit(rt: HostRuntime) {
-    let less = order_in(rt.alloc());
-    expect(&rt, "the order", &less, "/ 0>0 1>1 3>0/! 0>1 1>1 2>1 3>1");
+    let base = BaseK {
+        base: 2,
+        direction: Direction::Msd,
+    };
+    let sealed = given(&rt, seal_built_in(rt.alloc(), &base));
+    let less = table_of(&rt, rt.alloc(), sealed.less());
+    expect_text(&rt, "the order", &less, "/ 0>0 1>1 3>0/! 0>1 1>1 2>1 3>1");
 }
 
 // Whether two tracks of the automaton are all, and of one size.
@@ -236,82 +232,96 @@ fn is_triple(dfa: &Dfa) -> bool
 }
 
 // The first step of the successor under a limit, from an order, or why there is none.
-pub fn chain(alloc: Global, order: &str, limit: u32) -> Result<String, RowFault> {
-    let less = language(alloc, order)?;
+pub fn chain(rt: &impl Abort, alloc: Global, order: &str, limit: u32) -> String {
+    let less = language(rt, alloc, order);
     if is_pair(&less) {
-        outcome(alloc, chain_of(alloc, &less, limit))
+        outcome(rt, alloc, chain_of(alloc, &less, Limit::new(limit)))
     } else {
-        Err(RowFault::Form)
+        no_answer(rt)
     }
 }
 
 // The automaton of a line with three tracks, under the names u, x and y.
-fn triples(alloc: Global, line: &str) -> Result<Tracked, RowFault>
-    ensures { IfOk result (λ chain. chain.names ≡ name_u ∷ name_x ∷ name_y ∷ []) }
+fn triples(rt: &impl Abort, alloc: Global, line: &str) -> Tracked
+    ensures { result.names ≡ name_u ∷ name_x ∷ name_y ∷ [] }
 {
-    let dfa = language(alloc, line)?;
+    let dfa = language(rt, alloc, line);
     if dfa.alphabet().sizes().len() != 3 {
-        return Err(RowFault::Form);
+        return no_answer(rt);
     }
-    let u = Name::new(alloc, "u")?;
-    let x = Name::new(alloc, "x")?;
-    let y = Name::new(alloc, "y")?;
-    Ok(Tracked::of_canonical(dfa, vec![in alloc; u, x, y]?))
+    let u = given(rt, Name::new(alloc, "u"));
+    let x = given(rt, Name::new(alloc, "x"));
+    let y = given(rt, Name::new(alloc, "y"));
+    Tracked::of_canonical(dfa, given(rt, vec![in alloc; u, x, y]))
 }
 
 // The second step under a limit, from the triples of the first, or why there is none.
 pub fn between(
+    rt: &impl Abort,
     alloc: Global,
     line: &str,
     direction: Direction,
     limit: u32,
-) -> Result<String, RowFault> {
-    let chain = triples(alloc, line)?;
+) -> String {
+    let chain = triples(rt, alloc, line);
     let _tracks = chain.dfa().alphabet().tracks();
     if is_triple(chain.dfa()) {
-        outcome(alloc, between_of(alloc, &chain, direction, limit))
+        outcome(
+            rt,
+            alloc,
+            between_of(alloc, &chain, direction, Limit::new(limit)),
+        )
     } else {
-        Err(RowFault::Form)
+        no_answer(rt)
     }
 }
 
 // The automaton of a line with two tracks, under the names x and y.
-fn pairs(alloc: Global, line: &str) -> Result<Tracked, RowFault>
-    ensures { IfOk result (λ between. between.names ≡ name_x ∷ name_y ∷ []) }
+fn pairs(rt: &impl Abort, alloc: Global, line: &str) -> Tracked
+    ensures { result.names ≡ name_x ∷ name_y ∷ [] }
 {
-    let dfa = language(alloc, line)?;
+    let dfa = language(rt, alloc, line);
     if dfa.alphabet().sizes().len() != 2 {
-        return Err(RowFault::Form);
+        return no_answer(rt);
     }
-    let x = Name::new(alloc, "x")?;
-    let y = Name::new(alloc, "y")?;
-    Ok(Tracked::of_canonical(dfa, vec![in alloc; x, y]?))
+    let x = given(rt, Name::new(alloc, "x"));
+    let y = given(rt, Name::new(alloc, "y"));
+    Tracked::of_canonical(dfa, given(rt, vec![in alloc; x, y]))
 }
 
 // The third step under a limit, from the order and the pairs of the second, or why there is none.
-pub fn next(alloc: Global, order: &str, line: &str, limit: u32) -> Result<String, RowFault> {
-    let less = language(alloc, order)?;
-    let between = pairs(alloc, line)?;
+pub fn next(rt: &impl Abort, alloc: Global, order: &str, line: &str, limit: u32) -> String {
+    let less = language(rt, alloc, order);
+    let between = pairs(rt, alloc, line);
     let _tracks = less.alphabet().tracks();
     if is_pair(&less) && between.dfa().alphabet().sizes() == less.alphabet().sizes() {
-        table_outcome(alloc, next_of(alloc, &less, &between, limit))
+        table_outcome(
+            rt,
+            alloc,
+            next_of(alloc, &less, &between, Limit::new(limit)),
+        )
     } else {
-        Err(RowFault::Form)
+        no_answer(rt)
     }
 }
 
 // The successor under a limit, from an order.
 fn successor(
+    rt: &impl Abort,
     alloc: Global,
     order: &str,
     direction: Direction,
     limit: u32,
-) -> Result<String, RowFault> {
-    let less = language(alloc, order)?;
+) -> String {
+    let less = language(rt, alloc, order);
     if is_pair(&less) {
-        table_of(alloc, &successor_of(alloc, &less, direction, limit)?)
+        table_of(
+            rt,
+            alloc,
+            &given(rt, successor_of(alloc, &less, direction, Limit::new(limit))),
+        )
     } else {
-        Err(RowFault::Form)
+        no_answer(rt)
     }
 }
 
@@ -395,7 +405,7 @@ static SUCCESSORS: [(Direction, &str, &str); 3] = [
 fn successors_are_those_worked_out(rt: HostRuntime) {
     expect_widths(&rt, rt.alloc(), &NEXT);
     for (direction, order, wanted) in &SUCCESSORS {
-        let found = successor(rt.alloc(), order, *direction, 1000);
-        expect(&rt, order, &found, wanted);
+        let found = successor(&rt, rt.alloc(), order, *direction, 1000);
+        expect_text(&rt, order, &found, wanted);
     }
 }

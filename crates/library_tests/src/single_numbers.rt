@@ -1,15 +1,17 @@
 //! The words of single numbers in some bases, and their automata.
 
 use crate::calls::{Call, expect_widths};
+use crate::given::{given, no_answer};
 use crate::outcomes::{expect_so, table_outcome};
-use crate::row_fault::RowFault;
 use crate::sealed_systems::sealed;
 use constants::constant::constant;
 use constants::representation::representation;
 use digit_tuple::direction::Direction;
 use digit_tuple::faults::OpFault;
+use digit_tuple::limit::Limit;
 use num_system::system::System;
 use std::alloc::Global;
+use std::process::Abort;
 
 // Some bases.
 static BASES: [(&str, u32, Direction); 6] = [
@@ -22,9 +24,12 @@ static BASES: [(&str, u32, Direction); 6] = [
 ];
 
 // The word of a number, of so many letters at most.
-fn word(alloc: Global, system: &System, number: u64, longest: u32) -> Result<Vec<u32>, RowFault> {
+fn word(rt: &impl Abort, alloc: Global, system: &System, number: u64, longest: u32) -> Vec<u32> {
     let language = system.language();
-    Ok(representation(alloc, language, system.direction(), number, longest)?)
+    given(
+        rt,
+        representation(alloc, language, system.direction(), number, longest),
+    )
 }
 
 // Whether the word has no leading zero, and the number as its positional value.
@@ -39,25 +44,25 @@ fn represents_number(word: &[u32], base: u32, number: u64) -> bool {
 }
 
 // Whether each number up to a bound, and the greatest, is given its word.
-fn gives_words(alloc: Global, base: u32, direction: Direction) -> Result<bool, RowFault> {
-    let system = sealed(alloc, base, direction, 1000)?;
-    let mut right = gives_word(alloc, &system, base, u64::MAX)?;
+fn gives_words(rt: &impl Abort, alloc: Global, base: u32, direction: Direction) -> bool {
+    let system = sealed(rt, alloc, base, direction, 1000);
+    let mut right = gives_word(rt, alloc, &system, base, u64::MAX);
     for number in 0..131 {
-        right = right && gives_word(alloc, &system, base, number)?;
+        right = right && gives_word(rt, alloc, &system, base, number);
     }
-    Ok(right)
+    right
 }
 
 // Whether a number is given its word.
-fn gives_word(alloc: Global, system: &System, base: u32, number: u64) -> Result<bool, RowFault> {
-    let word = word(alloc, system, number, 64)?;
-    Ok(represents_number(&word, base, number))
+fn gives_word(rt: &impl Abort, alloc: Global, system: &System, base: u32, number: u64) -> bool {
+    let word = word(rt, alloc, system, number, 64);
+    represents_number(&word, base, number)
 }
 
 #[test]
 fn words_have_their_positional_values(rt: HostRuntime) {
     for (row, base, direction) in &BASES {
-        expect_so(&rt, row, &gives_words(rt.alloc(), *base, *direction));
+        expect_so(&rt, row, gives_words(&rt, rt.alloc(), *base, *direction));
     }
 }
 
@@ -72,54 +77,74 @@ static WORDS: [(&str, u64, u32, Option<&[u32]>); 5] = [
 
 // The word of a number, if it is no longer.
 fn short_word(
+    rt: &impl Abort,
     alloc: Global,
     system: &System,
     number: u64,
     longest: u32,
-) -> Result<Option<Vec<u32>>, RowFault> {
+) -> Option<Vec<u32>> {
     let language = system.language();
     match representation(alloc, language, system.direction(), number, longest) {
-        Ok(word) => Ok(Some(word)),
-        Err(OpFault::States) => Ok(None),
-        Err(fault) => Err(RowFault::Call(fault)),
+        Ok(word) => Some(word),
+        Err(OpFault::States) => None,
+        Err(_) => no_answer(rt),
     }
 }
 
 // Whether the word of a number in base 2 is this, if it is no longer.
 fn is_word(
+    rt: &impl Abort,
     alloc: Global,
     direction: Direction,
-    number: u64,
-    longest: u32,
+    (number, longest): (u64, u32),
     wanted: Option<&[u32]>,
-) -> Result<bool, RowFault> {
-    let system = sealed(alloc, 2, direction, 1000)?;
-    Ok(short_word(alloc, &system, number, longest)?.as_deref() == wanted)
+) -> bool {
+    let system = sealed(rt, alloc, 2, direction, 1000);
+    short_word(rt, alloc, &system, number, longest).as_deref() == wanted
 }
 
 #[test]
 fn longer_words_are_refused(rt: HostRuntime) {
     for (row, number, longest, wanted) in &WORDS {
-        let msd = is_word(rt.alloc(), Direction::Msd, *number, *longest, *wanted);
-        expect_so(&rt, row, &msd);
-        let lsd = is_word(rt.alloc(), Direction::Lsd, *number, *longest, *wanted);
-        expect_so(&rt, row, &lsd);
+        let msd = is_word(
+            &rt,
+            rt.alloc(),
+            Direction::Msd,
+            (*number, *longest),
+            *wanted,
+        );
+        expect_so(&rt, row, msd);
+        let lsd = is_word(
+            &rt,
+            rt.alloc(),
+            Direction::Lsd,
+            (*number, *longest),
+            *wanted,
+        );
+        expect_so(&rt, row, lsd);
     }
 }
 
 // The automaton of a number in a base, under a limit, or why there is none.
 pub fn number_in(
+    rt: &impl Abort,
     alloc: Global,
-    base: u32,
-    direction: Direction,
+    (base, direction): (u32, Direction),
     number: u64,
     limit: u32,
-) -> Result<String, RowFault> {
-    let system = sealed(alloc, base, direction, 1000)?;
+) -> String {
+    let system = sealed(rt, alloc, base, direction, 1000);
     let language = system.language();
     table_outcome(
+        rt,
         alloc,
-        constant(alloc, language, system.direction(), number, limit),
+        constant(
+            alloc,
+            language,
+            system.direction(),
+            number,
+            Limit::new(limit),
+        ),
     )
 }
 

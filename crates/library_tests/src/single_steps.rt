@@ -2,9 +2,9 @@
 
 ghost use Rattle.std.specs.Prelude.{◌≡◌, ◌<◌, length};
 
+use crate::given::{given, no_answer};
 use crate::outcomes::{expect_so, expect_value};
 use crate::products::{Restriction, have_languages};
-use crate::row_fault::RowFault;
 use crate::sealed_systems::sealed;
 use crate::table_texts::{language, languages, line_of, table, table_of, tracked};
 use automaton_steps::complement_step::complement_step;
@@ -27,6 +27,7 @@ use product_op::joint_tracks::agree_on_shared;
 use product_op::languages::are_languages;
 use product_op::op::Op;
 use std::alloc::Global;
+use std::process::Abort;
 use std::rc::Rc;
 
 // A step on automata of lines.
@@ -44,154 +45,194 @@ enum Step {
 }
 
 // Does the step as the next one, and gives the text of its result.
-fn done(alloc: Global, step: Step, steps: &mut Steps) -> Result<String, RowFault> {
+fn done(
+    rt: &impl Abort,
+    alloc: Global,
+    step: Step,
+    steps: &mut Steps,
+) -> Result<String, StepFault> {
     match step {
-        Step::Read(line) => read(alloc, line, steps),
-        Step::Reverse(line) => reverse(alloc, line, steps),
-        Step::Pad(direction, line) => pad(alloc, direction, line, steps),
-        Step::Restricted(direction, valid, line) => restrict(alloc, direction, valid, line, steps),
-        Step::Order(direction, line) => order(alloc, direction, line, steps),
-        Step::Const(direction, number) => number_in(alloc, direction, number, steps),
-        Step::Product(op, a, b) => product(alloc, op, a, b, steps),
-        Step::Project(direction, track, line) => project(alloc, direction, track, line, steps),
+        Step::Read(line) => read(rt, alloc, line, steps),
+        Step::Reverse(line) => reverse(rt, alloc, line, steps),
+        Step::Pad(direction, line) => pad(rt, alloc, direction, line, steps),
+        Step::Restricted(direction, valid, line) => restrict(
+            rt,
+            alloc,
+            direction,
+            (valid, line),
+            steps,
+        ),
+        Step::Order(direction, line) => order(rt, alloc, direction, line, steps),
+        Step::Const(direction, number) => number_in(rt, alloc, direction, number, steps),
+        Step::Product(op, a, b) => product(rt, alloc, op, (a, b), steps),
+        Step::Project(direction, track, line) => project(
+            rt,
+            alloc,
+            direction,
+            (track, line),
+            steps,
+        ),
     }
 }
 
 // The table that a step made.
-fn made_table(alloc: Global, made: Result<Dfa, StepFault>) -> Result<String, RowFault> {
-    match made {
-        Ok(dfa) => table_of(alloc, &dfa),
-        Err(fault) => Err(RowFault::Step(fault)),
-    }
+fn made_table(
+    rt: &impl Abort,
+    alloc: Global,
+    made: Result<Dfa, StepFault>,
+) -> Result<String, StepFault> {
+    Ok(table_of(rt, alloc, &made?))
 }
 
 // The line of the automaton that a step made.
-fn made_line(alloc: Global, made: Result<Tracked, StepFault>) -> Result<String, RowFault> {
-    match made {
-        Ok(a) => line_of(alloc, &a),
-        Err(fault) => Err(RowFault::Step(fault)),
-    }
+fn made_line(
+    rt: &impl Abort,
+    alloc: Global,
+    made: Result<Tracked, StepFault>,
+) -> Result<String, StepFault> {
+    Ok(line_of(rt, alloc, &made?))
 }
 
-fn read(alloc: Global, line: &str, steps: &mut Steps) -> Result<String, RowFault> {
-    let listed = table(alloc, line)?;
-    made_table(alloc, read_step(alloc, &listed, steps))
+fn read(
+    rt: &impl Abort,
+    alloc: Global,
+    line: &str,
+    steps: &mut Steps,
+) -> Result<String, StepFault> {
+    let listed = table(rt, alloc, line);
+    made_table(rt, alloc, read_step(alloc, &listed, steps))
 }
 
-fn reverse(alloc: Global, line: &str, steps: &mut Steps) -> Result<String, RowFault> {
-    let a = language(alloc, line)?;
-    made_table(alloc, reverse_step(alloc, &a, steps))
+fn reverse(
+    rt: &impl Abort,
+    alloc: Global,
+    line: &str,
+    steps: &mut Steps,
+) -> Result<String, StepFault> {
+    let a = language(rt, alloc, line);
+    made_table(rt, alloc, reverse_step(alloc, &a, steps))
 }
 
 fn pad(
+    rt: &impl Abort,
     alloc: Global,
     direction: Direction,
     line: &str,
     steps: &mut Steps,
-) -> Result<String, RowFault> {
-    let a = language(alloc, line)?;
-    made_table(alloc, pad_step(alloc, &a, direction, steps))
+) -> Result<String, StepFault> {
+    let a = language(rt, alloc, line);
+    made_table(rt, alloc, pad_step(alloc, &a, direction, steps))
 }
 
 // The valid part or the complement of a line's automaton, if there is a language for each track.
 fn restrict(
+    rt: &impl Abort,
     alloc: Global,
     direction: Restriction,
-    valid: &[&str],
-    line: &str,
+    (valid, line): (&[&str], &str),
     steps: &mut Steps,
-) -> Result<String, RowFault> {
-    let a = tracked(alloc, line)?;
-    let languages = languages(alloc, valid)?;
-    restricted(alloc, direction, &a, &languages, steps)
+) -> Result<String, StepFault> {
+    let a = tracked(rt, alloc, line);
+    let languages = languages(rt, alloc, valid);
+    restricted(rt, alloc, direction, (&a, &languages), steps)
 }
 
 // The same of an automaton.
 fn restricted(
+    rt: &impl Abort,
     alloc: Global,
     direction: Restriction,
-    a: &Tracked,
-    languages: &[Rc<Dfa>],
+    (a, languages): (&Tracked, &[Rc<Dfa>]),
     steps: &mut Steps,
-) -> Result<String, RowFault> {
-    if are_languages(alloc, a.dfa().alphabet().sizes(), languages)? {
+) -> Result<String, StepFault> {
+    if given(
+        rt,
+        are_languages(alloc, a.dfa().alphabet().sizes(), languages),
+    ) {
         let made = match direction {
             Restriction::Complement => complement_step(alloc, a, languages, steps),
             Restriction::ValidPart => valid_step(alloc, a, languages, steps),
         };
-        made_line(alloc, made)
+        made_line(rt, alloc, made)
     } else {
-        Err(RowFault::Form)
+        no_answer(rt)
     }
 }
 
 fn order(
+    rt: &impl Abort,
     alloc: Global,
     direction: Direction,
     line: &str,
     steps: &mut Steps,
-) -> Result<String, RowFault> {
-    let language = language(alloc, line)?;
+) -> Result<String, StepFault> {
+    let language = language(rt, alloc, line);
     if language.alphabet().sizes().len() == 1 {
-        made_table(alloc, order_step(alloc, &language, direction, steps))
+        made_table(rt, alloc, order_step(alloc, &language, direction, steps))
     } else {
-        Err(RowFault::Form)
+        no_answer(rt)
     }
 }
 
 fn number_in(
+    rt: &impl Abort,
     alloc: Global,
     direction: Direction,
     number: u64,
     steps: &mut Steps,
-) -> Result<String, RowFault> {
-    let system = Rc::new(alloc, sealed(alloc, 2, direction, 1000)?)?;
-    match constant_step(alloc, &system, number, &Name::new(alloc, "x")?, steps) {
-        Ok(relation) => table_of(alloc, relation.dfa()),
-        Err(fault) => Err(RowFault::Step(fault)),
-    }
+) -> Result<String, StepFault> {
+    let system = given(rt, Rc::new(alloc, sealed(rt, alloc, 2, direction, 1000)));
+    let name = given(rt, Name::new(alloc, "x"));
+    let relation = constant_step(alloc, &system, number, &name, steps)?;
+    Ok(table_of(rt, alloc, relation.dfa()))
 }
 
 // The product of the two, of which the valid words are all those of their digits.
-fn product(alloc: Global, op: Op, a: &str, b: &str, steps: &mut Steps) -> Result<String, RowFault> {
-    let a = tracked(alloc, a)?;
-    let b = tracked(alloc, b)?;
-    let languages = languages(alloc, &["x:2 = .*"])?;
+fn product(
+    rt: &impl Abort,
+    alloc: Global,
+    op: Op,
+    (a, b): (&str, &str),
+    steps: &mut Steps,
+) -> Result<String, StepFault> {
+    let a = tracked(rt, alloc, a);
+    let b = tracked(rt, alloc, b);
+    let languages = languages(rt, alloc, &["x:2 = .*"]);
     let joining = Joining {
         op,
         languages: &languages,
     };
-    joined(alloc, &a, &b, joining, steps)
+    joined(rt, alloc, (&a, &b), joining, steps)
 }
 
 // The product, if the arguments go together.
 fn joined(
+    rt: &impl Abort,
     alloc: Global,
-    a: &Tracked,
-    b: &Tracked,
+    (a, b): (&Tracked, &Tracked),
     joining: Joining<'_>,
     steps: &mut Steps,
-) -> Result<String, RowFault> {
-    if agree_on_shared(a, b) && have_languages(alloc, a, b, joining.op, joining.languages)? {
-        made_line(alloc, join_step(alloc, a, b, joining, steps))
+) -> Result<String, StepFault> {
+    if agree_on_shared(a, b) && have_languages(rt, alloc, a, b, joining) {
+        made_line(rt, alloc, join_step(alloc, a, b, joining, steps))
     } else {
-        Err(RowFault::Form)
+        no_answer(rt)
     }
 }
 
 fn project(
+    rt: &impl Abort,
     alloc: Global,
     direction: Direction,
-    track: &str,
-    line: &str,
+    (track, line): (&str, &str),
     steps: &mut Steps,
-) -> Result<String, RowFault> {
-    let a = tracked(alloc, line)?;
-    let track = Name::new(alloc, track)?;
+) -> Result<String, StepFault> {
+    let a = tracked(rt, alloc, line);
+    let track = given(rt, Name::new(alloc, track));
     if find_name(a.names(), &track).is_some() {
-        made_line(alloc, project_step(alloc, &a, &track, direction, steps))
+        made_line(rt, alloc, project_step(alloc, &a, &track, direction, steps))
     } else {
-        Err(RowFault::Form)
+        no_answer(rt)
     }
 }
 
@@ -302,14 +343,6 @@ static ROWS: [Row; 12] = [
     },
 ];
 
-// Why a step was refused.
-fn refusal(made: Result<String, RowFault>) -> Option<StepFault> {
-    match made {
-        Err(RowFault::Step(fault)) => Some(fault),
-        _ => None,
-    }
-}
-
 // Whether there is one line, that of the row.
 fn is_line_of(steps: &Steps, row: &Row) -> bool {
     if steps.count() != 1 {
@@ -320,23 +353,23 @@ fn is_line_of(steps: &Steps, row: &Row) -> bool {
 }
 
 // Whether a row's step alone makes what it should, and has its line.
-fn is_made(alloc: Global, row: &Row) -> Result<bool, RowFault> {
+fn is_made(rt: &impl Abort, alloc: Global, row: &Row) -> bool {
     let mut steps = Steps::new(alloc, row.width);
-    let made = done(alloc, row.step, &mut steps)?;
-    Ok(made.as_str() == row.made && is_line_of(&steps, row))
+    let made = given(rt, done(rt, alloc, row.step, &mut steps));
+    made.as_str() == row.made && is_line_of(&steps, row)
 }
 
 #[test]
 fn steps_have_these_lines(rt: HostRuntime) {
     for row in &ROWS {
-        expect_so(&rt, row.made, &is_made(rt.alloc(), row));
+        expect_so(&rt, row.made, is_made(&rt, rt.alloc(), row));
     }
 }
 
 // Whether a step is done, or refused where it passes the limit, and then counts for none.
-fn keeps_to_the_limit(alloc: Global, row: &Row, steps: &mut Steps) -> bool {
+fn keeps_to_the_limit(rt: &impl Abort, alloc: Global, row: &Row, steps: &mut Steps) -> bool {
     let number = steps.next_number();
-    let refused = refusal(done(alloc, row.step, steps));
+    let refused = done(rt, alloc, row.step, steps).err();
     if row.width <= steps.limit() {
         refused.is_none() && steps.count() == number
     } else {
@@ -345,11 +378,11 @@ fn keeps_to_the_limit(alloc: Global, row: &Row, steps: &mut Steps) -> bool {
 }
 
 // How many of the rows' steps, one after the other, keep to one limit until one does not.
-fn keeping(alloc: Global, limit: u32) -> usize {
+fn keeping(rt: &impl Abort, alloc: Global, limit: u32) -> usize {
     let mut steps = Steps::new(alloc, limit);
     let mut count: usize = 0;
     for row in &ROWS {
-        if !keeps_to_the_limit(alloc, row, &mut steps) {
+        if !keeps_to_the_limit(rt, alloc, row, &mut steps) {
             return count;
         }
         count = count.saturating_add(1);
@@ -371,7 +404,7 @@ static LIMITS: [(&str, u32); 6] = [
 #[test]
 fn steps_past_the_limit_are_refused(rt: HostRuntime) {
     for (row, limit) in &LIMITS {
-        expect_value(&rt, row, &keeping(rt.alloc(), *limit), &ROWS.len());
+        expect_value(&rt, row, &keeping(&rt, rt.alloc(), *limit), &ROWS.len());
     }
 }
 
@@ -389,15 +422,20 @@ static LARGE: [(&str, Step); 3] = [
 ];
 
 // Whether a step is refused for its letters, and counts for none.
-fn has_too_many_letters(alloc: Global, step: Step) -> bool {
+fn has_too_many_letters(rt: &impl Abort, alloc: Global, step: Step) -> bool {
     let mut steps = Steps::new(alloc, 0);
-    let refused = refusal(done(alloc, step, &mut steps));
+    let refused = done(rt, alloc, step, &mut steps).err();
     refused == Some(StepFault::Letters(1)) && steps.count() == 0
 }
 
 #[test]
 fn letters_are_looked_at_before_the_limit(rt: HostRuntime) {
     for (row, step) in &LARGE {
-        expect_value(&rt, row, &has_too_many_letters(rt.alloc(), *step), &true);
+        expect_value(
+            &rt,
+            row,
+            &has_too_many_letters(&rt, rt.alloc(), *step),
+            &true,
+        );
     }
 }

@@ -1,9 +1,10 @@
 //! How many transitions automata have, and how many digits are kept for them.
 
-use crate::outcomes::expect;
-use crate::row_fault::RowFault;
+use crate::given::given;
+use crate::outcomes::expect_text;
 use crate::table_texts::listed;
 use std::alloc::Global;
+use std::process::Abort;
 
 // Tables, and the transitions and the cells of each. In the first, both digits of x go on from the initial state, 0 by
 // both digits of y and 1 by one: five cells. In the second, the first state has one cell for x, two for y and two for z,
@@ -19,16 +20,16 @@ static COUNTS: [(&str, &str); 4] = [
 ];
 
 // The transitions and the cells of the table of a line.
-fn counts(alloc: Global, line: &str) -> Result<String, RowFault> {
-    let dfa = listed(alloc, line)?;
+fn counts(rt: &impl Abort, alloc: Global, line: &str) -> String {
+    let dfa = listed(rt, alloc, line);
     let transitions = dfa.transitions();
     let cells = dfa.cells();
-    Ok(format!(in alloc; "{transitions} {cells}")?)
+    given(rt, format!(in alloc; "{transitions} {cells}"))
 }
 
 #[test]
 fn transitions_and_cells_are_counted(rt: HostRuntime) {
     for (line, wanted) in &COUNTS {
-        expect(&rt, line, &counts(rt.alloc(), line), wanted);
+        expect_text(&rt, line, &counts(&rt, rt.alloc(), line), wanted);
     }
 }

@@ -1,12 +1,13 @@
 //! Walks through listed words, against rows worked by hand and against a plain loop over all words.
 
-use crate::outcomes::{expect, expect_so};
-use crate::row_fault::RowFault;
+use crate::given::given;
+use crate::outcomes::{expect_so, expect_text, expect_value};
 use crate::table_texts::language;
 use digit_tuple::dfa::Dfa;
 use digit_tuple::direction::Direction;
 use reference::words::all_words;
 use std::alloc::Global;
+use std::process::Abort;
 use word_walk::infinity::is_infinite;
 use word_walk::walk::Walk;
 
@@ -266,42 +267,41 @@ static ROWS: [Row; 30] = [
 ];
 
 // So many next words of a walk.
-fn walked(alloc: Global, row: &Row) -> Result<String, RowFault> {
-    let dfa = language(alloc, row.line)?;
+fn walked(rt: &impl Abort, alloc: Global, row: &Row) -> String {
+    let dfa = language(rt, alloc, row.line);
     let mut walk = match row.place {
-        Some(place) => Walk::resume(alloc, &dfa, row.skip, place)?,
-        None => Walk::new(alloc, &dfa, row.skip)?,
+        Some(place) => given(rt, Walk::resume(alloc, &dfa, row.skip, place)),
+        None => given(rt, Walk::new(alloc, &dfa, row.skip)),
     };
     let mut word = Vec::new(alloc);
     let mut text = String::new(alloc);
     for number in 0..row.asked {
         if number > 0 {
-            text.push(' ')?;
+            given(rt, text.push(' '));
         }
-        if !walk.next(&mut word)? {
-            text.push('.')?;
-            return Ok(text);
+        if !given(rt, walk.next(&mut word)) {
+            given(rt, text.push('.'));
+            return text;
         }
-        add_word(alloc, &word, &mut text)?;
+        add_word(rt, alloc, &word, &mut text);
     }
-    Ok(text)
+    text
 }
 
 // Adds a word's letters.
-fn add_word(alloc: Global, word: &[u32], text: &mut String) -> Result<(), RowFault> {
+fn add_word(rt: &impl Abort, alloc: Global, word: &[u32], text: &mut String) {
     if word.is_empty() {
-        text.push_str("()")?;
+        given(rt, text.push_str("()"));
     }
     for letter in word {
-        text.push_str(&format!(in alloc; "{letter}")?)?;
+        given(rt, text.push_str(&given(rt, format!(in alloc; "{letter}"))));
     }
-    Ok(())
 }
 
 #[test]
 fn walks_give_the_words_worked_out(rt: HostRuntime) {
     for row in &ROWS {
-        expect(&rt, row.line, &walked(rt.alloc(), row), row.words);
+        expect_text(&rt, row.line, &walked(&rt, rt.alloc(), row), row.words);
     }
 }
 
@@ -331,14 +331,17 @@ fn is_left_out(skip: Option<Direction>, word: &[u32]) -> bool {
 }
 
 // All words up to the longest, shorter ones first, and those of one length letter by letter.
-fn short_words(alloc: Global, letters: u32) -> Result<Vec<Vec<u32>>, RowFault> {
+fn short_words(rt: &impl Abort, alloc: Global, letters: u32) -> Vec<Vec<u32>> {
     let mut words = Vec::new(alloc);
     for length in 0..=LONGEST {
-        for word in &all_words(alloc, letters, length)? {
-            words.push(Vec::from_slice(alloc, word.letters())?)?;
+        for word in &given(rt, all_words(alloc, letters, length)) {
+            given(
+                rt,
+                words.push(given(rt, Vec::from_slice(alloc, word.letters()))),
+            );
         }
     }
-    Ok(words)
+    words
 }
 
 // The first of these words that is listed, by trying one after another.
@@ -355,47 +358,43 @@ fn first_listed<'a>(
 // Whether a walk from the place, or from before all words, gives the first listed word of those after it, or a longer
 // one than they are, or none.
 fn goes_on(
+    rt: &impl Abort,
     alloc: Global,
-    dfa: &Dfa,
-    skip: Option<Direction>,
+    (dfa, skip): (&Dfa, Option<Direction>),
     walk: &mut Walk,
     after: &[Vec<u32>],
-) -> Result<bool, RowFault> {
+) -> bool {
     let mut word = Vec::new(alloc);
-    let found = walk.next(&mut word)?;
-    Ok(match first_listed(dfa, skip, after) {
+    let found = given(rt, walk.next(&mut word));
+    match first_listed(dfa, skip, after) {
         Some(wanted) => found && *wanted == word && walk.place() == Some(&word),
         None => !found || word.len() > LONGEST,
-    })
+    }
 }
 
 // Whether walks go on from each word up to the longest, listed or not, and from before them all.
-fn goes_on_everywhere(
-    alloc: Global,
-    line: &str,
-    skip: Option<Direction>,
-) -> Result<bool, RowFault> {
-    let dfa = language(alloc, line)?;
-    let words = short_words(alloc, dfa.alphabet().letters())?;
-    let mut walk = Walk::new(alloc, &dfa, skip)?;
-    if walk.place().is_some() || !goes_on(alloc, &dfa, skip, &mut walk, &words)? {
-        return Ok(false);
+fn goes_on_everywhere(rt: &impl Abort, alloc: Global, line: &str, skip: Option<Direction>) -> bool {
+    let dfa = language(rt, alloc, line);
+    let words = short_words(rt, alloc, dfa.alphabet().letters());
+    let mut walk = given(rt, Walk::new(alloc, &dfa, skip));
+    if walk.place().is_some() || !goes_on(rt, alloc, (&dfa, skip), &mut walk, &words) {
+        return false;
     }
     for (index, place) in words.iter().enumerate() {
-        let mut walk = Walk::resume(alloc, &dfa, skip, place)?;
+        let mut walk = given(rt, Walk::resume(alloc, &dfa, skip, place));
         let after = words.get(index + 1..).unwrap_or(&[]);
-        if walk.place() != Some(place) || !goes_on(alloc, &dfa, skip, &mut walk, after)? {
-            return Ok(false);
+        if walk.place() != Some(place) || !goes_on(rt, alloc, (&dfa, skip), &mut walk, after) {
+            return false;
         }
     }
-    Ok(true)
+    true
 }
 
 #[test]
 fn walks_go_on_from_each_place(rt: HostRuntime) {
     for line in &LISTS {
         for skip in [None, MSD, LSD] {
-            expect_so(&rt, line, &goes_on_everywhere(rt.alloc(), line, skip));
+            expect_so(&rt, line, goes_on_everywhere(&rt, rt.alloc(), line, skip));
         }
     }
 }
@@ -420,20 +419,11 @@ static INFINITE: [(&str, Option<Direction>, bool); 16] = [
     (FAR, None, true),
 ];
 
-// Whether the answer for an automaton is this.
-fn is_answer(
-    alloc: Global,
-    line: &str,
-    skip: Option<Direction>,
-    wanted: bool,
-) -> Result<bool, RowFault> {
-    let dfa = language(alloc, line)?;
-    Ok(is_infinite(alloc, &dfa, skip)? == wanted)
-}
-
 #[test]
 fn lists_are_infinite_as_worked_out(rt: HostRuntime) {
     for (line, skip, wanted) in &INFINITE {
-        expect_so(&rt, line, &is_answer(rt.alloc(), line, *skip, *wanted));
+        let dfa = language(&rt, rt.alloc(), line);
+        let found = given(&rt, is_infinite(rt.alloc(), &dfa, *skip));
+        expect_value(&rt, line, &found, wanted);
     }
 }

@@ -1,73 +1,65 @@
 //! The heads of commands that make words: what they have, and their first faults.
 
+use crate::given::{given, no_answer};
+use crate::outcomes::{expect_text, expect_value};
 use command_head::{
     CombineParts, HeadFault, ValuedName, combine_parts, image_parts, promote_parts,
 };
 use std::alloc::Global;
 use std::process::Abort;
-use std::test::Fail;
 
 // The word and the morphism of a `promote`, or its fault.
-fn read_promote(alloc: Global, text: &str) -> Result<Result<String, HeadFault>, Fail> {
-    match promote_parts(alloc, text.as_bytes()) {
-        Ok(parts) => {
-            let word = parts.word.as_str();
-            let morphism = parts.morphism.as_str();
-            Ok(Ok(format!(in alloc; "{word} {morphism}")?))
-        }
-        Err(fault) => Ok(Err(fault)),
-    }
+fn read_promote(rt: &impl Abort, alloc: Global, text: &str) -> Result<String, HeadFault> {
+    let parts = promote_parts(alloc, text.as_bytes())?;
+    let word = parts.word.as_str();
+    let morphism = parts.morphism.as_str();
+    Ok(given(rt, format!(in alloc; "{word} {morphism}")))
 }
 
 // The word, the morphism and the old word of an `image`, or its fault.
-fn read_image(alloc: Global, text: &str) -> Result<Result<String, HeadFault>, Fail> {
-    match image_parts(alloc, b"image", text.as_bytes()) {
-        Ok(parts) => {
-            let word = parts.word.as_str();
-            let mapping = parts.mapping.as_str();
-            let old = parts.old.as_str();
-            Ok(Ok(format!(in alloc; "{word} {mapping} {old}")?))
-        }
-        Err(fault) => Ok(Err(fault)),
-    }
+fn read_image(rt: &impl Abort, alloc: Global, text: &str) -> Result<String, HeadFault> {
+    let parts = image_parts(alloc, b"image", text.as_bytes())?;
+    let word = parts.word.as_str();
+    let mapping = parts.mapping.as_str();
+    let old = parts.old.as_str();
+    Ok(given(rt, format!(in alloc; "{word} {mapping} {old}")))
 }
 
 // The value of an automaton at a place that is no large number.
-fn value_at(valued: &ValuedName, place: usize) -> Result<i32, Fail> {
+fn value_at(rt: &impl Abort, valued: &ValuedName, place: usize) -> i32 {
     if place > 1000 {
-        return Err(Fail::from("a short list"));
+        return no_answer(rt);
     }
-    Ok(valued.value_at(place))
+    valued.value_at(place)
 }
 
 // The word of a `combine`, and each automaton with its value.
-fn shown(alloc: Global, parts: &CombineParts) -> Result<String, Fail> {
-    let mut text = String::from_str(alloc, parts.word.as_str())?;
+fn shown(rt: &impl Abort, alloc: Global, parts: &CombineParts) -> String {
+    let mut text = given(rt, String::from_str(alloc, parts.word.as_str()));
     for (place, valued) in parts.automata.iter().enumerate() {
         let name = valued.name.as_str();
-        let value = value_at(valued, place)?;
-        text.push_str(&format!(in alloc; " {name}={value}")?)?;
+        let value = value_at(rt, valued, place);
+        let part = given(rt, format!(in alloc; " {name}={value}"));
+        given(rt, text.push_str(&part));
     }
-    Ok(text)
+    text
 }
 
 // What a short `combine` has, or its fault.
-fn read_combine(alloc: Global, text: &str) -> Result<Result<String, HeadFault>, Fail> {
+fn read_combine(rt: &impl Abort, alloc: Global, text: &str) -> Result<String, HeadFault> {
     if text.len() > 1000 {
-        return Err(Fail::from("a short text"));
+        return no_answer(rt);
     }
-    match combine_parts(alloc, text.as_bytes()) {
-        Ok(parts) => Ok(Ok(shown(alloc, &parts)?)),
-        Err(fault) => Ok(Err(fault)),
-    }
+    let parts = combine_parts(alloc, text.as_bytes())?;
+    Ok(shown(rt, alloc, &parts))
 }
 
 // What a text has by its first letter's command.
-fn read(alloc: Global, text: &str) -> Result<Result<String, HeadFault>, Fail> {
+fn read(rt: &impl Abort, alloc: Global, text: &str) -> Result<String, HeadFault> {
     match text.as_bytes() {
-        [b'p', ..] => read_promote(alloc, text),
-        [b'i', ..] => read_image(alloc, text),
-        _ => read_combine(alloc, text),
+        [b'p', ..] => read_promote(rt, alloc, text),
+        [b'i', ..] => read_image(rt, alloc, text),
+        _ => read_combine(rt, alloc, text),
     }
 }
 
@@ -93,19 +85,15 @@ static HEADS: [(&str, &str); 11] = [
 ];
 
 // Asserts that each text has this.
-fn expect_heads(rt: &impl Abort, alloc: Global, rows: &[(&str, &str)]) -> Result<(), Fail> {
+fn expect_heads(rt: &impl Abort, alloc: Global, rows: &[(&str, &str)]) {
     for (text, wanted) in rows {
-        match read(alloc, text)? {
-            Ok(found) => assert_eq!(rt; found.as_str(), *wanted, "of {text}"),
-            Err(_) => return Err(Fail::from("a head")),
-        }
+        expect_text(rt, text, &given(rt, read(rt, alloc, text)), wanted);
     }
-    Ok(())
 }
 
 #[test]
-fn heads_of_words_are_read(rt: HostRuntime) -> Result<(), Fail> {
-    expect_heads(&rt, rt.alloc(), &HEADS)
+fn heads_of_words_are_read(rt: HostRuntime) {
+    expect_heads(&rt, rt.alloc(), &HEADS);
 }
 
 // Texts and their first faults.
@@ -152,15 +140,13 @@ static FAULTS: [(&str, HeadFault); 36] = [
 ];
 
 // Asserts that each text has its fault.
-fn expect_faults(rt: &impl Abort, alloc: Global, rows: &[(&str, HeadFault)]) -> Result<(), Fail> {
+fn expect_faults(rt: &impl Abort, alloc: Global, rows: &[(&str, HeadFault)]) {
     for (text, wanted) in rows {
-        let found = read(alloc, text)?.err();
-        assert_eq!(rt; found, Some(*wanted), "of {text}");
+        expect_value(rt, text, &read(rt, alloc, text).err(), &Some(*wanted));
     }
-    Ok(())
 }
 
 #[test]
-fn faults_of_words_are_the_first(rt: HostRuntime) -> Result<(), Fail> {
-    expect_faults(&rt, rt.alloc(), &FAULTS)
+fn faults_of_words_are_the_first(rt: HostRuntime) {
+    expect_faults(&rt, rt.alloc(), &FAULTS);
 }

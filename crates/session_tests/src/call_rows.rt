@@ -1,9 +1,10 @@
 //! Calls of automata: what is printed of scripts over stores that hold files.
 
-use crate::no_answer::NoAnswer;
+use crate::answers::given;
 use crate::tables::{ROW_END, first_field, table};
 use crate::whole::{Ran, SURE, code_of, expect, expect_printed, run_over, run_script};
 use std::alloc::Global;
+use std::process::Abort;
 use wal_outside::{Folder, MemStore, TEXT_LIMIT};
 
 /// A file among the automata, by its name and its text.
@@ -171,23 +172,23 @@ static FILES: [(FileRow, &str, &str); 14] = [
 ];
 
 /// A store with this text among the automata.
-fn store_with(alloc: Global, name: &str, text: &[u8]) -> Result<MemStore, NoAnswer> {
+fn store_with(rt: &impl Abort, alloc: Global, name: &str, text: &[u8]) -> MemStore {
     let mut store = MemStore::new(alloc, Vec::new(alloc));
-    store.put(Folder::Automata, name, text)?;
-    Ok(store)
+    given(rt, store.put(Folder::Automata, name, text));
+    store
 }
 
 /// Runs a script over a store with this text among the automata.
-fn run_with(alloc: Global, name: &str, text: &[u8], script: &str) -> Ran {
-    let store = store_with(alloc, name, text)?;
-    run_over(alloc, "walnut", script.as_bytes(), &SURE, store)
+fn run_with(rt: &impl Abort, alloc: Global, name: &str, text: &[u8], script: &str) -> Ran {
+    let store = store_with(rt, alloc, name, text);
+    run_over(rt, alloc, "walnut", (script.as_bytes(), &SURE), store)
 }
 
 #[test]
 fn calls_print_as_listed(rt: HostRuntime) {
     for row in CALLS.split_terminator(ROW_END) {
         let (script, printed) = first_field(row);
-        let ran = run_script(rt.alloc(), script.as_bytes());
+        let ran = run_script(&rt, rt.alloc(), script.as_bytes());
         expect_printed(&rt, script, &ran, printed);
     }
 }
@@ -195,7 +196,7 @@ fn calls_print_as_listed(rt: HostRuntime) {
 #[test]
 fn files_are_called_as_listed(rt: HostRuntime) {
     for ((name, text), script, printed) in &FILES {
-        let ran = run_with(rt.alloc(), name, text.as_bytes(), script);
+        let ran = run_with(&rt, rt.alloc(), name, text.as_bytes(), script);
         expect_printed(&rt, script, &ran, printed);
     }
 }
@@ -242,30 +243,30 @@ static FAILING: [(u64, &str, u8); 9] = [
 ];
 
 /// Runs the chain over a store whose call of this number fails.
-fn run_to_call(alloc: Global, failing: u64) -> Ran {
-    let store = MemStore::new(alloc, vec![in alloc; failing]?);
-    run_over(alloc, "walnut", CHAIN.as_bytes(), &SURE, store)
+fn run_to_call(rt: &impl Abort, alloc: Global, failing: u64) -> Ran {
+    let store = MemStore::new(alloc, given(rt, vec![in alloc; failing]));
+    run_over(rt, alloc, "walnut", (CHAIN.as_bytes(), &SURE), store)
 }
 
 #[test]
 fn a_store_that_fails_at_each_call(rt: HostRuntime) {
     for (failing, printed, code) in &FAILING {
-        let ran = run_to_call(rt.alloc(), *failing);
+        let ran = run_to_call(&rt, rt.alloc(), *failing);
         expect_printed(&rt, printed, &ran, printed);
         expect(&rt, printed, &code_of(&ran), code);
     }
 }
 
 /// Runs a script that calls a file of so many line ends.
-fn run_long_file(alloc: Global, length: usize) -> Ran {
-    let text = vec![in alloc; b'\n'; length]?;
-    run_with(alloc, "b", &text, "eval w \"$b(0)\";")
+fn run_long_file(rt: &impl Abort, alloc: Global, length: usize) -> Ran {
+    let text = given(rt, vec![in alloc; b'\n'; length]);
+    run_with(rt, alloc, "b", &text, "eval w \"$b(0)\";")
 }
 
 /// A file of one byte more than may be read is refused without a look at its format.
 #[test]
 fn a_file_has_at_most_16777216_bytes(rt: HostRuntime) {
-    let ran = run_long_file(rt.alloc(), TEXT_LIMIT + 1);
+    let ran = run_long_file(&rt, rt.alloc(), TEXT_LIMIT + 1);
     let printed = "error 1: F12 File Automata Library/b too long\n";
     expect_printed(&rt, "a long file", &ran, printed);
 }

@@ -1,10 +1,9 @@
 //! Files of automata that are combined.
 
-use crate::given::FileRow;
-use wal_outside::Folder;
+use crate::tables::files;
 
 /// Automata over systems, over sets and without tracks, files that break their format, and systems of users.
-static COMBINED: [FileRow; 35] = [
+const COMBINED: &str = files![
     (Folder::Bases, "msd_bin", "{0,1}\n0 1\n* -> 0\n"),
     (
         Folder::Bases,
@@ -99,6 +98,6 @@ static COMBINED: [FileRow; 35] = [
 ];
 
 /// The files in `COMBINED`.
-pub fn combined() -> &'static [FileRow] {
-    &COMBINED
+pub fn combined() -> &'static str {
+    COMBINED
 }

@@ -1,10 +1,12 @@
 //! Automata combined to words in commands: letters in formulas, stores that fail and limits.
 
+use crate::answers::given;
 use crate::combine_files::combined;
 use crate::given::{FailingRow, expect_failing, expect_scripts, run_given};
 use crate::tables::table;
 use crate::whole::{Ran, ended, expect, expect_printed};
 use std::alloc::Global;
+use std::process::Abort;
 
 /// Scripts with words that they make.
 const READ: &str = table![
@@ -280,15 +282,15 @@ fn a_store_that_fails_at_automata_of_a_word(rt: HostRuntime) {
 }
 
 /// Runs a script where no step may be wider than this.
-fn run_within(alloc: Global, limit: u32, script: &str) -> Ran {
-    let line = format!(in alloc; "walnut --states {limit}")?;
-    run_given(alloc, combined(), &line, script)
+fn run_within(rt: &impl Abort, alloc: Global, limit: u32, script: &str) -> Ran {
+    let line = given(rt, format!(in alloc; "walnut --states {limit}"));
+    run_given(rt, alloc, combined(), &line, script)
 }
 
 #[test]
 fn steps_of_words_have_the_limit_of_all(rt: HostRuntime) {
     for (limit, script, printed, code, count) in &LIMITS {
-        let ran = run_within(rt.alloc(), *limit, script);
+        let ran = run_within(&rt, rt.alloc(), *limit, script);
         expect_printed(&rt, script, &ran, printed);
         expect(&rt, script, &ended(&ran), &(*code, *count));
     }

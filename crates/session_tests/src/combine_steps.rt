@@ -320,6 +320,6 @@ const READ: &str = table![
 
 #[test]
 fn combined_words_show_their_steps(rt: HostRuntime) {
-    expect_scripts(&rt, rt.alloc(), &[], "walnut", SHOWN);
+    expect_scripts(&rt, rt.alloc(), "", "walnut", SHOWN);
     expect_scripts(&rt, rt.alloc(), combined(), "walnut", READ);
 }

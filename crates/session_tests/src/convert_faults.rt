@@ -501,7 +501,7 @@ static UNREAD: [FailingRow; 1] = [(2, "error 1: F34 NotRelated msd_2 msd_bin\n",
 /// Asserts that a script of which a call of the store fails prints what is listed, and ends so.
 fn expect_failing_so(rt: &impl Abort, alloc: Global, script: &str, rows: &[FailingRow]) {
     for (failing, printed, code, count) in rows {
-        let ran = run_failing(alloc, converted(), script, *failing);
+        let ran = run_failing(rt, alloc, converted(), script, *failing);
         expect_printed(rt, script, &ran, printed);
         expect(rt, script, &ended(&ran), &(*code, *count));
     }

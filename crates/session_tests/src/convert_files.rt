@@ -1,13 +1,11 @@
 //! Words that are changed to other bases.
 
-use crate::given::FileRow;
-use crate::user_system_files::{BINARY, CARRIES};
-use wal_outside::Folder;
+use crate::tables::files;
 
 /// `T` is the Thue-Morse word, `L` the same with the least digit first, `R` the Rudin-Shapiro word and `D` the period-doubling word; `M`,
 /// `S`, `B`, `P` and `Q` are sums of digits over bases 3, 6, 36, 40 and 25, and `N` has two letters over base 9; `G`, `H`, `O`, `Y`, `Z` and `C` lack letters;
 /// `F`, `J` and `U` are not over one base; `X`, `K` and `W` are over systems that are not there or not admitted, and `V` breaks the format.
-static CONVERTED: [FileRow; 27] = [
+const CONVERTED: &str = files![
     (
         Folder::Words,
         "T",
@@ -102,12 +100,12 @@ static CONVERTED: [FileRow; 27] = [
 ];
 
 /// The files in `CONVERTED`.
-pub fn converted() -> &'static [FileRow] {
-    &CONVERTED
+pub fn converted() -> &'static str {
+    CONVERTED
 }
 
 /// Words whose steps are wide.
-static WIDE_WORDS: [FileRow; 6] = [
+const WIDE_WORDS: &str = files![
     (
         Folder::Words,
         "W1",
@@ -141,6 +139,6 @@ static WIDE_WORDS: [FileRow; 6] = [
 ];
 
 /// The files in `WIDE_WORDS`.
-pub fn wide_words() -> &'static [FileRow] {
-    &WIDE_WORDS
+pub fn wide_words() -> &'static str {
+    WIDE_WORDS
 }

@@ -1,9 +1,9 @@
 //! One word over all bases of a root, in both directions: each form is made of each other one, and its text is that of an independent
 //! program, whose letters below 10,000 are those of a count.
 
-use crate::given::run_given;
-use crate::no_answer::NoAnswer;
-use crate::whole::{Ran, code_of, expect, expect_bytes, expect_stored, stored_in};
+use crate::answers::given;
+use crate::given::run_with;
+use crate::whole::{Ran, code_of, expect, expect_stored};
 use std::alloc::Global;
 use std::process::Abort;
 use wal_outside::Folder;
@@ -112,17 +112,20 @@ static RUDIN_SHAPIRO: [FormRow; 6] = [
 ];
 
 /// A run that changes a word to a system, and what comes of it back.
-fn there_and_back(alloc: Global, from: &FormRow, to: &FormRow) -> Ran {
-    let script = format!(in alloc;
-        "convert There {} Old; convert Back {} There;",
-        to.0, from.0
-    )?;
-    run_given(alloc, &[(Folder::Words, "Old", from.1)], "walnut", &script)
+fn there_and_back(rt: &impl Abort, alloc: Global, from: &FormRow, to: &FormRow) -> Ran {
+    let script = given(
+        rt,
+        format!(in alloc;
+            "convert There {} Old; convert Back {} There;",
+            to.0, from.0
+        ),
+    );
+    run_with(rt, alloc, (Folder::Words, "Old", from.1), &script)
 }
 
 /// Asserts that a word over one system is changed to that over another, and back.
 fn expect_changed(rt: &impl Abort, alloc: Global, from: &FormRow, to: &FormRow) {
-    let ran = there_and_back(alloc, from, to);
+    let ran = there_and_back(rt, alloc, from, to);
     expect(rt, from.0, &code_of(&ran), &0);
     expect_stored(rt, &ran, (Folder::Words, "There"), to.1);
     expect_stored(rt, &ran, (Folder::Words, "Back"), from.1);

@@ -345,7 +345,7 @@ const THEOREMS: &str = table![
 #[test]
 fn changes_of_base_read_what_commands_made(rt: HostRuntime) {
     expect_scripts(&rt, rt.alloc(), converted(), "walnut", SEQUENCES);
-    expect_scripts(&rt, rt.alloc(), &[], "walnut", THEOREMS);
+    expect_scripts(&rt, rt.alloc(), "", "walnut", THEOREMS);
 }
 
 /// Words of a command line, and a script that has its greatest width as limit, or one less.

@@ -1,9 +1,10 @@
 //! Files of each form that are cut at each byte, or have another byte at one place, and scripts of random bytes: each run answers or
 //! refuses its commands, and each line that it prints has its form.
 
+use crate::answers::given;
 use crate::given::{FileRow, store_of};
-use crate::no_answer::NoAnswer;
-use crate::user_system_files::{BINARY, CARRIES};
+use crate::tables::files;
+use crate::user_system_files::CARRIES;
 use crate::whole::{Ran, SURE, code_of, expect, printed_in, run_over};
 use std::alloc::Global;
 use std::process::Abort;
@@ -59,7 +60,7 @@ static DAMAGED: [DamagedRow; 10] = [
 ];
 
 /// What these commands read besides.
-static OTHERS: [FileRow; 4] = [
+const OTHERS: &str = files![
     (Folder::Bases, "msd_d", BINARY),
     (Folder::Bases, "msd_d_addition", CARRIES),
     (
@@ -74,10 +75,15 @@ static OTHERS: [FileRow; 4] = [
 const BYTES: &[u8] = b"\0 \n09-\">#}\xff";
 
 /// Runs a command over these bytes as a file.
-fn run_over_file(alloc: Global, (file, command): &DamagedRow, bytes: &[u8]) -> Ran {
-    let mut store = store_of(alloc, &OTHERS, 0)?;
-    store.put(file.0, file.1, bytes)?;
-    run_over(alloc, "walnut", command.as_bytes(), &SURE, store)
+fn run_over_file(
+    rt: &impl Abort,
+    alloc: Global,
+    (file, command): &DamagedRow,
+    bytes: &[u8],
+) -> Ran {
+    let mut store = store_of(rt, alloc, OTHERS, 0);
+    given(rt, store.put(file.0, file.1, bytes));
+    run_over(rt, alloc, "walnut", (command.as_bytes(), &SURE), store)
 }
 
 /// Whether a line begins as an answer, a step or a refusal does, or is the empty one after the last.
@@ -111,24 +117,24 @@ fn expect_an_end(rt: &impl Abort, row: &str, ran: &Ran) {
 }
 
 /// The bytes of a file with another one at a place.
-fn changed(alloc: Global, text: &[u8], at: usize, byte: u8) -> Result<Vec<u8>, NoAnswer> {
-    let mut bytes = Vec::from_slice(alloc, text)?;
+fn changed(rt: &impl Abort, alloc: Global, text: &[u8], at: usize, byte: u8) -> Vec<u8> {
+    let mut bytes = given(rt, Vec::from_slice(alloc, text));
     if let Some(place) = bytes.get_mut(at) {
         *place = byte;
     }
-    Ok(bytes)
+    bytes
 }
 
 /// Runs a command over its file with another byte at a place.
-fn run_changed(alloc: Global, row: &DamagedRow, at: usize, byte: u8) -> Ran {
-    let bytes = changed(alloc, row.0.2.as_bytes(), at, byte)?;
-    run_over_file(alloc, row, &bytes)
+fn run_changed(rt: &impl Abort, alloc: Global, row: &DamagedRow, at: usize, byte: u8) -> Ran {
+    let bytes = changed(rt, alloc, row.0.2.as_bytes(), at, byte);
+    run_over_file(rt, alloc, row, &bytes)
 }
 
 /// Asserts that a command has an end over its file with each other byte at this place.
 fn expect_changed_at(rt: &impl Abort, alloc: Global, row: &DamagedRow, at: usize) {
     for byte in BYTES {
-        expect_an_end(rt, row.1, &run_changed(alloc, row, at, *byte));
+        expect_an_end(rt, row.1, &run_changed(rt, alloc, row, at, *byte));
     }
 }
 
@@ -137,7 +143,7 @@ fn expect_damaged(rt: &impl Abort, alloc: Global, row: &DamagedRow) {
     let text = row.0.2.as_bytes();
     for at in 0..text.len() {
         let prefix = text.get(..at).unwrap_or(b"");
-        expect_an_end(rt, row.1, &run_over_file(alloc, row, prefix));
+        expect_an_end(rt, row.1, &run_over_file(rt, alloc, row, prefix));
         expect_changed_at(rt, alloc, row, at);
     }
 }
@@ -172,48 +178,48 @@ fn part_of(draw: u64) -> &'static str {
 }
 
 /// A script of 40 parts from a seed.
-fn random_script(alloc: Global, seed: u64) -> Result<String, NoAnswer> {
+fn random_script(rt: &impl Abort, alloc: Global, seed: u64) -> String {
     let mut script = String::new(alloc);
     let mut draw = next_draw(seed);
     for _ in 0..40 {
         draw = next_draw(draw);
-        script.push_str(part_of(draw))?;
+        given(rt, script.push_str(part_of(draw)));
     }
-    Ok(script)
+    script
 }
 
 /// Bytes that a draw gives, of which a quarter are those of a text.
-fn random_bytes(alloc: Global, seed: u64) -> Result<Vec<u8>, NoAnswer> {
+fn random_bytes(rt: &impl Abort, alloc: Global, seed: u64) -> Vec<u8> {
     let mut bytes = Vec::new(alloc);
     let mut draw = next_draw(seed);
     for _ in 0..100 {
         draw = next_draw(draw);
-        bytes.push((draw >> 56) as u8)?;
+        given(rt, bytes.push((draw >> 56) as u8));
     }
-    Ok(bytes)
+    bytes
 }
 
 /// Runs a script of random parts.
-fn run_parts(alloc: Global, seed: u64) -> Ran {
-    let script = random_script(alloc, seed)?;
+fn run_parts(rt: &impl Abort, alloc: Global, seed: u64) -> Ran {
+    let script = random_script(rt, alloc, seed);
     run_over(
+        rt,
         alloc,
         "walnut",
-        script.as_bytes(),
-        &SURE,
-        store_of(alloc, &OTHERS, 0)?,
+        (script.as_bytes(), &SURE),
+        store_of(rt, alloc, OTHERS, 0),
     )
 }
 
 /// Runs a script of random bytes.
-fn run_bytes(alloc: Global, seed: u64) -> Ran {
-    let script = random_bytes(alloc, seed)?;
+fn run_bytes(rt: &impl Abort, alloc: Global, seed: u64) -> Ran {
+    let script = random_bytes(rt, alloc, seed);
     run_over(
+        rt,
         alloc,
         "walnut",
-        &script,
-        &SURE,
-        store_of(alloc, &OTHERS, 0)?,
+        (&script, &SURE),
+        store_of(rt, alloc, OTHERS, 0),
     )
 }
 
@@ -223,7 +229,7 @@ const SEEDS: u64 = 500;
 #[test]
 fn random_scripts_are_answered_or_refused(rt: HostRuntime) {
     for seed in 0..SEEDS {
-        expect_an_end(&rt, "parts", &run_parts(rt.alloc(), seed));
-        expect_an_end(&rt, "bytes", &run_bytes(rt.alloc(), seed));
+        expect_an_end(&rt, "parts", &run_parts(&rt, rt.alloc(), seed));
+        expect_an_end(&rt, "bytes", &run_bytes(&rt, rt.alloc(), seed));
     }
 }

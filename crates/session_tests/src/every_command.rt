@@ -1,10 +1,9 @@
 //! A script of each command: its bytes and its answers in pieces, and the calls of its source, its sink and its store that fail, one at
 //! a time. What is printed where a call of the store fails is that of a list of which files each command reads and writes.
 
-use crate::given::{FileRow, expect_end, run_failing, run_given, store_of};
-use crate::no_answer::NoAnswer;
-use crate::tables::{ROW_END, first_field, table};
-use crate::user_system_files::{BINARY, CARRIES};
+use crate::answers::given;
+use crate::given::{expect_end, run_failing, run_given, store_of};
+use crate::tables::{ROW_END, files, first_field, table};
 use crate::whole::{
     Ran, code_of, ended, expect, expect_bytes, expect_printed, printed_in, run_objects, stored_in,
 };
@@ -13,7 +12,7 @@ use std::process::Abort;
 use wal_outside::{Folder, MemSink, MemSource};
 
 /// A transducer, a system, and a file of commands.
-static FILES: [FileRow; 4] = [
+const FILES: &str = files![
     (
         Folder::Transducers,
         "sum",
@@ -81,8 +80,8 @@ static STORED: [(Folder, &str); 19] = [
 ];
 
 /// The files, named here alone.
-fn files() -> &'static [FileRow] {
-    &FILES
+fn files() -> &'static str {
+    FILES
 }
 
 /// The commands, named here alone.
@@ -91,53 +90,65 @@ fn commands() -> &'static [CommandRow] {
 }
 
 /// The script of these commands.
-fn script(alloc: Global, rows: &[CommandRow]) -> Result<String, NoAnswer> {
+fn script(rt: &impl Abort, alloc: Global, rows: &[CommandRow]) -> String {
     let mut text = String::new(alloc);
     for (command, _, _) in rows {
-        text.push_str(command)?;
+        given(rt, text.push_str(command));
     }
-    Ok(text)
+    text
 }
 
 /// What these commands print.
-fn printed_by(alloc: Global, rows: &[CommandRow]) -> Result<String, NoAnswer> {
+fn printed_by(rt: &impl Abort, alloc: Global, rows: &[CommandRow]) -> String {
     let mut text = String::new(alloc);
     for (_, printed, _) in rows {
-        text.push_str(printed)?;
+        given(rt, text.push_str(printed));
     }
-    Ok(text)
+    text
 }
 
 /// Runs the commands over the files, where all works.
-fn run_commands(alloc: Global, rows: &[CommandRow]) -> Ran {
-    let text = script(alloc, rows)?;
-    run_given(alloc, files(), "walnut", text.as_str())
+fn run_commands(rt: &impl Abort, alloc: Global, rows: &[CommandRow]) -> Ran {
+    let text = script(rt, alloc, rows);
+    run_given(rt, alloc, files(), "walnut", text.as_str())
 }
 
 /// Runs all commands over a source that gives pieces of so many bytes, and whose call of this number fails.
-fn run_in_pieces(alloc: Global, piece: usize, failing: u64) -> Ran {
-    let text = script(alloc, commands())?;
-    let lengths = vec![in alloc; piece; text.len()]?;
-    let bytes = Vec::from_slice(alloc, text.as_bytes())?;
-    let source = MemSource::new(bytes, lengths, vec![in alloc; failing]?);
+fn run_in_pieces(rt: &impl Abort, alloc: Global, piece: usize, failing: u64) -> Ran {
+    let text = script(rt, alloc, commands());
+    let lengths = given(rt, vec![in alloc; piece; text.len()]);
+    let bytes = given(rt, Vec::from_slice(alloc, text.as_bytes()));
+    let source = MemSource::new(bytes, lengths, given(rt, vec![in alloc; failing]));
     let out = MemSink::new(alloc, Vec::new(alloc), Vec::new(alloc));
-    run_objects(alloc, "walnut", source, out, store_of(alloc, files(), 0)?)
+    run_objects(
+        rt,
+        alloc,
+        "walnut",
+        (source, out),
+        store_of(rt, alloc, files(), 0),
+    )
 }
 
 /// Runs all commands over a sink that takes so many bytes at each of its first calls, and whose call of this number fails.
-fn run_over_sink(alloc: Global, length: usize, calls: usize, failing: u64) -> Ran {
-    let text = script(alloc, commands())?;
-    let bytes = Vec::from_slice(alloc, text.as_bytes())?;
+fn run_over_sink(rt: &impl Abort, alloc: Global, length: usize, calls: usize, failing: u64) -> Ran {
+    let text = script(rt, alloc, commands());
+    let bytes = given(rt, Vec::from_slice(alloc, text.as_bytes()));
     let source = MemSource::new(bytes, Vec::new(alloc), Vec::new(alloc));
-    let lengths = vec![in alloc; length; calls]?;
-    let out = MemSink::new(alloc, lengths, vec![in alloc; failing]?);
-    run_objects(alloc, "walnut", source, out, store_of(alloc, files(), 0)?)
+    let lengths = given(rt, vec![in alloc; length; calls]);
+    let out = MemSink::new(alloc, lengths, given(rt, vec![in alloc; failing]));
+    run_objects(
+        rt,
+        alloc,
+        "walnut",
+        (source, out),
+        store_of(rt, alloc, files(), 0),
+    )
 }
 
 /// Runs all commands over a store whose call of this number fails.
-fn run_over_store(alloc: Global, failing: u64) -> Ran {
-    let text = script(alloc, commands())?;
-    run_failing(alloc, files(), text.as_str(), failing)
+fn run_over_store(rt: &impl Abort, alloc: Global, failing: u64) -> Ran {
+    let text = script(rt, alloc, commands());
+    run_failing(rt, alloc, files(), text.as_str(), failing)
 }
 
 /// The number of a field.
@@ -157,16 +168,13 @@ fn last_of(rows: &[CommandRow]) -> &str {
 fn count_after(rows: &[CommandRow]) -> usize {
     match rows.last() {
         Some((_, _, count)) => *count,
-        None => files().len(),
+        None => files().split_terminator(ROW_END).count(),
     }
 }
 
 /// Asserts that a run printed what these commands print, with this status and as many texts as they leave.
 fn expect_answered(rt: &impl Abort, alloc: Global, rows: &[CommandRow], ran: &Ran, code: u8) {
-    match printed_by(alloc, rows) {
-        Ok(printed) => expect_printed(rt, last_of(rows), ran, printed.as_str()),
-        Err(_) => assert!(rt; false, "no text"),
-    }
+    expect_printed(rt, last_of(rows), ran, &printed_by(rt, alloc, rows));
     expect(rt, last_of(rows), &ended(ran), &(code, count_after(rows)));
 }
 
@@ -184,15 +192,15 @@ fn expect_same_texts(rt: &impl Abort, one: &Ran, other: &Ran) {
 
 #[test]
 fn each_command_is_answered(rt: HostRuntime) {
-    let ran = run_commands(rt.alloc(), commands());
+    let ran = run_commands(&rt, rt.alloc(), commands());
     expect_answered(&rt, rt.alloc(), commands(), &ran, 1);
 }
 
 #[test]
 fn a_script_in_single_bytes_is_answered_alike(rt: HostRuntime) {
-    let ran = run_in_pieces(rt.alloc(), 1, 0);
+    let ran = run_in_pieces(&rt, rt.alloc(), 1, 0);
     expect_answered(&rt, rt.alloc(), commands(), &ran, 1);
-    expect_same_texts(&rt, &ran, &run_commands(rt.alloc(), commands()));
+    expect_same_texts(&rt, &ran, &run_commands(&rt, rt.alloc(), commands()));
 }
 
 /// The first of these commands whose terminators are among so many bytes. A command ends with a terminator and a line end.
@@ -217,14 +225,14 @@ const CALLS: u64 = 100;
 /// last command but one ends the run, so the source is not called after it.
 fn expect_cut(rt: &impl Abort, alloc: Global, calls: u64) {
     let answered = whole_in(commands(), PIECE.saturating_mul(calls as usize));
-    let ran = run_in_pieces(alloc, PIECE, calls.saturating_add(1));
+    let ran = run_in_pieces(rt, alloc, PIECE, calls.saturating_add(1));
     let code = if answered.len().saturating_add(1) < commands().len() {
         3
     } else {
         1
     };
     expect_answered(rt, alloc, answered, &ran, code);
-    expect_same_texts(rt, &ran, &run_commands(alloc, answered));
+    expect_same_texts(rt, &ran, &run_commands(rt, alloc, answered));
 }
 
 #[test]
@@ -261,7 +269,7 @@ const SINKS: &str = table![
 fn expect_cut_off(rt: &impl Abort, alloc: Global, row: &str) {
     let (failing, rest) = first_field(row);
     let (printed, end) = first_field(rest);
-    let ran = run_over_sink(alloc, 0, 0, number_of(failing));
+    let ran = run_over_sink(rt, alloc, 0, 0, number_of(failing));
     expect_printed(rt, row, &ran, printed);
     expect_end(rt, row, &ran, end);
 }
@@ -287,21 +295,21 @@ const WRITES: u64 = 30;
 
 #[test]
 fn a_sink_that_fails_has_a_prefix(rt: HostRuntime) {
-    let whole = run_commands(rt.alloc(), commands());
+    let whole = run_commands(&rt, rt.alloc(), commands());
     for call in 0..WRITES {
-        let ran = run_over_sink(rt.alloc(), 0, 0, call.saturating_add(1));
+        let ran = run_over_sink(&rt, rt.alloc(), 0, 0, call.saturating_add(1));
         expect_prefix(&rt, printed_in(&whole), &ran);
     }
 }
 
 #[test]
 fn a_sink_takes_answers_in_pieces_or_ends_the_run(rt: HostRuntime) {
-    let single = run_over_sink(rt.alloc(), 1, 1000, 0);
+    let single = run_over_sink(&rt, rt.alloc(), 1, 1000, 0);
     expect_answered(&rt, rt.alloc(), commands(), &single, 1);
-    let nothing = run_over_sink(rt.alloc(), 0, 1, 0);
+    let nothing = run_over_sink(&rt, rt.alloc(), 0, 1, 0);
     expect_printed(&rt, "nothing", &nothing, "");
     expect(&rt, "nothing", &ended(&nothing), &(3, 5));
-    let two = run_over_sink(rt.alloc(), 2, 1, 2);
+    let two = run_over_sink(&rt, rt.alloc(), 2, 1, 2);
     expect_printed(&rt, "two", &two, "st");
     expect(&rt, "two", &ended(&two), &(3, 5));
 }
@@ -582,7 +590,7 @@ const LATE: &str = table![
 fn expect_refused(rt: &impl Abort, alloc: Global, row: &str) {
     let (failing, rest) = first_field(row);
     let (printed, end) = first_field(rest);
-    let ran = run_over_store(alloc, number_of(failing));
+    let ran = run_over_store(rt, alloc, number_of(failing));
     expect_printed(rt, row, &ran, printed);
     expect_end(rt, row, &ran, end);
 }
@@ -609,7 +617,7 @@ const ANEW: u64 = 43;
 
 #[test]
 fn a_text_that_is_not_stored_anew_stays(rt: HostRuntime) {
-    let ran = run_over_store(rt.alloc(), ANEW);
+    let ran = run_over_store(&rt, rt.alloc(), ANEW);
     let old = b"{0,1}\n\n0 0\n0 -> 0\n1 -> 1\n\n1 1\n";
     expect_bytes(&rt, "ab", stored_in(&ran, Folder::Automata, "ab"), old);
 }

@@ -37,16 +37,16 @@ fn are_stored(ran: &Ran) -> [bool; 3] {
 }
 
 /// Runs a script whose bytes come in pieces of these lengths.
-fn run_in_pieces(alloc: Global, script: &[u8], reads: &'static [usize]) -> Ran {
+fn run_in_pieces(rt: &impl Abort, alloc: Global, script: &[u8], reads: &'static [usize]) -> Ran {
     let outside = Outside { reads, ..SURE };
-    run_line(alloc, "walnut", script, &outside)
+    run_line(rt, alloc, "walnut", script, &outside)
 }
 
 fn expect_same_in_pieces(rt: &impl Abort, alloc: Global, row: &str, reads: &'static [usize]) {
     let script = script_of(row);
-    let ran = run_in_pieces(alloc, script.as_bytes(), reads);
+    let ran = run_in_pieces(rt, alloc, script.as_bytes(), reads);
     expect_row(rt, row, &ran);
-    let whole = run_script(alloc, script.as_bytes());
+    let whole = run_script(rt, alloc, script.as_bytes());
     expect(rt, script, &count_in(&ran), &count_in(&whole));
 }
 
@@ -66,40 +66,40 @@ fn pieces_change_nothing(rt: HostRuntime) {
 }
 
 /// Runs a script of which a source gives so many bytes, and fails at its second call.
-fn run_to_failure(alloc: Global, script: &[u8], reads: &'static [usize]) -> Ran {
+fn run_to_failure(rt: &impl Abort, alloc: Global, script: &[u8], reads: &'static [usize]) -> Ran {
     let outside = Outside {
         reads,
         failing_reads: &[2],
         ..SURE
     };
-    run_line(alloc, "walnut", script, &outside)
+    run_line(rt, alloc, "walnut", script, &outside)
 }
 
 #[test]
 fn a_source_that_fails_leaves_what_was_answered(rt: HostRuntime) {
-    let answered = run_to_failure(rt.alloc(), THREE, &[15]);
+    let answered = run_to_failure(&rt, rt.alloc(), THREE, &[15]);
     expect(&rt, "three", &ended(&answered), &(3, 1));
     expect_printed(&rt, "three", &answered, "");
     expect(&rt, "three", &are_stored(&answered), &[true, false, false]);
-    let refused = run_to_failure(rt.alloc(), REFUSED, &[6]);
+    let refused = run_to_failure(&rt, rt.alloc(), REFUSED, &[6]);
     expect(&rt, "refused", &ended(&refused), &(3, 0));
     expect_printed(&rt, "refused", &refused, PRINTED);
 }
 
 #[test]
 fn a_command_that_did_not_come_whole_is_not_begun(rt: HostRuntime) {
-    let ran = run_to_failure(rt.alloc(), THREE, &[13]);
+    let ran = run_to_failure(&rt, rt.alloc(), THREE, &[13]);
     expect(&rt, "three", &ended(&ran), &(3, 0));
     expect_printed(&rt, "three", &ran, "");
 }
 
 /// Runs three commands over a store whose call of this number fails.
-fn run_over_failing_store(alloc: Global, failing_store: &'static [u64]) -> Ran {
+fn run_over_failing_store(rt: &impl Abort, alloc: Global, failing_store: &'static [u64]) -> Ran {
     let outside = Outside {
         failing_store,
         ..SURE
     };
-    run_line(alloc, "walnut", THREE, &outside)
+    run_line(rt, alloc, "walnut", THREE, &outside)
 }
 
 /// Which call of the store fails, what is printed, the status and how many texts are stored, and whether these are under
@@ -131,7 +131,7 @@ static STORES: [StoreRow; 4] = [
 #[test]
 fn a_store_that_fails_refuses_its_command_alone(rt: HostRuntime) {
     for (failing, printed, end, stored) in &STORES {
-        let ran = run_over_failing_store(rt.alloc(), failing);
+        let ran = run_over_failing_store(&rt, rt.alloc(), failing);
         expect_printed(&rt, printed, &ran, printed);
         expect(&rt, printed, &ended(&ran), end);
         expect(&rt, printed, &are_stored(&ran), stored);
@@ -139,16 +139,27 @@ fn a_store_that_fails_refuses_its_command_alone(rt: HostRuntime) {
 }
 
 /// Runs refused commands, and one that is not, over a sink that takes pieces of these lengths and fails at these calls.
-fn run_over_sink(alloc: Global, writes: &'static [usize], failing_writes: &'static [u64]) -> Ran {
-    run_line(alloc, "walnut", REFUSED, &over_sink(writes, failing_writes))
+fn run_over_sink(
+    rt: &impl Abort,
+    alloc: Global,
+    writes: &'static [usize],
+    failing_writes: &'static [u64],
+) -> Ran {
+    run_line(
+        rt,
+        alloc,
+        "walnut",
+        REFUSED,
+        &over_sink(writes, failing_writes),
+    )
 }
 
 #[test]
 fn a_sink_that_fails_or_takes_nothing_ends_the_run(rt: HostRuntime) {
-    let failed = run_over_sink(rt.alloc(), &[], &[1]);
+    let failed = run_over_sink(&rt, rt.alloc(), &[], &[1]);
     expect(&rt, "fails", &ended(&failed), &(3, 0));
     expect_printed(&rt, "fails", &failed, "");
-    let stuck = run_over_sink(rt.alloc(), &[5, 0], &[]);
+    let stuck = run_over_sink(&rt, rt.alloc(), &[5, 0], &[]);
     expect(&rt, "takes nothing", &ended(&stuck), &(3, 0));
     let is_prefix = PRINTED.as_bytes().starts_with(printed_in(&stuck));
     expect(&rt, "takes nothing", &is_prefix, &true);
@@ -156,15 +167,15 @@ fn a_sink_that_fails_or_takes_nothing_ends_the_run(rt: HostRuntime) {
 
 #[test]
 fn a_sink_that_takes_a_byte_at_a_time_gets_all(rt: HostRuntime) {
-    let ran = run_over_sink(rt.alloc(), &ONES, &[]);
+    let ran = run_over_sink(&rt, rt.alloc(), &ONES, &[]);
     expect_printed(&rt, "a byte", &ran, PRINTED);
     expect(&rt, "a byte", &code_of(&ran), &1);
     expect(&rt, "a byte", &are_stored(&ran), &[true, false, false]);
 }
 
 /// Runs two automata, their word and a formula with it over such objects.
-fn run_four(alloc: Global, outside: &Outside) -> Ran {
-    run_line(alloc, "walnut", FOUR.as_bytes(), outside)
+fn run_four(rt: &impl Abort, alloc: Global, outside: &Outside) -> Ran {
+    run_line(rt, alloc, "walnut", FOUR.as_bytes(), outside)
 }
 
 /// How bytes come and go, what is printed, the status, and how many texts are stored.
@@ -186,7 +197,7 @@ fn comings() -> [(Outside, &'static str, (u8, usize)); 6] {
 #[test]
 fn an_answer_goes_in_pieces_or_ends_the_run(rt: HostRuntime) {
     for (outside, printed, end) in &comings() {
-        let ran = run_four(rt.alloc(), outside);
+        let ran = run_four(&rt, rt.alloc(), outside);
         expect_printed(&rt, printed, &ran, printed);
         expect(&rt, printed, &ended(&ran), end);
         expect(&rt, printed, &is_stored(&ran, Folder::Results, "t"), &true);

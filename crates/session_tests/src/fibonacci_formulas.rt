@@ -1,6 +1,6 @@
 //! Formulas over the Fibonacci system: sums against arithmetic, and theorems on the infinite Fibonacci word.
 
-use crate::no_answer::NoAnswer;
+use crate::answers::given;
 use crate::tables::{ROW_END, first_field, table};
 use crate::whole::{Ran, expect, expect_printed, printed_in, run_script};
 use std::alloc::{AllocError, Global};
@@ -16,12 +16,15 @@ fn sum_command(alloc: Global, system: &str, first: u8, second: u8) -> Result<Str
 }
 
 /// Runs a command for each number below 60, added to this one.
-fn run_sums(alloc: Global, system: &str, first: u8) -> Ran {
+fn run_sums(rt: &impl Abort, alloc: Global, system: &str, first: u8) -> Ran {
     let mut script = String::new(alloc);
     for second in 0..60 {
-        script.push_str(&sum_command(alloc, system, first, second)?)?;
+        given(
+            rt,
+            script.push_str(&given(rt, sum_command(alloc, system, first, second))),
+        );
     }
-    run_script(alloc, script.as_bytes())
+    run_script(rt, alloc, script.as_bytes())
 }
 
 /// What is printed of 60 true sentences.
@@ -33,9 +36,9 @@ TRUE\nTRUE\nTRUE\nTRUE\nTRUE\nTRUE\nTRUE\nTRUE\nTRUE\nTRUE\nTRUE\nTRUE\n\
 TRUE\nTRUE\nTRUE\nTRUE\nTRUE\nTRUE\nTRUE\nTRUE\nTRUE\nTRUE\nTRUE\nTRUE\n";
 
 /// The first number below 60 whose sums with the others are not so, or 60.
-fn first_wrong(alloc: Global, system: &str) -> u8 {
+fn first_wrong(rt: &impl Abort, alloc: Global, system: &str) -> u8 {
     for first in 0..60 {
-        let ran = run_sums(alloc, system, first);
+        let ran = run_sums(rt, alloc, system, first);
         if printed_in(&ran) != SIXTY_TIMES_TRUE.as_bytes() {
             return first;
         }
@@ -45,8 +48,18 @@ fn first_wrong(alloc: Global, system: &str) -> u8 {
 
 #[test]
 fn numbers_below_60_have_their_sums(rt: HostRuntime) {
-    expect(&rt, "msd_fib", &first_wrong(rt.alloc(), "msd_fib"), &60);
-    expect(&rt, "lsd_fib", &first_wrong(rt.alloc(), "lsd_fib"), &60);
+    expect(
+        &rt,
+        "msd_fib",
+        &first_wrong(&rt, rt.alloc(), "msd_fib"),
+        &60,
+    );
+    expect(
+        &rt,
+        "lsd_fib",
+        &first_wrong(&rt, rt.alloc(), "lsd_fib"),
+        &60,
+    );
 }
 
 /// `f(n)`: the letter of the infinite Fibonacci word at n is 1, so that the representation of n has 1 as its least
@@ -91,25 +104,31 @@ fn definition(
 }
 
 /// The commands that define the word and the notions over a system.
-fn definitions(alloc: Global, system: &str, word: &str) -> Result<String, NoAnswer> {
-    let mut script = String::from_str(alloc, word)?;
+fn definitions(rt: &impl Abort, alloc: Global, system: &str, word: &str) -> String {
+    let mut script = given(rt, String::from_str(alloc, word));
     for notion in &NOTIONS {
-        script.push_str(&definition(alloc, system, *notion)?)?;
+        given(
+            rt,
+            script.push_str(&given(rt, definition(alloc, system, *notion))),
+        );
     }
-    Ok(script)
+    script
 }
 
 /// Runs these commands and the one that decides a statement.
-fn run_statement(alloc: Global, system: &str, word: &str, statement: &str) -> Ran {
-    let before = definitions(alloc, system, word)?;
-    let script = format!(in alloc; "{before}eval w \"?{system} {statement}\";")?;
-    run_script(alloc, script.as_bytes())
+fn run_statement(rt: &impl Abort, alloc: Global, system: &str, word: &str, statement: &str) -> Ran {
+    let before = definitions(rt, alloc, system, word);
+    let script = given(
+        rt,
+        format!(in alloc; "{before}eval w \"?{system} {statement}\";"),
+    );
+    run_script(rt, alloc, script.as_bytes())
 }
 
 fn expect_statements(rt: &impl Abort, alloc: Global, system: &str, word: &str) {
     for row in STATEMENTS.split_terminator(ROW_END) {
         let (statement, printed) = first_field(row);
-        let ran = run_statement(alloc, system, word, statement);
+        let ran = run_statement(rt, alloc, system, word, statement);
         expect_printed(rt, statement, &ran, printed);
     }
 }

@@ -1,12 +1,13 @@
 //! Formulas at their limits, and over a source, a sink and a store that fail.
 
-use crate::no_answer::NoAnswer;
+use crate::answers::{given, no_answer};
 use crate::tables::{ROW_END, first_field, table};
 use crate::whole::{
     Outside, Ran, SURE, code_of, count_in, expect, expect_printed, expect_stored, is_stored,
     over_sink, run_line, run_script,
 };
 use std::alloc::Global;
+use std::process::Abort;
 use wal_outside::Folder;
 
 /// What opens nesting, what closes it, and the fault of 129 of these.
@@ -18,11 +19,11 @@ const NESTING: &str = table![
 ];
 
 /// Runs a `def` of `x=1` inside so many of these.
-fn run_nested(alloc: Global, open: &str, close: &str, depth: usize) -> Ran {
-    let before = open.repeat(alloc, depth)?;
-    let after = close.repeat(alloc, depth)?;
-    let script = format!(in alloc; "def d \"{before}x=1{after}\";")?;
-    run_script(alloc, script.as_bytes())
+fn run_nested(rt: &impl Abort, alloc: Global, open: &str, close: &str, depth: usize) -> Ran {
+    let before = given(rt, open.repeat(alloc, depth));
+    let after = given(rt, close.repeat(alloc, depth));
+    let script = given(rt, format!(in alloc; "def d \"{before}x=1{after}\";"));
+    run_script(rt, alloc, script.as_bytes())
 }
 
 // Of each 128 may be within one another, and 129 may not.
@@ -31,33 +32,33 @@ fn formulas_nest_128_deep(rt: HostRuntime) {
     for row in NESTING.split_terminator(ROW_END) {
         let (open, rest) = first_field(row);
         let (close, fault) = first_field(rest);
-        let most = run_nested(rt.alloc(), open, close, 128);
+        let most = run_nested(&rt, rt.alloc(), open, close, 128);
         expect(&rt, open, &code_of(&most), &0);
-        let more = run_nested(rt.alloc(), open, close, 129);
+        let more = run_nested(&rt, rt.alloc(), open, close, 129);
         expect_printed(&rt, open, &more, fault);
         expect(&rt, open, &count_in(&more), &0);
     }
 }
 
 /// A `def` whose text has 65,536 bytes: a chain of atoms.
-fn longest(alloc: Global) -> Result<String, NoAnswer> {
-    let chain = "&x=y".repeat(alloc, 16_380)?;
-    Ok(format!(in alloc; "def d \"x=y{chain}     \";")?)
+fn longest(rt: &impl Abort, alloc: Global) -> String {
+    let chain = given(rt, "&x=y".repeat(alloc, 16_380));
+    given(rt, format!(in alloc; "def d \"x=y{chain}     \";"))
 }
 
 /// Runs it, if it has 65,536 bytes and its terminator.
-fn run_longest(alloc: Global) -> Ran {
-    let script = longest(alloc)?;
+fn run_longest(rt: &impl Abort, alloc: Global) -> Ran {
+    let script = longest(rt, alloc);
     if script.len() == 65_537 {
-        run_script(alloc, script.as_bytes())
+        run_script(rt, alloc, script.as_bytes())
     } else {
-        Err(NoAnswer)
+        no_answer(rt)
     }
 }
 
 #[test]
 fn a_chain_may_fill_a_command(rt: HostRuntime) {
-    let ran = run_longest(rt.alloc());
+    let ran = run_longest(&rt, rt.alloc());
     expect(&rt, "a chain", &code_of(&ran), &0);
     expect_stored(&rt, &ran, (Folder::Automata, "d"), EQUAL);
 }
@@ -66,19 +67,19 @@ fn a_chain_may_fill_a_command(rt: HostRuntime) {
 const EQUAL: &str = "msd_2 msd_2\n\n0 1\n0 0 -> 0\n1 1 -> 0\n";
 
 /// Runs three commands over a store whose second call fails.
-fn run_over_store(alloc: Global) -> Ran {
+fn run_over_store(rt: &impl Abort, alloc: Global) -> Ran {
     let outside = Outside {
         failing_store: &[2],
         ..SURE
     };
     let script = b"def p \"x=0\"; def q \"x=1\"; def r \"x=2\";";
-    run_line(alloc, "walnut", script, &outside)
+    run_line(rt, alloc, "walnut", script, &outside)
 }
 
 // The second write fails, and the commands beside it are answered.
 #[test]
 fn a_store_that_fails_refuses_its_formula_alone(rt: HostRuntime) {
-    let ran = run_over_store(rt.alloc());
+    let ran = run_over_store(&rt, rt.alloc());
     let printed = "error 1: F26 Store Automata Library/q\n";
     expect_printed(&rt, "three commands", &ran, printed);
     expect(&rt, "three commands", &code_of(&ran), &3);
@@ -88,15 +89,15 @@ fn a_store_that_fails_refuses_its_formula_alone(rt: HostRuntime) {
 }
 
 /// Runs four commands over a sink whose second call fails.
-fn run_over_sink(alloc: Global) -> Ran {
+fn run_over_sink(rt: &impl Abort, alloc: Global) -> Ran {
     let script = b"def p \"x=0\"; eval a \"1=1\"; eval b \"1=2\"; def q \"x=1\";";
-    run_line(alloc, "walnut", script, &over_sink(&[], &[2]))
+    run_line(rt, alloc, "walnut", script, &over_sink(&[], &[2]))
 }
 
 // The second verdict cannot be printed: its command was stored before, and none after it is answered.
 #[test]
 fn a_sink_that_fails_at_a_verdict_ends_the_run(rt: HostRuntime) {
-    let ran = run_over_sink(rt.alloc());
+    let ran = run_over_sink(&rt, rt.alloc());
     expect_printed(&rt, "four commands", &ran, "TRUE\n");
     expect(&rt, "four commands", &code_of(&ran), &3);
     expect(&rt, "p", &is_stored(&ran, Folder::Automata, "p"), &true);
@@ -106,18 +107,18 @@ fn a_sink_that_fails_at_a_verdict_ends_the_run(rt: HostRuntime) {
 }
 
 /// Runs a command of a source whose second call fails.
-fn run_over_source(alloc: Global) -> Ran {
+fn run_over_source(rt: &impl Abort, alloc: Global) -> Ran {
     let outside = Outside {
         failing_reads: &[2],
         ..SURE
     };
-    run_line(alloc, "walnut", b"def p \"x=0\"; ", &outside)
+    run_line(rt, alloc, "walnut", b"def p \"x=0\"; ", &outside)
 }
 
 // The source fails after the first command, which was answered.
 #[test]
 fn a_source_that_fails_leaves_the_formula_before(rt: HostRuntime) {
-    let ran = run_over_source(rt.alloc());
+    let ran = run_over_source(&rt, rt.alloc());
     expect_printed(&rt, "one command", &ran, "");
     expect(&rt, "one command", &code_of(&ran), &3);
     expect(&rt, "p", &is_stored(&ran, Folder::Automata, "p"), &true);

@@ -1,5 +1,6 @@
 //! Faults at the begin, in the middle and at the end of a formula, among commands that are answered.
 
+use crate::answers::given;
 use crate::tables::{ROW_END, first_field, table};
 use crate::whole::{Ran, count_in, expect, expect_printed, run_script};
 use std::alloc::Global;
@@ -113,9 +114,12 @@ const PLACES: &str = table![
 ];
 
 /// Runs the command of this word and a formula, between two that are accepted.
-fn run_between(alloc: Global, word: &str, formula: &str) -> Ran {
-    let script = format!(in alloc; "def a \"x=0\"; {word} b \"{formula}\"; eval c \"1=1\";")?;
-    run_script(alloc, script.as_bytes())
+fn run_between(rt: &impl Abort, alloc: Global, word: &str, formula: &str) -> Ran {
+    let script = given(
+        rt,
+        format!(in alloc; "def a \"x=0\"; {word} b \"{formula}\"; eval c \"1=1\";"),
+    );
+    run_script(rt, alloc, script.as_bytes())
 }
 
 /// A formula was refused by its fault, and the commands before and after it were answered as without it.
@@ -128,9 +132,9 @@ fn expect_refused_alone(rt: &impl Abort, formula: &str, ran: &Ran, printed: &str
 fn faults_have_their_place(rt: HostRuntime) {
     for row in PLACES.split_terminator(ROW_END) {
         let (formula, printed) = first_field(row);
-        let decided = run_between(rt.alloc(), "eval", formula);
+        let decided = run_between(&rt, rt.alloc(), "eval", formula);
         expect_refused_alone(&rt, formula, &decided, printed);
-        let defined = run_between(rt.alloc(), "def", formula);
+        let defined = run_between(&rt, rt.alloc(), "def", formula);
         expect_refused_alone(&rt, formula, &defined, printed);
     }
 }

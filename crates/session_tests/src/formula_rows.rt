@@ -1,5 +1,6 @@
 //! Formulas: what is printed of their steps and of their truth, and the faults by which they are refused.
 
+use crate::answers::given;
 use crate::tables::{ROW_END, first_field, table};
 use crate::whole::{Ran, SURE, ended, expect, expect_printed, run_line};
 use std::alloc::Global;
@@ -213,9 +214,9 @@ const FAULTS: &str = table![
 ];
 
 /// Runs a script under a limit of states.
-fn run_under(alloc: Global, limit: &str, script: &str) -> Ran {
-    let line = format!(in alloc; "walnut --states {limit}")?;
-    run_line(alloc, &line, script.as_bytes(), &SURE)
+fn run_under(rt: &impl Abort, alloc: Global, limit: &str, script: &str) -> Ran {
+    let line = given(rt, format!(in alloc; "walnut --states {limit}"));
+    run_line(rt, alloc, &line, script.as_bytes(), &SURE)
 }
 
 /// A run printed this, ended with this status, and stored something if and only if no command was refused.
@@ -228,7 +229,7 @@ fn expect_run(rt: &impl Abort, script: &str, ran: &Ran, printed: &str, code: u8)
 fn steps_of_formulas_are_shown(rt: HostRuntime) {
     for row in STEPS.split_terminator(ROW_END) {
         let (script, printed) = first_field(row);
-        let ran = run_under(rt.alloc(), "100000", script);
+        let ran = run_under(&rt, rt.alloc(), "100000", script);
         expect_run(&rt, script, &ran, printed, 0);
     }
 }
@@ -237,7 +238,7 @@ fn steps_of_formulas_are_shown(rt: HostRuntime) {
 fn formulas_are_refused_by_their_first_fault(rt: HostRuntime) {
     for row in FAULTS.split_terminator(ROW_END) {
         let (script, printed) = first_field(row);
-        let ran = run_under(rt.alloc(), "100000", script);
+        let ran = run_under(&rt, rt.alloc(), "100000", script);
         expect_run(&rt, script, &ran, printed, 1);
     }
 }
@@ -245,7 +246,7 @@ fn formulas_are_refused_by_their_first_fault(rt: HostRuntime) {
 #[test]
 fn steps_of_formulas_keep_to_the_limit_of_states(rt: HostRuntime) {
     for (limit, script, printed, code) in &LIMITS {
-        let ran = run_under(rt.alloc(), limit, script);
+        let ran = run_under(&rt, rt.alloc(), limit, script);
         expect_run(&rt, script, &ran, printed, *code);
     }
 }

@@ -1,7 +1,10 @@
 //! What formulas store, and theorems of Presburger arithmetic.
 
+use crate::answers::given;
+use crate::tables::{ROW_END, table};
 use crate::whole::{Ran, count_in, expect, expect_printed, expect_stored, run_script};
 use std::alloc::Global;
+use std::process::Abort;
 use wal_outside::Folder;
 
 /// A command, and the folder, the name and the text that it stores.
@@ -80,66 +83,69 @@ static TEXTS: [(&str, Folder, &str, &str); 16] = [
 ];
 
 /// Sentences that are true of the natural numbers.
-static THEOREMS: [&str; 37] = [
-    "Ax,y x+y=y+x",
-    "Ax,y,z (x+y)+z=x+(y+z)",
-    "Ax x+0=x",
-    "Ax,y,z x+z=y+z => x=y",
-    "Ax,y x<=y <=> (Ez x+z=y)",
-    "Ax,y x<y | x=y | y<x",
-    "Ax ~(x<x)",
-    "Ax,y,z (x<y & y<z) => x<z",
-    "Ax,y x<y => x+1<=y",
-    "Ax x!=0 => (Ey x=y+1)",
-    "Ax Ey x=2*y | x=2*y+1",
-    "~(Ex,y 2*x=2*y+1)",
-    "Ax,y 3*x=3*y => x=y",
-    "An n>43 => (Ex,y,z n=6*x+9*y+20*z)",
-    "~(Ex,y,z 43=6*x+9*y+20*z)",
-    "An n>7 => (Ex,y n=3*x+5*y)",
-    "Ax Ey,z x=3*y+z & z<3",
-    "Ex Ay x<=y",
-    "~(Ex Ay y<=x)",
-    "Ax,y (x-y)+y=x | x<y",
-    "Ax x/1=x",
-    "Ax x/2/3=x/6",
-    "Ax,y (x+y)/2=y => x<=y+1",
-    "~(Ex (x-1)/2=0 & x=0)",
-    "Ax,r 7*(x/7)+r=x & r<7 <=> x-7*(x/7)=r",
-    "Ay Ex x/3=y",
-    "?lsd_3 Ax x/3*3<=x",
-    "?msd_fib Ax x/2+x/2<=x",
-    "?msd_10 Ax 10*(x/10)<=x",
-    "?msd_16 Ax x/2<=x",
-    "?lsd_2 Ix Ey x=3*y",
-    "Ix Ey x=2*y",
-    "~(Ix x<7)",
-    "Ix 1=1",
-    "Ay Ix x>y",
-    "~(Ix Iy x=2*y)",
-    "~(Ey Ix x/3=y)",
+const THEOREMS: &str = table![
+    ("Ax,y x+y=y+x"),
+    ("Ax,y,z (x+y)+z=x+(y+z)"),
+    ("Ax x+0=x"),
+    ("Ax,y,z x+z=y+z => x=y"),
+    ("Ax,y x<=y <=> (Ez x+z=y)"),
+    ("Ax,y x<y | x=y | y<x"),
+    ("Ax ~(x<x)"),
+    ("Ax,y,z (x<y & y<z) => x<z"),
+    ("Ax,y x<y => x+1<=y"),
+    ("Ax x!=0 => (Ey x=y+1)"),
+    ("Ax Ey x=2*y | x=2*y+1"),
+    ("~(Ex,y 2*x=2*y+1)"),
+    ("Ax,y 3*x=3*y => x=y"),
+    ("An n>43 => (Ex,y,z n=6*x+9*y+20*z)"),
+    ("~(Ex,y,z 43=6*x+9*y+20*z)"),
+    ("An n>7 => (Ex,y n=3*x+5*y)"),
+    ("Ax Ey,z x=3*y+z & z<3"),
+    ("Ex Ay x<=y"),
+    ("~(Ex Ay y<=x)"),
+    ("Ax,y (x-y)+y=x | x<y"),
+    ("Ax x/1=x"),
+    ("Ax x/2/3=x/6"),
+    ("Ax,y (x+y)/2=y => x<=y+1"),
+    ("~(Ex (x-1)/2=0 & x=0)"),
+    ("Ax,r 7*(x/7)+r=x & r<7 <=> x-7*(x/7)=r"),
+    ("Ay Ex x/3=y"),
+    ("?lsd_3 Ax x/3*3<=x"),
+    ("?msd_fib Ax x/2+x/2<=x"),
+    ("?msd_10 Ax 10*(x/10)<=x"),
+    ("?msd_16 Ax x/2<=x"),
+    ("?lsd_2 Ix Ey x=3*y"),
+    ("Ix Ey x=2*y"),
+    ("~(Ix x<7)"),
+    ("Ix 1=1"),
+    ("Ay Ix x>y"),
+    ("~(Ix Iy x=2*y)"),
+    ("~(Ey Ix x/3=y)"),
 ];
 
 #[test]
 fn formulas_store_their_texts(rt: HostRuntime) {
     for (script, folder, name, text) in &TEXTS {
-        let ran = run_script(rt.alloc(), script.as_bytes());
+        let ran = run_script(&rt, rt.alloc(), script.as_bytes());
         expect_stored(&rt, &ran, (*folder, name), text);
     }
 }
 
 /// Runs a command that decides a theorem between these texts.
-fn run_theorem(alloc: Global, before: &str, theorem: &str, after: &str) -> Ran {
-    let script = format!(in alloc; "eval t \"{before}{theorem}{after}\";")?;
-    run_script(alloc, script.as_bytes())
+fn run_theorem(rt: &impl Abort, alloc: Global, before: &str, theorem: &str, after: &str) -> Ran {
+    let script = given(
+        rt,
+        format!(in alloc; "eval t \"{before}{theorem}{after}\";"),
+    );
+    run_script(rt, alloc, script.as_bytes())
 }
 
 #[test]
 fn theorems_are_true_and_their_negations_false(rt: HostRuntime) {
-    for theorem in &THEOREMS {
-        let stated = run_theorem(rt.alloc(), "", theorem, "");
+    for theorem in THEOREMS.split_terminator(ROW_END) {
+        let stated = run_theorem(&rt, rt.alloc(), "", theorem, "");
         expect_printed(&rt, theorem, &stated, "TRUE\n");
-        let negated = run_theorem(rt.alloc(), "~(", theorem, ")");
+        let negated = run_theorem(&rt, rt.alloc(), "~(", theorem, ")");
         expect_printed(&rt, theorem, &negated, "FALSE\n");
     }
 }
@@ -148,7 +154,7 @@ fn theorems_are_true_and_their_negations_false(rt: HostRuntime) {
 #[test]
 fn a_refused_formula_leaves_the_others(rt: HostRuntime) {
     let script = b"def p \"x=0\"; eval q \"x=1 | y=2 & z=3\"; def r \"x*y=1\"; eval s \"1=1\";";
-    let ran = run_script(rt.alloc(), script);
+    let ran = run_script(&rt, rt.alloc(), script);
     let printed = "error 1: F03 MixedChain at 10\nerror 1: F05 NotLinear at 1\nTRUE\n";
     expect_printed(&rt, "four commands", &ran, printed);
     expect(&rt, "four commands", &count_in(&ran), &2);

@@ -1,7 +1,8 @@
 //! Runs over stores that hold given files, and tables of such runs.
 
-use crate::no_answer::NoAnswer;
-use crate::tables::{ROW_END, first_field, folder_of, numbers_of};
+use crate::answers::given;
+use crate::tables::{ROW_END, constant_in, first_field, folder_of, numbers_of};
+use crate::user_system_files::text_named;
 use crate::whole::{
     Outside, Ran, SURE, ended, expect, expect_bytes, expect_printed, expect_stored, run_over,
 };
@@ -16,41 +17,75 @@ pub type FileRow = (Folder, &'static str, &'static str);
 pub type FailingRow = (u64, &'static str, u8, usize);
 
 /// A store with these files. Its call of this number fails; none does where the number is 0.
-pub fn store_of(alloc: Global, files: &[FileRow], failing: u64) -> Result<MemStore, NoAnswer> {
-    let mut store = MemStore::new(alloc, vec![in alloc; failing]?);
-    for (folder, name, text) in files {
-        store.put(*folder, name, text.as_bytes())?;
+pub fn store_of(rt: &impl Abort, alloc: Global, files: &str, failing: u64) -> MemStore {
+    let mut store = MemStore::new(alloc, given(rt, vec![in alloc; failing]));
+    put_files(rt, &mut store, files);
+    store
+}
+
+/// Puts files into a store.
+pub fn put_files(rt: &impl Abort, store: &mut MemStore, files: &str) {
+    for row in files.split_terminator(ROW_END) {
+        let (folder, rest) = first_field(row);
+        let (name, field) = first_field(rest);
+        let folder = folder_of(folder).expect(rt, "a folder");
+        given(rt, store.put(folder, name, text_in(rt, field).as_bytes()));
     }
-    Ok(store)
+}
+
+/// The text of a file: the field, or the constant that it names.
+pub fn text_in<'a>(rt: &impl Abort, field: &'a str) -> &'a str {
+    match constant_in(field) {
+        Some(name) => text_named(name).expect(rt, "a constant"),
+        None => field,
+    }
 }
 
 /// Runs a script over a store with these files, with the words of this command line.
-pub fn run_given(alloc: Global, files: &[FileRow], line: &str, script: &str) -> Ran {
-    let store = store_of(alloc, files, 0)?;
-    run_over(alloc, line, script.as_bytes(), &SURE, store)
+pub fn run_given(rt: &impl Abort, alloc: Global, files: &str, line: &str, script: &str) -> Ran {
+    let store = store_of(rt, alloc, files, 0);
+    run_over(rt, alloc, line, (script.as_bytes(), &SURE), store)
+}
+
+/// Runs a script over a store with this file alone.
+pub fn run_with(
+    rt: &impl Abort,
+    alloc: Global,
+    (folder, name, text): (Folder, &str, &str),
+    script: &str,
+) -> Ran {
+    let mut store = store_of(rt, alloc, "", 0);
+    given(rt, store.put(folder, name, text.as_bytes()));
+    run_over(rt, alloc, "walnut", (script.as_bytes(), &SURE), store)
 }
 
 /// Runs a script over a store with these files, whose call of this number fails.
-pub fn run_failing(alloc: Global, files: &[FileRow], script: &str, failing: u64) -> Ran {
-    run_line_failing(alloc, files, "walnut", script, failing)
+pub fn run_failing(rt: &impl Abort, alloc: Global, files: &str, script: &str, failing: u64) -> Ran {
+    run_line_failing(rt, alloc, files, ("walnut", script), failing)
 }
 
 /// Runs a script over a store with these files, whose call of this number fails, with the words of this command line.
 pub fn run_line_failing(
+    rt: &impl Abort,
     alloc: Global,
-    files: &[FileRow],
-    line: &str,
-    script: &str,
+    files: &str,
+    (line, script): (&str, &str),
     failing: u64,
 ) -> Ran {
-    let store = store_of(alloc, files, failing)?;
-    run_over(alloc, line, script.as_bytes(), &SURE, store)
+    let store = store_of(rt, alloc, files, failing);
+    run_over(rt, alloc, line, (script.as_bytes(), &SURE), store)
 }
 
 /// Runs a script over a store with these files, whose bytes come and go so.
-pub fn run_outside(alloc: Global, files: &[FileRow], script: &str, outside: &Outside) -> Ran {
-    let store = store_of(alloc, files, 0)?;
-    run_over(alloc, "walnut", script.as_bytes(), outside, store)
+pub fn run_outside(
+    rt: &impl Abort,
+    alloc: Global,
+    files: &str,
+    script: &str,
+    outside: &Outside,
+) -> Ran {
+    let store = store_of(rt, alloc, files, 0);
+    run_over(rt, alloc, "walnut", (script.as_bytes(), outside), store)
 }
 
 /// Asserts that a run ended with the status that a field says, and with as many texts as the next one says.
@@ -63,16 +98,16 @@ pub fn expect_end(rt: &impl Abort, script: &str, ran: &Ran, end: &str) {
 
 /// Asserts that the script of a row prints what the row says, and ends so: the fields are the script, what it prints, the
 /// status, and how many texts the store has then.
-pub fn expect_script(rt: &impl Abort, alloc: Global, files: &[FileRow], line: &str, row: &str) {
+pub fn expect_script(rt: &impl Abort, alloc: Global, files: &str, line: &str, row: &str) {
     let (script, rest) = first_field(row);
     let (printed, end) = first_field(rest);
-    let ran = run_given(alloc, files, line, script);
+    let ran = run_given(rt, alloc, files, line, script);
     expect_printed(rt, script, &ran, printed);
     expect_end(rt, script, &ran, end);
 }
 
 /// Asserts that each script of a table prints what is listed, and ends so.
-pub fn expect_scripts(rt: &impl Abort, alloc: Global, files: &[FileRow], line: &str, rows: &str) {
+pub fn expect_scripts(rt: &impl Abort, alloc: Global, files: &str, line: &str, rows: &str) {
     for row in rows.split_terminator(ROW_END) {
         expect_script(rt, alloc, files, line, row);
     }
@@ -80,11 +115,11 @@ pub fn expect_scripts(rt: &impl Abort, alloc: Global, files: &[FileRow], line: &
 
 /// Asserts that the script of a row leaves the text that the row says: the fields are the script, and a folder, a name and
 /// the text that is there then.
-fn expect_text(rt: &impl Abort, alloc: Global, files: &[FileRow], row: &str) {
+fn expect_text(rt: &impl Abort, alloc: Global, files: &str, row: &str) {
     let (script, rest) = first_field(row);
     let (folder, rest) = first_field(rest);
     let (name, text) = first_field(rest);
-    let ran = run_given(alloc, files, "walnut", script);
+    let ran = run_given(rt, alloc, files, "walnut", script);
     match folder_of(folder) {
         Some(folder) => expect_stored(rt, &ran, (folder, name), text),
         None => expect_bytes(rt, row, folder.as_bytes(), b"a folder"),
@@ -92,7 +127,7 @@ fn expect_text(rt: &impl Abort, alloc: Global, files: &[FileRow], row: &str) {
 }
 
 /// Asserts that each script of a table leaves the text that is listed.
-pub fn expect_texts(rt: &impl Abort, alloc: Global, files: &[FileRow], rows: &str) {
+pub fn expect_texts(rt: &impl Abort, alloc: Global, files: &str, rows: &str) {
     for row in rows.split_terminator(ROW_END) {
         expect_text(rt, alloc, files, row);
     }
@@ -101,7 +136,7 @@ pub fn expect_texts(rt: &impl Abort, alloc: Global, files: &[FileRow], rows: &st
 /// Asserts that a script, over an empty store whose call of this number fails, prints what is listed, and ends so.
 pub fn expect_failing(rt: &impl Abort, alloc: Global, script: &str, rows: &[FailingRow]) {
     for (failing, printed, code, count) in rows {
-        let ran = run_failing(alloc, &[], script, *failing);
+        let ran = run_failing(rt, alloc, "", script, *failing);
         expect_printed(rt, printed, &ran, printed);
         expect(rt, printed, &ended(&ran), &(*code, *count));
     }

@@ -1,9 +1,10 @@
 //! Hostile files, formulas and numbers of tracks: each is refused by its fault, or answered.
 
-use crate::given::{FileRow, run_given};
-use crate::no_answer::NoAnswer;
+use crate::answers::given;
+use crate::given::{FileRow, run_with};
 use crate::whole::{Ran, ended, expect, expect_printed, run_script};
 use std::alloc::Global;
+use std::process::Abort;
 use wal_outside::Folder;
 
 /// The file that a store has, if it has one, a script, what it prints, the status, and how many texts the store has then.
@@ -136,38 +137,38 @@ static ROWS: [HostileRow; 17] = [
 ];
 
 /// Runs a script over a store with the file, if there is one.
-fn run_over_file(alloc: Global, file: &Option<FileRow>, script: &str) -> Ran {
+fn run_over_file(rt: &impl Abort, alloc: Global, file: &Option<FileRow>, script: &str) -> Ran {
     match file {
-        Some(file) => run_given(alloc, &[*file], "walnut", script),
-        None => run_script(alloc, script.as_bytes()),
+        Some(file) => run_with(rt, alloc, *file, script),
+        None => run_script(rt, alloc, script.as_bytes()),
     }
 }
 
 #[test]
 fn hostile_input_is_refused_or_answered_as_listed(rt: HostRuntime) {
     for (file, script, printed, code, count) in &ROWS {
-        let ran = run_over_file(rt.alloc(), file, script);
+        let ran = run_over_file(&rt, rt.alloc(), file, script);
         expect_printed(&rt, script, &ran, printed);
         expect(&rt, script, &ended(&ran), &(*code, *count));
     }
 }
 
 /// Runs a command of so many bytes without a terminator in it.
-fn run_endless(alloc: Global, length: usize) -> Ran {
-    let script: Result<String, NoAnswer> = Ok("a".repeat(alloc, length)?);
-    run_script(alloc, script?.as_bytes())
+fn run_endless(rt: &impl Abort, alloc: Global, length: usize) -> Ran {
+    let script = given(rt, "a".repeat(alloc, length));
+    run_script(rt, alloc, script.as_bytes())
 }
 
 #[test]
 fn a_command_without_terminator_may_be_too_long(rt: HostRuntime) {
-    let ran = run_endless(rt.alloc(), 65_537);
+    let ran = run_endless(&rt, rt.alloc(), 65_537);
     expect_printed(&rt, "65,537 bytes", &ran, "error 1: F07 Long 65536\n");
     expect(&rt, "65,537 bytes", &ended(&ran), &(1, 0));
 }
 
 #[test]
 fn a_formula_may_be_a_byte_that_is_no_text(rt: HostRuntime) {
-    let ran = run_script(rt.alloc(), b"eval a \"\xff\";");
+    let ran = run_script(&rt, rt.alloc(), b"eval a \"\xff\";");
     expect_printed(
         &rt,
         "byte 255",

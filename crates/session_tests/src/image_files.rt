@@ -1,10 +1,9 @@
 //! Files of words and rules of which images are made.
 
-use crate::given::FileRow;
-use wal_outside::Folder;
+use crate::tables::files;
 
 /// Words over systems built in and of users, words that lack letters, of several inputs and in files that break their format; and rules.
-static IMAGED: [FileRow; 63] = [
+const IMAGED: &str = files![
     (Folder::Bases, "msd_bin", "{0,1}\n0 1\n* -> 0\n"),
     (
         Folder::Bases,
@@ -175,6 +174,6 @@ static IMAGED: [FileRow; 63] = [
 ];
 
 /// The files in `IMAGED`.
-pub fn imaged() -> &'static [FileRow] {
-    &IMAGED
+pub fn imaged() -> &'static str {
+    IMAGED
 }

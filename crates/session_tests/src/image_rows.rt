@@ -1,11 +1,12 @@
 //! Images of words in commands: letters in formulas, faults and their order, stores that fail and limits.
 
-use crate::given::{FailingRow, FileRow, expect_scripts, run_failing, run_given};
+use crate::answers::given;
+use crate::given::{FailingRow, expect_scripts, run_failing, run_given};
 use crate::image_files::imaged;
-use crate::tables::table;
+use crate::tables::{files, table};
 use crate::whole::{Ran, ended, expect, expect_printed};
 use std::alloc::Global;
-use wal_outside::Folder;
+use std::process::Abort;
 
 /// Scripts of one command, refused or not.
 const REFUSED: &str = table![
@@ -361,7 +362,7 @@ const READ: &str = table![
 ];
 
 /// A word, of which two images are made, one of the other.
-static WORD: [FileRow; 1] = [(
+const WORD: &str = files![(
     Folder::Words,
     "T",
     "msd_2\n0 0\n0 -> 0\n1 -> 1\n1 1\n0 -> 1\n1 -> 0\n",
@@ -475,22 +476,22 @@ fn images_are_read_in_formulas(rt: HostRuntime) {
 #[test]
 fn a_store_that_fails_at_images(rt: HostRuntime) {
     for (failing, printed, code, count) in &FAILING {
-        let ran = run_failing(rt.alloc(), &WORD, FOUR, *failing);
+        let ran = run_failing(&rt, rt.alloc(), WORD, FOUR, *failing);
         expect_printed(&rt, printed, &ran, printed);
         expect(&rt, printed, &ended(&ran), &(*code, *count));
     }
 }
 
 /// Runs a script where no step may be wider than this.
-fn run_within(alloc: Global, limit: u32, script: &str) -> Ran {
-    let line = format!(in alloc; "walnut --states {limit}")?;
-    run_given(alloc, imaged(), &line, script)
+fn run_within(rt: &impl Abort, alloc: Global, limit: u32, script: &str) -> Ran {
+    let line = given(rt, format!(in alloc; "walnut --states {limit}"));
+    run_given(rt, alloc, imaged(), &line, script)
 }
 
 #[test]
 fn steps_of_images_have_the_limit_of_all(rt: HostRuntime) {
     for (limit, script, printed, code, count) in &LIMITS {
-        let ran = run_within(rt.alloc(), *limit, script);
+        let ran = run_within(&rt, rt.alloc(), *limit, script);
         expect_printed(&rt, script, &ran, printed);
         expect(&rt, script, &ended(&ran), &(*code, *count));
     }

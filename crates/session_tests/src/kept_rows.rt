@@ -1,9 +1,9 @@
 //! What a session keeps of the files that its commands read: users' systems that were admitted, and definitions that were read. What is
 //! printed is the same with and without it, and how often it was used is counted.
 
-use crate::given::{FileRow, expect_scripts, store_of};
-use crate::no_answer::NoAnswer;
-use crate::tables::{ROW_END, first_field, table};
+use crate::answers::{given, no_answer};
+use crate::given::{FileRow, expect_scripts, store_of, text_in};
+use crate::tables::{ROW_END, files, first_field, folder_of, table};
 use crate::user_system_files::{BINARY, CARRIES};
 use crate::whole::expect;
 use digit_tuple::name::Name;
@@ -15,7 +15,7 @@ use wal_outside::{Folder, MemStore};
 
 /// Base 2 as a user's system, in files of either direction, and what is over it: `own` has each number, and `W` a letter for
 /// the last digit. `wrong` is no system.
-static FILES: [FileRow; 10] = [
+const FILES: &str = files![
     (Folder::Bases, "msd_X", "{0,1}\n0 1\n0 -> 0\n1 -> 0\n"),
     (
         Folder::Bases,
@@ -45,8 +45,8 @@ static FILES: [FileRow; 10] = [
 ];
 
 /// The files, named here alone.
-fn files() -> &'static [FileRow] {
-    &FILES
+fn files() -> &'static str {
+    FILES
 }
 
 /// Scripts in which commands read again what others read before them.
@@ -201,35 +201,35 @@ fn answer(alloc: Global, session: &mut Session, store: &mut MemStore, command: &
 
 /// How many kept results were used after each of these commands in one session, each after a blank.
 fn counts_of(
+    rt: &impl Abort,
     alloc: Global,
     session: &mut Session,
     store: &mut MemStore,
     commands: &str,
-) -> Result<String, NoAnswer> {
+) -> String {
     let mut text = String::new(alloc);
     for command in commands.split('\n') {
         answer(alloc, session, store, command);
-        text.push_str(&format!(in alloc; " {}", session.reused())?)?;
+        given(
+            rt,
+            text.push_str(&given(rt, format!(in alloc; " {}", session.reused()))),
+        );
     }
-    Ok(text)
+    text
 }
 
 /// The same in a session of its own over these files.
-fn counts(alloc: Global, files: &[FileRow], commands: &str) -> Result<String, NoAnswer> {
-    let mut store = store_of(alloc, files, 0)?;
+fn counts(rt: &impl Abort, alloc: Global, files: &str, commands: &str) -> String {
+    let mut store = store_of(rt, alloc, files, 0);
     let mut session = Session::new(alloc, LIMIT);
-    counts_of(alloc, &mut session, &mut store, commands)
+    counts_of(rt, alloc, &mut session, &mut store, commands)
 }
 
 /// No step of these commands is wider.
 const LIMIT: u32 = 100_000;
 
 /// Asserts that a row has these counts.
-fn expect_counts(rt: &impl Abort, row: &str, found: &Result<String, NoAnswer>, wanted: &str) {
-    let found = match found {
-        Ok(text) => text.as_str(),
-        Err(_) => "no answer",
-    };
+fn expect_counts(rt: &impl Abort, row: &str, found: &str, wanted: &str) {
     assert_eq!(rt; found, wanted, "of {row}");
 }
 
@@ -237,7 +237,7 @@ fn expect_counts(rt: &impl Abort, row: &str, found: &Result<String, NoAnswer>, w
 fn expect_all_counts(rt: &impl Abort, alloc: Global, rows: &str) {
     for row in rows.split_terminator(ROW_END) {
         let (commands, wanted) = first_field(row);
-        let found = counts(alloc, files(), commands);
+        let found = counts(rt, alloc, files(), commands);
         expect_counts(rt, commands, &found, wanted);
     }
 }
@@ -305,34 +305,42 @@ static CHANGES: [ChangeRow; 3] = [
 ];
 
 /// The text of a file, or none.
-fn old_text(folder: Folder, name: &str) -> Option<&'static str> {
-    for (place, other, text) in files() {
-        if *place == folder && *other == name {
-            return Some(text);
+fn old_text(rt: &impl Abort, folder: Folder, name: &str) -> Option<&'static str> {
+    for row in files().split_terminator(ROW_END) {
+        let (place, rest) = first_field(row);
+        let (other, field) = first_field(rest);
+        if folder_of(place) == Some(folder) && other == name {
+            return Some(text_in(rt, field));
         }
     }
     None
 }
 
 /// How many kept results were used: of a command twice, twice with a file changed, and once with its text of before.
-fn counts_with_change(alloc: Global, change: &FileRow, command: &str) -> Result<String, NoAnswer> {
-    let mut store = store_of(alloc, files(), 0)?;
+fn counts_with_change(rt: &impl Abort, alloc: Global, change: &FileRow, command: &str) -> String {
+    let mut store = store_of(rt, alloc, files(), 0);
     let mut session = Session::new(alloc, LIMIT);
-    let twice = format!(in alloc; "{command}\n{command}")?;
-    let mut text = counts_of(alloc, &mut session, &mut store, twice.as_str())?;
-    store.put(change.0, change.1, change.2.as_bytes())?;
-    text.push_str(&counts_of(alloc, &mut session, &mut store, twice.as_str())?)?;
-    if let Some(old) = old_text(change.0, change.1) {
-        store.put(change.0, change.1, old.as_bytes())?;
+    let twice = given(rt, format!(in alloc; "{command}\n{command}"));
+    let mut text = counts_of(rt, alloc, &mut session, &mut store, twice.as_str());
+    given(rt, store.put(change.0, change.1, change.2.as_bytes()));
+    given(
+        rt,
+        text.push_str(&counts_of(rt, alloc, &mut session, &mut store, twice.as_str())),
+    );
+    if let Some(old) = old_text(rt, change.0, change.1) {
+        given(rt, store.put(change.0, change.1, old.as_bytes()));
     }
-    text.push_str(&counts_of(alloc, &mut session, &mut store, command)?)?;
-    Ok(text)
+    given(
+        rt,
+        text.push_str(&counts_of(rt, alloc, &mut session, &mut store, command)),
+    );
+    text
 }
 
 /// Asserts that a change of a file makes a command read it anew.
 fn expect_changes(rt: &impl Abort, alloc: Global, rows: &[ChangeRow]) {
     for (change, command, wanted) in rows {
-        let found = counts_with_change(alloc, change, command);
+        let found = counts_with_change(rt, alloc, change, command);
         expect_counts(rt, command, &found, wanted);
     }
 }
@@ -348,112 +356,113 @@ fn a_definition_of_other_bytes_is_read_anew(rt: HostRuntime) {
 }
 
 /// Puts so many systems of their own names into a store, each with the files of base 2.
-fn put_systems(alloc: Global, store: &mut MemStore, count: u32) -> Result<(), NoAnswer> {
+fn put_systems(rt: &impl Abort, alloc: Global, store: &mut MemStore, count: u32) {
     for number in 0..count {
-        let name = format!(in alloc; "msd_s{number}")?;
-        store.put(Folder::Bases, name.as_str(), BINARY.as_bytes())?;
-        let adder = format!(in alloc; "{}_addition", name.as_str())?;
-        store.put(Folder::Bases, adder.as_str(), CARRIES.as_bytes())?;
+        let name = given(rt, format!(in alloc; "msd_s{number}"));
+        given(
+            rt,
+            store.put(Folder::Bases, name.as_str(), BINARY.as_bytes()),
+        );
+        let adder = given(rt, format!(in alloc; "{}_addition", name.as_str()));
+        given(
+            rt,
+            store.put(Folder::Bases, adder.as_str(), CARRIES.as_bytes()),
+        );
     }
-    Ok(())
 }
 
 /// Names each of so many systems in turn.
 fn name_each(
+    rt: &impl Abort,
     alloc: Global,
     session: &mut Session,
     store: &mut MemStore,
     count: u32,
-) -> Result<(), NoAnswer> {
+) {
     for number in 0..count {
-        let command = format!(in alloc; "eval t \"?msd_s{number} 0=0\"")?;
+        let command = given(rt, format!(in alloc; "eval t \"?msd_s{number} 0=0\""));
         answer(alloc, session, store, command.as_str());
     }
-    Ok(())
 }
 
 /// How many kept results are used where each of so many systems is named, and then each again.
-fn used_of_systems(alloc: Global, count: u32) -> Result<u64, NoAnswer> {
+fn used_of_systems(rt: &impl Abort, alloc: Global, count: u32) -> u64 {
     let mut store = MemStore::new(alloc, Vec::new(alloc));
-    put_systems(alloc, &mut store, count)?;
+    put_systems(rt, alloc, &mut store, count);
     let mut session = Session::new(alloc, LIMIT);
-    name_each(alloc, &mut session, &mut store, count)?;
-    name_each(alloc, &mut session, &mut store, count)?;
-    Ok(session.reused())
+    name_each(rt, alloc, &mut session, &mut store, count);
+    name_each(rt, alloc, &mut session, &mut store, count);
+    session.reused()
 }
 
 /// Puts so many definitions of their own names into a store.
-fn put_definitions(alloc: Global, store: &mut MemStore, count: u32) -> Result<(), NoAnswer> {
+fn put_definitions(rt: &impl Abort, alloc: Global, store: &mut MemStore, count: u32) {
     for number in 0..count {
-        let name = format!(in alloc; "d{number}")?;
-        store.put(Folder::Automata, name.as_str(), b"msd_2\n0 1\n0 -> 0\n")?;
+        let name = given(rt, format!(in alloc; "d{number}"));
+        given(
+            rt,
+            store.put(Folder::Automata, name.as_str(), b"msd_2\n0 1\n0 -> 0\n"),
+        );
     }
-    Ok(())
 }
 
 /// Calls each of so many definitions in turn.
 fn call_each(
+    rt: &impl Abort,
     alloc: Global,
     session: &mut Session,
     store: &mut MemStore,
     count: u32,
-) -> Result<(), NoAnswer> {
+) {
     for number in 0..count {
-        let command = format!(in alloc; "eval t \"$d{number}(0)\"")?;
+        let command = given(rt, format!(in alloc; "eval t \"$d{number}(0)\""));
         answer(alloc, session, store, command.as_str());
     }
-    Ok(())
 }
 
 /// How many kept results are used where each of so many definitions is called, and then each again.
-fn used_of_definitions(alloc: Global, count: u32) -> Result<u64, NoAnswer> {
+fn used_of_definitions(rt: &impl Abort, alloc: Global, count: u32) -> u64 {
     let mut store = MemStore::new(alloc, Vec::new(alloc));
-    put_definitions(alloc, &mut store, count)?;
+    put_definitions(rt, alloc, &mut store, count);
     let mut session = Session::new(alloc, LIMIT);
-    call_each(alloc, &mut session, &mut store, count)?;
-    call_each(alloc, &mut session, &mut store, count)?;
-    Ok(session.reused())
-}
-
-/// Asserts that so many kept results are used.
-fn expect_used(rt: &impl Abort, row: &str, found: &Result<u64, NoAnswer>, wanted: u64) {
-    let found = match found {
-        Ok(count) => *count,
-        Err(_) => u64::MAX,
-    };
-    expect(rt, row, &found, &wanted);
+    call_each(rt, alloc, &mut session, &mut store, count);
+    call_each(rt, alloc, &mut session, &mut store, count);
+    session.reused()
 }
 
 #[test]
 fn no_more_than_64_systems_are_kept(rt: HostRuntime) {
-    expect_used(&rt, "64", &used_of_systems(rt.alloc(), 64), 64);
-    expect_used(&rt, "65", &used_of_systems(rt.alloc(), 65), 64);
+    expect(&rt, "64", &used_of_systems(&rt, rt.alloc(), 64), &64);
+    expect(&rt, "65", &used_of_systems(&rt, rt.alloc(), 65), &64);
 }
 
 #[test]
 fn no_more_than_256_definitions_are_kept(rt: HostRuntime) {
-    expect_used(&rt, "256", &used_of_definitions(rt.alloc(), 256), 256);
-    expect_used(&rt, "257", &used_of_definitions(rt.alloc(), 257), 256);
+    expect(&rt, "256", &used_of_definitions(&rt, rt.alloc(), 256), &256);
+    expect(&rt, "257", &used_of_definitions(&rt, rt.alloc(), 257), &256);
 }
 
 /// How many kept systems were used after a system was admitted under each of these limits in turn, each after a blank.
-fn used_under(alloc: Global, limits: &[u32]) -> Result<String, NoAnswer> {
-    let mut store = store_of(alloc, files(), 0)?;
-    let names = vec![in alloc; Name::new(alloc, "msd_X")?]?;
+fn used_under(rt: &impl Abort, alloc: Global, limits: &[u32]) -> String {
+    let mut store = store_of(rt, alloc, files(), 0);
+    let names = given(rt, vec![in alloc; given(rt, Name::new(alloc, "msd_X"))]);
     let mut kept = KeptSystems::new(alloc);
     let mut text = String::new(alloc);
     for limit in limits {
         let Ok(users) = UserSystems::admitted(alloc, *limit, &names, &mut kept, &mut store) else {
-            return Err(NoAnswer);
+            return no_answer(rt);
         };
         drop(users);
-        text.push_str(&format!(in alloc; " {}", kept.reused())?)?;
+        given(
+            rt,
+            text.push_str(&given(rt, format!(in alloc; " {}", kept.reused()))),
+        );
     }
-    Ok(text)
+    text
 }
 
 #[test]
 fn a_system_is_admitted_anew_under_another_limit(rt: HostRuntime) {
-    let found = used_under(rt.alloc(), &[100, 50, 100, 50]);
+    let found = used_under(&rt, rt.alloc(), &[100, 50, 100, 50]);
     expect_counts(&rt, "msd_X", &found, " 0 0 1 2");
 }

@@ -1,13 +1,12 @@
 //! Automata that language commands read.
 
-use crate::given::FileRow;
-use wal_outside::Folder;
+use crate::tables::files;
 
 /// Automata over `{0,1}`: `ab` is 0*1, `none` has no word, `empty` the empty word alone, `zeros` is 0*, `some` 00*, `one` the word 1,
 /// `end` has the words whose last letter but one is 1, from a table with two transitions of one letter, and `two` those of two
 /// letters. `d` is over three letters, `pairs` over two tracks, `even` and `far` over systems, `yes` and `no` over none;
 /// `broken` and `late` break the format, and `wide` and `large` have too many tracks and letters.
-static LANGUAGES: [FileRow; 18] = [
+const LANGUAGES: &str = files![
     (Folder::Automata, "ab", "{0,1}\n0 0\n0 -> 0\n1 -> 1\n1 1\n"),
     (Folder::Automata, "none", "{0,1}\n0 0\n"),
     (Folder::Automata, "empty", "{0,1}\n0 1\n"),
@@ -57,12 +56,12 @@ static LANGUAGES: [FileRow; 18] = [
 ];
 
 /// The files in `LANGUAGES`.
-pub fn languages() -> &'static [FileRow] {
-    &LANGUAGES
+pub fn languages() -> &'static str {
+    LANGUAGES
 }
 
 /// The words whose last letter but four is 1, from a table with two transitions of one letter.
-pub static FIFTH: [FileRow; 1] = [(
+pub const FIFTH: &str = files![(
     Folder::Automata,
     "fifth",
     "{0,1}\n0 0\n* -> 0\n1 -> 1\n1 0\n* -> 2\n2 0\n* -> 3\n3 0\n* -> 4\n4 0\n* -> 5\n5 1\n",

@@ -90,12 +90,12 @@ const WITHIN_33: &str = table![(
 #[test]
 fn languages_past_the_limit_are_refused(rt: HostRuntime) {
     let alloc = rt.alloc();
-    expect_scripts(&rt, alloc, &FIFTH, "walnut --states 20", WITHIN_20);
-    expect_scripts(&rt, alloc, &FIFTH, "walnut --states 21", WITHIN_21);
-    expect_scripts(&rt, alloc, &FIFTH, "walnut --states 30", WITHIN_30);
-    expect_scripts(&rt, alloc, &FIFTH, "walnut --states 31", WITHIN_31);
-    expect_scripts(&rt, alloc, &FIFTH, "walnut --states 32", WITHIN_32);
-    expect_scripts(&rt, alloc, &FIFTH, "walnut --states 33", WITHIN_33);
+    expect_scripts(&rt, alloc, FIFTH, "walnut --states 20", WITHIN_20);
+    expect_scripts(&rt, alloc, FIFTH, "walnut --states 21", WITHIN_21);
+    expect_scripts(&rt, alloc, FIFTH, "walnut --states 30", WITHIN_30);
+    expect_scripts(&rt, alloc, FIFTH, "walnut --states 31", WITHIN_31);
+    expect_scripts(&rt, alloc, FIFTH, "walnut --states 32", WITHIN_32);
+    expect_scripts(&rt, alloc, FIFTH, "walnut --states 33", WITHIN_33);
 }
 
 /// The reversal of a language whose last letter but eleven is 1 has 4096 states.
@@ -103,11 +103,11 @@ static REVERSED: &str = "reg a {0,1} \"...........1.*\"; reverse r a:";
 
 #[test]
 fn a_reversal_has_its_width_as_limit(rt: HostRuntime) {
-    let exact = run_given(rt.alloc(), &[], "walnut --states 4096", REVERSED);
+    let exact = run_given(&rt, rt.alloc(), "", "walnut --states 4096", REVERSED);
     let printed = "step 1 read 14 13\nstep 2 reverse 4096 4096\n";
     expect_printed(&rt, "exact", &exact, printed);
     expect(&rt, "exact", &ended(&exact), &(0, 2));
-    let less = run_given(rt.alloc(), &[], "walnut --states 4095", REVERSED);
+    let less = run_given(&rt, rt.alloc(), "", "walnut --states 4095", REVERSED);
     expect_printed(&rt, "less", &less, "error 1: F19 States step 2\n");
     expect(&rt, "less", &ended(&less), &(1, 1));
 }
@@ -124,7 +124,13 @@ static FAILING: [(u64, &str, u8, usize); 4] = [
 #[test]
 fn each_file_of_a_language_command_is_read_once(rt: HostRuntime) {
     for (failing, printed, code, count) in &FAILING {
-        let ran = run_failing(rt.alloc(), languages(), "union m ab ab one ab;", *failing);
+        let ran = run_failing(
+            &rt,
+            rt.alloc(),
+            languages(),
+            "union m ab ab one ab;",
+            *failing,
+        );
         expect_printed(&rt, printed, &ran, printed);
         expect(&rt, printed, &ended(&ran), &(*code, *count));
     }

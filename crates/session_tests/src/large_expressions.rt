@@ -1,7 +1,9 @@
 //! Expressions with large automata: the lines of their steps.
 
+use crate::answers::given;
 use crate::whole::{Ran, expect_printed, expect_stored, run_script};
 use std::alloc::Global;
+use std::process::Abort;
 use wal_outside::Folder;
 
 /// An expression, and the line of its one step.
@@ -51,30 +53,38 @@ static ROWS: [LargeRow; 4] = [
 ];
 
 /// Runs the `reg` of a row.
-fn run_row(alloc: Global, row: &LargeRow) -> Ran {
+fn run_row(rt: &impl Abort, alloc: Global, row: &LargeRow) -> Ran {
     let LargeRow {
         sets,
         before,
         after,
         ..
     } = row;
-    let repeated = row.repeated.repeat(alloc, row.times)?;
-    let script = format!(in alloc; "reg p {sets} \"{before}{repeated}{after}\":")?;
-    run_script(alloc, script.as_bytes())
+    let repeated = given(rt, row.repeated.repeat(alloc, row.times));
+    let script = given(
+        rt,
+        format!(in alloc; "reg p {sets} \"{before}{repeated}{after}\":"),
+    );
+    run_script(rt, alloc, script.as_bytes())
 }
 
 #[test]
 fn large_automata_have_these_steps(rt: HostRuntime) {
     for row in &ROWS {
-        expect_printed(&rt, row.repeated, &run_row(rt.alloc(), row), row.printed);
+        expect_printed(
+            &rt,
+            row.repeated,
+            &run_row(&rt, rt.alloc(), row),
+            row.printed,
+        );
     }
 }
 
 /// Runs a `reg` of the empty word over sixteen tracks.
-fn run_empty_word(alloc: Global) -> Ran {
-    let sets = "{0,1} ".repeat(alloc, 16)?;
-    let script = format!(in alloc; "reg w {sets}\"()\";")?;
-    run_script(alloc, script.as_bytes())
+fn run_empty_word(rt: &impl Abort, alloc: Global) -> Ran {
+    let sets = given(rt, "{0,1} ".repeat(alloc, 16));
+    let script = given(rt, format!(in alloc; "reg w {sets}\"()\";"));
+    run_script(rt, alloc, script.as_bytes())
 }
 
 // The header, a blank line, and the one state without transitions.
@@ -82,6 +92,6 @@ fn run_empty_word(alloc: Global) -> Ran {
 fn the_empty_word_over_sixteen_tracks_has_no_transition(rt: HostRuntime) {
     let header =
         "{0,1} {0,1} {0,1} {0,1} {0,1} {0,1} {0,1} {0,1} {0,1} {0,1} {0,1} {0,1} {0,1} {0,1} {0,1} {0,1}\n\n0 1\n";
-    let ran = run_empty_word(rt.alloc());
+    let ran = run_empty_word(&rt, rt.alloc());
     expect_stored(&rt, &ran, (Folder::Automata, "w"), header);
 }

@@ -2,9 +2,9 @@
 //! stores that fail.
 #![tactic(auto)]
 
-// rows without an answer
+// what calls give, without their refusals
 #[cfg(test)]
-mod no_answer;
+mod answers;
 
 // tables as texts
 #[cfg(test)]

@@ -1,9 +1,6 @@
 //! Automata whose words are listed.
 
-use crate::given::FileRow;
-use crate::tribonacci_adder::TRIBONACCI_ADDER;
-use crate::user_system_files::{BINARY, CARRIES};
-use wal_outside::Folder;
+use crate::tables::files;
 
 /// Over systems: `lt` and `le` are x < y and x <= y, `z` is 0 alone, `even` the even numbers, `five` and `high` are single numbers, of which
 /// `high` is accepted after three zeros alone, `low` is 1 with a zero after it, `nothing` has no number, `naturals`, `fib`, `fibl` and `ten` have
@@ -12,7 +9,7 @@ use wal_outside::Folder;
 /// has the words whose last letter but one is 1, from a table with two transitions of one letter, `signed`, `pairs` and `bounds` have negative
 /// members, `round` is (00001)*, `plane` has sixteen tracks and `wide` seventeen. `broken`, `late` and `dashed` break the format, `far`
 /// and `large` are over systems that are not there, and `own`, `ownl`, `trib` and `wrong` over users' systems.
-static LISTED: [FileRow; 43] = [
+const LISTED: &str = files![
     (
         Folder::Automata,
         "lt",
@@ -135,19 +132,19 @@ static LISTED: [FileRow; 43] = [
 ];
 
 /// The files in `LISTED`.
-pub fn listed() -> &'static [FileRow] {
-    &LISTED
+pub fn listed() -> &'static str {
+    LISTED
 }
 
 /// The words whose last letter but four is 1, from a table with two transitions of one letter.
-pub static FIFTH: [FileRow; 1] = [(
+pub const FIFTH: &str = files![(
     Folder::Automata,
     "fifth",
     "{0,1}\n0 0\n* -> 0\n1 -> 1\n1 0\n* -> 2\n2 0\n* -> 3\n3 0\n* -> 4\n4 0\n* -> 5\n5 1\n",
 )];
 
 /// Two words, and the Tribonacci system.
-static WORDS: [FileRow; 4] = [
+const WORDS: &str = files![
     (
         Folder::Words,
         "T",
@@ -167,6 +164,6 @@ static WORDS: [FileRow; 4] = [
 ];
 
 /// The files in `WORDS`.
-pub fn words() -> &'static [FileRow] {
-    &WORDS
+pub fn words() -> &'static str {
+    WORDS
 }

@@ -1,6 +1,6 @@
 //! Listings of tuples below 40 beside plain arithmetic, of what other commands made, at their limits, and over stores that fail.
 
-use crate::given::{FailingRow, FileRow, expect_scripts, run_failing, run_given};
+use crate::given::{FailingRow, expect_scripts, run_failing, run_given};
 use crate::listing_files::{FIFTH, listed, words};
 use crate::tables::table;
 use crate::whole::{ended, expect, expect_printed, printed_in};
@@ -190,7 +190,7 @@ const MADE: &str = table![
 
 #[test]
 fn words_of_what_commands_made_are_listed(rt: HostRuntime) {
-    expect_scripts(&rt, rt.alloc(), &[], "walnut", MADE);
+    expect_scripts(&rt, rt.alloc(), "", "walnut", MADE);
 }
 
 /// Scripts under a limit of 31.
@@ -219,8 +219,8 @@ const WITHIN_32: &str = table![
 
 #[test]
 fn listings_past_the_limit_are_refused(rt: HostRuntime) {
-    expect_scripts(&rt, rt.alloc(), &FIFTH, "walnut --states 31", WITHIN_31);
-    expect_scripts(&rt, rt.alloc(), &FIFTH, "walnut --states 32", WITHIN_32);
+    expect_scripts(&rt, rt.alloc(), FIFTH, "walnut --states 31", WITHIN_31);
+    expect_scripts(&rt, rt.alloc(), FIFTH, "walnut --states 32", WITHIN_32);
 }
 
 /// A call of the store that fails, what is printed then, the status, and how many texts the store has.
@@ -247,12 +247,12 @@ static FAILING_SYSTEM: [FailingRow; 4] = [
 fn expect_failing_over(
     rt: &impl Abort,
     alloc: Global,
-    files: &[FileRow],
+    files: &str,
     script: &str,
     rows: &[FailingRow],
 ) {
     for (failing, printed, code, count) in rows {
-        let ran = run_failing(alloc, files, script, *failing);
+        let ran = run_failing(rt, alloc, files, script, *failing);
         expect_printed(rt, script, &ran, printed);
         expect(rt, script, &ended(&ran), &(*code, *count));
     }
@@ -275,10 +275,10 @@ static TOO_LONG: &str =
 
 #[test]
 fn lines_of_words_have_16777216_bytes_at_most(rt: HostRuntime) {
-    let exact = run_given(rt.alloc(), &[], "walnut", LONG);
+    let exact = run_given(&rt, rt.alloc(), "", "walnut", LONG);
     expect(&rt, "exact", &ended(&exact), &(0, 1));
     expect(&rt, "exact", &printed_in(&exact).len(), &16_777_216);
-    let more = run_given(rt.alloc(), &[], "walnut", TOO_LONG);
+    let more = run_given(&rt, rt.alloc(), "", "walnut", TOO_LONG);
     expect_printed(&rt, "more", &more, "error 1: F31 TestLong 16777216\n");
     expect(&rt, "more", &ended(&more), &(1, 1));
 }

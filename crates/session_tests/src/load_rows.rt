@@ -1,8 +1,11 @@
 //! Files of commands that scripts load, and ends of runs.
 
-use crate::given::{FailingRow, FileRow, run_failing, run_given, run_line_failing, run_outside};
+use crate::answers::given;
+use crate::given::{FailingRow, run_failing, run_given, run_line_failing, run_outside};
+use crate::tables::files;
 use crate::whole::{Outside, Ran, SURE, ended, expect, expect_printed, run_over};
 use std::alloc::Global;
+use std::process::Abort;
 use wal_outside::{Folder, MemStore};
 
 /// Which files of commands a store has.
@@ -21,18 +24,18 @@ enum Given {
 }
 
 /// The files that a store has.
-fn files_of(given: Given) -> &'static [FileRow] {
+fn files_of(given: Given) -> &'static str {
     match given {
-        Given::Nothing => &[],
-        Given::Eight => &EIGHT,
-        Given::Nine => &NINE,
-        Given::Faulty => &FAULTY,
-        Given::Open => &OPEN,
-        Given::Ending => &ENDING,
-        Given::Making => &MAKING,
-        Given::Itself => &ITSELF,
-        Given::Quitting => &QUITTING,
-        Given::TwoFaults => &TWO_FAULTS,
+        Given::Nothing => "",
+        Given::Eight => EIGHT,
+        Given::Nine => NINE,
+        Given::Faulty => FAULTY,
+        Given::Open => OPEN,
+        Given::Ending => ENDING,
+        Given::Making => MAKING,
+        Given::Itself => ITSELF,
+        Given::Quitting => QUITTING,
+        Given::TwoFaults => TWO_FAULTS,
     }
 }
 
@@ -40,7 +43,7 @@ fn files_of(given: Given) -> &'static [FileRow] {
 type LoadRow = (Given, &'static str, &'static str, u8, usize);
 
 /// Eight files, each of which loads the next.
-static EIGHT: [FileRow; 8] = [
+const EIGHT: &str = files![
     (Folder::Commands, "a1", "load a2;"),
     (Folder::Commands, "a2", "load a3;"),
     (Folder::Commands, "a3", "load a4;"),
@@ -52,7 +55,7 @@ static EIGHT: [FileRow; 8] = [
 ];
 
 /// The same, where the last one loads a ninth that is not there.
-static NINE: [FileRow; 8] = [
+const NINE: &str = files![
     (Folder::Commands, "a1", "load a2;"),
     (Folder::Commands, "a2", "load a3;"),
     (Folder::Commands, "a3", "load a4;"),
@@ -64,25 +67,25 @@ static NINE: [FileRow; 8] = [
 ];
 
 /// A file with faults on its own lines.
-static FAULTY: [FileRow; 1] = [(Folder::Commands, "c", "\n\nprove;\n def p \"x<\";")];
+const FAULTY: &str = files![(Folder::Commands, "c", "\n\nprove;\n def p \"x<\";")];
 
 /// A file that ends within a command.
-static OPEN: [FileRow; 1] = [(Folder::Commands, "c", "prove; eval t \"1=1")];
+const OPEN: &str = files![(Folder::Commands, "c", "prove; eval t \"1=1")];
 
 /// A file that loads one that ends the run.
-static ENDING: [FileRow; 2] = [
+const ENDING: &str = files![
     (Folder::Commands, "c", "load d; prove;"),
     (Folder::Commands, "d", "eval t \"1=1\"; exit; prove;"),
 ];
 
 /// A file that makes something.
-static MAKING: [FileRow; 1] = [(Folder::Commands, "c", "eval t \"1=1\";")];
+const MAKING: &str = files![(Folder::Commands, "c", "eval t \"1=1\";")];
 
 /// A file that loads itself.
-static ITSELF: [FileRow; 1] = [(Folder::Commands, "l", "load l;")];
+const ITSELF: &str = files![(Folder::Commands, "l", "load l;")];
 
 /// A file that ends the run at once.
-static QUITTING: [FileRow; 1] = [(Folder::Commands, "c", "quit")];
+const QUITTING: &str = files![(Folder::Commands, "c", "quit")];
 
 /// Loads and ends.
 static ROWS: [LoadRow; 14] = [
@@ -165,7 +168,7 @@ static ROWS: [LoadRow; 14] = [
 #[test]
 fn files_are_loaded_and_runs_end_as_listed(rt: HostRuntime) {
     for (given, script, printed, code, count) in &ROWS {
-        let ran = run_given(rt.alloc(), files_of(*given), "walnut", script);
+        let ran = run_given(&rt, rt.alloc(), files_of(*given), "walnut", script);
         expect_printed(&rt, script, &ran, printed);
         expect(&rt, script, &ended(&ran), &(*code, *count));
     }
@@ -182,7 +185,7 @@ fn loads_are_the_same_where_bytes_come_and_go_one_by_one(rt: HostRuntime) {
         ..SURE
     };
     for (given, script, printed, code, count) in &ROWS {
-        let ran = run_outside(rt.alloc(), files_of(*given), script, &outside);
+        let ran = run_outside(&rt, rt.alloc(), files_of(*given), script, &outside);
         expect_printed(&rt, script, &ran, printed);
         expect(&rt, script, &ended(&ran), &(*code, *count));
     }
@@ -204,14 +207,14 @@ static FAILING: [FailingRow; 6] = [
 #[test]
 fn each_store_call_of_a_load_may_fail(rt: HostRuntime) {
     for (failing, printed, code, count) in &FAILING {
-        let ran = run_failing(rt.alloc(), &MAKING, TWICE, *failing);
+        let ran = run_failing(&rt, rt.alloc(), MAKING, TWICE, *failing);
         expect_printed(&rt, printed, &ran, printed);
         expect(&rt, printed, &ended(&ran), &(*code, *count));
     }
 }
 
 /// A file with two faults.
-static TWO_FAULTS: [FileRow; 1] = [(Folder::Commands, "c", "prove a; prove c;")];
+const TWO_FAULTS: &str = files![(Folder::Commands, "c", "prove a; prove c;")];
 
 /// Runs that end with the first refusal.
 static STOPPING: [LoadRow; 9] = [
@@ -271,7 +274,7 @@ static STOPPING: [LoadRow; 9] = [
 #[test]
 fn runs_stop_at_the_first_refusal_as_listed(rt: HostRuntime) {
     for (given, script, printed, code, count) in &STOPPING {
-        let ran = run_given(rt.alloc(), files_of(*given), "walnut --stop", script);
+        let ran = run_given(&rt, rt.alloc(), files_of(*given), "walnut --stop", script);
         expect_printed(&rt, script, &ran, printed);
         expect(&rt, script, &ended(&ran), &(*code, *count));
     }
@@ -288,19 +291,22 @@ static STOPPED: [FailingRow; 4] = [
 #[test]
 fn a_store_that_fails_stops_a_run(rt: HostRuntime) {
     for (failing, printed, code, count) in &STOPPED {
-        let ran = run_line_failing(rt.alloc(), &MAKING, "walnut --stop", TWICE, *failing);
+        let ran = run_line_failing(&rt, rt.alloc(), MAKING, ("walnut --stop", TWICE), *failing);
         expect_printed(&rt, printed, &ran, printed);
         expect(&rt, printed, &ended(&ran), &(*code, *count));
     }
 }
 
 /// Runs a script over a store with a file `c` of so many blanks, and perhaps a file `d` that loads it.
-fn run_blanks(alloc: Global, script: &str, length: usize) -> Ran {
-    let blanks = " ".repeat(alloc, length)?;
+fn run_blanks(rt: &impl Abort, alloc: Global, script: &str, length: usize) -> Ran {
+    let blanks = given(rt, " ".repeat(alloc, length));
     let mut store = MemStore::new(alloc, Vec::new(alloc));
-    store.put(Folder::Commands, "c", blanks.as_bytes())?;
-    store.put(Folder::Commands, "d", b"prove;\n load c; prove;")?;
-    run_over(alloc, "walnut", script.as_bytes(), &SURE, store)
+    given(rt, store.put(Folder::Commands, "c", blanks.as_bytes()));
+    given(
+        rt,
+        store.put(Folder::Commands, "d", b"prove;\n load c; prove;"),
+    );
+    run_over(rt, alloc, "walnut", (script.as_bytes(), &SURE), store)
 }
 
 /// Scripts over a file of so many bytes, what they print, and the status.
@@ -325,7 +331,7 @@ static LIMITS: [(&str, usize, &str, u8); 5] = [
 #[test]
 fn bytes_of_scripts_and_of_files_count_together(rt: HostRuntime) {
     for (script, length, printed, code) in &LIMITS {
-        let ran = run_blanks(rt.alloc(), script, *length);
+        let ran = run_blanks(&rt, rt.alloc(), script, *length);
         expect_printed(&rt, script, &ran, printed);
         expect(&rt, script, &ended(&ran), &(*code, 2));
     }

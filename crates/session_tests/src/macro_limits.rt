@@ -1,11 +1,12 @@
 //! Macros at their limits, in long texts, and over stores that fail.
 
+use crate::answers::given;
 use crate::given::{FailingRow, expect_failing, run_given};
 use crate::macro_rows::macros;
-use crate::no_answer::NoAnswer;
 use crate::tables::{ROW_END, first_field, table};
 use crate::whole::{Ran, SURE, expect_printed, run_over};
 use std::alloc::Global;
+use std::process::Abort;
 use wal_outside::{Folder, MemStore, TEXT_LIMIT};
 
 /// What calls within one another open with, how many they are, what is inside, and what is printed.
@@ -116,61 +117,61 @@ static FAILING: [FailingRow; 7] = [
 ];
 
 /// Runs the command that decides a formula of so many calls within one another.
-fn run_nested(alloc: Global, opened: &str, count: usize, inside: &str) -> Ran {
-    let calls = opened.repeat(alloc, count)?;
-    let closed = ")".repeat(alloc, count)?;
-    let script = format!(in alloc; "eval a \"{calls}{inside}{closed}\";")?;
-    run_given(alloc, macros(), "walnut", &script)
+fn run_nested(rt: &impl Abort, alloc: Global, opened: &str, count: usize, inside: &str) -> Ran {
+    let calls = given(rt, opened.repeat(alloc, count));
+    let closed = given(rt, ")".repeat(alloc, count));
+    let script = given(rt, format!(in alloc; "eval a \"{calls}{inside}{closed}\";"));
+    run_given(rt, alloc, macros(), "walnut", &script)
 }
 
 #[test]
 fn calls_nest_16_deep(rt: HostRuntime) {
     for (opened, count, inside, printed) in &NESTED {
-        let ran = run_nested(rt.alloc(), opened, *count, inside);
+        let ran = run_nested(&rt, rt.alloc(), opened, *count, inside);
         expect_printed(&rt, inside, &ran, printed);
     }
 }
 
 /// A store with two macros, an empty one and one with this text.
-fn store_with(alloc: Global, text: &[u8]) -> Result<MemStore, NoAnswer> {
+fn store_with(rt: &impl Abort, alloc: Global, text: &[u8]) -> MemStore {
     let mut store = MemStore::new(alloc, Vec::new(alloc));
-    store.put(Folder::Macros, "e", b"")?;
-    store.put(Folder::Macros, "m", text)?;
-    Ok(store)
+    given(rt, store.put(Folder::Macros, "e", b""));
+    given(rt, store.put(Folder::Macros, "m", text));
+    store
 }
 
 /// Runs the command that decides a formula, over such a store.
-fn run_with(alloc: Global, text: &[u8], formula: &str) -> Ran {
-    let store = store_with(alloc, text)?;
-    let script = format!(in alloc; "eval a \"{formula}\";")?;
-    run_over(alloc, "walnut", script.as_bytes(), &SURE, store)
+fn run_with(rt: &impl Abort, alloc: Global, text: &[u8], formula: &str) -> Ran {
+    let store = store_with(rt, alloc, text);
+    let script = given(rt, format!(in alloc; "eval a \"{formula}\";"));
+    run_over(rt, alloc, "walnut", (script.as_bytes(), &SURE), store)
 }
 
 /// Runs it where the macro is so many blanks.
-fn run_with_blanks(alloc: Global, length: usize, formula: &str) -> Ran {
-    let text = vec![in alloc; b' '; length]?;
-    run_with(alloc, &text, formula)
+fn run_with_blanks(rt: &impl Abort, alloc: Global, length: usize, formula: &str) -> Ran {
+    let text = given(rt, vec![in alloc; b' '; length]);
+    run_with(rt, alloc, &text, formula)
 }
 
 #[test]
 fn expanded_texts_have_at_most_65536_bytes(rt: HostRuntime) {
     for (length, formula, printed) in &LONG {
-        let ran = run_with_blanks(rt.alloc(), *length, formula);
+        let ran = run_with_blanks(&rt, rt.alloc(), *length, formula);
         expect_printed(&rt, formula, &ran, printed);
     }
 }
 
 /// Runs it where the macro is 16,383 calls.
-fn run_with_calls(alloc: Global, formula: &str) -> Ran {
-    let text = "#e()".repeat(alloc, 16383)?;
-    run_with(alloc, text.as_bytes(), formula)
+fn run_with_calls(rt: &impl Abort, alloc: Global, formula: &str) -> Ran {
+    let text = given(rt, "#e()".repeat(alloc, 16383));
+    run_with(rt, alloc, text.as_bytes(), formula)
 }
 
 #[test]
 fn a_command_has_at_most_65536_calls(rt: HostRuntime) {
     for row in CALLS.split_terminator(ROW_END) {
         let (formula, printed) = first_field(row);
-        let ran = run_with_calls(rt.alloc(), formula);
+        let ran = run_with_calls(&rt, rt.alloc(), formula);
         expect_printed(&rt, formula, &ran, printed);
     }
 }

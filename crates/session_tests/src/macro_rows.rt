@@ -1,11 +1,10 @@
 //! Macros in commands: what is printed and stored of scripts with calls of macros.
 
-use crate::given::{FileRow, expect_scripts, expect_texts};
-use crate::tables::table;
-use wal_outside::Folder;
+use crate::given::{expect_scripts, expect_texts};
+use crate::tables::{files, table};
 
 /// The macros that the scripts call, the Thue-Morse word, and the pairs of which the first number is the smaller one.
-static MACROS: [FileRow; 28] = [
+const MACROS: &str = files![
     (Folder::Macros, "dbl", "%0=2*%1"),
     (Folder::Macros, "two", "%0 & %0"),
     (Folder::Macros, "s", "#s()"),
@@ -53,8 +52,8 @@ static MACROS: [FileRow; 28] = [
 ];
 
 /// The files in `MACROS`.
-pub fn macros() -> &'static [FileRow] {
-    &MACROS
+pub fn macros() -> &'static str {
+    MACROS
 }
 
 /// Scripts with calls that expand to formulas.

@@ -42,7 +42,7 @@ static MADE: [(&str, &str, u8, usize); 6] = [
 #[test]
 fn generated_scripts_are_summed_up_as_listed(rt: HostRuntime) {
     for (line, printed, code, count) in &MADE {
-        let ran = run_line(rt.alloc(), line, SCRIPT, &SURE);
+        let ran = run_line(&rt, rt.alloc(), line, SCRIPT, &SURE);
         expect_printed(&rt, line, &ran, printed);
         expect(&rt, line, &ended(&ran), &(*code, *count));
     }
@@ -56,7 +56,7 @@ const UNREADABLE: Outside = Outside {
 
 #[test]
 fn the_script_is_not_read_where_there_is_a_seed(rt: HostRuntime) {
-    let ran = run_line(rt.alloc(), "walnut --make 0", SCRIPT, &UNREADABLE);
+    let ran = run_line(&rt, rt.alloc(), "walnut --make 0", SCRIPT, &UNREADABLE);
     expect_printed(&rt, "unreadable", &ran, LINE);
     expect(&rt, "unreadable", &ended(&ran), &(0, 200));
 }
@@ -75,7 +75,7 @@ static FAILING: [FailingRow; 2] = [
 #[test]
 fn a_store_that_fails_refuses_commands_of_a_generated_script(rt: HostRuntime) {
     for (failing, printed, code, count) in &FAILING {
-        let ran = run_line_failing(rt.alloc(), &[], "walnut --make 0", "", *failing);
+        let ran = run_line_failing(&rt, rt.alloc(), "", ("walnut --make 0", ""), *failing);
         expect_printed(&rt, printed, &ran, printed);
         expect(&rt, printed, &ended(&ran), &(*code, *count));
     }
@@ -84,7 +84,7 @@ fn a_store_that_fails_refuses_commands_of_a_generated_script(rt: HostRuntime) {
 #[test]
 fn a_store_that_fails_stops_a_generated_script(rt: HostRuntime) {
     let line = "walnut --make 18446744073709551615 --stop";
-    let ran = run_line_failing(rt.alloc(), &[], line, "", 1);
+    let ran = run_line_failing(&rt, rt.alloc(), "", (line, ""), 1);
     let printed = "made 18446744073709551615 commands 1 true 0 false 0 other 0 refused 1\n";
     expect_printed(&rt, line, &ran, printed);
     expect(&rt, line, &ended(&ran), &(3, 0));
@@ -101,6 +101,7 @@ static CUT: [(&[usize], &[u64], &str); 3] = [
 fn a_sink_that_fails_cuts_the_line(rt: HostRuntime) {
     for (writes, failing, printed) in &CUT {
         let ran = run_line(
+            &rt,
             rt.alloc(),
             "walnut --make 0",
             SCRIPT,

@@ -1,9 +1,11 @@
 //! Files of rules that somebody wrote.
 
-use crate::given::{expect_end, run_given};
+use crate::answers::given;
+use crate::given::{expect_end, run_with};
 use crate::tables::{ROW_END, first_field, table};
 use crate::whole::{Ran, SURE, expect_printed, run_over};
 use std::alloc::Global;
+use std::process::Abort;
 use wal_outside::{Folder, MemStore, TEXT_LIMIT};
 
 /// Files of rules, what is printed where the fixed point is asked for, the status, and how many texts the store has then.
@@ -170,9 +172,8 @@ const READ: &str = table![
 ];
 
 /// Asks for the fixed point of a file of rules.
-fn promote_file(alloc: Global, text: &'static str) -> Ran {
-    let files = [(Folder::Morphisms, "x", text)];
-    run_given(alloc, &files, "walnut", "promote P x;")
+fn promote_file(rt: &impl Abort, alloc: Global, text: &'static str) -> Ran {
+    run_with(rt, alloc, (Folder::Morphisms, "x", text), "promote P x;")
 }
 
 #[test]
@@ -180,23 +181,23 @@ fn faults_of_files_of_rules_are_reported_by_line(rt: HostRuntime) {
     for row in READ.split_terminator(ROW_END) {
         let (text, rest) = first_field(row);
         let (printed, end) = first_field(rest);
-        let ran = promote_file(rt.alloc(), text);
+        let ran = promote_file(&rt, rt.alloc(), text);
         expect_printed(&rt, text, &ran, printed);
         expect_end(&rt, text, &ran, end);
     }
 }
 
 /// Asks for the fixed point of a file of so many line ends.
-fn promote_long(alloc: Global, length: usize) -> Ran {
-    let text = vec![in alloc; b'\n'; length]?;
+fn promote_long(rt: &impl Abort, alloc: Global, length: usize) -> Ran {
+    let text = given(rt, vec![in alloc; b'\n'; length]);
     let mut store = MemStore::new(alloc, Vec::new(alloc));
-    store.put(Folder::Morphisms, "x", &text)?;
-    run_over(alloc, "walnut", b"promote P x;", &SURE, store)
+    given(rt, store.put(Folder::Morphisms, "x", &text));
+    run_over(rt, alloc, "walnut", (b"promote P x;", &SURE), store)
 }
 
 #[test]
 fn files_of_rules_have_at_most_16777216_bytes(rt: HostRuntime) {
-    let long = promote_long(rt.alloc(), TEXT_LIMIT + 1);
+    let long = promote_long(&rt, rt.alloc(), TEXT_LIMIT + 1);
     let printed = "error 1: F12 File Morphism Library/x too long\n";
     expect_printed(&rt, "too long", &long, printed);
 }

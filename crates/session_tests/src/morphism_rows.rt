@@ -585,10 +585,10 @@ const FAULTS: &str = table![
 
 #[test]
 fn rules_are_stored_by_ascending_letter(rt: HostRuntime) {
-    expect_texts(&rt, rt.alloc(), &[], STORED);
+    expect_texts(&rt, rt.alloc(), "", STORED);
 }
 
 #[test]
 fn rules_have_their_first_fault(rt: HostRuntime) {
-    expect_scripts(&rt, rt.alloc(), &[], "walnut", FAULTS);
+    expect_scripts(&rt, rt.alloc(), "", "walnut", FAULTS);
 }

@@ -1,12 +1,11 @@
 //! Words that lack letters: what their files say in formulas, and what commands make of them.
 
-use crate::given::{FileRow, expect_scripts, expect_texts};
-use crate::tables::table;
-use wal_outside::Folder;
+use crate::given::{expect_scripts, expect_texts};
+use crate::tables::{files, table};
 
 /// `G` has a letter at 0 alone, `P` at 1 alone, `H` at 0 and at numbers whose digits are all 1, and `N` nowhere. `b` is no
 /// relation's file, and `msd_x` no file of a language.
-static FILES: [FileRow; 7] = [
+const FILES: &str = files![
     (Folder::Words, "G", "msd_2\n0 5\n0 -> 0\n"),
     (Folder::Words, "P", "msd_2\n0 -\n0 -> 0\n1 -> 1\n1 7\n"),
     (
@@ -124,10 +123,10 @@ const STORED: &str = table![
 
 #[test]
 fn words_that_lack_letters_are_read_as_listed(rt: HostRuntime) {
-    expect_scripts(&rt, rt.alloc(), &FILES, "walnut", PRINTED);
+    expect_scripts(&rt, rt.alloc(), FILES, "walnut", PRINTED);
 }
 
 #[test]
 fn images_and_lists_of_words_that_lack_letters_are_stored(rt: HostRuntime) {
-    expect_texts(&rt, rt.alloc(), &FILES, STORED);
+    expect_texts(&rt, rt.alloc(), FILES, STORED);
 }

@@ -1,9 +1,11 @@
 //! Fixed points of morphisms as commands make them: the line of the step, what is stored, and why there is none.
 
+use crate::answers::given;
 use crate::given::{expect_scripts, run_given};
 use crate::tables::table;
 use crate::whole::{Ran, ended, expect, expect_printed};
 use std::alloc::Global;
+use std::process::Abort;
 
 /// Morphisms whose fixed points are asked for, with the steps. The width is that of the letters that occur.
 const SHOWN: &str = table![
@@ -528,24 +530,24 @@ static LIMITS: [(u32, &str, &str, u8, usize); 8] = [
 
 #[test]
 fn fixed_points_show_their_step(rt: HostRuntime) {
-    expect_scripts(&rt, rt.alloc(), &[], "walnut", SHOWN);
+    expect_scripts(&rt, rt.alloc(), "", "walnut", SHOWN);
 }
 
 #[test]
 fn morphisms_without_a_fixed_point_are_refused_by_their_kind(rt: HostRuntime) {
-    expect_scripts(&rt, rt.alloc(), &[], "walnut", REFUSED);
+    expect_scripts(&rt, rt.alloc(), "", "walnut", REFUSED);
 }
 
 /// Runs a script where no step may be wider than this.
-fn run_within(alloc: Global, limit: u32, script: &str) -> Ran {
-    let line = format!(in alloc; "walnut --states {limit}")?;
-    run_given(alloc, &[], &line, script)
+fn run_within(rt: &impl Abort, alloc: Global, limit: u32, script: &str) -> Ran {
+    let line = given(rt, format!(in alloc; "walnut --states {limit}"));
+    run_given(rt, alloc, "", &line, script)
 }
 
 #[test]
 fn the_step_has_the_limit_of_all(rt: HostRuntime) {
     for (limit, script, printed, code, count) in &LIMITS {
-        let ran = run_within(rt.alloc(), *limit, script);
+        let ran = run_within(&rt, rt.alloc(), *limit, script);
         expect_printed(&rt, script, &ran, printed);
         expect(&rt, script, &ended(&ran), &(*code, *count));
     }

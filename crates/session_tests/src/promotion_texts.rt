@@ -154,5 +154,5 @@ const STORED: &str = table![
 
 #[test]
 fn fixed_points_are_stored_as_words(rt: HostRuntime) {
-    expect_texts(&rt, rt.alloc(), &[], STORED);
+    expect_texts(&rt, rt.alloc(), "", STORED);
 }

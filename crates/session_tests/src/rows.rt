@@ -1,5 +1,6 @@
 //! Scripts with what they print, their status and, where a name is given, what is under it.
 
+use crate::answers::given;
 use crate::command_rows::COMMANDS;
 use crate::fibonacci_rows::FIBONACCI;
 use crate::set_rows::SETS;
@@ -27,7 +28,7 @@ fn expressions_over_systems_print_and_store_as_listed(rt: HostRuntime) {
 
 fn expect_rows(rt: &impl Abort, alloc: Global, rows: &str) {
     for row in rows.split_terminator(ROW_END) {
-        expect_row(rt, row, &run_script(alloc, script_of(row).as_bytes()));
+        expect_row(rt, row, &run_script(rt, alloc, script_of(row).as_bytes()));
     }
 }
 
@@ -55,7 +56,7 @@ pub fn expect_row(rt: &impl Abort, row: &str, ran: &Ran) {
 // Each command of a script stores under its own name.
 #[test]
 fn each_command_stores_its_text(rt: HostRuntime) {
-    let ran = run_script(rt.alloc(), b"reg a {0} \"0\"; reg b {0} \"00\";");
+    let ran = run_script(&rt, rt.alloc(), b"reg a {0} \"0\"; reg b {0} \"00\";");
     expect(&rt, "two commands", &code_of(&ran), &0);
     expect(&rt, "a", &is_stored(&ran, Folder::Automata, "a"), &true);
     let text = "{0}\n\n0 0\n0 -> 1\n\n1 0\n0 -> 2\n\n2 1\n";
@@ -77,9 +78,9 @@ const PAIRS: &str = table![
 ];
 
 /// A run that stores the automaton of an expression over {0,1}.
-fn run_expression(alloc: Global, expression: &str) -> Ran {
-    let script = format!(in alloc; "reg a {{0,1}} \"{expression}\";")?;
-    run_script(alloc, script.as_bytes())
+fn run_expression(rt: &impl Abort, alloc: Global, expression: &str) -> Ran {
+    let script = given(rt, format!(in alloc; "reg a {{0,1}} \"{expression}\";"));
+    run_script(rt, alloc, script.as_bytes())
 }
 
 fn expect_one_text(rt: &impl Abort, row: &str, one: &Ran, other: &Ran) {
@@ -92,7 +93,7 @@ fn expect_one_text(rt: &impl Abort, row: &str, one: &Ran, other: &Ran) {
 fn one_language_has_one_text(rt: HostRuntime) {
     for row in PAIRS.split_terminator(ROW_END) {
         let (first, second) = first_field(row);
-        let one = run_expression(rt.alloc(), first);
-        expect_one_text(&rt, first, &one, &run_expression(rt.alloc(), second));
+        let one = run_expression(&rt, rt.alloc(), first);
+        expect_one_text(&rt, first, &one, &run_expression(&rt, rt.alloc(), second));
     }
 }

@@ -265,7 +265,7 @@ static LIMITED: [Limited; 7] = [
 #[test]
 fn steps_keep_to_the_limit_of_states(rt: HostRuntime) {
     for row in &LIMITED {
-        let ran = run_line(rt.alloc(), row.line, row.script.as_bytes(), &SURE);
+        let ran = run_line(&rt, rt.alloc(), row.line, row.script.as_bytes(), &SURE);
         expect_printed(&rt, row.script, &ran, row.printed);
         let stored = usize::from(row.code == 0);
         expect(&rt, row.script, &ended(&ran), &(row.code, stored));

@@ -34,11 +34,38 @@ macro_rules! table {
 
 pub(crate) use table;
 
+/// The text of a list of files: rows of a folder, a name, and the text that is under it, which is a literal, or a constant that
+/// `text_named` knows.
+macro_rules! files {
+    ($((
+        Folder::$folder:ident,
+        $name:literal,
+        $($text:literal)?
+        $($named:ident)?
+        $(,)?
+    )),* $(,)?) => {
+        concat!($(
+            stringify!($folder),
+            "\u{1f}",
+            $name,
+            "\u{1f}",
+            $($text,)?
+            $("\u{1d}", stringify!($named),)?
+            "\u{1e}"
+        ),*)
+    };
+}
+
+pub(crate) use files;
+
 /// What ends a row of a table.
 pub const ROW_END: char = '\u{1e}';
 
 /// What is between the fields of a row.
 const FIELD_END: char = '\u{1f}';
+
+/// What comes before the name of a constant.
+const CONSTANT: char = '\u{1d}';
 
 /// The first field of a row, and those after it.
 pub fn first_field(row: &str) -> (&str, &str) {
@@ -49,6 +76,14 @@ pub fn first_field(row: &str) -> (&str, &str) {
 pub fn numbers_of(fields: &str) -> Option<(u8, usize)> {
     let (code, number) = first_field(fields);
     Some((code.parse().ok()?, number.parse().ok()?))
+}
+
+/// The name of a constant, if a field is one in place of a text.
+pub fn constant_in(field: &str) -> Option<&str> {
+    match field.split_once(CONSTANT) {
+        Some((_, name)) => Some(name),
+        None => None,
+    }
 }
 
 /// The folder of this name in the code, if there is one.

@@ -490,7 +490,13 @@ static FAILING: [FailingRow; 4] = [
 #[test]
 fn each_file_of_a_transducer_is_read_once(rt: HostRuntime) {
     for (failing, printed, code, count) in &FAILING {
-        let ran = run_failing(rt.alloc(), transduced(), "transduce S sum T;", *failing);
+        let ran = run_failing(
+            &rt,
+            rt.alloc(),
+            transduced(),
+            "transduce S sum T;",
+            *failing,
+        );
         expect_printed(&rt, printed, &ran, printed);
         expect(&rt, printed, &ended(&ran), &(*code, *count));
     }

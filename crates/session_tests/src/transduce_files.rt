@@ -1,8 +1,6 @@
 //! Words and transducers that make words of them.
 
-use crate::given::FileRow;
-use crate::user_system_files::{BINARY, CARRIES};
-use wal_outside::Folder;
+use crate::tables::files;
 
 /// Words: `T` is the Thue-Morse word, `D` the period-doubling word, `R` the Rudin-Shapiro word; `C` and `O` have the digit of 4 and
 /// of 8 in base 2; `M` is over base 3 and `V` over base 40; `N` has a negative letter; `G`, `H`, `P` and `Y` lack letters; `F`, `L`, `Q` and `U`
@@ -11,7 +9,7 @@ use wal_outside::Folder;
 /// `shift` the letters a position later; `stop` stops at the first 1 and `first` after it; `blanks` is `sum` with blanks, comments and other
 /// numbers, `star` counts in threes, `signs` has negative numbers, the sets of `apart`, `zeros` and `one` lack letters, `idle` has no
 /// transition, `more` a state to which none leads, and `digits` begins with a letter of its own.
-static TRANSDUCED: [FileRow; 43] = [
+const TRANSDUCED: &str = files![
     (
         Folder::Words,
         "C",
@@ -166,12 +164,12 @@ static TRANSDUCED: [FileRow; 43] = [
 ];
 
 /// The files in `TRANSDUCED`.
-pub fn transduced() -> &'static [FileRow] {
-    &TRANSDUCED
+pub fn transduced() -> &'static str {
+    TRANSDUCED
 }
 
 /// Transducers that break the format, and words.
-static BROKEN: [FileRow; 33] = [
+const BROKEN: &str = files![
     (Folder::Transducers, "f0", ""),
     (Folder::Transducers, "f1", "\n"),
     (Folder::Transducers, "f2", "# a\n\n"),
@@ -236,12 +234,12 @@ static BROKEN: [FileRow; 33] = [
 ];
 
 /// The files in `BROKEN`.
-pub fn broken() -> &'static [FileRow] {
-    &BROKEN
+pub fn broken() -> &'static str {
+    BROKEN
 }
 
 /// Transducers alone.
-static TRANSDUCERS: [FileRow; 5] = [
+const TRANSDUCERS: &str = files![
     (
         Folder::Transducers,
         "sum",
@@ -266,6 +264,6 @@ static TRANSDUCERS: [FileRow; 5] = [
 ];
 
 /// The files in `TRANSDUCERS`.
-pub fn transducers() -> &'static [FileRow] {
-    &TRANSDUCERS
+pub fn transducers() -> &'static str {
+    TRANSDUCERS
 }

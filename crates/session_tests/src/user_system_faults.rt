@@ -1,8 +1,11 @@
 //! Systems of users in commands: files that are none of a system, and stores that fail at files.
 
+use crate::answers::given;
+use crate::tables::{ROW_END, first_field, table};
 use crate::user_system_files::{BINARY, CARRIES, run_over_files};
 use crate::whole::{Ran, SURE, code_of, expect, expect_printed, run_over};
 use std::alloc::Global;
+use std::process::Abort;
 use wal_outside::{Folder, MemStore, TEXT_LIMIT};
 
 /// Languages and adders, and what is printed where they are asked.
@@ -168,7 +171,7 @@ static PAIRS: [(&str, &str, &str); 34] = [
 ];
 
 /// Scripts, the number of the store's call that fails, what is printed, and the status.
-static FAILING: [(&str, u64, &str, u8); 23] = [
+const FAILING: &str = table![
     (
         "def f \"?lsd_bin x=1\"; eval t \"$f(1)\";",
         1,
@@ -305,49 +308,58 @@ static FAILING: [(&str, u64, &str, u8); 23] = [
 ];
 
 /// Asks whether 6 is a double in the system of these two files.
-fn ask_files(alloc: Global, language: &[u8], adder: &[u8]) -> Ran {
+fn ask_files(rt: &impl Abort, alloc: Global, language: &[u8], adder: &[u8]) -> Ran {
     let mut store = MemStore::new(alloc, Vec::new(alloc));
-    store.put(Folder::Bases, "msd_X", language)?;
-    store.put(Folder::Bases, "msd_X_addition", adder)?;
+    given(rt, store.put(Folder::Bases, "msd_X", language));
+    given(rt, store.put(Folder::Bases, "msd_X_addition", adder));
     let script = b"eval a \"?msd_X Ex x+x=6\";";
-    run_over(alloc, "walnut", script, &SURE, store)
+    run_over(rt, alloc, "walnut", (script, &SURE), store)
 }
 
 #[test]
 fn files_of_systems_are_read_as_listed(rt: HostRuntime) {
     for (language, adder, printed) in &PAIRS {
-        let ran = ask_files(rt.alloc(), language.as_bytes(), adder.as_bytes());
+        let ran = ask_files(&rt, rt.alloc(), language.as_bytes(), adder.as_bytes());
         expect_printed(&rt, printed, &ran, printed);
     }
 }
 
 /// Asks it where the language is so many line ends.
-fn ask_long_language(alloc: Global, length: usize) -> Ran {
-    let text = vec![in alloc; b'\n'; length]?;
-    ask_files(alloc, &text, CARRIES.as_bytes())
+fn ask_long_language(rt: &impl Abort, alloc: Global, length: usize) -> Ran {
+    let text = given(rt, vec![in alloc; b'\n'; length]);
+    ask_files(rt, alloc, &text, CARRIES.as_bytes())
 }
 
 /// Asks it where the adder is so many line ends.
-fn ask_long_adder(alloc: Global, length: usize) -> Ran {
-    let text = vec![in alloc; b'\n'; length]?;
-    ask_files(alloc, BINARY.as_bytes(), &text)
+fn ask_long_adder(rt: &impl Abort, alloc: Global, length: usize) -> Ran {
+    let text = given(rt, vec![in alloc; b'\n'; length]);
+    ask_files(rt, alloc, BINARY.as_bytes(), &text)
 }
 
 #[test]
 fn files_of_systems_have_at_most_16777216_bytes(rt: HostRuntime) {
-    let language = ask_long_language(rt.alloc(), TEXT_LIMIT + 1);
+    let language = ask_long_language(&rt, rt.alloc(), TEXT_LIMIT + 1);
     let printed = "error 1: F12 File Custom Bases/msd_X too long\n";
     expect_printed(&rt, "a long language", &language, printed);
-    let adder = ask_long_adder(rt.alloc(), TEXT_LIMIT + 1);
+    let adder = ask_long_adder(&rt, rt.alloc(), TEXT_LIMIT + 1);
     let printed = "error 1: F12 File Custom Bases/msd_X_addition too long\n";
     expect_printed(&rt, "a long adder", &adder, printed);
 }
 
+/// Asserts that the script of a row prints this, and has this status, where a call of the store fails: the fields are the script, the
+/// number of the call, what is printed, and the status.
+fn expect_failing_at(rt: &impl Abort, alloc: Global, row: &str) {
+    let (script, rest) = first_field(row);
+    let (failing, rest) = first_field(rest);
+    let (printed, code) = first_field(rest);
+    let ran = run_over_files(rt, alloc, "walnut", script, given(rt, failing.parse()));
+    expect_printed(rt, script, &ran, printed);
+    expect(rt, script, &code_of(&ran), &given(rt, code.parse()));
+}
+
 #[test]
 fn a_store_that_fails_at_files_of_systems(rt: HostRuntime) {
-    for (script, failing, printed, code) in &FAILING {
-        let ran = run_over_files(rt.alloc(), "walnut", script, *failing);
-        expect_printed(&rt, script, &ran, printed);
-        expect(&rt, script, &code_of(&ran), code);
+    for row in FAILING.split_terminator(ROW_END) {
+        expect_failing_at(&rt, rt.alloc(), row);
     }
 }

@@ -1,15 +1,13 @@
 //! Files of users' systems, and runs over stores that hold them.
 
-use crate::no_answer::NoAnswer;
-use crate::tables::numbers_of;
+use crate::answers::given;
+use crate::given::put_files;
+use crate::tables::{files, numbers_of};
 use crate::tribonacci_adder::TRIBONACCI_ADDER;
 use crate::whole::{Ran, SURE, ended, expect, expect_bytes, run_over};
 use std::alloc::Global;
 use std::process::Abort;
 use wal_outside::{Folder, MemStore};
-
-/// A file, by its folder, its name and its text.
-type FileRow = (Folder, &'static str, &'static str);
 
 /// All words over two digits.
 pub const BINARY: &str = "{0,1}\n0 1\n* -> 0\n";
@@ -108,7 +106,7 @@ const WIDE: &str =
     * -> 14\n14 1\n* -> 15\n15 1\n* -> 16\n16 1\n* -> 0\n";
 
 /// Base 2, and languages that are none of a system.
-static LANGUAGE_FILES: [FileRow; 24] = [
+const LANGUAGE_FILES: &str = files![
     (Folder::Bases, "msd_bin", BINARY),
     (Folder::Bases, "msd_bin_addition", CARRIES),
     (Folder::Bases, "lsd_own", BINARY),
@@ -144,7 +142,7 @@ static LANGUAGE_FILES: [FileRow; 24] = [
 ];
 
 /// Adders that are not addition.
-static ADDER_FILES: [FileRow; 14] = [
+const ADDER_FILES: &str = files![
     (Folder::Bases, "msd_gap", ZECKENDORF),
     (Folder::Bases, "msd_gap_addition", CARRIES),
     (Folder::Bases, "msd_left", BINARY),
@@ -178,7 +176,7 @@ static ADDER_FILES: [FileRow; 14] = [
 ];
 
 /// Files of one direction and of both, and the Fibonacci system.
-static DIRECTION_FILES: [FileRow; 18] = [
+const DIRECTION_FILES: &str = files![
     (Folder::Bases, "lsd_stand", BINARY),
     (Folder::Bases, "lsd_stand_addition", CARRIES),
     (Folder::Bases, "msd_alone", BINARY),
@@ -200,7 +198,7 @@ static DIRECTION_FILES: [FileRow; 18] = [
 ];
 
 /// Names of systems.
-static NAME_FILES: [FileRow; 14] = [
+const NAME_FILES: &str = files![
     (Folder::Bases, "msd_five", FIVE),
     (Folder::Bases, "msd_five_addition", FIVE_ADDER),
     (Folder::Bases, "msd_fib", "no system\n"),
@@ -226,7 +224,7 @@ static NAME_FILES: [FileRow; 14] = [
 ];
 
 /// Systems over many digits, and a language that its letters leave.
-static DIGIT_FILES: [FileRow; 10] = [
+const DIGIT_FILES: &str = files![
     (
         Folder::Bases,
         "msd_fifth",
@@ -279,7 +277,7 @@ static DIGIT_FILES: [FileRow; 10] = [
 ];
 
 /// Words and automata over systems.
-static OTHER_FILES: [FileRow; 4] = [
+const OTHER_FILES: &str = files![
     (
         Folder::Words,
         "F",
@@ -297,41 +295,66 @@ static OTHER_FILES: [FileRow; 4] = [
 /// How many files there are.
 const FILE_COUNT: usize = 85;
 
-/// Puts files into a store.
-fn put_all(store: &mut MemStore, files: &[FileRow]) -> Result<(), NoAnswer> {
-    for (folder, name, text) in files {
-        store.put(*folder, name, text.as_bytes())?;
+/// The text of this name in the code, if files have it.
+pub fn text_named(name: &str) -> Option<&'static str> {
+    match name {
+        "BINARY" => Some(BINARY),
+        "CARRIES" => Some(CARRIES),
+        "RISING_CARRIES" => Some(RISING_CARRIES),
+        "NO_CARRIES" => Some(NO_CARRIES),
+        "ALL" => Some(ALL),
+        "ZEROS" => Some(ZEROS),
+        "NO_EMPTY" => Some(NO_EMPTY),
+        "ZECKENDORF" => Some(ZECKENDORF),
+        "ZECKENDORF_ADDER" => Some(ZECKENDORF_ADDER),
+        "TRIBONACCI" => Some(TRIBONACCI),
+        "TAILED" => Some(TAILED),
+        "FIVE" => Some(FIVE),
+        "FIVE_ADDER" => Some(FIVE_ADDER),
+        "THOUSAND" => Some(THOUSAND),
+        "THOUSAND_ALONE" => Some(THOUSAND_ALONE),
+        "WIDE" => Some(WIDE),
+        "TRIBONACCI_ADDER" => Some(TRIBONACCI_ADDER),
+        _ => None,
     }
-    Ok(())
 }
 
 /// A store with the files. Its call of this number fails; none does where the number is 0.
-fn store_of_files(alloc: Global, failing: u64) -> Result<MemStore, NoAnswer> {
-    let mut store = MemStore::new(alloc, vec![in alloc; failing]?);
-    put_all(&mut store, &LANGUAGE_FILES)?;
-    put_all(&mut store, &ADDER_FILES)?;
-    put_all(&mut store, &DIRECTION_FILES)?;
-    put_all(&mut store, &NAME_FILES)?;
-    put_all(&mut store, &DIGIT_FILES)?;
-    put_all(&mut store, &OTHER_FILES)?;
-    store.put(
-        Folder::Bases,
-        "msd_trib_addition",
-        TRIBONACCI_ADDER.as_bytes(),
-    )?;
-    Ok(store)
+fn store_of_files(rt: &impl Abort, alloc: Global, failing: u64) -> MemStore {
+    let mut store = MemStore::new(alloc, given(rt, vec![in alloc; failing]));
+    put_files(rt, &mut store, LANGUAGE_FILES);
+    put_files(rt, &mut store, ADDER_FILES);
+    put_files(rt, &mut store, DIRECTION_FILES);
+    put_files(rt, &mut store, NAME_FILES);
+    put_files(rt, &mut store, DIGIT_FILES);
+    put_files(rt, &mut store, OTHER_FILES);
+    given(
+        rt,
+        store.put(
+            Folder::Bases,
+            "msd_trib_addition",
+            TRIBONACCI_ADDER.as_bytes(),
+        ),
+    );
+    store
 }
 
 /// Runs a script over such a store, with the words of this command line.
-pub fn run_over_files(alloc: Global, line: &str, script: &str, failing: u64) -> Ran {
-    let store = store_of_files(alloc, failing)?;
-    run_over(alloc, line, script.as_bytes(), &SURE, store)
+pub fn run_over_files(
+    rt: &impl Abort,
+    alloc: Global,
+    line: &str,
+    script: &str,
+    failing: u64,
+) -> Ran {
+    let store = store_of_files(rt, alloc, failing);
+    run_over(rt, alloc, line, (script.as_bytes(), &SURE), store)
 }
 
 /// Asks whether 6 is a double in a system.
-pub fn ask(alloc: Global, line: &str, name: &str) -> Ran {
-    let script = format!(in alloc; "eval a \"?{name} Ex x+x=6\";")?;
-    run_over_files(alloc, line, &script, 0)
+pub fn ask(rt: &impl Abort, alloc: Global, line: &str, name: &str) -> Ran {
+    let script = given(rt, format!(in alloc; "eval a \"?{name} Ex x+x=6\";"));
+    run_over_files(rt, alloc, line, &script, 0)
 }
 
 /// A status, and how many texts the store has where a run adds so many.

@@ -460,7 +460,7 @@ const SCRIPTS: &str = table![
 fn systems_are_admitted_as_listed(rt: HostRuntime) {
     for row in QUESTIONS.split_terminator(ROW_END) {
         let (name, printed) = first_field(row);
-        let ran = ask(rt.alloc(), "walnut", name);
+        let ran = ask(&rt, rt.alloc(), "walnut", name);
         expect_printed(&rt, name, &ran, printed);
         expect(&rt, name, &ended(&ran), &end_of(printed));
     }
@@ -471,7 +471,7 @@ fn scripts_over_systems_print_as_listed(rt: HostRuntime) {
     for row in SCRIPTS.split_terminator(ROW_END) {
         let (script, rest) = first_field(row);
         let (printed, end) = first_field(rest);
-        let ran = run_over_files(rt.alloc(), "walnut", script, 0);
+        let ran = run_over_files(&rt, rt.alloc(), "walnut", script, 0);
         expect_printed(&rt, script, &ran, printed);
         expect_added(&rt, script, &ran, end);
     }

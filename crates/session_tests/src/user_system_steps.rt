@@ -1,9 +1,11 @@
 //! Systems of users in commands: the steps of their admission, and what is stored over them.
 
+use crate::answers::given;
 use crate::tables::{ROW_END, first_field, table};
 use crate::user_system_files::{ask, end_of, run_over_files};
 use crate::whole::{Ran, code_of, ended, expect, expect_printed, expect_stored};
 use std::alloc::Global;
+use std::process::Abort;
 use wal_outside::Folder;
 
 /// Scripts that show their steps.
@@ -139,7 +141,7 @@ const STORED: &str = table![
 ];
 
 /// How wide a step may be, a system that is asked, and what is printed.
-static LIMITS: [(u32, &str, &str); 38] = [
+const LIMITS: &str = table![
     (20, "msd_zeck", "error 1: F19 States step 2\n"),
     (30, "msd_zeck", "error 1: F19 States step 3\n"),
     (48, "msd_zeck", "error 1: F19 States step 8\n"),
@@ -200,7 +202,7 @@ static LIMITS: [(u32, &str, &str); 38] = [
 fn steps_of_admission_come_first(rt: HostRuntime) {
     for row in SHOWN.split_terminator(ROW_END) {
         let (script, printed) = first_field(row);
-        let ran = run_over_files(rt.alloc(), "walnut", script, 0);
+        let ran = run_over_files(&rt, rt.alloc(), "walnut", script, 0);
         expect_printed(&rt, script, &ran, printed);
         expect(&rt, script, &code_of(&ran), &0);
     }
@@ -210,21 +212,23 @@ fn steps_of_admission_come_first(rt: HostRuntime) {
 fn texts_over_systems_are_stored_as_listed(rt: HostRuntime) {
     for row in STORED.split_terminator(ROW_END) {
         let (script, text) = first_field(row);
-        let ran = run_over_files(rt.alloc(), "walnut", script, 0);
+        let ran = run_over_files(&rt, rt.alloc(), "walnut", script, 0);
         expect_stored(&rt, &ran, (Folder::Automata, "a"), text);
     }
 }
 
 /// Asks it where no step may be wider than this.
-fn ask_within(alloc: Global, limit: u32, name: &str) -> Ran {
-    let line = format!(in alloc; "walnut --states {limit}")?;
-    ask(alloc, &line, name)
+fn ask_within(rt: &impl Abort, alloc: Global, limit: &str, name: &str) -> Ran {
+    let line = given(rt, format!(in alloc; "walnut --states {limit}"));
+    ask(rt, alloc, &line, name)
 }
 
 #[test]
 fn steps_of_admission_have_the_limit_of_all(rt: HostRuntime) {
-    for (limit, name, printed) in &LIMITS {
-        let ran = ask_within(rt.alloc(), *limit, name);
+    for row in LIMITS.split_terminator(ROW_END) {
+        let (limit, rest) = first_field(row);
+        let (name, printed) = first_field(rest);
+        let ran = ask_within(&rt, rt.alloc(), limit, name);
         expect_printed(&rt, name, &ran, printed);
         expect(&rt, name, &ended(&ran), &end_of(printed));
     }

@@ -1,6 +1,6 @@
 //! One run over the objects in memory, and what it leaves.
 
-use crate::no_answer::NoAnswer;
+use crate::answers::given;
 use session_cli::{Status, run};
 use std::alloc::Global;
 use std::fmt::Debug;
@@ -38,110 +38,96 @@ pub fn over_sink(writes: &'static [usize], failing_writes: &'static [u64]) -> Ou
 
 /// What a run leaves.
 #[derive(Drop)]
-pub struct Left {
+pub struct Ran {
     status: Status,
     out: MemSink,
     store: MemStore,
 }
 
-/// A run, if its objects were made.
-pub type Ran = Result<Left, NoAnswer>;
-
 /// Runs a script with no words but the program's name, where all works.
-pub fn run_script(alloc: Global, script: &[u8]) -> Ran {
-    run_line(alloc, "walnut", script, &SURE)
+pub fn run_script(rt: &impl Abort, alloc: Global, script: &[u8]) -> Ran {
+    run_line(rt, alloc, "walnut", script, &SURE)
 }
 
 /// Runs a script with the words of this command line.
-pub fn run_line(alloc: Global, line: &str, script: &[u8], outside: &Outside) -> Ran {
-    let store = MemStore::new(alloc, Vec::from_slice(alloc, outside.failing_store)?);
-    run_over(alloc, line, script, outside, store)
-}
-
-/// Runs a script over a store, with the words of this command line.
-pub fn run_over(
+pub fn run_line(
+    rt: &impl Abort,
     alloc: Global,
     line: &str,
     script: &[u8],
     outside: &Outside,
+) -> Ran {
+    let store = MemStore::new(
+        alloc,
+        given(rt, Vec::from_slice(alloc, outside.failing_store)),
+    );
+    run_over(rt, alloc, line, (script, outside), store)
+}
+
+/// Runs a script over a store, with the words of this command line.
+pub fn run_over(
+    rt: &impl Abort,
+    alloc: Global,
+    line: &str,
+    (script, outside): (&[u8], &Outside),
     store: MemStore,
 ) -> Ran {
-    let source = source_of(alloc, script, outside)?;
-    let out = sink_of(alloc, outside)?;
-    run_objects(alloc, line, source, out, store)
+    let source = source_of(rt, alloc, script, outside);
+    let out = sink_of(rt, alloc, outside);
+    run_objects(rt, alloc, line, (source, out), store)
 }
 
 /// Runs over these objects, with the words of this command line.
 pub fn run_objects(
+    rt: &impl Abort,
     alloc: Global,
     line: &str,
-    source: MemSource,
-    out: MemSink,
-    store: MemStore,
+    (mut source, mut out): (MemSource, MemSink),
+    mut store: MemStore,
 ) -> Ran {
-    let words = words_of(alloc, line)?;
-    Ok(left_by(alloc, &words, source, out, store))
+    let words = words_of(rt, alloc, line);
+    let status = run(alloc, &words, &mut source, &mut out, &mut store);
+    Ran { status, out, store }
 }
 
 /// The words of a command line, between which are blanks.
-fn words_of(alloc: Global, line: &str) -> Result<Vec<String>, NoAnswer> {
+fn words_of(rt: &impl Abort, alloc: Global, line: &str) -> Vec<String> {
     let mut words = Vec::new(alloc);
     for word in line.split(' ') {
-        words.push(String::from_str(alloc, word)?)?;
+        given(rt, words.push(given(rt, String::from_str(alloc, word))));
     }
-    Ok(words)
+    words
 }
 
 /// The source of a script.
-fn source_of(alloc: Global, script: &[u8], outside: &Outside) -> Result<MemSource, NoAnswer> {
-    let bytes = Vec::from_slice(alloc, script)?;
-    let reads = Vec::from_slice(alloc, outside.reads)?;
-    let failing = Vec::from_slice(alloc, outside.failing_reads)?;
-    Ok(MemSource::new(bytes, reads, failing))
+fn source_of(rt: &impl Abort, alloc: Global, script: &[u8], outside: &Outside) -> MemSource {
+    let bytes = given(rt, Vec::from_slice(alloc, script));
+    let reads = given(rt, Vec::from_slice(alloc, outside.reads));
+    let failing = given(rt, Vec::from_slice(alloc, outside.failing_reads));
+    MemSource::new(bytes, reads, failing)
 }
 
 /// An empty sink.
-fn sink_of(alloc: Global, outside: &Outside) -> Result<MemSink, NoAnswer> {
-    let writes = Vec::from_slice(alloc, outside.writes)?;
-    let failing = Vec::from_slice(alloc, outside.failing_writes)?;
-    Ok(MemSink::new(alloc, writes, failing))
-}
-
-/// What a run over these objects leaves.
-fn left_by(
-    alloc: Global,
-    words: &[String],
-    mut source: MemSource,
-    mut out: MemSink,
-    mut store: MemStore,
-) -> Left {
-    let status = run(alloc, words, &mut source, &mut out, &mut store);
-    Left { status, out, store }
+fn sink_of(rt: &impl Abort, alloc: Global, outside: &Outside) -> MemSink {
+    let writes = given(rt, Vec::from_slice(alloc, outside.writes));
+    let failing = given(rt, Vec::from_slice(alloc, outside.failing_writes));
+    MemSink::new(alloc, writes, failing)
 }
 
 /// What a run printed.
 pub fn printed_in(ran: &Ran) -> &[u8] {
-    match ran {
-        Ok(left) => left.out.held(),
-        Err(_) => b"no run",
-    }
+    ran.out.held()
 }
 
 /// The status of a run: 0 where each command was accepted, 1 where one was refused, 2 where the words were, and 3 where
 /// something outside failed.
 pub fn code_of(ran: &Ran) -> u8 {
-    match ran {
-        Ok(left) => left.status.code(),
-        Err(_) => u8::MAX,
-    }
+    ran.status.code()
 }
 
 /// How many texts a run stored.
 pub fn count_in(ran: &Ran) -> usize {
-    match ran {
-        Ok(left) => left.store.len(),
-        Err(_) => usize::MAX,
-    }
+    ran.store.len()
 }
 
 /// The status of a run, and how many texts it stored.
@@ -151,18 +137,12 @@ pub fn ended(ran: &Ran) -> (u8, usize) {
 
 /// The text that is under a name after a run, or no bytes where none does.
 pub fn stored_in<'a>(ran: &'a Ran, folder: Folder, name: &str) -> &'a [u8] {
-    match ran {
-        Ok(left) => left.store.text(folder, name).unwrap_or(b""),
-        Err(_) => b"no run",
-    }
+    ran.store.text(folder, name).unwrap_or(b"")
 }
 
 /// Whether a text is under a name after a run.
 pub fn is_stored(ran: &Ran, folder: Folder, name: &str) -> bool {
-    match ran {
-        Ok(left) => left.store.text(folder, name).is_some(),
-        Err(_) => false,
-    }
+    ran.store.text(folder, name).is_some()
 }
 
 /// Asserts that a row has these bytes.

@@ -1,12 +1,11 @@
 //! Words whose files are wide to read: the limit at the first steps of commands that change words.
 
-use crate::given::{FileRow, expect_script};
-use crate::tables::{ROW_END, first_field, table};
-use wal_outside::Folder;
+use crate::given::expect_script;
+use crate::tables::{ROW_END, files, first_field, table};
 
 /// `B` has a 1 at each number with at most 15 digits in base 2, and 0 from there on; `O` has the digit of 8 in base 2. `copy` gives the
 /// letters themselves.
-static WIDE: [FileRow; 3] = [
+const WIDE: &str = files![
     (
         Folder::Words,
         "B",
@@ -111,6 +110,6 @@ const LIMITS: &str = table![
 fn files_past_the_limit_are_refused(rt: HostRuntime) {
     for row in LIMITS.split_terminator(ROW_END) {
         let (line, row) = first_field(row);
-        expect_script(&rt, rt.alloc(), &WIDE, line, row);
+        expect_script(&rt, rt.alloc(), WIDE, line, row);
     }
 }

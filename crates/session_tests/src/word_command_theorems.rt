@@ -3,6 +3,7 @@
 //! The macros say of a word that some factor has itself after it, for so many letters; which lengths the halves of its squares
 //! have, its palindromes, and its factors without border; and that it is periodic from some position on.
 
+use crate::answers::given;
 use crate::whole::{Ran, expect_printed, run_script};
 use std::alloc::Global;
 use std::process::Abort;
@@ -169,14 +170,14 @@ static FIBONACCI_STATEMENTS: [Statement; 11] = [
 ];
 
 /// Runs commands, and the one that decides a statement.
-fn run_statement(alloc: Global, commands: &str, statement: &str) -> Ran {
-    let script = format!(in alloc; "{commands}eval w \"{statement}\";")?;
-    run_script(alloc, script.as_bytes())
+fn run_statement(rt: &impl Abort, alloc: Global, commands: &str, statement: &str) -> Ran {
+    let script = given(rt, format!(in alloc; "{commands}eval w \"{statement}\";"));
+    run_script(rt, alloc, script.as_bytes())
 }
 
 fn expect_verdicts(rt: &impl Abort, alloc: Global, commands: &str, statements: &[Statement]) {
     for (statement, verdict) in statements {
-        let ran = run_statement(alloc, commands, statement);
+        let ran = run_statement(rt, alloc, commands, statement);
         expect_printed(rt, statement, &ran, verdict);
     }
 }

@@ -1,9 +1,10 @@
 //! Formulas with automatic words: what is printed and stored of scripts over stores that hold words.
 
-use crate::no_answer::NoAnswer;
+use crate::answers::given;
 use crate::tables::{ROW_END, first_field, table};
 use crate::whole::{Ran, SURE, expect_printed, expect_stored, run_over};
 use std::alloc::Global;
+use std::process::Abort;
 use wal_outside::{Folder, MemStore};
 
 /// A file, by its name and its text.
@@ -189,40 +190,40 @@ const STORED: &str = table![
 ];
 
 /// A store that holds these words.
-fn store_of_words(alloc: Global, files: &[FileRow]) -> Result<MemStore, NoAnswer> {
+fn store_of_words(rt: &impl Abort, alloc: Global, files: &[FileRow]) -> MemStore {
     let mut store = MemStore::new(alloc, Vec::new(alloc));
     for (name, text) in files {
-        store.put(Folder::Words, name, text.as_bytes())?;
+        given(rt, store.put(Folder::Words, name, text.as_bytes()));
     }
-    Ok(store)
+    store
 }
 
 /// Runs a script over a store that holds these words.
-pub fn run_over_words(alloc: Global, files: &[FileRow], script: &str) -> Ran {
-    let store = store_of_words(alloc, files)?;
-    run_over(alloc, "walnut", script.as_bytes(), &SURE, store)
+pub fn run_over_words(rt: &impl Abort, alloc: Global, files: &[FileRow], script: &str) -> Ran {
+    let store = store_of_words(rt, alloc, files);
+    run_over(rt, alloc, "walnut", (script.as_bytes(), &SURE), store)
 }
 
 #[test]
 fn formulas_with_words_print_as_listed(rt: HostRuntime) {
     for row in PRINTED.split_terminator(ROW_END) {
         let (script, printed) = first_field(row);
-        let ran = run_over_words(rt.alloc(), &FILES, script);
+        let ran = run_over_words(&rt, rt.alloc(), &FILES, script);
         expect_printed(&rt, script, &ran, printed);
     }
 }
 
 /// Runs the command that defines a formula.
-fn run_definition(alloc: Global, formula: &str) -> Ran {
-    let script = format!(in alloc; "def w \"{formula}\";")?;
-    run_over_words(alloc, &FILES, &script)
+fn run_definition(rt: &impl Abort, alloc: Global, formula: &str) -> Ran {
+    let script = given(rt, format!(in alloc; "def w \"{formula}\";"));
+    run_over_words(rt, alloc, &FILES, &script)
 }
 
 #[test]
 fn formulas_with_words_store_their_texts(rt: HostRuntime) {
     for row in STORED.split_terminator(ROW_END) {
         let (formula, text) = first_field(row);
-        let ran = run_definition(rt.alloc(), formula);
+        let ran = run_definition(&rt, rt.alloc(), formula);
         expect_stored(&rt, &ran, (Folder::Automata, "w"), text);
     }
 }

@@ -1,9 +1,11 @@
 //! Theorems of the literature on automatic words, with their verdicts.
 
+use crate::answers::given;
 use crate::tables::{ROW_END, first_field, table};
 use crate::whole::{Ran, expect_printed};
 use crate::word_rows::run_over_words;
 use std::alloc::Global;
+use std::process::Abort;
 
 /// The Thue-Morse word `T`, the period-doubling word `D`, the Rudin-Shapiro word `R` and the regular paperfolding word `P`.
 static WORDS: [(&str, &str); 4] = [
@@ -75,16 +77,16 @@ const STATEMENTS: &str = table![
 ];
 
 /// Runs the command that decides a statement, after the one that it is on.
-fn run_statement(alloc: Global, statement: &str) -> Ran {
-    let script = format!(in alloc; "{POWER}eval w \"{statement}\";")?;
-    run_over_words(alloc, &WORDS, &script)
+fn run_statement(rt: &impl Abort, alloc: Global, statement: &str) -> Ran {
+    let script = given(rt, format!(in alloc; "{POWER}eval w \"{statement}\";"));
+    run_over_words(rt, alloc, &WORDS, &script)
 }
 
 #[test]
 fn automatic_words_are_as_in_the_literature(rt: HostRuntime) {
     for row in STATEMENTS.split_terminator(ROW_END) {
         let (statement, verdict) = first_field(row);
-        let ran = run_statement(rt.alloc(), statement);
+        let ran = run_statement(&rt, rt.alloc(), statement);
         expect_printed(&rt, statement, &ran, verdict);
     }
 }

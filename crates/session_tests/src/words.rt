@@ -57,16 +57,21 @@ static WORDS: [(&str, &str, u8); 37] = [
 #[test]
 fn words_are_taken_or_refused_as_listed(rt: HostRuntime) {
     for (line, printed, code) in &WORDS {
-        let ran = run_line(rt.alloc(), line, SCRIPT, &SURE);
+        let ran = run_line(&rt, rt.alloc(), line, SCRIPT, &SURE);
         expect_printed(&rt, line, &ran, printed);
         expect(&rt, line, &ended(&ran), &(*code, usize::from(*code == 0)));
     }
 }
 
 /// Runs words that are refused over a sink that takes pieces of these lengths and fails at these calls.
-fn run_refused(alloc: Global, writes: &'static [usize], failing_writes: &'static [u64]) -> Ran {
+fn run_refused(
+    rt: &impl Abort,
+    alloc: Global,
+    writes: &'static [usize],
+    failing_writes: &'static [u64],
+) -> Ran {
     let outside = over_sink(writes, failing_writes);
-    run_line(alloc, "walnut --states 15", SCRIPT, &outside)
+    run_line(rt, alloc, "walnut --states 15", SCRIPT, &outside)
 }
 
 fn expect_usage(rt: &impl Abort, row: &str, ran: &Ran, printed: &str) {
@@ -76,17 +81,17 @@ fn expect_usage(rt: &impl Abort, row: &str, ran: &Ran, printed: &str) {
 
 #[test]
 fn refused_words_are_so_over_a_sink_that_fails(rt: HostRuntime) {
-    expect_usage(&rt, "fails", &run_refused(rt.alloc(), &[], &[1]), "");
+    expect_usage(&rt, "fails", &run_refused(&rt, rt.alloc(), &[], &[1]), "");
     expect_usage(
         &rt,
         "takes nothing",
-        &run_refused(rt.alloc(), &[0], &[]),
+        &run_refused(&rt, rt.alloc(), &[0], &[]),
         "",
     );
     expect_usage(
         &rt,
         "fails later",
-        &run_refused(rt.alloc(), &[3], &[2]),
+        &run_refused(&rt, rt.alloc(), &[3], &[2]),
         "usa",
     );
 }

@@ -14,6 +14,7 @@ use base_change::related::related;
 use base_k::base_k::{BaseK, GREATEST_BASE, LEAST_BASE};
 use digit_tuple::direction::Direction;
 use digit_tuple::faults::OpFault;
+use digit_tuple::limit::Limit;
 use digit_tuple::step_fault::StepFault;
 use digit_tuple::steps::Steps;
 use fixed_points::promotion::promote;
@@ -57,7 +58,7 @@ fn base_of(alloc: Global, word: &Word) -> Result<u32, StepFault>
 fn sealed(alloc: Global, to: BaseK) -> Result<Rc<System>, OpFault>
     ensures { IfOk result (λ system. system_of (rc_value system) ≡ base to.base) }
 {
-    let system = seal(alloc, &to, SEALING)?;
+    let system = seal(alloc, &to, Limit::new(SEALING))?;
     Ok(Rc::new(alloc, system)?)
 }
 

@@ -5,6 +5,7 @@ use crate::no_answer::NoAnswer;
 use crate::outcomes::{expect, made_text, table_of};
 use class_reversal::reversal::reverse_classes;
 use digit_tuple::faults::OpFault;
+use digit_tuple::limit::Limit;
 use digit_tuple::steps::Steps;
 use letter_reversal::letter_reversal::reverse_letters;
 use std::alloc::Global;
@@ -72,7 +73,7 @@ fn reversed_classes(
     if classes.len() as u64 != u64::from(dfa.states()) {
         return Err(NoAnswer);
     }
-    match reverse_classes(alloc, dfa, classes, limit) {
+    match reverse_classes(alloc, dfa, classes, Limit::new(limit)) {
         Ok(stepped) => {
             let (table, classes) = stepped.result;
             let text = table_of(alloc, &table)?;
