@@ -1,4 +1,4 @@
-use Rattle.std.proofs.Common.{subst, arith}
+use Rattle.std.proofs.Common.{subst, arith, ◌∙◌}
 use Rattle.std.proofs.lemmas.Result.{err_from_is_err_and}
 use Rattle.system_names.specs.Names.{IsBuiltInName}
 use Rattle.system_admission.proofs.UserSteps.{none_so_far, built_in_so_far, admitted_so_far, refused_so_far, all_so_far, something, nothing}
@@ -6,7 +6,7 @@ use Rattle.system_admission.proofs.user_systems.UserSystems.admitted.Goals as go
 use Rattle.system_admission.proofs.user_systems.UserSystems.admitted.Goals.{then-is_none+in_ok-admit, else-is_none}
 
 pub loop-name-init : goal.loop-name-init
-loop-name-init g c = none_so_far c.args.limit _ _ c.new.ensures c.new-2.ensures c.new-3.ensures
+loop-name-init g c = none_so_far c.args.limit _ _ c.new.ensures c.new-2.ensures (c.show_on.ensures ∙ c.new-3.ensures)
 
 pub admit-requires : goal.admit-requires
 admit-requires g c = subst (λ n. ¬ IsBuiltInName n) c.as_bytes.ensures (nothing _ _ c.built_in.result c.is_none.result c.built_in.ensures c.is_none.ensures c.if-is_none.true)
