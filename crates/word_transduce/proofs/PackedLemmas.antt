@@ -14,7 +14,7 @@ use Rattle.word_transduce.specs.PackedOutputs.{Fit, are_packed, group_of, key_ou
 use Rattle.word_transduce.proofs.PairLemmas.{at_pairs-at}
 
 -- four numbers below 256 in one, and each of them
-group : ℕ → ℕ → ℕ → ℕ → ℕ
+abbrev group : ℕ → ℕ → ℕ → ℕ → ℕ
 group a b c d = a % 0x100 + b % 0x100 * 0x100 + c % 0x100 * 0x10000 + d % 0x100 * 0x1000000
 
 first_of_group : (a b c d : ℕ) → a < 0x100 → group a b c d % 0x100 ≡ a
