@@ -31,6 +31,11 @@ returns-in_err-users g c =
     let names : c.deref-3.result.now ≡ first_systems (headers_of mentioned.tables.items) mentioned.mentions.items = c.deref-3.ensures.value ∙ (c.in_ok-named.ensures ∙ (λ i. first_systems (headers i) (c.deref-2.ensures.value i))) in
     rw (p.1, p.2) (texts_refused _ _ _ _ fault c.in_err-users.ensures (λ custom refused. subst (λ (ns : List (List ℕ)). Fails (systems_known c.args.limit custom ns) fault) names refused))
 
+pub returns-in_err-add_all : goal.returns-in_err-add_all
+returns-in_err-add_all g c =
+    let p = err_from_is_err_and c.from_residual-in_err-add_all.result c.from_residual-in_err-add_all.ensures.1 in
+    rw (p.1, p.2) (texts_read _ _ _ _ c.in_ok-users.users _ refl c.in_ok-users.ensures (λ custom given. tt))
+
 pub returns : goal.returns
 returns g c =
     let limit = c.args.limit in
