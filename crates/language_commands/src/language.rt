@@ -62,7 +62,8 @@ pub fn language_change<T: Store>(
     ensures { FromFiles (λ found change. (ledger : Ledger) → Stores ledger found → ChangesFile (custom_of ledger) (language_checks command.entry.op options.limit ledger command.entry.text.now) options.shown change) (T.view store.old) result (T.view store.new) }
 {
     let LanguageCommand { op, text } = command;
-    let LanguagesParts { name, languages } = head_of(alloc, op, text)?;
+    let head = head_of(alloc, op, text)?;
+    let LanguagesParts { name, languages } = head;
     let operands = Operands {
         op,
         names: &languages,

@@ -98,9 +98,9 @@ module _ (ledger : Ledger) (name : List ℕ) (question : Question) (table : Load
   module _ (log : StepLog) (entry : Entry) (there : ledger Automata name ≡ Some entry) (Does : Result Automaton StepFault → Type 0) (skip : Option Direction)
       (reads : (d : Automaton) → Does (Ok d) → IsRead table.listed.header admitted (custom_of ledger) table log.lines)
       (stops : (fault : StepFault) → Does (Err fault) → IsReadRefused table.listed.header admitted (custom_of ledger) table fault)
-      (prints_checked : (d : Automaton) → Does (Ok d) → DecidesListed (custom_of ledger) tracks (tree_of entry) (is_listed d skip)) where
+      (decides_words : (d : Automaton) → Does (Ok d) → DecidesListed (custom_of ledger) tracks (tree_of entry) (is_listed d skip)) where
     listing_of : (d : Automaton) → Does (Ok d) → HasListing ledger name tracks
-    listing_of d does = record { entry = entry; there = there; lists = is_listed d skip; prints_checked = prints_checked d does }
+    listing_of d does = record { entry = entry; there = there; lists = is_listed d skip; decides_words = decides_words d does }
 
     is_reply : (d : Automaton) (answer : Answer) → Answers (is_listed d skip) (letter_sets tracks) question answer → IsReply (is_listed d skip) (letter_sets tracks) question (reply_of answer)
     is_reply d (given.Lines text) is = is
