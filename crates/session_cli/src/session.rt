@@ -78,9 +78,10 @@ impl Session {
             limit: self.limit,
             shown,
         };
-        let action = action_of(alloc, options, text, &mut self.kept, store);
+        let found = action_of(alloc, options, text, &mut self.kept, store);
         self.kept.systems.clear_monitor();
-        let said = done(action?, store)?;
+        let action = found?;
+        let said = done(action, store)?;
         *printed = said;
         Ok(())
     }
