@@ -7,33 +7,27 @@ use Rattle.digit_tuple.specs.declared.steps.StepLine.{StepLine}
 use Rattle.command_head.specs.Heads.{NamedHead}
 use Rattle.command_head.specs.Grammar.{DerivesNamed}
 use Rattle.command_head.specs.Breaks.{HasHead}
-use Rattle.command_head.specs.declared.fault.HeadFault.TheVariants as head_faults
+use Rattle.command_head.specs.declared.fault.HeadFault.{HeadFault}
 use Rattle.formula_parse.specs.Trees as trees
-use Rattle.command_parts.specs.declared.text_refusal.Grammar.TheVariants as grammars
-use Rattle.command_parts.specs.declared.text_refusal.TextRefusal.TheVariants as text_refusals
-use Rattle.command_parts.specs.declared.refusal.Refusal.TheVariants as refusals
 use Rattle.command_parts.specs.declared.fault.Fault.{Fault}
-use Rattle.command_parts.specs.declared.fault.Fault.TheVariants as faults
 use Rattle.command_parts.specs.declared.file_change.Made.{Made}
 use Rattle.command_parts.specs.declared.file_change.FileChange.{FileChange}
 use Rattle.command_parts.specs.Checks.{Pure, Fails}
 use Rattle.definitions.specs.Trees.{Variable, Ledger, custom_of}
 use Rattle.dfa_loading.specs.declared.loaded.Loaded.{Loaded}
 use Rattle.command_parts.specs.Accepting.{Success}
-use Rattle.command_parts.specs.HeadAnswers.{HeadAnswers}
+use Rattle.command_parts.specs.HeadAnswers.{HeadAnswers, fault_of_head}
 use Rattle.formula_commands.specs.FormulaOutcomes.{FormulaAnswers, ResolvedAnswers, BuiltAnswers, bindings_now, after_systems, after_tables, after_text, after_named_head, formula_checks}
 use Rattle.formula_commands.specs.MacroChecks.{ExpandedAnswers, expanded}
 use Rattle.command_parts.specs.SystemChecks.{SystemsAnswers, systems_known}
 use Rattle.command_parts.specs.FileChanges.{Makes, ChangesFile}
 use Rattle.formula_commands.proofs.FormulaCheckNames.{loaded, mentioned_systems, VariablesAnswers, after_variables, after_steps, after_resolution, after_formula}
 use Rattle.command_parts.proofs.CheckSteps.{fails_first, fails_after, makes_after, changes_after}
+use Rattle.command_parts.proofs.HeadSteps.{head_unread}
 
 -- where the head breaks the grammar
-pub named_syntax : (word : List ℕ) (folder : Folder) (limit : ℕ) (ledger : Ledger) (text : List ℕ) (at : ℕ) → HasHead (DerivesNamed word) (λ (h : NamedHead). h) text (Err (head_faults.Syntax at)) → Fails (formula_checks word folder limit ledger text) (faults.Refused (refusals.Text (text_refusals.Syntax grammars.Command at)))
-named_syntax word folder limit ledger text at breaks = fails_first (Pure (HeadAnswers (DerivesNamed word) text)) (λ head. after_named_head limit ledger folder head) (faults.Refused (refusals.Text (text_refusals.Syntax grammars.Command at))) (head_faults.Syntax at, refl, breaks)
-
-pub named_number : (word : List ℕ) (folder : Folder) (limit : ℕ) (ledger : Ledger) (text : List ℕ) (at : ℕ) → HasHead (DerivesNamed word) (λ (h : NamedHead). h) text (Err (head_faults.Number at)) → Fails (formula_checks word folder limit ledger text) (faults.Refused (refusals.Text (text_refusals.Number grammars.Command at)))
-named_number word folder limit ledger text at breaks = fails_first (Pure (HeadAnswers (DerivesNamed word) text)) (λ head. after_named_head limit ledger folder head) (faults.Refused (refusals.Text (text_refusals.Number grammars.Command at))) (head_faults.Number at, refl, breaks)
+pub named_broken : (word : List ℕ) (folder : Folder) (limit : ℕ) (ledger : Ledger) (text : List ℕ) (fault : HeadFault) → HasHead (DerivesNamed word) (λ (h : NamedHead). h) text (Err fault) → Fails (formula_checks word folder limit ledger text) (fault_of_head fault)
+named_broken word folder limit ledger text fault breaks = fails_first (Pure (HeadAnswers (DerivesNamed word) text)) (λ head. after_named_head limit ledger folder head) (fault_of_head fault) (head_unread (DerivesNamed word) (λ (h : NamedHead). h) text fault breaks)
 
 -- what is accepted is under the head's name
 record IsAt (folder : Folder) (head : NamedHead) (success : Success) : Type 0 where

@@ -16,16 +16,14 @@ ghost use Rattle.command_parts.specs.FileChanges.{Makes, ChangesFile};
 ghost use Rattle.command_parts.specs.StoreReads.{FromFiles, FromTexts};
 
 use crate::formula_text::formula_text;
-use command_head::{HeadFault, NamedParts, named_parts};
+use command_head::{NamedParts, named_parts};
 use command_parts::fault::Fault;
 use command_parts::file_change::{FileChange, Made};
 use command_parts::kept::Kept;
 use command_parts::mentioned_tables::{MentionedTables, SealedNames, load_mentioned, names_of};
 use command_parts::printed::Printed;
-use command_parts::refusal::Refusal;
 use command_parts::step_options::StepOptions;
 use command_parts::table_reading::read_tables;
-use command_parts::text_refusal::{Grammar, TextRefusal};
 use formula_build::{build, resolve};
 use formula_parse::parse;
 use formula_parse::tree::Formula;
@@ -59,26 +57,15 @@ pub fn formula_change<T: Store>(
     requires { is_name command.word.now ≡ true }
     ensures { FromFiles (λ found change. (ledger : Ledger) → Stores ledger found → ChangesFile (custom_of ledger) (formula_checks command.entry.word.now command.entry.folder command.entry.options.limit ledger text.now) command.entry.options.shown change) (T.view store.old) result (T.view store.new) }
 {
-    match named_parts(alloc, command.word, text) {
-        Ok(NamedParts { name, body }) => {
-            match formula_made(alloc, command.options, body, kept, store) {
-                Ok(made) => Ok(FileChange {
-                    folder: command.folder,
-                    name,
-                    made,
-                }),
-                Err(fault) => Err(fault),
-            }
-        }
-        Err(HeadFault::Syntax(at)) => Err(Fault::Refused(Refusal::Text(TextRefusal::Syntax(
-            Grammar::Command,
-            at,
-        )))),
-        Err(HeadFault::Number(at)) => Err(Fault::Refused(Refusal::Text(TextRefusal::Number(
-            Grammar::Command,
-            at,
-        )))),
-        Err(HeadFault::Memory) => Err(Fault::Memory),
+    let head = named_parts(alloc, command.word, text)?;
+    let NamedParts { name, body } = head;
+    match formula_made(alloc, command.options, body, kept, store) {
+        Ok(made) => Ok(FileChange {
+            folder: command.folder,
+            name,
+            made,
+        }),
+        Err(fault) => Err(fault),
     }
 }
 

@@ -5,15 +5,14 @@ use Rattle.digit_tuple.specs.Steps.{StepLog}
 use Rattle.command_head.specs.Heads.{RegHead, AtWord, reg_at}
 use Rattle.command_head.specs.Parts.{parts_of, texts_of}
 use Rattle.command_head.specs.Grammar.{DerivesReg}
+use Rattle.command_head.specs.HeadViews.{head_view}
+use Rattle.command_head.specs.Readings.{Reads}
+use Rattle.command_head.specs.declared.fault.HeadFault.{HeadFault}
 use Rattle.command_head.specs.declared.fault.HeadFault.TheVariants as head_faults
 use Rattle.command_head.proofs.Walks.{run_goes}
 use Rattle.command_head.proofs.ReadHeads.{reg_derived}
 use Rattle.command_head.proofs.Breaking.{syntax_breaks, number_breaks}
-use Rattle.command_parts.specs.declared.text_refusal.Grammar.TheVariants as grammars
-use Rattle.command_parts.specs.declared.text_refusal.TextRefusal.TheVariants as text_refusals
-use Rattle.command_parts.specs.declared.refusal.Refusal.TheVariants as refusals
 use Rattle.command_parts.specs.declared.fault.Fault.{Fault}
-use Rattle.command_parts.specs.declared.fault.Fault.TheVariants as faults
 use Rattle.command_parts.specs.declared.file_change.Made.{Made}
 use Rattle.command_parts.specs.declared.file_change.FileChange.{FileChange}
 use Rattle.command_parts.specs.Checks.{Pure, Fails}
@@ -22,7 +21,7 @@ use Rattle.definitions.specs.Tracks.{Tracks}
 use Rattle.system_files.specs.SystemFiles.{Custom}
 use Rattle.language_commands.specs.HeadTracks.{AreTracksOf}
 use Rattle.command_parts.specs.Accepting.{Success}
-use Rattle.command_parts.specs.HeadAnswers.{HeadAnswers}
+use Rattle.command_parts.specs.HeadAnswers.{HeadAnswers, fault_of_head}
 use Rattle.language_commands.specs.RegOutcomes.{systems_named, TracksAnswers, after_tracks, after_head, reg_checks}
 use Rattle.command_parts.specs.SystemChecks.{SystemsAnswers, systems_known}
 use Rattle.command_parts.specs.FileChanges.{Makes, ChangesFile}
@@ -34,11 +33,14 @@ spelled : (text : List ℕ) (head : RegHead) → reg_at text ≡ Ok head → Der
 unfolding reg_at
 spelled text head read = reg_derived (texts_of (parts_of text)) head (run_goes (length text) AtWord (parts_of text) head read)
 
-pub head_syntax : (limit : ℕ) (ledger : Ledger) (text : List ℕ) (at : ℕ) → length text ≤ 65536 → reg_at text ≡ Err (head_faults.Syntax at) → Fails (reg_checks limit ledger text) (faults.Refused (refusals.Text (text_refusals.Syntax grammars.Command at)))
-head_syntax limit ledger text at short read = fails_first (Pure (HeadAnswers DerivesReg text)) (λ head. after_head limit (custom_of ledger) head) (faults.Refused (refusals.Text (text_refusals.Syntax grammars.Command at))) (head_faults.Syntax at, refl, syntax_breaks text at (omega (arith, short)) read)
-
-pub head_number : (limit : ℕ) (ledger : Ledger) (text : List ℕ) (at : ℕ) → length text ≤ 65536 → reg_at text ≡ Err (head_faults.Number at) → Fails (reg_checks limit ledger text) (faults.Refused (refusals.Text (text_refusals.Number grammars.Command at)))
-head_number limit ledger text at short read = fails_first (Pure (HeadAnswers DerivesReg text)) (λ head. after_head limit (custom_of ledger) head) (faults.Refused (refusals.Text (text_refusals.Number grammars.Command at))) (head_faults.Number at, refl, number_breaks text at (omega (arith, short)) read)
+-- where they do, the command is refused
+pub reg_broken : (limit : ℕ) (ledger : Ledger) (text : List ℕ) (fault : HeadFault) → length text ≤ 65536 → Reads head_view (Err fault) (reg_at text) → Fails (reg_checks limit ledger text) (fault_of_head fault)
+reg_broken limit ledger text fault short read = fails_first (Pure (HeadAnswers DerivesReg text)) (λ head. after_head limit (custom_of ledger) head) (fault_of_head fault) (breaks fault read)
+  where
+    breaks : (f : HeadFault) → Reads head_view (Err f) (reg_at text) → Fails (Pure (HeadAnswers DerivesReg text)) (fault_of_head f)
+    breaks (head_faults.Syntax at) read = (head_faults.Syntax at, refl, syntax_breaks text at (omega (arith, short)) read)
+    breaks (head_faults.Number at) read = (head_faults.Number at, refl, number_breaks text at (omega (arith, short)) read)
+    breaks head_faults.Memory read = tt
 
 -- a system of a head is refused
 pub head_refused : (limit : ℕ) (custom : Custom) (head : RegHead) (fault : Fault) → Fails (systems_known limit custom (systems_named head.alphabets)) fault → Fails (after_head limit custom head) fault

@@ -20,14 +20,14 @@ ghost use Rattle.command_parts.specs.FileChanges.{Makes, ChangesFile};
 ghost use Rattle.language_commands.specs.StoredRelations.{Prints};
 
 use crate::track_systems::{languages, tracks};
-use command_head::{Alphabets, HeadFault, RegParts, reg_parts};
+use command_head::{Alphabets, RegParts, reg_parts};
 use command_parts::fault::Fault;
 use command_parts::file_change::{FileChange, Made};
 use command_parts::kept::Kept;
 use command_parts::printed::Printed;
 use command_parts::refusal::Refusal;
 use command_parts::step_options::StepOptions;
-use command_parts::text_refusal::{Grammar, TextRefusal};
+use command_parts::text_refusal::TextRefusal;
 use command_parts::user_systems::admitted;
 use dfa_text::print_within;
 use digit_tuple::dfa::Dfa;
@@ -65,30 +65,19 @@ pub fn reg_change<T: Store>(
     requires { length text.now ≤ 65536 }
     ensures { FromTexts (λ custom change. (ledger : Ledger) → custom_of ledger ≡ custom → ChangesFile (custom_of ledger) (reg_checks options.limit ledger text.now) options.shown change) (T.view store.old) result (T.view store.new) }
 {
-    match reg_parts(alloc, text) {
-        Ok(
-            RegParts {
-                name,
-                alphabets,
-                body,
-            },
-        ) => match made_over(alloc, Quoted { body, options }, alphabets, kept, store) {
-            Ok(made) => Ok(FileChange {
-                folder: Folder::Automata,
-                name,
-                made,
-            }),
-            Err(fault) => Err(fault),
-        },
-        Err(HeadFault::Syntax(at)) => Err(Fault::Refused(Refusal::Text(TextRefusal::Syntax(
-            Grammar::Command,
-            at,
-        )))),
-        Err(HeadFault::Number(at)) => Err(Fault::Refused(Refusal::Text(TextRefusal::Number(
-            Grammar::Command,
-            at,
-        )))),
-        Err(HeadFault::Memory) => Err(Fault::Memory),
+    let head = reg_parts(alloc, text)?;
+    let RegParts {
+        name,
+        alphabets,
+        body,
+    } = head;
+    match made_over(alloc, Quoted { body, options }, alphabets, kept, store) {
+        Ok(made) => Ok(FileChange {
+            folder: Folder::Automata,
+            name,
+            made,
+        }),
+        Err(fault) => Err(fault),
     }
 }
 
