@@ -44,14 +44,14 @@ reported_ledger (Some others) files known ledger is same = same
 
 -- a command whose checks are these, which store
 pub is_made : (limit : ℕ) (command : List ℕ) (checks : Ledger → Check Success) → ((known : Ledger) (accepted : Accepted) → (after_length limit known command).answers (Ok accepted) → (storing (checks known)).answers (Ok accepted))
-    → (ledger : Ledger) (files : Files) (old new : StoreView) (shown : Bool) (printed : List ℕ) → old.files ≡ Some files → Commands limit ledger old command shown (Ok tt) printed new → IsMade (checks ledger) ledger files new
+    → (ledger : Ledger) (files : Files) (old new : StoreView) (shown : Bool) (printed : List ℕ) → old.files ≡ Some files → Commands limit ledger old command shown (Ok printed) new → IsMade (checks ledger) ledger files new
 is_made limit command checks stores ledger files old new shown printed reported c =
     subst (λ (known : Ledger). IsMade (checks known) known files new) (reported_ledger old.files files c.known ledger reported c.known_is) (by c.answer c.gives c.answered c.stored.files)
   where
     put_by : (success : Success) (accepted : Accepted) → accepted ≡ Storing success → ChangesFiles (custom_of c.known) accepted old.files new.files → StoresEntry (custom_of c.known) success old.files new.files
     put_by success accepted same changes = subst (λ (a : Accepted). ChangesFiles (custom_of c.known) a old.files new.files) same changes
 
-    by : (answer : Answer) → Gives shown (Ok tt) printed answer → IsAnswer (checks_of limit c.known command) answer → Changes c.known old.files answer new.files → IsMade (checks c.known) c.known files new
+    by : (answer : Answer) → Gives shown (Ok printed) answer → IsAnswer (checks_of limit c.known command) answer → Changes c.known old.files answer new.files → IsMade (checks c.known) c.known files new
     by (Ok accepted) gives (done, short, answered) changes =
         let m = stores c.known accepted answered in
         let entry : StoresEntry (custom_of c.known) m.0 old.files new.files = put_by m.0 accepted m.2 changes in
@@ -73,14 +73,14 @@ pub record IsSaid (checks : Check Said) (files : Files) (shown : Bool) (printed 
 
 -- a command whose checks are these, which say something
 pub is_said : (limit : ℕ) (command : List ℕ) (checks : Ledger → Check Said) → ((known : Ledger) (accepted : Accepted) → (after_length limit known command).answers (Ok accepted) → (saying (checks known)).answers (Ok accepted))
-    → (ledger : Ledger) (files : Files) (old new : StoreView) (shown : Bool) (printed : List ℕ) → old.files ≡ Some files → Commands limit ledger old command shown (Ok tt) printed new → IsSaid (checks ledger) files shown printed new
+    → (ledger : Ledger) (files : Files) (old new : StoreView) (shown : Bool) (printed : List ℕ) → old.files ≡ Some files → Commands limit ledger old command shown (Ok printed) new → IsSaid (checks ledger) files shown printed new
 is_said limit command checks says ledger files old new shown printed reported c =
     subst (λ (known : Ledger). IsSaid (checks known) files shown printed new) (reported_ledger old.files files c.known ledger reported c.known_is) (by c.answer c.gives c.answered c.stored.files)
   where
     kept_by : (said : Said) (accepted : Accepted) → accepted ≡ Saying said → ChangesFiles (custom_of c.known) accepted old.files new.files → new.files ≡ old.files
     kept_by said accepted same changes = subst (λ (a : Accepted). ChangesFiles (custom_of c.known) a old.files new.files) same changes
 
-    by : (answer : Answer) → Gives shown (Ok tt) printed answer → IsAnswer (checks_of limit c.known command) answer → Changes c.known old.files answer new.files → IsSaid (checks c.known) files shown printed new
+    by : (answer : Answer) → Gives shown (Ok printed) answer → IsAnswer (checks_of limit c.known command) answer → Changes c.known old.files answer new.files → IsSaid (checks c.known) files shown printed new
     by (Ok accepted) gives (done, short, answered) changes =
         let m = says c.known accepted answered in
         record { said = m.0; made = m.1; printed_is = gives ∙ ap (accepted_text shown) m.2; kept = kept_by m.0 accepted m.2 changes ∙ reported }

@@ -68,15 +68,15 @@ the_law name law (systems.Step (steps.States step)) is = absurd (cc)
 the_law name law (systems.Step steps.Memory) is = absurd (cc)
 
 pub refused_systems : RefusedSystems
-refused_systems limit ledger files old new command shown printed name law reported c =
+refused_systems limit ledger files old new command shown name law reported c =
     subst (λ (known : Ledger). BreaksLaw (custom_of known) name law) (reported_ledger old.files files c.known ledger reported c.known_is) (by c.answer c.gives c.answered)
   where
     by_systems : (names : List (List ℕ)) × SystemsAnswers limit (custom_of c.known) names (Err (refusals.System (system_refusals.NotAdmitted name law))) → BreaksLaw (custom_of c.known) name law
     by_systems (names, (own, is, (log, refused))) =
         names_break (custom_of c.known) name law names (no_steps limit) log (subst (λ (f : SystemFault). let bad : Result ⊤ SystemFault = Err f in AdmitsNames (custom_of c.known) names (no_steps limit) bad log) (the_law name law own is) refused)
 
-    by : (answer : Answer) → Gives shown (Err (faults.Refused (refusals.System (system_refusals.NotAdmitted name law)))) printed answer → IsAnswer (checks_of limit c.known command) answer → BreaksLaw (custom_of c.known) name law
+    by : (answer : Answer) → Gives shown (Err (faults.Refused (refusals.System (system_refusals.NotAdmitted name law)))) answer → IsAnswer (checks_of limit c.known command) answer → BreaksLaw (custom_of c.known) name law
     by (Ok accepted) gives answered = absurd gives
-    by (Err other) (same, silent) answered =
+    by (Err other) same answered =
         let refused : IsAnswer (checks_of limit c.known command) (Err (faults.Refused (refusals.System (system_refusals.NotAdmitted name law)))) = subst (λ (f : Fault). let bad : Answer = Err f in IsAnswer (checks_of limit c.known command) bad) (sym same) answered in
         by_systems (refused_by_law limit c.known name law command refused)

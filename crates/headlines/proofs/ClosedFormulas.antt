@@ -1,8 +1,7 @@
 -- A formula without free variables is true of all numbers or of none.
-use Rattle.std.proofs.Common.{◌≡◌, ◌≢◌, ℕ, ◌+◌, ◌<◌, ◌≤◌, ◌==◌, nat_lt, Bool, true, false, not, ◌||◌, ◌&&◌, cond, IsTrue, if◌then◌else◌, List, [], ◌∷◌, ◌++◌, length, map, slice_index_or, Option, None, Some, refl, sym, ◌∙◌, ap, subst, arith, bytes_eq}
+use Rattle.std.proofs.Common.{◌≡◌, ◌≢◌, ℕ, ◌+◌, ◌<◌, ◌≤◌, ◌==◌, Bool, true, false, not, ◌||◌, ◌&&◌, cond, IsTrue, if◌then◌else◌, List, [], ◌∷◌, ◌++◌, length, map, slice_index_or, Option, None, Some, refl, sym, ◌∙◌, ap, subst, arith, bytes_eq}
 use Rattle.std.specs.Option.{option_or}
-use Rattle.std.specs.List.{filter}
-use Rattle.std.specs.FinMap.{find, get, entries, from_entries, get-from_entries, get-entries}
+use Rattle.std.specs.FinMap.{find, get, entries, get-from_entries, get-entries}
 use Rattle.std.specs.Cmp.Lexicographic.{slice_cmp, nat_list_cmp_total}
 use Rattle.std.specs.Ordering.{nat_cmp, is_eq}
 use Rattle.std.proofs.lemmas.Bool.{false≢true, lt-ltb, eqb-true}
@@ -10,7 +9,7 @@ use Rattle.std.proofs.lemmas.Map.Text.{is_eq-slice_cmp}
 use Rattle.std.proofs.lemmas.Option.{none-some}
 use Rattle.std.proofs.lemmas.Slice.Eq.{bytes_eq-Decides}
 use Rattle.formula_parse.specs.Tokens.{Name}
-use Rattle.formula_parse.specs.Trees.{Names, no_names, names, Term, variable, numeral, product, sum, Factors, Factor, no_factors, factors, times, divided, Terms, no_terms, terms, Addends, no_addends, addends, Index, Fact, compare, words, word_letter, letter_word, call, Formula, atom, negated, chain, quantified, marked, Operands, no_operands, operands}
+use Rattle.formula_parse.specs.Trees.{Names, no_names, names, Term, variable, numeral, product, sum, Factors, no_factors, factors, times, divided, Terms, no_terms, terms, Addends, no_addends, addends, Index, Fact, compare, words, word_letter, letter_word, call, Formula, atom, negated, chain, quantified, marked, Operands, no_operands, operands}
 use Rattle.formula_truth.specs.Assignments.{Assignment}
 use Rattle.formula_truth.specs.Truth.{Meanings, Holds}
 use Rattle.formula_truth.specs.FreeVariables as truth
@@ -24,7 +23,7 @@ use Rattle.formula_resolve.specs.Headers.{Headers, automaton_tracks, word_tracks
 use Rattle.formula_resolve.specs.Mentions.{index_mention, mentions, mentions_among, marks, count}
 use Rattle.formula_resolve.specs.Arity.{kept_count, misuse, miscount, first_misuse}
 use Rattle.formula_resolve.specs.FreeVariables.{free_variables, systems_of, variable_of}
-use Rattle.formula_resolve.specs.Occurrences.{is_listed, unbound, term_occurrences, factor_occurrences, factor_of, addend_occurrences, track_occurrences, place_occurrences, fact_occurrences, all_occurrences, free_of}
+use Rattle.formula_resolve.specs.Occurrences.{is_listed, unbound, term_occurrences, factor_occurrences, addend_occurrences, track_occurrences, place_occurrences, fact_occurrences, all_occurrences, free_of}
 use Rattle.formula_resolve.specs.FreeOccurrences.{named, passing, free_in, free_among}
 use Rattle.formula_resolve.proofs.FreeLemmas.{passing-append, free_is_unbound}
 

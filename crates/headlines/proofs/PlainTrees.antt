@@ -1,15 +1,13 @@
 -- The tree of a formula whose tokens name no automaton and index no word.
-use Rattle.std.proofs.Common.{◌≡◌, ℕ, suc, Bool, true, false, List, [], ◌∷◌, map, sym, subst}
+use Rattle.std.proofs.Common.{ℕ, suc, Bool, true, false, List, [], ◌∷◌, map, sym, subst}
 use Rattle.std.specs.Prelude.{⊤}
 use Rattle.std.specs.List.{AllByRecursion}
-use Rattle.text_grammar.specs.Spots.{tokens}
 use Rattle.formula_parse.specs.Tokens.{Name, Letter, Placed, token_of}
 use Rattle.formula_parse.specs.Trees as trees
 use Rattle.formula_parse.specs.Trees.{Names, no_names, names}
-use Rattle.formula_parse.specs.Building.{chained, under_marks, in_system}
+use Rattle.formula_parse.specs.Building.{chained, under_marks}
 use Rattle.formula_parse.specs.Formulas.{Factor, variable, numeral, in_parens, Prod, factor, times, divided, Term, prod, signed, Index, word, further, Atom, compare, words, word_letter, letter_word, call_none, call, Variables, variable_one, variable_more, Binder, some, every, infinite, WrittenFormula, imp, iff, Imp, chain, implies, Chain, operand, joined, Operand, marked, Core, negated, quantified, grouped, atom, factor_then, prod_then, term_then, index_then, minus_then, letter_then, atom_then, variables_then, binder_then, marks_then, formula_then, imp_then, chain_then, operand_then, core_then, derived_tokens}
-use Rattle.formula_parse.specs.FormulaTrees.{fact, binder_quantifier, binder_names, marks_system, formula_system, imp_system, chain_system, before_imp, last_imp, before_chain, last_chain, before_operand, last_operand, operand_tree, core_tree, default_system, tree_of}
-use Rattle.formula_parse.specs.Spots.{spots}
+use Rattle.formula_parse.specs.FormulaTrees.{fact, marks_system, formula_system, imp_system, chain_system, before_imp, last_imp, before_chain, last_chain, before_operand, last_operand, operand_tree, core_tree, default_system}
 use Rattle.headlines.specs.Sentences.{HasNo, IsReadAs}
 use Rattle.headlines.proofs.PlainTokens.{IsNameless, nameless_tokens}
 

@@ -1,5 +1,4 @@
 -- The truth of a formula that names nothing is the same whatever names mean.
-use Rattle.std.proofs.Common.{ℕ, List}
 use Rattle.formula_parse.specs.Tokens.{some, every, infinite}
 use Rattle.formula_parse.specs.Trees.{Fact, compare, words, word_letter, letter_word, call, Formula, atom, negated, chain, quantified, marked, Operands, no_operands, operands}
 use Rattle.formula_truth.specs.Assignments.{Assignment}

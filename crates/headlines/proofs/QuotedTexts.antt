@@ -1,16 +1,16 @@
 -- The text in quotes of a command's head is all that the command has in quotes.
-use Rattle.std.proofs.Common.{◌≡◌, ◌≢◌, ℕ, zero, suc, ◌<◌, ◌≤◌, Bool, true, false, not, ◌&&◌, cond, List, [], ◌∷◌, ◌++◌, length, take, drop, refl, sym, ◌∙◌, ap, subst, arith, length-append}
+use Rattle.std.proofs.Common.{◌≡◌, ◌≢◌, ℕ, zero, suc, ◌<◌, ◌≤◌, Bool, true, false, not, ◌&&◌, cond, List, [], ◌∷◌, ◌++◌, length, take, refl, sym, ◌∙◌, ap, subst, arith, length-append}
 use Rattle.std.specs.List.{AllByRecursion}
 use Rattle.std.proofs.lemmas.List.{append_assoc, append-nil, take-append-drop}
 use Rattle.std.proofs.lemmas.Bool.{false≢true}
 use Rattle.text_grammar.specs.declared.class.Class.{Class}
 use Rattle.text_grammar.specs.declared.class.Class.TheVariants.{Blank, Letter, NameByte, Word}
-use Rattle.text_grammar.specs.Prefixes.{is_in, begins_in, prefix_of, after_prefix}
+use Rattle.text_grammar.specs.Prefixes.{is_in, begins_in, prefix_of}
 use Rattle.command_head.specs.Heads.{NamedHead}
 use Rattle.command_head.specs.Grammar.{DerivesNamed, quoted}
 use Rattle.command_head.specs.Parts.{part_len, after_first, first_in, after_blanks, after_word, first_word_of, parts_of_rest, parts_of, texts_of, is_name}
 use Rattle.command_head.proofs.PartShape.{AllByRecursion-weaker, all-append, name_bytes}
-use Rattle.command_head.proofs.PrefixSteps.{prefix_of-all, prefix_split, length-after_prefix}
+use Rattle.command_head.proofs.PrefixSteps.{prefix_of-all, prefix_split}
 use Rattle.headlines.specs.Sentences.{HasNo, HasInQuotes}
 
 -- a class without the quote

@@ -1,12 +1,12 @@
 -- The cause of a refusal.
-use Rattle.std.proofs.Common.{◌≡◌, ℕ, Bool, List, IsTrue, Ok, Err, refl, sym, subst, inl, inr}
+use Rattle.std.proofs.Common.{ℕ, List, IsTrue, Ok, Err, refl, sym, subst, inl, inr}
 use Rattle.wal_outside.specs.Causes.{Rose}
 use Rattle.wal_outside.specs.Views.{StoreView}
 use Rattle.definitions.specs.Trees.{Ledger}
 use Rattle.command_parts.specs.declared.fault.Fault.{Fault}
 use Rattle.command_parts.specs.declared.fault.Fault.TheVariants as faults
 use Rattle.command_parts.specs.Accepting.{Answer}
-use Rattle.session_cli.specs.Commands.{Commands, Gives, Leaves, is_refused_by_store}
+use Rattle.session_cli.specs.Commands.{Gives, Leaves, is_refused_by_store}
 use Rattle.session_cli.specs.Outcomes.{checks_of}
 use Rattle.session_cli.specs.SessionLanguage.{IsAnswer}
 use Rattle.headlines.specs.Refusals.{IsCause, IsRefusal, Refusals}
@@ -18,13 +18,12 @@ module _ (limit : ℕ) (known : Ledger) (command : List ℕ) (old new : StoreVie
   cause faults.Memory answered rose = inr (inr refl)
 
 pub refusals : Refusals
-refusals limit ledger old new command shown printed fault c = by c.answer c.gives c.answered c.stored
+refusals limit ledger old new command shown fault c = by c.answer c.gives c.answered c.stored
   where
-    by : (answer : Answer) → Gives shown (Err fault) printed answer → IsAnswer (checks_of limit c.known command) answer → Leaves c.known old answer new → IsRefusal limit ledger old new command printed fault
+    by : (answer : Answer) → Gives shown (Err fault) answer → IsAnswer (checks_of limit c.known command) answer → Leaves c.known old answer new → IsRefusal limit ledger old new command fault
     by (Ok success) gives answered leaves = absurd gives
-    by (Err other) (same, silent) answered leaves = record {
+    by (Err other) same answered leaves = record {
       kept = leaves.files;
-      silent = silent;
       known = c.known;
       known_is = c.known_is;
       cause = subst (IsCause limit c.known command old new) (sym same) (cause limit c.known command old new other answered leaves.cause);

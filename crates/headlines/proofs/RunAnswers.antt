@@ -1,9 +1,8 @@
 -- The answers of a run, by its turns.
-use Rattle.std.proofs.Common.{◌≡◌, ℕ, zero, suc, List, [], ◌∷◌, ◌++◌, Option, None, Some, IfSome, Result, Ok, Err, false, ◌⊎◌, inl, inr, refl, sym, ap, ◌∙◌, subst}
-use Rattle.std.specs.Prelude.{⊤}
+use Rattle.std.proofs.Common.{◌≡◌, ℕ, zero, suc, List, [], ◌∷◌, ◌++◌, Option, None, Some, IfSome, Ok, Err, false, inl, inr, refl, sym, ap, ◌∙◌, subst}
 use Rattle.std.specs.Io.KnownBytes.{Consumes}
 use Rattle.std.proofs.lemmas.List.{append_assoc, append-nil}
-use Rattle.wal_outside.specs.Sending.{IsProperPrefix, Grows, Sends, HasSent}
+use Rattle.wal_outside.specs.Sending.{Grows, HasSent}
 use Rattle.wal_outside.specs.Views.{SourceView, SinkView, StoreView}
 use Rattle.wal_outside.specs.declared.sink.WriteFault.{WriteFault}
 use Rattle.script_cut.specs.Cuts.{Rest, start, IsAtEnd}

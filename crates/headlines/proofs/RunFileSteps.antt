@@ -48,7 +48,7 @@ IsApart IsCommand = (text : List ℕ) → IsCommand text → IsRunWord (first_wo
 -- what holds of each command of a session that is accepted
 abbrev Law : (List ℕ → Type 0) → Did → Type 0
 Law IsCommand Does = (limit : ℕ) (ledger : Ledger) (files : Files) (old new : StoreView) (command : List ℕ) (shown : Bool) (printed : List ℕ)
-    → IsCommand command → old.files ≡ Some files → Commands limit ledger old command shown (Ok tt) printed new → Does ledger files command shown printed new
+    → IsCommand command → old.files ≡ Some files → Commands limit ledger old command shown (Ok printed) new → Does ledger files command shown printed new
 
 module _ (limit : ℕ) (stop : Bool) where
   abbrev Replied : Type 0
@@ -71,7 +71,7 @@ module _ (limit : ℕ) (stop : Bool) where
         → (files : Files) × (old.store.files ≡ Some files) × Does old.ledger files item.text (is_shown item.ended) (accepted_text (is_shown item.ended) accepted) store
     accepted_does depth old item accepted store replies reports is =
         let command = session_command limit depth replies.known item.text accepted (answered_in depth old.room replies.known item.text item.ended (Enters accepted) replies.replied) in
-        let by : Commands limit old.ledger old.store item.text (is_shown item.ended) (Ok tt) (accepted_text (is_shown item.ended) accepted) store = record {
+        let by : Commands limit old.ledger old.store item.text (is_shown item.ended) (Ok (accepted_text (is_shown item.ended) accepted)) store = record {
           answer = Ok accepted;
           gives = refl;
           known = replies.known;

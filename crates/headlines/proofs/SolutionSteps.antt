@@ -1,11 +1,11 @@
 -- The text of a formula with free variables, read as a file.
-use Rattle.std.proofs.Common.{◌≡◌, ◌≢◌, ◌↔◌, ℕ, ◌<◌, Bool, List, [], ◌∷◌, length, None, Some, Ok, codes, sym, ap, ◌∙◌, subst, inl, inr, ◌⊎◌, arith, IsTrue}
+use Rattle.std.proofs.Common.{◌≡◌, ◌↔◌, ℕ, ◌<◌, Bool, List, [], ◌∷◌, length, None, Some, Ok, codes, sym, ap, ◌∙◌, subst, inl, inr, ◌⊎◌, arith, IsTrue}
 use Rattle.std.specs.List.{AllZip}
 use Rattle.wal_outside.specs.Files.{Files, put}
 use Rattle.wal_outside.specs.Views.{StoreView}
 use Rattle.wal_outside.specs.declared.folder.Folder.TheVariants.{Automata}
 use Rattle.command_head.specs.Parts.{first_word_of}
-use Rattle.digit_tuple.specs.Deterministic.{Automaton, accepts_of}
+use Rattle.digit_tuple.specs.Deterministic.{accepts_of}
 use Rattle.digit_tuple.specs.declared.header.Header.{Header}
 use Rattle.dfa_reading.specs.Branching.{IsLetterOfDigits}
 use Rattle.dfa_reading.specs.Listed.{Listed, ListedAccepts}
@@ -101,7 +101,7 @@ defined limit known files command new success bytes is_word (head, h, (expanded,
 }
 
 pub solutions : (limit : ℕ) (ledger : Ledger) (files : Files) (old new : StoreView) (command : List ℕ) (shown : Bool) (printed : List ℕ)
-    → first_word_of command ≡ codes "def" → old.files ≡ Some files → Commands limit ledger old command shown (Ok tt) printed new → IsDefined ledger files command new
+    → first_word_of command ≡ codes "def" → old.files ≡ Some files → Commands limit ledger old command shown (Ok printed) new → IsDefined ledger files command new
 solutions limit ledger files old new command shown printed is reported c =
     let checks : Ledger → Check Success = λ known. formula_checks (codes "def") Automata limit known command in
     let m : IsMade (checks ledger) ledger files new = is_made limit command checks (λ known accepted answered. def_made limit known command accepted is answered) ledger files old new shown printed reported c in

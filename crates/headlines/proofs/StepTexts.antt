@@ -11,7 +11,7 @@ use Rattle.digit_tuple.specs.declared.steps.StepLine.{StepLine}
 use Rattle.command_head.proofs.PartShape.{all-append}
 use Rattle.command_parts.specs.declared.fault.Fault.{Fault}
 use Rattle.command_parts.specs.Accepting.{Success, Said}
-use Rattle.command_parts.specs.Lines.{step_line, step_lines, shown_steps, verdict_line, success_text, said_text, detail, fault_line}
+use Rattle.command_parts.specs.Lines.{step_line, step_lines, verdict_line, success_text, said_text, detail, fault_line}
 use Rattle.headlines.specs.Sentences.{HasNo}
 use Rattle.headlines.specs.RunVerdicts.{step_text, verdict_text, IsAccepted, IsRefused}
 use Rattle.headlines.specs.Listings.{IsPrinted}

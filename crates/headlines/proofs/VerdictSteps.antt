@@ -1,5 +1,5 @@
 -- The verdict of an accepted command is that on the formula of its text.
-use Rattle.std.proofs.Common.{◌≡◌, ℕ, ◌≤◌, ◌↔◌, Bool, true, false, IsTrue, List, [], ◌∷◌, ◌++◌, length, length-append, Option, None, Some, IfSome, Ok, Err, refl, sym, ap, ◌∙◌, subst, arith}
+use Rattle.std.proofs.Common.{◌≡◌, ℕ, ◌≤◌, ◌↔◌, Bool, true, false, IsTrue, List, [], ◌∷◌, ◌++◌, length, length-append, None, Some, IfSome, Ok, Err, refl, sym, ap, ◌∙◌, subst, arith}
 use Rattle.std.specs.Option.{option_map, option_or}
 use Rattle.std.specs.List.{AllZip}
 use Rattle.std.proofs.lemmas.Bool.{false≢true}
@@ -127,10 +127,10 @@ record IsSaid (ledger : Ledger) (old : StoreView) (text : List ℕ) (truth : Boo
   short : length text ≤ 65536
   says : SaysTruth known text truth
 
-said : (limit : ℕ) (ledger : Ledger) (old new : StoreView) (text : List ℕ) (shown : Bool) (lines : List ℕ) (truth : Bool) → IsFormulaCommand text → Commands limit ledger old text shown (Ok tt) (lines ++ truth_line truth) new → IsSaid ledger old text truth
+said : (limit : ℕ) (ledger : Ledger) (old new : StoreView) (text : List ℕ) (shown : Bool) (lines : List ℕ) (truth : Bool) → IsFormulaCommand text → Commands limit ledger old text shown (Ok (lines ++ truth_line truth)) new → IsSaid ledger old text truth
 said limit ledger old new text shown lines truth is_word c = by c.answer c.gives c.answered
   where
-    by : (answer : Answer) → Gives shown (Ok tt) (lines ++ truth_line truth) answer → IsAnswer (checks_of limit c.known text) answer → IsSaid ledger old text truth
+    by : (answer : Answer) → Gives shown (Ok (lines ++ truth_line truth)) answer → IsAnswer (checks_of limit c.known text) answer → IsSaid ledger old text truth
     by (Ok accepted) gives (done, short, answered) =
         let m : IsFormulaMade limit c.known text accepted = formula_made limit c.known text accepted is_word answered in
         let line : lines ++ truth_line truth ≡ success_text shown m.success = gives ∙ ap (accepted_text shown) m.is in

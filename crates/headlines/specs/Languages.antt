@@ -33,4 +33,4 @@ pub record IsLanguageMade (op : LanguageOp) (ledger : Ledger) (files : Files) (c
 -- a `union`, `intersect`, `concat`, `star` or `reverse` that is accepted stores such a file
 abbrev pub Languages : Type 0
 Languages = (op : LanguageOp) (limit : ℕ) (ledger : Ledger) (files : Files) (old new : StoreView) (command : List ℕ) (shown : Bool) (printed : List ℕ)
-    → first_word_of command ≡ op_word op → old.files ≡ Some files → Commands limit ledger old command shown (Ok tt) printed new → IsLanguageMade op ledger files command new
+    → first_word_of command ≡ op_word op → old.files ≡ Some files → Commands limit ledger old command shown (Ok printed) new → IsLanguageMade op ledger files command new

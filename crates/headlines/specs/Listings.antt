@@ -64,7 +64,7 @@ pub record IsCounted (ledger : Ledger) (command : List ℕ) (shown : Bool) (prin
 -- a command of this word that is accepted prints such a text, and changes no file
 abbrev pub Printed : List ℕ → (Ledger → List ℕ → Bool → List ℕ → Type 0) → Type 0
 Printed word Says = (limit : ℕ) (ledger : Ledger) (files : Files) (old new : StoreView) (command : List ℕ) (shown : Bool) (printed : List ℕ)
-    → first_word_of command ≡ word → old.files ≡ Some files → Commands limit ledger old command shown (Ok tt) printed new → Says ledger command shown printed × (new.files ≡ Some files)
+    → first_word_of command ≡ word → old.files ≡ Some files → Commands limit ledger old command shown (Ok printed) new → Says ledger command shown printed × (new.files ≡ Some files)
 
 abbrev pub Tests : Type 0
 Tests = Printed (codes "test") IsTested

@@ -36,4 +36,4 @@ pub record UsesSystems (ledger : Ledger) (command : List ℕ) : Type 0 where
 -- an `eval` or a `def` that is accepted uses systems alone that are systems
 abbrev pub OwnSystems : Type 0
 OwnSystems = (limit : ℕ) (ledger : Ledger) (files : Files) (old new : StoreView) (command : List ℕ) (shown : Bool) (printed : List ℕ)
-    → IsFormulaCommand command → old.files ≡ Some files → Commands limit ledger old command shown (Ok tt) printed new → UsesSystems ledger command
+    → IsFormulaCommand command → old.files ≡ Some files → Commands limit ledger old command shown (Ok printed) new → UsesSystems ledger command

@@ -32,4 +32,4 @@ pub record SaysPlainTruth (command : List ℕ) (truth : Bool) : Type 0 where
 -- An `eval` or a `def` that is accepted and prints a verdict, after the lines of its steps or after none, says truth.
 abbrev pub PlainVerdicts : Type 0
 PlainVerdicts = (limit : ℕ) (ledger : Ledger) (old new : StoreView) (command : List ℕ) (shown : Bool) (lines : List ℕ) (truth : Bool)
-    → IsFormulaCommand command → Commands limit ledger old command shown (Ok tt) (lines ++ truth_line truth) new → SaysPlainTruth command truth
+    → IsFormulaCommand command → Commands limit ledger old command shown (Ok (lines ++ truth_line truth)) new → SaysPlainTruth command truth

@@ -1,5 +1,5 @@
 -- What holds of a refused command.
-use Rattle.std.specs.Prelude.{◌≡◌, ◌⊎◌, ℕ, Bool, List, [], IfSome, Err}
+use Rattle.std.specs.Prelude.{◌≡◌, ◌⊎◌, ℕ, Bool, List, IfSome, Err}
 use Rattle.wal_outside.specs.Causes.{Rose}
 use Rattle.wal_outside.specs.Files.{Files}
 use Rattle.wal_outside.specs.Views.{StoreView}
@@ -18,15 +18,14 @@ IsCause limit known command old new fault =
     ⊎ (((folder : Folder) × (name : List ℕ) × (fault ≡ faults.Store folder name) × Rose old.faults new.faults)
     ⊎ (fault ≡ faults.Memory))
 
--- no file changed, nothing else was printed, and this is the cause
-pub record IsRefusal (limit : ℕ) (ledger : Ledger) (old new : StoreView) (command printed : List ℕ) (fault : Fault) : Type 0 where
+-- no file changed, and this is the cause
+pub record IsRefusal (limit : ℕ) (ledger : Ledger) (old new : StoreView) (command : List ℕ) (fault : Fault) : Type 0 where
   pub kept : new.files ≡ old.files
-  pub silent : printed ≡ []
   pub known : Ledger
   pub known_is : IfSome old.files (λ (files : Files). known ≡ ledger)
   pub cause : IsCause limit known command old new fault
 
 -- of each command that is refused
 abbrev pub Refusals : Type 0
-Refusals = (limit : ℕ) (ledger : Ledger) (old new : StoreView) (command : List ℕ) (shown : Bool) (printed : List ℕ) (fault : Fault)
-    → Commands limit ledger old command shown (Err fault) printed new → IsRefusal limit ledger old new command printed fault
+Refusals = (limit : ℕ) (ledger : Ledger) (old new : StoreView) (command : List ℕ) (shown : Bool) (fault : Fault)
+    → Commands limit ledger old command shown (Err fault) new → IsRefusal limit ledger old new command fault

@@ -28,5 +28,5 @@ pub record BreaksLaw (custom : Custom) (name : List ℕ) (law : Law) : Type 0 wh
 
 -- a command that is refused by F15 with a law names such a system
 abbrev pub RefusedSystems : Type 0
-RefusedSystems = (limit : ℕ) (ledger : Ledger) (files : Files) (old new : StoreView) (command : List ℕ) (shown : Bool) (printed name : List ℕ) (law : Law)
-    → old.files ≡ Some files → Commands limit ledger old command shown (Err (faults.Refused (refusals.System (system_refusals.NotAdmitted name law)))) printed new → BreaksLaw (custom_of ledger) name law
+RefusedSystems = (limit : ℕ) (ledger : Ledger) (files : Files) (old new : StoreView) (command : List ℕ) (shown : Bool) (name : List ℕ) (law : Law)
+    → old.files ≡ Some files → Commands limit ledger old command shown (Err (faults.Refused (refusals.System (system_refusals.NotAdmitted name law)))) new → BreaksLaw (custom_of ledger) name law

@@ -77,4 +77,4 @@ pub record IsDefined (ledger : Ledger) (files : Files) (command : List ℕ) (new
 -- A `def` that is accepted stores such a file.
 abbrev pub Solutions : Type 0
 Solutions = (limit : ℕ) (ledger : Ledger) (files : Files) (old new : StoreView) (command : List ℕ) (shown : Bool) (printed : List ℕ)
-    → first_word_of command ≡ codes "def" → old.files ≡ Some files → Commands limit ledger old command shown (Ok tt) printed new → IsDefined ledger files command new
+    → first_word_of command ≡ codes "def" → old.files ≡ Some files → Commands limit ledger old command shown (Ok printed) new → IsDefined ledger files command new

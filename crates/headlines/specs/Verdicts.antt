@@ -40,5 +40,5 @@ pub record SaysTruth (ledger : Ledger) (command : List ℕ) (truth : Bool) : Typ
 -- names mean what the ledger has of them.
 abbrev pub Verdicts : Type 0
 Verdicts = (limit : ℕ) (ledger : Ledger) (old new : StoreView) (command : List ℕ) (shown : Bool) (lines : List ℕ) (truth : Bool)
-    → IsFormulaCommand command → Commands limit ledger old command shown (Ok tt) (lines ++ truth_line truth) new
+    → IsFormulaCommand command → Commands limit ledger old command shown (Ok (lines ++ truth_line truth)) new
     → (known : Ledger) × IfSome old.files (λ (files : Files). known ≡ ledger) × SaysTruth known command truth

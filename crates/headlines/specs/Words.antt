@@ -98,7 +98,7 @@ pub record IsCombined (ledger : Ledger) (files : Files) (command : List ℕ) (ne
 -- a command of this word that is accepted stores such a file
 abbrev pub Stored : List ℕ → (Ledger → Files → List ℕ → StoreView → Type 0) → Type 0
 Stored word Made = (limit : ℕ) (ledger : Ledger) (files : Files) (old new : StoreView) (command : List ℕ) (shown : Bool) (printed : List ℕ)
-    → first_word_of command ≡ word → old.files ≡ Some files → Commands limit ledger old command shown (Ok tt) printed new → Made ledger files command new
+    → first_word_of command ≡ word → old.files ≡ Some files → Commands limit ledger old command shown (Ok printed) new → Made ledger files command new
 
 abbrev pub Promotions : Type 0
 Promotions = Stored (codes "promote") IsPromoted

@@ -66,11 +66,11 @@ module _ (limit : ℕ) (stop : Bool) (depth : ℕ) (text : List ℕ) (short : le
       | inr stored ↦ inr (stored.0, entered ledger (Storing stored.0) stored.1, stored.2)
     ]
 
-    pub command_enters : (ledger : Ledger) (old new : StoreView) (shown : Bool) (printed : List ℕ) (bytes : Vec ℕ Global) → bytes.items ≡ printed → Commands limit ledger old text shown (Ok tt) printed new
+    pub command_enters : (ledger : Ledger) (old new : StoreView) (shown : Bool) (printed : List ℕ) (bytes : Vec ℕ Global) → bytes.items ≡ printed → Commands limit ledger old text shown (Ok printed) new
         → AnswersCommand (session_language limit stop) depth ledger old text shown (Ok (deeds.Enters bytes)) new
     command_enters ledger old new shown printed bytes is c = by_answer c.answer c.gives c.answered c.stored
       where
-        by_answer : (answer : Answer) → Gives shown (Ok tt) printed answer → IsAnswer (checks_of limit c.known text) answer → Leaves c.known old answer new → AnswersCommand (session_language limit stop) depth ledger old text shown (Ok (deeds.Enters bytes)) new
+        by_answer : (answer : Answer) → Gives shown (Ok printed) answer → IsAnswer (checks_of limit c.known text) answer → Leaves c.known old answer new → AnswersCommand (session_language limit stop) depth ledger old text shown (Ok (deeds.Enters bytes)) new
         by_answer (Ok success) gives answered stored = record {
           reply = Ok (Enters success);
           gives = is ∙ gives;
@@ -81,15 +81,15 @@ module _ (limit : ℕ) (stop : Bool) (depth : ℕ) (text : List ℕ) (short : le
         }
         by_answer (Err fault) gives answered stored = absurd gives
 
-    pub command_refused : (ledger : Ledger) (old new : StoreView) (shown : Bool) (printed : List ℕ) (fault : Fault) → Commands limit ledger old text shown (Err fault) printed new
+    pub command_refused : (ledger : Ledger) (old new : StoreView) (shown : Bool) (fault : Fault) → Commands limit ledger old text shown (Err fault) new
         → AnswersCommand (session_language limit stop) depth ledger old text shown (Err fault) new
-    command_refused ledger old new shown printed fault c = by_answer c.answer c.gives c.answered c.stored
+    command_refused ledger old new shown fault c = by_answer c.answer c.gives c.answered c.stored
       where
-        by_answer : (answer : Answer) → Gives shown (Err fault) printed answer → IsAnswer (checks_of limit c.known text) answer → Leaves c.known old answer new → AnswersCommand (session_language limit stop) depth ledger old text shown (Err fault) new
+        by_answer : (answer : Answer) → Gives shown (Err fault) answer → IsAnswer (checks_of limit c.known text) answer → Leaves c.known old answer new → AnswersCommand (session_language limit stop) depth ledger old text shown (Err fault) new
         by_answer (Ok success) gives answered stored = absurd gives
         by_answer (Err refusal) gives answered stored = record {
           reply = Err refusal;
-          gives = gives.0;
+          gives = gives;
           known = c.known;
           known_is = c.known_is;
           answered = reply_refused c.known refusal answered;

@@ -1,5 +1,5 @@
 -- One command: from what its checks give and what the write did to its answer.
-use Rattle.std.proofs.Common.{◌≡◌, ℕ, Bool, List, [], Option, None, Some, IfSome, IsTrue, Result, Ok, Err, refl, sym, ap, ◌∙◌, subst, inl, inr, arith}
+use Rattle.std.proofs.Common.{◌≡◌, ℕ, Bool, List, Option, None, Some, IfSome, IsTrue, Result, Ok, Err, refl, sym, ap, ◌∙◌, subst, inl, inr, arith}
 use Rattle.std.specs.Option.{option_map}
 use Rattle.wal_outside.specs.Causes.{Rose}
 use Rattle.wal_outside.specs.Files.{Files, put}
@@ -50,10 +50,10 @@ failed_of old new (faults.Refused refusal) read = read
 
 -- a command that its checks refuse
 pub refused_command : (limit : ℕ) (ledger : Ledger) (old new : StoreView) (text : List ℕ) (shown : Bool) (fault : Fault) (found : Files) → IsAnswering old.files ledger found → ((known : Ledger) → Stores known found → Fails (checks_of limit known text) fault)
-    → HasRead {X = Action} old (Err fault) new → Commands limit ledger old text shown (Err fault) [] new
+    → HasRead {X = Action} old (Err fault) new → Commands limit ledger old text shown (Err fault) new
 refused_command limit ledger old new text shown fault found by refused read = record {
   answer = Err fault;
-  gives = (refl, refl);
+  gives = refl;
   known = by.known;
   known_is = by.known_is;
   answered = answer_of fault (refused by.known by.stores);
@@ -72,7 +72,7 @@ same_put old place other stored folders names = λ i. option_map (λ files. put 
 module _ (limit : ℕ) (ledger : Ledger) (old mid new : StoreView) (text : List ℕ) (shown : Bool) (found : Files) (by : IsAnswering old.files ledger found) where
   module _ (change : FileChange) (success : Success) (answers : (checks_of limit by.known text).answers (Ok (Storing success))) (is_of : IsFileChangeOf (custom_of by.known) success shown change) (read : HasRead {X = Action} old (Ok (actions.Write change)) mid) where
     -- it stores something
-    stored_command : (printed : List ℕ) → WritesChange {X = List ℕ} mid (change.folder, change.name) change.made.stored.items (Ok printed) new → printed ≡ change.made.printed → Commands limit ledger old text shown (Ok tt) printed new
+    stored_command : (printed : List ℕ) → WritesChange {X = List ℕ} mid (change.folder, change.name) change.made.stored.items (Ok printed) new → printed ≡ change.made.printed → Commands limit ledger old text shown (Ok printed) new
     stored_command printed w is = record {
       answer = Ok (Storing success);
       gives = is ∙ is_of.printed_is;
@@ -88,13 +88,13 @@ module _ (limit : ℕ) (ledger : Ledger) (old mid new : StoreView) (text : List 
     }
 
     -- or that failed
-    unstored_command : (fault : Fault) → WritesChange {X = List ℕ} mid (change.folder, change.name) change.made.stored.items (Err fault) new → Commands limit ledger old text shown (Err fault) [] new
+    unstored_command : (fault : Fault) → WritesChange {X = List ℕ} mid (change.folder, change.name) change.made.stored.items (Err fault) new → Commands limit ledger old text shown (Err fault) new
     unstored_command fault wrote = by_fault fault wrote
       where
-        by_fault : (f : Fault) → WritesChange {X = List ℕ} mid (change.folder, change.name) change.made.stored.items (Err f) new → Commands limit ledger old text shown (Err f) [] new
+        by_fault : (f : Fault) → WritesChange {X = List ℕ} mid (change.folder, change.name) change.made.stored.items (Err f) new → Commands limit ledger old text shown (Err f) new
         by_fault (faults.Store folder at) w = record {
           answer = Err (faults.Store folder at);
-          gives = (refl, refl);
+          gives = refl;
           known = by.known;
           known_is = by.known_is;
           answered = inr (success, answers, w.cause.0 ∙ is_of.folder_is, w.cause.1 ∙ is_of.name_is);
@@ -107,7 +107,7 @@ module _ (limit : ℕ) (ledger : Ledger) (old mid new : StoreView) (text : List 
         }
         by_fault faults.Memory w = record {
           answer = Err faults.Memory;
-          gives = (refl, refl);
+          gives = refl;
           known = by.known;
           known_is = by.known_is;
           answered = tt;
@@ -116,8 +116,8 @@ module _ (limit : ℕ) (ledger : Ledger) (old mid new : StoreView) (text : List 
         by_fault (faults.Refused refusal) w = absurd w.cause
 
   -- it says something
-  said_command : (printed : List ℕ) (said : Said) → (checks_of limit by.known text).answers (Ok (Saying said)) → printed ≡ said_text shown said → HasRead {X = Action} old (Ok (actions.Print printed)) mid → new ≡ mid → Commands limit ledger old text shown (Ok tt) printed new
-  said_command printed said answers is read same = subst (λ (store : StoreView). Commands limit ledger old text shown (Ok tt) printed store) (sym same) record {
+  said_command : (printed : List ℕ) (said : Said) → (checks_of limit by.known text).answers (Ok (Saying said)) → printed ≡ said_text shown said → HasRead {X = Action} old (Ok (actions.Print printed)) mid → new ≡ mid → Commands limit ledger old text shown (Ok printed) new
+  said_command printed said answers is read same = subst (λ (store : StoreView). Commands limit ledger old text shown (Ok printed) store) (sym same) record {
     answer = Ok (Saying said);
     gives = is;
     known = by.known;
@@ -126,17 +126,17 @@ module _ (limit : ℕ) (ledger : Ledger) (old mid new : StoreView) (text : List 
     stored = record { files = read.files; later = read.later; cause = λ is. cc; failed = read.cause };
   }
 
-  done_print : (said printed : List ℕ) → IsAction (custom_of by.known) (checks_of limit by.known text) shown (actions.Print said) → HasRead {X = Action} old (Ok (actions.Print said)) mid → printed ≡ said → new ≡ mid → Commands limit ledger old text shown (Ok tt) printed new
-  done_print said printed a read is same = subst (λ (l : List ℕ). Commands limit ledger old text shown (Ok tt) l new) (sym is) (by_accepted a.accepted a.answers a.is_of)
+  done_print : (said printed : List ℕ) → IsAction (custom_of by.known) (checks_of limit by.known text) shown (actions.Print said) → HasRead {X = Action} old (Ok (actions.Print said)) mid → printed ≡ said → new ≡ mid → Commands limit ledger old text shown (Ok printed) new
+  done_print said printed a read is same = subst (λ (l : List ℕ). let r : Result (List ℕ) Fault = Ok l in Commands limit ledger old text shown r new) (sym is) (by_accepted a.accepted a.answers a.is_of)
     where
-      by_accepted : (accepted : Accepted) → (checks_of limit by.known text).answers (Ok accepted) → IsActionOf (custom_of by.known) accepted shown (actions.Print said) → Commands limit ledger old text shown (Ok tt) said new
+      by_accepted : (accepted : Accepted) → (checks_of limit by.known text).answers (Ok accepted) → IsActionOf (custom_of by.known) accepted shown (actions.Print said) → Commands limit ledger old text shown (Ok said) new
       by_accepted (Storing success) answers is_of = absurd is_of
       by_accepted (Saying prints_checked) answers is_of = said_command said prints_checked answers is_of read same
 
-  pub done_command : (action : Action) (printed : List ℕ) → IsAction (custom_of by.known) (checks_of limit by.known text) shown action → HasRead {X = Action} old (Ok action) mid → DoesAction mid action (Ok printed) new → Commands limit ledger old text shown (Ok tt) printed new
+  done_command : (action : Action) (printed : List ℕ) → IsAction (custom_of by.known) (checks_of limit by.known text) shown action → HasRead {X = Action} old (Ok action) mid → DoesAction mid action (Ok printed) new → Commands limit ledger old text shown (Ok printed) new
   done_command (actions.Write change) printed a read (wrote, is) = by_accepted a.accepted a.answers a.is_of
     where
-      by_accepted : (accepted : Accepted) → (checks_of limit by.known text).answers (Ok accepted) → IsActionOf (custom_of by.known) accepted shown (actions.Write change) → Commands limit ledger old text shown (Ok tt) printed new
+      by_accepted : (accepted : Accepted) → (checks_of limit by.known text).answers (Ok accepted) → IsActionOf (custom_of by.known) accepted shown (actions.Write change) → Commands limit ledger old text shown (Ok printed) new
       by_accepted (Storing success) answers is_of = stored_command change success answers is_of read printed wrote is
       by_accepted (Saying said) answers is_of = absurd is_of
   done_command (actions.Print said) printed a read (is, same) = done_print said printed a read (same_ok printed said is) same
@@ -144,13 +144,17 @@ module _ (limit : ℕ) (ledger : Ledger) (old mid new : StoreView) (text : List 
       same_ok : (x y : List ℕ) → (let r : Result (List ℕ) Fault = Ok x in r) ≡ Ok y → x ≡ y
       same_ok x y e = cc
 
-  pub undone_command : (action : Action) (fault : Fault) → IsAction (custom_of by.known) (checks_of limit by.known text) shown action → HasRead {X = Action} old (Ok action) mid → DoesAction mid action (Err fault) new → Commands limit ledger old text shown (Err fault) [] new
+  undone_command : (action : Action) (fault : Fault) → IsAction (custom_of by.known) (checks_of limit by.known text) shown action → HasRead {X = Action} old (Ok action) mid → DoesAction mid action (Err fault) new → Commands limit ledger old text shown (Err fault) new
   undone_command (actions.Write change) fault a read (wrote, is) = by_accepted a.accepted a.answers a.is_of
     where
-      by_accepted : (accepted : Accepted) → (checks_of limit by.known text).answers (Ok accepted) → IsActionOf (custom_of by.known) accepted shown (actions.Write change) → Commands limit ledger old text shown (Err fault) [] new
+      by_accepted : (accepted : Accepted) → (checks_of limit by.known text).answers (Ok accepted) → IsActionOf (custom_of by.known) accepted shown (actions.Write change) → Commands limit ledger old text shown (Err fault) new
       by_accepted (Storing success) answers is_of = unstored_command change success answers is_of read fault wrote
       by_accepted (Saying said) answers is_of = absurd is_of
   undone_command (actions.Print said) fault a read (is, same) = absurd (no_fault said fault is)
     where
       no_fault : (x : List ℕ) (f : Fault) → (let r : Result (List ℕ) Fault = Err f in r) ≡ Ok x → ⊥
       no_fault x f e = cc
+
+  pub acted_command : (action : Action) (result : Result (List ℕ) Fault) → IsAction (custom_of by.known) (checks_of limit by.known text) shown action → HasRead {X = Action} old (Ok action) mid → DoesAction mid action result new → Commands limit ledger old text shown result new
+  acted_command action (Ok printed) a read does = done_command action printed a read does
+  acted_command action (Err fault) a read does = undone_command action fault a read does

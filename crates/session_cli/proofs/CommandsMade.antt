@@ -4,9 +4,6 @@ use Rattle.wal_outside.specs.declared.folder.Folder.TheVariants.{Automata, Resul
 use Rattle.command_head.specs.Parts.{first_word_of}
 use Rattle.definitions.specs.Trees.{Ledger}
 use Rattle.language_steps.specs.declared.op.LanguageOp.{LanguageOp}
-use Rattle.language_steps.specs.declared.op.LanguageOp.TheVariants.{Pair, One}
-use Rattle.language_steps.specs.declared.op.OneOp.TheVariants.{Star, Reversal}
-use Rattle.language_steps.specs.declared.op.PairOp.TheVariants.{Union, Intersection, Concatenation}
 use Rattle.script_runs.specs.Languages.{Enters, Loads, Ends}
 use Rattle.session_cli.specs.declared.actions.CommandWord.{CommandWord}
 use Rattle.session_cli.specs.declared.actions.CommandWord.TheVariants as words
@@ -52,11 +49,7 @@ module _ (limit : ℕ) (known : Ledger) (command : List ℕ) (accepted : Accepte
   convert_made is answered = made_by words.Convert is answered
 
   pub language_made : (op : LanguageOp) → first_word_of command ≡ op_word op → (after_length limit known command).answers (Ok accepted) → (storing (language_checks op limit known command)).answers (Ok accepted)
-  language_made (Pair Union) is answered = made_by words.Union is answered
-  language_made (Pair Intersection) is answered = made_by words.Intersect is answered
-  language_made (Pair Concatenation) is answered = made_by words.Concat is answered
-  language_made (One Star) is answered = made_by words.Star is answered
-  language_made (One Reversal) is answered = made_by words.Reverse is answered
+  language_made op is answered = made_by (words.Language op) is answered
 
   pub test_made : first_word_of command ≡ codes "test" → (after_length limit known command).answers (Ok accepted) → (saying (test_checks limit known command)).answers (Ok accepted)
   test_made is answered = made_by words.Test is answered

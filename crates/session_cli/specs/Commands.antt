@@ -1,5 +1,5 @@
 -- One command, and the store before and after it.
-use Rattle.std.specs.Prelude.{◌≡◌, ℕ, ◌≤◌, Bool, false, List, [], Option, Some, IfOk, IfSome, IsTrue, Result, Ok, Err}
+use Rattle.std.specs.Prelude.{◌≡◌, ℕ, ◌≤◌, Bool, false, List, Option, Some, IfOk, IfSome, IsTrue, Result, Ok, Err}
 use Rattle.std.specs.Option.{is_some, option_map}
 use Rattle.wal_outside.specs.Causes.{Rose}
 use Rattle.wal_outside.specs.Files.{Files, put}
@@ -17,12 +17,12 @@ use Rattle.session_cli.specs.Outcomes.{checks_of}
 use Rattle.session_cli.specs.SessionLanguage.{IsAnswer, ChangesFiles}
 use Rattle.command_parts.specs.StoreFailures.{failed_at}
 
--- A call's result and the text to print are the answer: accepted, with what it prints; or the same fault, and then the text is empty.
-abbrev pub Gives : Bool → Result (Unit {0}) Fault → List ℕ → Answer → Type 0
-Gives shown (Ok _) text (Ok accepted) = text ≡ accepted_text shown accepted
-Gives shown (Ok _) text (Err fault) = ⊥
-Gives shown (Err fault) text (Ok accepted) = ⊥
-Gives shown (Err fault) text (Err refusal) = (fault ≡ refusal) × (text ≡ [])
+-- A call's result is the answer: what an accepted command prints, or the same fault.
+abbrev pub Gives : Bool → Result (List ℕ) Fault → Answer → Type 0
+Gives shown (Ok printed) (Ok accepted) = printed ≡ accepted_text shown accepted
+Gives shown (Ok printed) (Err fault) = ⊥
+Gives shown (Err fault) (Ok accepted) = ⊥
+Gives shown (Err fault) (Err refusal) = fault ≡ refusal
 
 -- a refused command changes no file
 abbrev pub Changes : Ledger → Option Files → Answer → Option Files → Type 0
@@ -46,9 +46,9 @@ pub record Leaves (known : Ledger) (old : StoreView) (answer : Answer) (new : St
 
 -- A command has an answer that the call gives. Where the store reports its files, it is answered by what is known of it, and else by
 -- something that may be known.
-pub record Commands (limit : ℕ) (ledger : Ledger) (old : StoreView) (text : List ℕ) (shown : Bool) (result : Result (Unit {0}) Fault) (printed : List ℕ) (new : StoreView) : Type 0 where
+pub record Commands (limit : ℕ) (ledger : Ledger) (old : StoreView) (text : List ℕ) (shown : Bool) (result : Result (List ℕ) Fault) (new : StoreView) : Type 0 where
   pub answer : Answer
-  pub gives : Gives shown result printed answer
+  pub gives : Gives shown result answer
   pub known : Ledger
   pub known_is : IfSome old.files (λ (files : Files). known ≡ ledger)
   pub answered : IsAnswer (checks_of limit known text) answer

@@ -9,9 +9,6 @@ use Rattle.session_cli.specs.declared.actions.CommandWord.{CommandWord}
 use Rattle.session_cli.specs.declared.actions.CommandWord.TheVariants as words
 use Rattle.command_parts.specs.Checks.{Check, Pure, Then}
 use Rattle.definitions.specs.Trees.{Ledger}
-use Rattle.language_steps.specs.declared.op.LanguageOp.TheVariants.{Pair, One}
-use Rattle.language_steps.specs.declared.op.OneOp.TheVariants.{Star, Reversal}
-use Rattle.language_steps.specs.declared.op.PairOp.TheVariants.{Union, Intersection, Concatenation}
 use Rattle.command_parts.specs.Accepting.{Accepted, saying, storing}
 use Rattle.language_commands.specs.RegOutcomes.{reg_checks}
 use Rattle.formula_commands.specs.FormulaOutcomes.{formula_checks}
@@ -19,7 +16,7 @@ use Rattle.session_cli.specs.TextOutcomes.{macro_checks, morphism_checks}
 use Rattle.word_commands.specs.PromoteOutcomes.{promote_checks}
 use Rattle.word_commands.specs.CombineOutcomes.{combine_checks}
 use Rattle.word_commands.specs.ImageOutcomes.{image_checks}
-use Rattle.language_commands.specs.LanguageOutcomes.{language_checks}
+use Rattle.language_commands.specs.LanguageOutcomes.{language_checks, op_word}
 use Rattle.word_commands.specs.TransduceOutcomes.{transduce_checks}
 use Rattle.listing_commands.specs.ListingOutcomes.{inf_checks, test_checks}
 use Rattle.word_commands.specs.ConvertOutcomes.{convert_checks}
@@ -42,11 +39,7 @@ word_text words.Morphism = codes "morphism"
 word_text words.Promote = codes "promote"
 word_text words.Combine = codes "combine"
 word_text words.Image = codes "image"
-word_text words.Union = codes "union"
-word_text words.Intersect = codes "intersect"
-word_text words.Concat = codes "concat"
-word_text words.Star = codes "star"
-word_text words.Reverse = codes "reverse"
+word_text (words.Language op) = op_word op
 word_text words.Transduce = codes "transduce"
 word_text words.Test = codes "test"
 word_text words.Inf = codes "inf"
@@ -67,11 +60,7 @@ checks_by words.Morphism limit ledger text = storing (morphism_checks ledger tex
 checks_by words.Promote limit ledger text = storing (promote_checks limit ledger text)
 checks_by words.Combine limit ledger text = storing (combine_checks limit ledger text)
 checks_by words.Image limit ledger text = storing (image_checks limit ledger text)
-checks_by words.Union limit ledger text = storing (language_checks (Pair Union) limit ledger text)
-checks_by words.Intersect limit ledger text = storing (language_checks (Pair Intersection) limit ledger text)
-checks_by words.Concat limit ledger text = storing (language_checks (Pair Concatenation) limit ledger text)
-checks_by words.Star limit ledger text = storing (language_checks (One Star) limit ledger text)
-checks_by words.Reverse limit ledger text = storing (language_checks (One Reversal) limit ledger text)
+checks_by (words.Language op) limit ledger text = storing (language_checks op limit ledger text)
 checks_by words.Test limit ledger text = saying (test_checks limit ledger text)
 checks_by words.Inf limit ledger text = saying (inf_checks limit ledger text)
 checks_by words.Transduce limit ledger text = storing (transduce_checks limit ledger text)

@@ -47,11 +47,11 @@ word_by_letters n fourth =
     else if n == 109111114 then words.Morphism
     else if n == 112114111 then words.Promote
     else if n == 105109097 then words.Image
-    else if n == 117110105 then words.Union
-    else if n == 105110116 then words.Intersect
-    else if n == 99111110 then (if fourth == 118 then words.Convert else words.Concat)
-    else if n == 115116097 then words.Star
-    else if n == 114101118 then words.Reverse
+    else if n == 117110105 then words.Language (Pair Union)
+    else if n == 105110116 then words.Language (Pair Intersection)
+    else if n == 99111110 then (if fourth == 118 then words.Convert else words.Language (Pair Concatenation))
+    else if n == 115116097 then words.Language (One Star)
+    else if n == 114101118 then words.Language (One Reversal)
     else if n == 116114097 then words.Transduce
     else if n == 116101115 then words.Test
     else if n == 105110102 then words.Inf
@@ -66,11 +66,11 @@ word_again words.Morphism = refl
 word_again words.Promote = refl
 word_again words.Combine = refl
 word_again words.Image = refl
-word_again words.Union = refl
-word_again words.Intersect = refl
-word_again words.Concat = refl
-word_again words.Star = refl
-word_again words.Reverse = refl
+word_again (words.Language (Pair Union)) = refl
+word_again (words.Language (Pair Intersection)) = refl
+word_again (words.Language (Pair Concatenation)) = refl
+word_again (words.Language (One Star)) = refl
+word_again (words.Language (One Reversal)) = refl
 word_again words.Transduce = refl
 word_again words.Test = refl
 word_again words.Inf = refl
@@ -89,11 +89,7 @@ sound_by_word words.Morphism limit ledger text = storing_sound limit ledger (mor
 sound_by_word words.Promote limit ledger text = storing_sound limit ledger (promote_checks limit ledger text) (promote_sound limit ledger text)
 sound_by_word words.Combine limit ledger text = storing_sound limit ledger (combine_checks limit ledger text) (combine_sound limit ledger text)
 sound_by_word words.Image limit ledger text = storing_sound limit ledger (image_checks limit ledger text) (image_sound limit ledger text)
-sound_by_word words.Union limit ledger text = storing_sound limit ledger (language_checks (Pair Union) limit ledger text) (language_sound (Pair Union) limit ledger text)
-sound_by_word words.Intersect limit ledger text = storing_sound limit ledger (language_checks (Pair Intersection) limit ledger text) (language_sound (Pair Intersection) limit ledger text)
-sound_by_word words.Concat limit ledger text = storing_sound limit ledger (language_checks (Pair Concatenation) limit ledger text) (language_sound (Pair Concatenation) limit ledger text)
-sound_by_word words.Star limit ledger text = storing_sound limit ledger (language_checks (One Star) limit ledger text) (language_sound (One Star) limit ledger text)
-sound_by_word words.Reverse limit ledger text = storing_sound limit ledger (language_checks (One Reversal) limit ledger text) (language_sound (One Reversal) limit ledger text)
+sound_by_word (words.Language op) limit ledger text = storing_sound limit ledger (language_checks op limit ledger text) (language_sound op limit ledger text)
 sound_by_word words.Test limit ledger text = saying_sound limit ledger (test_checks limit ledger text) (test_sound limit ledger text)
 sound_by_word words.Inf limit ledger text = saying_sound limit ledger (inf_checks limit ledger text) (inf_sound limit ledger text)
 sound_by_word words.Transduce limit ledger text = storing_sound limit ledger (transduce_checks limit ledger text) (transduce_sound limit ledger text)

@@ -51,16 +51,8 @@ pub(crate) enum CommandWord {
     Combine,
     /// `image`: a word whose letters are mapped by a morphism.
     Image,
-    /// `union`: the words that are in one of some languages.
-    Union,
-    /// `intersect`: the words that are in all of them.
-    Intersect,
-    /// `concat`: the words joined of one word of each.
-    Concat,
-    /// `star`: the words joined of any number of words of a language.
-    Star,
-    /// `reverse`: the reversed words of a language.
-    Reverse,
+    /// `union`, `intersect`, `concat`, `star` or `reverse`: what an operation makes of languages, kept as an automaton.
+    Language(LanguageOp),
     /// `transduce`: the outputs of a transducer that runs over a word, kept as a word.
     Transduce,
     /// `test`: words that an automaton lists, printed.
@@ -84,11 +76,11 @@ pub(crate) fn command_word(text: &[u8]) -> Option<CommandWord>
         b"promote" => Some(CommandWord::Promote),
         b"combine" => Some(CommandWord::Combine),
         b"image" => Some(CommandWord::Image),
-        b"union" => Some(CommandWord::Union),
-        b"intersect" => Some(CommandWord::Intersect),
-        b"concat" => Some(CommandWord::Concat),
-        b"star" => Some(CommandWord::Star),
-        b"reverse" => Some(CommandWord::Reverse),
+        b"union" => Some(CommandWord::Language(LanguageOp::Pair(PairOp::Union))),
+        b"intersect" => Some(CommandWord::Language(LanguageOp::Pair(PairOp::Intersection))),
+        b"concat" => Some(CommandWord::Language(LanguageOp::Pair(PairOp::Concatenation))),
+        b"star" => Some(CommandWord::Language(LanguageOp::One(OneOp::Star))),
+        b"reverse" => Some(CommandWord::Language(LanguageOp::One(OneOp::Reversal))),
         b"transduce" => Some(CommandWord::Transduce),
         b"test" => Some(CommandWord::Test),
         b"inf" => Some(CommandWord::Inf),
@@ -148,28 +140,7 @@ pub(crate) fn action_of<T: Store>(
         Some(CommandWord::Promote) => writing(promote_change(alloc, options, text, kept, store)),
         Some(CommandWord::Combine) => { writing(combine_change(alloc, options, text, kept, store)) }
         Some(CommandWord::Image) => writing(image_change(alloc, options, text, kept, store)),
-        Some(CommandWord::Union) => {
-            let op = LanguageOp::Pair(PairOp::Union);
-            let command = LanguageCommand { op, text };
-            writing(language_change(alloc, options, command, kept, store))
-        }
-        Some(CommandWord::Intersect) => {
-            let op = LanguageOp::Pair(PairOp::Intersection);
-            let command = LanguageCommand { op, text };
-            writing(language_change(alloc, options, command, kept, store))
-        }
-        Some(CommandWord::Concat) => {
-            let op = LanguageOp::Pair(PairOp::Concatenation);
-            let command = LanguageCommand { op, text };
-            writing(language_change(alloc, options, command, kept, store))
-        }
-        Some(CommandWord::Star) => {
-            let op = LanguageOp::One(OneOp::Star);
-            let command = LanguageCommand { op, text };
-            writing(language_change(alloc, options, command, kept, store))
-        }
-        Some(CommandWord::Reverse) => {
-            let op = LanguageOp::One(OneOp::Reversal);
+        Some(CommandWord::Language(op)) => {
             let command = LanguageCommand { op, text };
             writing(language_change(alloc, options, command, kept, store))
         }

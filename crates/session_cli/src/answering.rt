@@ -21,7 +21,6 @@ use command_head::word_alone;
 use command_parts::fault::Fault;
 use command_parts::file_refusal::FileRefusal;
 use command_parts::lines::send_fault;
-use command_parts::printed::Printed;
 use command_parts::refusal::Refusal;
 use command_parts::text_refusal::{Grammar, TextRefusal};
 use script_runs::{Answering, Command, Deed, ScriptFault};
@@ -53,9 +52,9 @@ impl Answerer {
         ensures loads { MayLoad command.now.depth result }
         ensures command { (ledger : Ledger) → IfSome (T.view store.old).files (Stores ledger) → AnswersCommand (session_language self.old.session.limit self.old.stop) command.now.depth ledger (T.view store.old) command.now.text.now command.now.shown result (T.view store.new) }
     {
-        let mut printed = Printed::new(alloc);
-        self.session
-            .command(alloc, command.text, command.shown, store, &mut printed)?;
+        let printed = self
+            .session
+            .command(alloc, command.text, command.shown, store)?;
         Ok(Deed::Enters(printed.into_bytes()))
     }
 }

@@ -56,24 +56,21 @@ impl Session {
         self.kept.reused()
     }
 
-    /// Answers one command. Where it is accepted, the text that it makes was stored, if it makes one, and `printed` has what it
-    /// prints: a line for each step where these are `shown`, and the verdict, where it is about a sentence, or what it says.
-    /// What `printed` held before is let go.
+    /// Answers one command. Where it is accepted, the text that it makes was stored, if it makes one, and what it prints is given:
+    /// a line for each step where these are `shown`, and the verdict, where it is about a sentence, or what it says.
     ///
     /// # Errors
-    /// The first fault that refuses it, or `Memory`; the store's texts are as before, and `printed` is empty.
+    /// The first fault that refuses it, or `Memory`; the store's texts are as before.
     pub fn command<T: Store>(
         &mut self,
         alloc: Global,
         text: &[u8],
         shown: bool,
         store: &mut T,
-        printed: &mut Printed,
-    ) -> Result<(), Fault>
+    ) -> Result<Printed, Fault>
         ensures session { self.new ≡ self.old }
-        ensures command { (ledger : Ledger) → IfSome (T.view store.old).files (Stores ledger) → Commands self.old.limit ledger (T.view store.old) text.now shown result printed.new (T.view store.new) }
+        ensures command { (ledger : Ledger) → IfSome (T.view store.old).files (Stores ledger) → Commands self.old.limit ledger (T.view store.old) text.now shown result (T.view store.new) }
     {
-        printed.clear();
         let options = StepOptions {
             limit: self.limit,
             shown,
@@ -81,9 +78,7 @@ impl Session {
         let found = action_of(alloc, options, text, &mut self.kept, store);
         self.kept.systems.clear_monitor();
         let action = found?;
-        let said = done(action, store)?;
-        *printed = said;
-        Ok(())
+        done(action, store)
     }
 }
 

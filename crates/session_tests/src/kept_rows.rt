@@ -7,7 +7,7 @@ use crate::tables::{ROW_END, files, first_field, folder_of, table};
 use crate::user_system_files::{BINARY, CARRIES};
 use crate::whole::expect;
 use digit_tuple::name::Name;
-use session_cli::{Printed, Session};
+use session_cli::Session;
 use std::alloc::Global;
 use std::process::Abort;
 use system_admission::{KeptSystems, UserSystems};
@@ -194,8 +194,7 @@ const DEFINITIONS: &str = table![
 
 /// Answers a command in a session, whatever comes of it.
 fn answer(alloc: Global, session: &mut Session, store: &mut MemStore, command: &str) {
-    let mut printed = Printed::new(alloc);
-    let answered = session.command(alloc, command.as_bytes(), false, store, &mut printed);
+    let answered = session.command(alloc, command.as_bytes(), false, store);
     drop(answered);
 }
 

@@ -4,9 +4,6 @@ use Rattle.wal_outside.specs.declared.folder.Folder.TheVariants.{Automata, Resul
 use Rattle.definitions.specs.Texts.{Stores}
 use Rattle.definitions.specs.Trees.{Ledger, custom_of}
 use Rattle.definitions.proofs.CustomTexts.{stored_custom}
-use Rattle.language_steps.specs.declared.op.LanguageOp.TheVariants.{Pair, One}
-use Rattle.language_steps.specs.declared.op.OneOp.TheVariants.{Star, Reversal}
-use Rattle.language_steps.specs.declared.op.PairOp.TheVariants.{Union, Intersection, Concatenation}
 use Rattle.command_parts.specs.declared.fault.Fault.{Fault}
 use Rattle.command_parts.specs.declared.file_change.FileChange.{FileChange}
 use Rattle.session_cli.specs.declared.actions.CommandWord.TheVariants as words
@@ -95,40 +92,13 @@ returns-in-Some-Image g c =
     (λ found changes ledger stores. acted_by_word words.Image c.args.options.limit ledger c.args.text.now c.args.options.shown (writing c.image_change.result) c.if-text-gt-COMMAND_LIMIT.false (rw c.in-Some-Image.field-0-is at c.in-Some-Image.ensures)
     (stores_change (custom_of ledger) (image_checks c.args.options.limit ledger c.args.text.now) c.args.options.shown c.image_change.result (changes ledger stores))))
 
-pub returns-in-Some-Union : goal.returns-in-Some-Union
-returns-in-Some-Union g c =
-    rw c.writing-in-Some-Union.ensures
+pub returns-in-Some-Language : goal.returns-in-Some-Language
+returns-in-Some-Language g c =
+    let op = c.in-Some-Language.op in
+    rw c.writing-in-Some-Language.ensures
     (from_change _ _ _ _ c.language_change.result c.language_change.ensures
-    (λ found changes ledger stores. acted_by_word words.Union c.args.options.limit ledger c.args.text.now c.args.options.shown (writing c.language_change.result) c.if-text-gt-COMMAND_LIMIT.false (rw c.in-Some-Union.field-0-is at c.in-Some-Union.ensures)
-    (stores_change (custom_of ledger) (language_checks (Pair Union) c.args.options.limit ledger c.args.text.now) c.args.options.shown c.language_change.result (changes ledger stores))))
-
-pub returns-in-Some-Intersect : goal.returns-in-Some-Intersect
-returns-in-Some-Intersect g c =
-    rw c.writing-in-Some-Intersect.ensures
-    (from_change _ _ _ _ c.language_change-in-Some-Intersect.result c.language_change-in-Some-Intersect.ensures
-    (λ found changes ledger stores. acted_by_word words.Intersect c.args.options.limit ledger c.args.text.now c.args.options.shown (writing c.language_change-in-Some-Intersect.result) c.if-text-gt-COMMAND_LIMIT.false (rw c.in-Some-Intersect.field-0-is at c.in-Some-Intersect.ensures)
-    (stores_change (custom_of ledger) (language_checks (Pair Intersection) c.args.options.limit ledger c.args.text.now) c.args.options.shown c.language_change-in-Some-Intersect.result (changes ledger stores))))
-
-pub returns-in-Some-Concat : goal.returns-in-Some-Concat
-returns-in-Some-Concat g c =
-    rw c.writing-in-Some-Concat.ensures
-    (from_change _ _ _ _ c.language_change-in-Some-Concat.result c.language_change-in-Some-Concat.ensures
-    (λ found changes ledger stores. acted_by_word words.Concat c.args.options.limit ledger c.args.text.now c.args.options.shown (writing c.language_change-in-Some-Concat.result) c.if-text-gt-COMMAND_LIMIT.false (rw c.in-Some-Concat.field-0-is at c.in-Some-Concat.ensures)
-    (stores_change (custom_of ledger) (language_checks (Pair Concatenation) c.args.options.limit ledger c.args.text.now) c.args.options.shown c.language_change-in-Some-Concat.result (changes ledger stores))))
-
-pub returns-in-Some-Star : goal.returns-in-Some-Star
-returns-in-Some-Star g c =
-    rw c.writing-in-Some-Star.ensures
-    (from_change _ _ _ _ c.language_change-in-Some-Star.result c.language_change-in-Some-Star.ensures
-    (λ found changes ledger stores. acted_by_word words.Star c.args.options.limit ledger c.args.text.now c.args.options.shown (writing c.language_change-in-Some-Star.result) c.if-text-gt-COMMAND_LIMIT.false (rw c.in-Some-Star.field-0-is at c.in-Some-Star.ensures)
-    (stores_change (custom_of ledger) (language_checks (One Star) c.args.options.limit ledger c.args.text.now) c.args.options.shown c.language_change-in-Some-Star.result (changes ledger stores))))
-
-pub returns-in-Some-Reverse : goal.returns-in-Some-Reverse
-returns-in-Some-Reverse g c =
-    rw c.writing-in-Some-Reverse.ensures
-    (from_change _ _ _ _ c.language_change-in-Some-Reverse.result c.language_change-in-Some-Reverse.ensures
-    (λ found changes ledger stores. acted_by_word words.Reverse c.args.options.limit ledger c.args.text.now c.args.options.shown (writing c.language_change-in-Some-Reverse.result) c.if-text-gt-COMMAND_LIMIT.false (rw c.in-Some-Reverse.field-0-is at c.in-Some-Reverse.ensures)
-    (stores_change (custom_of ledger) (language_checks (One Reversal) c.args.options.limit ledger c.args.text.now) c.args.options.shown c.language_change-in-Some-Reverse.result (changes ledger stores))))
+    (λ found changes ledger stores. acted_by_word (words.Language op) c.args.options.limit ledger c.args.text.now c.args.options.shown (writing c.language_change.result) c.if-text-gt-COMMAND_LIMIT.false (rw c.in-Some-Language.field-0-is at c.in-Some-Language.ensures)
+    (stores_change (custom_of ledger) (language_checks op c.args.options.limit ledger c.args.text.now) c.args.options.shown c.language_change.result (changes ledger stores))))
 
 pub returns-in-Some-Test : goal.returns-in-Some-Test
 returns-in-Some-Test g c =

@@ -5,7 +5,7 @@ use Rattle.definitions.specs.Trees.{Ledger, custom_of}
 use Rattle.command_parts.specs.Checks.{Fails}
 use Rattle.session_cli.specs.Outcomes.{checks_of}
 use Rattle.command_parts.specs.FileChanges.{IsAction}
-use Rattle.session_cli.proofs.CommandSteps.{answering, refused_command, done_command, undone_command}
+use Rattle.session_cli.proofs.CommandSteps.{answering, refused_command, acted_command}
 use Rattle.session_cli.proofs.session.Session.command.Goals as goal
 
 pub returns-in_err-action-clause-command : goal.returns-in_err-action-clause-command
@@ -13,18 +13,8 @@ returns-in_err-action-clause-command g c =
     let p = err_from_is_err_and c.from_residual.result c.from_residual.ensures.1 in
     let limit_is : c.self.inside.limit ≡ c.args.self.now.limit = search rules in
     let from = c.in_err-action.ensures in
-    λ ledger stores. rw (p.1, p.2, c.clear.ensures) (refused_command c.args.self.now.limit ledger _ _ c.args.text.now c.args.shown _ from.found (answering _ ledger from.found stores from.reported)
+    λ ledger stores. rw (p.1, p.2) (refused_command c.args.self.now.limit ledger _ _ c.args.text.now c.args.shown _ from.found (answering _ ledger from.found stores from.reported)
     (subst (λ (limit : ℕ). (known : Ledger) → Stores known from.found → Fails (checks_of limit known c.args.text.now) c.in_err-action.field-0.0) limit_is from.gives) from.has_read)
-
-pub returns-in_err-said-clause-command : goal.returns-in_err-said-clause-command
-returns-in_err-said-clause-command g c =
-    let p = err_from_is_err_and c.from_residual-in_err-said.result c.from_residual-in_err-said.ensures.1 in
-    let limit_is : c.self.inside.limit ≡ c.args.self.now.limit = search rules in
-    let from = c.in_ok-action.ensures in
-    λ ledger stores.
-    let by = answering _ ledger from.found stores from.reported in
-    let acts = subst (λ (limit : ℕ). (known : Ledger) → Stores known from.found → IsAction (custom_of known) (checks_of limit known c.args.text.now) c.args.shown c.in_ok-action.action) limit_is from.gives in
-    rw (p.1, p.2, c.clear.ensures) (undone_command c.args.self.now.limit ledger _ _ _ c.args.text.now c.args.shown from.found by c.in_ok-action.action _ (acts by.known by.stores) from.has_read c.in_err-said.ensures)
 
 pub returns-clause-command : goal.returns-clause-command
 returns-clause-command g c =
@@ -33,4 +23,4 @@ returns-clause-command g c =
     λ ledger stores.
     let by = answering _ ledger from.found stores from.reported in
     let acts = subst (λ (limit : ℕ). (known : Ledger) → Stores known from.found → IsAction (custom_of known) (checks_of limit known c.args.text.now) c.args.shown c.in_ok-action.action) limit_is from.gives in
-    done_command c.args.self.now.limit ledger _ _ _ c.args.text.now c.args.shown from.found by c.in_ok-action.action _ (acts by.known by.stores) from.has_read c.in_ok-said.ensures
+    acted_command c.args.self.now.limit ledger _ _ _ c.args.text.now c.args.shown from.found by c.in_ok-action.action c.done.result (acts by.known by.stores) from.has_read c.done.ensures
