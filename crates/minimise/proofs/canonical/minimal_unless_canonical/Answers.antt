@@ -1,5 +1,8 @@
-use Rattle.std.proofs.Common.{List, ℕ, ◌∙◌, subst}
-use Rattle.digit_tuple.specs.Deterministic.{IsTable, letters_of}
+use Rattle.std.proofs.Common.{List, ℕ, ◌<◌, length, sym, ap, ◌∙◌, subst, arith}
+use Rattle.std.specs.List.{All}
+use Rattle.std.proofs.lemmas.List.{length-map}
+use Rattle.digit_tuple.specs.Deterministic.{IsTable, State, letters_of}
+use Rattle.minimise.specs.Outputs.{bit_of}
 use Rattle.minimise.specs.ClassFunctions.{SameClassFunction}
 use Rattle.minimise.specs.CoarseClasses.{AreResidualClasses}
 use Rattle.minimise.specs.Leaders.{AreAlone}
@@ -28,3 +31,22 @@ returns-clause-minimal c =
     let outputs = c.in_ok-minimal.field-0-1.items in
     let same = subst (λ (os : List ℕ). SameClassFunction d os minimal outputs) (c.deref.ensures.value ∙ c.in_ok-outputs.ensures) c.in_ok-minimal.ensures.function in
     IsCanonical-bits d minimal outputs c.in_ok-minimal.ensures.sizes same c.in_ok-minimal.ensures.canonical
+
+pub residual_classes-requires : goal.residual_classes-requires
+residual_classes-requires c = ap length (c.deref.ensures.value ∙ c.in_ok-outputs.ensures) ∙ length-map c.args.d.now.states (λ (state : State). bit_of state.accepting)
+
+pub are_alone-requires-clause-small : goal.are_alone-requires-clause-small
+are_alone-requires-clause-small c = omega (arith, ap length c.deref-2.ensures.value, c.in_ok-classes.ensures.width, c.states-states.ensures.table.part.small)
+
+pub are_alone-requires-clause-below : goal.are_alone-requires-clause-below
+are_alone-requires-clause-below c =
+    subst (λ (xs : List ℕ). All (λ class. class < length xs) xs) (sym c.deref-2.ensures.value) (λ k z within. omega (arith, c.in_ok-classes.ensures.below k z within, c.in_ok-classes.ensures.width))
+
+pub minimal-requires-clause-outputs : goal.minimal-requires-clause-outputs
+minimal-requires-clause-outputs c = ap length (c.deref.ensures.value ∙ c.in_ok-outputs.ensures) ∙ length-map c.args.d.now.states (λ (state : State). bit_of state.accepting)
+
+pub minimal-requires-clause-classes : goal.minimal-requires-clause-classes
+minimal-requires-clause-classes c = subst (AreResidualClasses c.args.d.now c.deref.result.now) (sym c.deref-3.ensures.value) c.in_ok-classes.ensures
+
+pub returns-clause-sizes : goal.returns-clause-sizes
+returns-clause-sizes c = c.in_ok-minimal.ensures.sizes

@@ -12,3 +12,12 @@ loop-place-preserved c =
       first = first_places-more c.args.numbers.now places c.push.new.self.items c.loop-place.place first c.loop-place.invariant.width c.in_ok-push.ensures.items c.loop-place.invariant.first c.in_ok-first_place.ensures.first;
       held = c.in_ok-first_place.ensures.held;
     }
+
+pub first_place-requires-clause-small : goal.first_place-requires-clause-small
+first_place-requires-clause-small c = omega (arith, c.if-numbers.false)
+
+pub returns : goal.returns
+returns c = record {
+  width = omega (arith, c.loop-place.invariant.width, c.loop-place-test.false, c.loop-place.auto.place-end);
+  first = λ q less. c.loop-place.invariant.first q (omega (arith, less, c.loop-place-test.false));
+}

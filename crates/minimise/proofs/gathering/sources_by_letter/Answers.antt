@@ -1,7 +1,7 @@
-use Rattle.std.proofs.Common.{◌≡◌, List, OnOk, ap, ◌∙◌, subst, arith}
-use Rattle.std.specs.List.{All, flat_map}
-use Rattle.std.proofs.lemmas.List.{take_all}
-use Rattle.std.proofs.lemmas.List.Sums.{sum_by_more_le}
+use Rattle.std.proofs.Common.{◌≡◌, ◌++◌, [], List, OnOk, take, get_or, sym, ap, ◌∙◌, subst, arith}
+use Rattle.std.specs.List.{All, flat_map, sum_by}
+use Rattle.std.proofs.lemmas.List.{flat_map_more, take_all, take_more}
+use Rattle.std.proofs.lemmas.List.Sums.{sum_by_more, sum_by_more_le}
 use Rattle.digit_tuple.specs.declared.transitions.Transition.{Transition}
 use Rattle.minimise.specs.Gathering.{HaveLetters, IsGathered}
 use Rattle.minimise.specs.ReversedTransitions.{in_degree, transitions_into}
@@ -19,3 +19,19 @@ returns-clause-letters g c =
 
 pub returns-in_err-add_transitions_to-clause-looks : goal.returns-in_err-add_transitions_to-clause-looks
 returns-in_err-add_transitions_to-clause-looks g c = omega (arith, c.add_transitions_to.ensures.looks, c.loop-state.invariant.looks, sum_by_more_le (in_degree c.args.reversed.now) c.args.set.now c.loop-state.state-index 0 (omega (arith, c.loop-state-test.true)))
+
+pub loop-state-preserved : goal.loop-state-preserved
+loop-state-preserved g c =
+    let reversed = c.args.reversed.now in
+    let set = c.args.set.now in
+    let k = c.loop-state.state-index in
+    let state = get_or set k 0 in
+    record {
+      transitions = c.in_ok-add_transitions_to.ensures.transitions ∙ ap (λ (es : List Transition). es ++ transitions_into reversed state) c.loop-state.invariant.transitions
+          ∙ flat_map_more (transitions_into reversed) [] (take k set) state ∙ ap (flat_map (transitions_into reversed)) (sym (take_more set k 0 (omega (arith, c.loop-state-test.true))));
+      looks = omega (arith, c.in_ok-add_transitions_to.ensures.all, c.loop-state.invariant.looks, sum_by_more (in_degree reversed) set k 0 (omega (arith, c.loop-state-test.true)));
+    }
+
+pub returns-clause-looks : goal.returns-clause-looks
+returns-clause-looks g c =
+    omega (arith, c.loop-state.invariant.looks, ap (sum_by (in_degree c.args.reversed.now)) (take_all c.loop-state.state-index c.args.set.now (omega (arith, c.loop-state-test.false))))

@@ -1,9 +1,34 @@
-use Rattle.std.proofs.Common.{◌≡◌, ℕ, ◌+◌, ◌-◌, ◌*◌, ◌/◌, ◌^◌, ◌++◌, [], ◌∷◌, length, max, ap, ◌∙◌, below_more, arith}
+use Rattle.std.proofs.Common.{◌≡◌, ℕ, ◌+◌, ◌-◌, ◌*◌, ◌/◌, ◌^◌, ◌<◌, ◌≤◌, ◌++◌, [], ◌∷◌, length, max, ap, ◌∙◌, below_more, arith}
+use Rattle.std.proofs.lemmas.Nat.{mul-le}
 use Rattle.std.proofs.lemmas.List.{get_or_push, get_or_append_left, length_push}
 use Rattle.digit_tuple.specs.Deterministic.{states_of}
 use Rattle.minimise.specs.Classes.{class_of}
 use Rattle.minimise.specs.OutputParts.{part_number}
 use Rattle.minimise.proofs.output_parts.part_numbers.Goals as goal
+
+-- so many parts of a number are at most the number
+parts_within : (n number class : ℕ) → 0 < n → class ≤ n → class * (number / n) ≤ number
+parts_within n number class some low = omega (arith, mul-le class (number / n) n (number / n) low (omega arith))
+
+-- the class of a state is spread over the upper half of the bits
+upper_within : (states spread class : ℕ) → spread ≡ (2 ^ 32 - 1) / max states 1 → class ≤ states → class * spread < 2 ^ 32
+upper_within states spread class is low = omega (arith, parts_within (max states 1) (2 ^ 32 - 1) class (omega arith) (omega (arith, low)), ap (λ (n : ℕ). class * n) is)
+
+pub overflow_mul-upper : goal.overflow_mul-upper
+overflow_mul-upper c =
+    let spread_is = c.from-spread.ensures ∙ ap (λ (n : ℕ). (2 ^ 32 - 1) / n) (c.max.ensures ∙ ap (λ (n : ℕ). max n 1) c.states.ensures.value) in
+    omega (arith, upper_within (states_of c.args.machine.now.dfa.now) c.from-spread.result c.from.result spread_is (omega (arith, c.from.ensures, c.requires.below c.loop-place.place 0 c.loop-place-test.true)))
+
+pub overflow_mul-upper-in-loop-place : goal.overflow_mul-upper-in-loop-place
+overflow_mul-upper-in-loop-place c =
+    let spread_is = c.from-spread.ensures ∙ ap (λ (n : ℕ). (2 ^ 32 - 1) / n) (c.max.ensures ∙ ap (λ (n : ℕ). max n 1) c.states.ensures.value) in
+    omega (arith, upper_within (states_of c.args.machine.now.dfa.now) c.from-spread.result c.from.result spread_is (omega (arith, c.from.ensures, c.requires.below c.loop-place.place 0 c.loop-place-test.true)))
+
+pub overflow_add-upper : goal.overflow_add-upper
+overflow_add-upper c =
+    let spread_is = c.from-spread.ensures ∙ ap (λ (n : ℕ). (2 ^ 32 - 1) / n) (c.max.ensures ∙ ap (λ (n : ℕ). max n 1) c.states.ensures.value) in
+    let upper = upper_within (states_of c.args.machine.now.dfa.now) c.from-spread.result c.from.result spread_is (omega (arith, c.from.ensures, c.requires.below c.loop-place.place 0 c.loop-place-test.true)) in
+    omega (arith, upper, c.from-in-loop-place.ensures, c.output.type_inv)
 
 pub loop-place-preserved : goal.loop-place-preserved
 loop-place-preserved c =

@@ -1,4 +1,5 @@
-use Rattle.std.proofs.Common.{◌≡◌, ℕ, ◌+◌, ◌<◌, List, [], ◌∷◌, ◌++◌, sym, ◌∙◌, subst, arith}
+use Rattle.std.proofs.Common.{◌≡◌, ℕ, ◌+◌, ◌<◌, List, [], ◌∷◌, ◌++◌, length, sym, ap, ◌∙◌, subst, arith}
+use Rattle.std.proofs.lemmas.List.{length_push}
 use Rattle.std.specs.List.{Contains}
 use Rattle.digit_tuple.specs.Deterministic.{states_of}
 use Rattle.digit_tuple.specs.TransitionCounts.{transition_count}
@@ -129,3 +130,11 @@ part-preserved g c =
             sink_size m old new largest made.grown c.part.invariant.partition.parted.sink made.partition.parted.sink paid.3,
           );
     }
+
+pub part_by_class-requires-clause-parts : goal.part_by_class-requires-clause-parts
+part_by_class-requires-clause-parts g c = c.in_ok-parts.ensures.unions
+
+pub part-smaller : goal.part-smaller
+part-smaller g c =
+    let made = c.in_ok-part_by_letters.ensures in
+    omega (arith, made.grown.pending, ap length c.in-Some.ensures.taken, length_push c.pop.new.self c.in-Some.class, c.part.invariant.partition.parted.few, made.partition.parted.few)

@@ -1,4 +1,5 @@
-use Rattle.std.proofs.Common.{subst, sym, arith}
+use Rattle.std.proofs.Common.{◌≤◌, subst, sym, arith}
+use Rattle.std.proofs.lemmas.Nat.{mul-le}
 use Rattle.digit_tuple.specs.Deterministic.{states_of}
 use Rattle.digit_tuple.specs.TransitionCounts.{transition_count}
 use Rattle.minimise.specs.RoundCosts.{IsCheap}
@@ -40,3 +41,30 @@ returns-in_err-is_stable-clause-looks g c b less = next_round_within (transition
 pub returns-then-branch-clause-looks : goal.returns-then-branch-clause-looks
 returns-then-branch-clause-looks g c b less = next_round_within (transition_count c.args.machine.now.dfa.now) b c.binary_digits-round-end.result c.loop-round.round c.args.looks.now c.loop-round.looks c.advance.new.looks
     (c.binary_digits-round-end.ensures.least b (omega (arith, less, c.states-states.ensures.value))) c.loop-round-test.true c.loop-round.invariant.looks c.advance.ensures.looks
+
+pub is_last-requires-clause-rounds : goal.is_last-requires-clause-rounds
+is_last-requires-clause-rounds g c = omega (arith, c.loop-round-test.true, c.binary_digits-round-end.ensures.few)
+
+pub loop-round-preserved : goal.loop-round-preserved
+loop-round-preserved g c = record {
+  hashes = c.in_ok-advance.ensures.coarse;
+  counted = c.in_ok-is_last.ensures.counted;
+  cheap = c.in_ok-is_last.ensures.cheap c.if-is_last.false;
+  looks = omega (arith, c.advance.ensures.looks, c.loop-round.invariant.looks);
+}
+
+pub returns-then-branch-clause-coarse : goal.returns-then-branch-clause-coarse
+returns-then-branch-clause-coarse g c = c.in_ok-classes.ensures
+
+pub returns-clause-coarse : goal.returns-clause-coarse
+returns-clause-coarse g c = c.loop-round.invariant.counted.coarse
+
+pub returns-clause-looks : goal.returns-clause-looks
+returns-clause-looks g c b less =
+    let rounds : c.loop-round.round ≤ b = omega (arith, c.loop-round.auto.round-end, c.binary_digits-round-end.ensures.least b (omega (arith, less, c.states-states.ensures.value))) in
+    omega (arith, c.loop-round.invariant.looks, mul-le c.loop-round.round (transition_count c.args.machine.now.dfa.now) b (transition_count c.args.machine.now.dfa.now) rounds (omega arith))
+
+pub returns-clause-room : goal.returns-clause-room
+returns-clause-room g c unstable =
+    let m = c.args.machine.now in
+    HasRoom-cheap m.dfa.now m.outputs.now c.loop-round.counted c.args.looks.now c.loop-round.looks c.loop-round.round c.loop-round.invariant.counted c.loop-round.invariant.cheap c.loop-round.invariant.looks

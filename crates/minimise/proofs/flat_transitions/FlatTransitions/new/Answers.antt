@@ -37,3 +37,11 @@ loop-state-preserved c =
           (omega (arith, within, c.transitions-count.ensures, c.if-count.false)))));
       full = λ none. c.loop-state.invariant.full (with_none es letters (sym added ∙ none));
     }
+
+pub transitions_into-requires : goal.transitions_into-requires
+transitions_into-requires c = omega (arith, c.loop-state-test.true, c.loop-state.auto.state-end, c.states-states.ensures.value)
+
+pub returns : goal.returns
+returns c =
+    subst (λ (n : ℕ). AreLaidOut c.args.dfa.now c.loop-state.starts.items (listed c.loop-state.letters) c.loop-state.targets.items n)
+    (omega (arith, c.loop-state-test.false, c.loop-state.auto.state-end, c.states-states.ensures.value)) c.loop-state.invariant.laid

@@ -104,3 +104,15 @@ returns-in_err-sources_by_letter-clause-looks g c = looked c.args.machine.now c.
 pub returns-in_err-part-clause-looks : goal.returns-in_err-part-clause-looks
 returns-in_err-part-clause-looks g c = looked c.args.machine.now c.args.self.now c.args.class c.index-span.result.now c.deref.result.now c.args.looks.now c.sources_by_letter.new.looks c.requires.partition c.requires.class
     (c.index-span.ensures ∙ get_or_default c.args.self.now.spans.items c.args.class c.index-span.result.now no_span c.requires.class) c.deref.ensures.value c.sources_by_letter.ensures.looks
+
+pub part-requires-clause-partition : goal.part-requires-clause-partition
+part-requires-clause-partition g c = c.loop-place.invariant.partition
+
+pub returns-clause-partition : goal.returns-clause-partition
+returns-clause-partition g c = c.loop-place.invariant.partition
+
+pub returns-clause-grown : goal.returns-clause-grown
+returns-clause-grown g c = c.loop-place.invariant.grown
+
+pub returns-clause-paid : goal.returns-clause-paid
+returns-clause-paid g c = c.loop-place.invariant.paid

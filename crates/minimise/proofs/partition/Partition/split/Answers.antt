@@ -321,3 +321,30 @@ returns-clause-paid c =
           c.cut.new.spans.items c.push.new.self c.transitions_to-transitions.result c.in_ok-rest.rest c.if-leave.push c.in_ok-rest.ensures.cut c.in_ok-rest.ensures.counted exact pushed (decision c);
     })
     c.push.ensures
+
+pub index-requires : goal.index-requires
+index-requires c = omega (arith, c.requires.class, c.args.self.now.spans.ok)
+
+pub cut-requires : goal.cut-requires
+cut-requires c = c.requires.class
+
+pub move_to_end-middle-requires-clause-order : goal.move_to_end-middle-requires-clause-order
+move_to_end-middle-requires-clause-order c = c.requires.partition.parted.order
+
+pub move_to_end-middle-requires-clause-start : goal.move_to_end-middle-requires-clause-start
+move_to_end-middle-requires-clause-start c =
+    let spans = c.args.self.now.spans.items in
+    let is = c.index.ensures ∙ get_or_default spans c.args.class c.index.result.now no_span c.requires.class in
+    subst (λ (s : ClassSpan). s.start ≤ s.end) (sym is) (c.requires.partition.parted.spanned.ordered c.args.class c.requires.class)
+
+pub move_to_end-middle-requires-clause-end : goal.move_to_end-middle-requires-clause-end
+move_to_end-middle-requires-clause-end c =
+    let spans = c.args.self.now.spans.items in
+    let is = c.index.ensures ∙ get_or_default spans c.args.class c.index.result.now no_span c.requires.class in
+    subst (λ (s : ClassSpan). s.end ≤ length c.args.self.now.states.items) (sym is) (c.requires.partition.parted.spanned.within c.args.class c.requires.class)
+
+pub move_to_end-middle-requires-clause-set : goal.move_to_end-middle-requires-clause-set
+move_to_end-middle-requires-clause-set c k z within = omega (arith, c.requires.states.within k z within, c.requires.partition.parted.count)
+
+pub returns-then-middle-end-clause-paid : goal.returns-then-middle-end-clause-paid
+returns-then-middle-end-clause-paid c transitions largest looks before few = record { few = before.few; small = before.small; counted = before.counted; paid = before.paid }
