@@ -48,3 +48,15 @@ loop-state-preserved c =
             ]));
       }
     ]
+
+pub index-place-requires : goal.index-place-requires
+index-place-requires c = omega (arith, c.requires.set c.loop-state.state-index 0 c.loop-state-test.true, c.loop-state.invariant.moved.width, c.loop-state.invariant.order.width, c.loop-state.places.ok)
+
+pub swap_states-requires-clause-order : goal.swap_states-requires-clause-order
+swap_states-requires-clause-order c = c.loop-state.invariant.order
+
+pub swap_states-requires-clause-first : goal.swap_states-requires-clause-first
+swap_states-requires-clause-first c = omega (arith, c.if-place-middle.true, c.loop-state.invariant.moved.before_end, c.loop-state.invariant.moved.width, c.requires.end)
+
+pub swap_states-requires-clause-second : goal.swap_states-requires-clause-second
+swap_states-requires-clause-second c = omega (arith, c.if-place-middle.true, c.loop-state.invariant.moved.before_end, c.loop-state.invariant.moved.width, c.requires.end)

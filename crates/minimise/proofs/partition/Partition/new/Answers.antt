@@ -37,3 +37,6 @@ returns-clause-paid c largest some =
           (IsPaid-none (states_of d) (in_degree reversed) (transition_count d) largest c.in_ok-vec.field-0.items some c.in_ok-reversed.ensures.few
           (λ q small. ap (λ (xs : List ℕ). class_of xs q) classes ∙ get_or-replicate (states_of d + 1) q 0 0 (omega (arith, small))));
     }
+
+pub returns-clause-one : goal.returns-clause-one
+returns-clause-one c = ap length c.in_ok-vec-2.ensures.items
