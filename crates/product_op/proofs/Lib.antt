@@ -17,4 +17,6 @@ pub mod DeadPairLemmas
 pub mod PairListLemmas
 pub mod DeadExitLemmas
 pub mod LiveLetterLemmas
+pub mod LetterJoinLemmas
+pub mod DeadMarkLemmas
 pub mod PairWidths

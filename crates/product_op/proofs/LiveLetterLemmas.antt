@@ -4,7 +4,7 @@ use Rattle.std.specs.List.{AllPairs, Contains, dedup}
 use Rattle.std.specs.List.Sorted.{IsSorted, IsPermutation}
 use Rattle.std.proofs.lemmas.Bool.Decides.{Decides-eqb}
 use Rattle.std.proofs.lemmas.List.{append-nil, take_more}
-use Rattle.std.proofs.lemmas.List.Elements.{All-contains_itself, All-weaker, filter-append}
+use Rattle.std.proofs.lemmas.List.Elements.{All-contains, All-contains_itself, All-weaker, filter-append}
 use Rattle.std.proofs.lemmas.List.FromFn.{get_or-map-range_with_len}
 use Rattle.std.proofs.lemmas.List.Kept.{AllPairs-from_increasing, Contains-dedup_nat, Contains-from_dedup}
 use Rattle.std.proofs.lemmas.List.Sorted.{Contains-permutation, IsPermutation-sym}
@@ -14,7 +14,7 @@ use Rattle.digit_tuple.proofs.MemberLemmas.{Contains-filter, Contains-from_filte
 use Rattle.minimise.specs.Classes.{next_of}
 use Rattle.product_op.specs.declared.op.Op.{Op}
 use Rattle.product_op.specs.DeadPairs.{ArePair, leads_on, live_pair_after, needs_second}
-use Rattle.product_op.specs.LeadingLetters.{letters_on, AreLeading}
+use Rattle.product_op.specs.LeadingLetters.{letters_on, AreFound, AreLeading}
 use Rattle.product_op.specs.Readings.{Reading, no_reading, reading_at, part_read, state_at, next_key}
 use Rattle.product_op.proofs.DeadPairLemmas.{dead_first, dead_second}
 use Rattle.product_op.proofs.FoundLetters.{letters_on-below, letters_on-missing}
@@ -43,21 +43,19 @@ leads_by r state a next b is out back = by b (next_of r.automaton state (part_re
     by false true eq out back = absurd (true≢false (sym (back (is ∙ (Decides-eqb (next_of r.automaton state (part_read r a)) (states_of r.automaton)).0 eq))))
 
 module _ (letters : ℕ) (op : Op) (rs : List Reading) (are : ArePair letters op rs) (key : List ℕ) where
-  abbrev next_at : ℕ → ℕ → ℕ
+  abbrev pub next_at : ℕ → ℕ → ℕ
   next_at a i = next_of (reading_at rs i).automaton (state_at key i) (part_read (reading_at rs i) a)
 
-  first_none : (a : ℕ) → next_at a 0 ≡ states_of (reading_at rs 0).automaton → live_pair_after op rs key a ≡ None
+  pub first_none : (a : ℕ) → next_at a 0 ≡ states_of (reading_at rs 0).automaton → live_pair_after op rs key a ≡ None
   first_none a sink = ap (λ b. if b then None else Some (next_key rs key a)) (dead_first rs op (next_key rs key a)
       ((Decides-eqb (state_at (next_key rs key a) 0) (states_of (reading_at rs 0).automaton)).1 (get_or-map-range_with_len (next_at a) 0 (length rs) 0 0 0 (omega (arith, are.count)) (omega arith) ∙ sink)))
 
-  second_none : needs_second op ≡ true → (a : ℕ) → next_at a 1 ≡ states_of (reading_at rs 1).automaton → live_pair_after op rs key a ≡ None
+  pub second_none : needs_second op ≡ true → (a : ℕ) → next_at a 1 ≡ states_of (reading_at rs 1).automaton → live_pair_after op rs key a ≡ None
   second_none needs a sink = ap (λ b. if b then None else Some (next_key rs key a)) (dead_second rs op (next_key rs key a) needs
       ((Decides-eqb (state_at (next_key rs key a) 1) (states_of (reading_at rs 1).automaton)).1 (get_or-map-range_with_len (next_at a) 0 (length rs) 1 1 0 (omega (arith, are.count)) (omega arith) ∙ sink)))
 
-  -- letters of the alphabet, such that all others lead to no pair
-  pub record AreFound (found : List ℕ) : Type 0 where
-    pub below : (a : ℕ) → Contains found a → a < letters
-    pub others : (a : ℕ) → a < letters → ¬ Contains found a → live_pair_after op rs key a ≡ None
+  abbrev Found : List ℕ → Type 0
+  Found found = AreFound letters (live_pair_after op rs key) found
 
   abbrev first_letters : List ℕ
   first_letters = letters_on (reading_at rs 0) (state_at key 0)
@@ -66,16 +64,16 @@ module _ (letters : ℕ) (op : Op) (rs : List Reading) (are : ArePair letters op
   first_long = (are.readings_are 0 no_reading (omega (arith, are.count))).count
 
   -- those by which the first leads on
-  pub AreFound-first : (found : List ℕ) → found ≡ first_letters → AreFound found
+  pub AreFound-first : (found : List ℕ) → found ≡ first_letters → Found found
   AreFound-first found is = record {
-    below = λ a there. omega (arith, first_long, letters_on-below (reading_at rs 0) (state_at key 0) a (subst (λ ls. Contains ls a) is there));
+    in_range = All-weaker (Contains found) (λ a. a < letters) (λ a there. omega (arith, first_long, letters_on-below (reading_at rs 0) (state_at key 0) a (subst (λ ls. Contains ls a) is there))) found (All-contains_itself found);
     others = λ a small missing. first_none a (letters_on-missing (reading_at rs 0) (state_at key 0) a (omega (arith, small, first_long)) (λ there. missing (subst (λ ls. Contains ls a) (sym is) there)));
   }
 
   -- of those, where the second is needed, the ones by which it leads on
-  pub AreFound-both : needs_second op ≡ true → (found : List ℕ) → found ≡ filter (leads_on (reading_at rs 1) (state_at key 1)) first_letters → AreFound found
+  pub AreFound-both : needs_second op ≡ true → (found : List ℕ) → found ≡ filter (leads_on (reading_at rs 1) (state_at key 1)) first_letters → Found found
   AreFound-both needs found is = record {
-    below = λ a there. (AreFound-first first_letters refl).below a (Contains-from_filter leads first_letters a (subst (λ ls. Contains ls a) is there)).0;
+    in_range = All-weaker (Contains found) (λ a. a < letters) (λ a there. All-contains (λ b. b < letters) first_letters a (AreFound-first first_letters refl).in_range (Contains-from_filter leads first_letters a (subst (λ ls. Contains ls a) is there)).0) found (All-contains_itself found);
     others = λ a small missing. by a small (λ there. missing (subst (λ ls. Contains ls a) (sym is) there)) (contained first_letters a);
   }
     where
@@ -91,9 +89,9 @@ module _ (letters : ℕ) (op : Op) (rs : List Reading) (are : ArePair letters op
       by a small missing (inr away) = (AreFound-first first_letters refl).others a small away
 
   -- so they are, in order and each once, those that lead on
-  pub AreLeading-live : (found sorted some : List ℕ) → AreFound found → IsPermutation found sorted → IsSorted nat_cmp sorted → some ≡ dedup (λ a b. a == b) sorted → AreLeading letters (live_pair_after op rs key) some
+  pub AreLeading-live : (found sorted some : List ℕ) → Found found → IsPermutation found sorted → IsSorted nat_cmp sorted → some ≡ dedup (λ a b. a == b) sorted → AreLeading letters (live_pair_after op rs key) some
   AreLeading-live found sorted some live moved up left = record {
-    in_range = All-weaker (Contains some) (λ a. a < letters) (λ a there. live.below a (back a there)) some (All-contains_itself some);
+    in_range = All-weaker (Contains some) (λ a. a < letters) (λ a there. All-contains (λ b. b < letters) found a live.in_range (back a there)) some (All-contains_itself some);
     ascending = subst (AllPairs (λ a b. a < b)) (sym left) (AllPairs-from_increasing (dedup (λ a b. a == b) sorted) (IsStrictlyIncreasing-dedup sorted up));
     others = λ a less missing. live.others a less (λ there. missing (over a there));
   }

@@ -14,7 +14,6 @@ use Rattle.digit_tuple.proofs.ExploredLemmas.{run_of-explored}
 use Rattle.digit_tuple.proofs.MemberLemmas.{Contains-from_map}
 use Rattle.digit_tuple.proofs.WordLemmas.{IsWord-push}
 use Rattle.product_op.specs.declared.op.Op.{Op}
-use Rattle.product_op.specs.DeadExits.{AreExits}
 use Rattle.product_op.specs.DeadPairs.{ArePair, is_dead_pair, live_pair_after}
 use Rattle.product_op.specs.PairLists.{BeginsWith, HoldAfter, HoldLive, IsAfter, IsReached}
 use Rattle.product_op.specs.ReadingLaws.{next_is_key}
@@ -157,19 +156,6 @@ module _ (letters : ℕ) (rs : List Reading) where
           subst (λ ks. Contains ks pair) (sym fresh.1) (Contains-last old pair),
           omega (arith, ap length fresh.1, length_push old pair),
         )
-
-    -- where the exits of a key were tried, what letters lead to from it is there
-    pub HoldAfter-tried : (keys : List (List ℕ)) (key exits : List ℕ) (count : ℕ) → HoldLive letters op rs keys → Contains keys key → AreExits letters op rs key exits → length exits ≤ count
-        → ((i : ℕ) → i < count → is_dead_pair op rs (next_key rs key (get_or exits i 0)) ≡ true → Contains keys (next_key rs key (get_or exits i 0))) → HoldAfter letters rs key keys
-    HoldAfter-tried keys key exits count hold there are_exits all tried a small = by (is_dead_pair op rs (next_key rs key a)) refl
-      where
-        by : (b : Bool) → is_dead_pair op rs (next_key rs key a) ≡ b → Contains keys (next_key rs key a)
-        by true dead =
-            let exit = are_exits.whole a small dead in
-            let at : get_or exits exit.1.0 0 ≡ exit.0 = get_or_default exits exit.1.0 0 exit.0 exit.1.1 ∙ exit.1.2 in
-            let same : next_key rs key (get_or exits exit.1.0 0) ≡ next_key rs key a = ap (next_key rs key) at ∙ exit.2 in
-            subst (Contains keys) same (tried exit.1.0 (omega (arith, exit.1.1, all)) (ap (is_dead_pair op rs) same ∙ dead))
-        by false live = hold.live key there a small live
 
     module _ (start_lives : is_dead_pair op rs (first_key rs) ≡ false) (accepts : List ℕ → Bool) (keys : List (List ℕ)) (d : Automaton) (explored : IsExplored letters (first_key rs) (live_pair_after op rs) accepts keys d) where
       reached_at : (firsts : List (List ℕ)) → IsNumberedByFirsts d firsts → letters_of d ≡ letters → (q : ℕ) → q < states_of d → IsReached letters rs (key_at keys q)

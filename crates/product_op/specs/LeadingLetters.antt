@@ -16,6 +16,11 @@ pub record AreLeading (letters : ℕ) (after : ℕ → Option (List ℕ)) (some 
   pub ascending : AllPairs (λ a b. a < b) some
   pub others : (a : ℕ) → a < letters → ¬ Contains some a → after a ≡ None
 
+-- letters of the alphabet, such that all others lead to no key
+pub record AreFound (letters : ℕ) (after : ℕ → Option (List ℕ)) (found : List ℕ) : Type 0 where
+  pub in_range : All (λ a. a < letters) found
+  pub others : (a : ℕ) → a < letters → ¬ Contains found a → after a ≡ None
+
 -- none of the letters, or all of them
 abbrev pub AreFewLetters : ℕ → List ℕ → Type 0
 AreFewLetters letters few = (few ≡ []) ⊎ (few ≡ range_with_len 0 letters)

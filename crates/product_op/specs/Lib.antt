@@ -13,5 +13,7 @@ pub mod NextTables
 pub mod Tuples
 pub mod DeadPairs
 pub mod DeadExits
+pub mod DeadMarks
+pub mod LetterJoins
 pub mod PairLists
 pub mod PairLaws

@@ -12,7 +12,8 @@
 //! tuples of residuals that words lead to, the empty residual too, so it depends on the languages alone.
 //!
 //! Under `And` and `AndNot` only pairs of states from which a word may be accepted are explored (`LivePairs`); the
-//! others are counted for the width (`add_dead_pairs`). Time and memory follow the width and the letters by which some
+//! others are counted for the width (`add_dead_pairs`). Under `And` the letters by which both automata lead on are added
+//! up of the least letters with their parts, where letters are not many beside transitions (`LetterJoin`). Time and memory follow the width and the letters by which some
 //! residual leads to one that is not empty, or all letters where they are at most 32. Where letters lead from all
 //! states is kept if that takes little memory, or if at least half of them lead on (`NextTable`). Not proved: time and
 //! memory.
@@ -48,6 +49,9 @@ pub mod reader_states;
 /// The graph of the states that letters lead automata to that read side by side.
 mod reader_graph;
 
+/// Letters from the parts that two readers read of them.
+mod letter_joins;
+
 /// The graph of the pairs of states from which a connective may accept.
 mod live_pairs;
 
@@ -56,6 +60,9 @@ mod reader_at;
 
 /// Letters by which pairs of states lead to dead ones.
 mod dead_exits;
+
+/// Dead pairs of a state of one reader and the sink of the other.
+mod leaving;
 
 /// The dead pairs of states that words lead to.
 mod dead_pairs;

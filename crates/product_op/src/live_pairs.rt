@@ -6,16 +6,19 @@ ghost use Rattle.std.specs.Option.{option_map, option_to_list};
 ghost use Rattle.digit_tuple.specs.Keys.{AreKeyTransitions};
 ghost use Rattle.minimise.specs.Classes.{next_of};
 ghost use Rattle.product_op.specs.DeadPairs.{ArePair, is_dead_pair, leads_on, live_pair, live_pair_after, pair_accepts};
-ghost use Rattle.product_op.specs.LeadingLetters.{AreFewLetters, AreLeading, key_transition};
+ghost use Rattle.product_op.specs.LeadingLetters.{AreFewLetters, AreFound, AreLeading, key_transition};
+ghost use Rattle.product_op.specs.LetterJoins.{IsJoin};
 ghost use Rattle.product_op.specs.NextRows.{IsNextRow};
 ghost use Rattle.product_op.specs.PairLaws.{live_pair_is_key};
 ghost use Rattle.product_op.specs.ReadingLaws.{first_is_key};
-ghost use Rattle.product_op.specs.Readings.{automata_in, first_key, reading_in, readings_in, AreStates, IsReading};
+ghost use Rattle.product_op.specs.Readings.{automata_in, first_key, reading_at, reading_in, readings_in, AreStates, IsReading};
 
+use crate::letter_joins::LetterJoin;
 use crate::next_row::{NextRow, next_rows, next_states_by};
 use crate::next_table::NextTable;
 use crate::op::Op;
 use crate::reader::Reader;
+use crate::reader_at::read_row;
 use crate::reader_states::{all_accept, initial_states, is_sink_at};
 use digit_tuple::faults::OutOfMemory;
 use digit_tuple::key_graph::KeyGraph;
@@ -23,9 +26,12 @@ use digit_tuple::key_transitions::KeyTransitions;
 use digit_tuple::transitions::Transition;
 use std::alloc::Global;
 
+// So many pairs of transitions are gone through in about the time in which a letter is tried.
+const PAIRS: u64 = 4;
+
 /// Two automata that read side by side, where their letters lead, the connective by which they accept, which needs the
-/// first, how many letters there are, and all of them where they are few, else none. A key has a state of each. Where
-/// one that the connective needs is a sink, there is no key.
+/// first, how many letters there are, all of them where they are few, else none, and the join of both automata's parts
+/// if it was made. A key has a state of each. Where one that the connective needs is a sink, there is no key.
 #[derive(Clone, Copy)]
 pub struct LivePairs<'a> {
     pub readers: &'a [Reader<'a>],
@@ -33,12 +39,13 @@ pub struct LivePairs<'a> {
     pub op: Op,
     pub letters: u32,
     pub few: &'a [u32],
+    pub join: &'a Option<LetterJoin>,
 }
 
 impl KeyGraph for LivePairs<'_> {
     ghost letters = { λ s. s.letters };
 
-    ghost is_graph = { λ s. ArePair s.letters s.op (readings_in s.readers.now) × AreFewLetters s.letters s.few.now × (s.tables.now ≡ automata_in (readings_in s.readers.now)) };
+    ghost is_graph = { λ s. ArePair s.letters s.op (readings_in s.readers.now) × AreFewLetters s.letters s.few.now × (s.tables.now ≡ automata_in (readings_in s.readers.now)) × IfSome s.join.now (IsJoin s.letters (reading_at (readings_in s.readers.now) 0) (reading_at (readings_in s.readers.now) 1)) };
 
     ghost is_key = { λ s. AreStates (readings_in s.readers.now) };
 
@@ -97,8 +104,49 @@ impl LivePairs<'_> {
     ) -> Result<Vec<u32>, OutOfMemory>
         requires pair { ArePair self.now.letters self.now.op (readings_in self.now.readers.now) }
         requires tables { self.now.tables.now ≡ automata_in (readings_in self.now.readers.now) }
+        requires join { IfSome self.now.join.now (IsJoin self.now.letters (reading_at (readings_in self.now.readers.now) 0) (reading_at (readings_in self.now.readers.now) 1)) }
         requires key { AreStates (readings_in self.now.readers.now) key.now }
         ensures { IfOk result (λ letters. AreLeading self.now.letters (live_pair_after self.now.op (readings_in self.now.readers.now) key.now) letters.items) }
+    {
+        let mut found = self.found_letters(alloc, key, transitions)?;
+        found.sort_unstable();
+        found.dedup();
+        Ok(found)
+    }
+
+    // Letters such that each other leads to no key. The transitions are written over.
+    fn found_letters(
+        &self,
+        alloc: Global,
+        key: &[u32],
+        transitions: &mut Vec<Transition>,
+    ) -> Result<Vec<u32>, OutOfMemory>
+        requires pair { ArePair self.now.letters self.now.op (readings_in self.now.readers.now) }
+        requires tables { self.now.tables.now ≡ automata_in (readings_in self.now.readers.now) }
+        requires join { IfSome self.now.join.now (IsJoin self.now.letters (reading_at (readings_in self.now.readers.now) 0) (reading_at (readings_in self.now.readers.now) 1)) }
+        requires key { AreStates (readings_in self.now.readers.now) key.now }
+        ensures { IfOk result (λ found. AreFound self.now.letters (live_pair_after self.now.op (readings_in self.now.readers.now) key.now) found.items) }
+    {
+        if let Some(join) = self.join {
+            if let Some(found) = self.joined_letters(join, key, transitions)? {
+                return Ok(found);
+            }
+        }
+        self.searched_letters(alloc, key, transitions)
+    }
+
+    // Those by which the first leads on, and of these, where the second is needed, those by which it leads on. The
+    // transitions are written over.
+    fn searched_letters(
+        &self,
+        alloc: Global,
+        key: &[u32],
+        transitions: &mut Vec<Transition>,
+    ) -> Result<Vec<u32>, OutOfMemory>
+        requires pair { ArePair self.now.letters self.now.op (readings_in self.now.readers.now) }
+        requires tables { self.now.tables.now ≡ automata_in (readings_in self.now.readers.now) }
+        requires key { AreStates (readings_in self.now.readers.now) key.now }
+        ensures { IfOk result (λ found. AreFound self.now.letters (live_pair_after self.now.op (readings_in self.now.readers.now) key.now) found.items) }
     {
         let mut found = Vec::new(alloc);
         self.readers[0].add_letters(key[0], transitions, &mut found)?;
@@ -111,9 +159,36 @@ impl LivePairs<'_> {
                 transitions,
             )?;
         }
-        found.sort_unstable();
-        found.dedup();
         Ok(found)
+    }
+
+    // Those that join transitions of both states, unless it takes longer to go through all pairs of these. The row is
+    // written over.
+    fn joined_letters(
+        &self,
+        join: &LetterJoin,
+        key: &[u32],
+        row: &mut Vec<Transition>,
+    ) -> Result<Option<Vec<u32>>, OutOfMemory>
+        requires pair { ArePair self.now.letters self.now.op (readings_in self.now.readers.now) }
+        requires join { IsJoin self.now.letters (reading_at (readings_in self.now.readers.now) 0) (reading_at (readings_in self.now.readers.now) 1) join.now }
+        requires key { AreStates (readings_in self.now.readers.now) key.now }
+        ensures { IfOk result (λ joined. IfSome joined (λ found. AreFound self.now.letters (live_pair_after self.now.op (readings_in self.now.readers.now) key.now) found.items)) }
+    {
+        if !self.op.needs_second() {
+            return Ok(None);
+        }
+        let alloc = *row.allocator();
+        let mut others = Vec::new(alloc);
+        read_row(&self.readers[0], key[0], row)?;
+        read_row(&self.readers[1], key[1], &mut others)?;
+        let parts = u64::from(self.readers[0].dfa.alphabet().letters());
+        if (others.len() as u64).saturating_mul(parts) > u64::from(self.letters) * PAIRS {
+            return Ok(None);
+        }
+        let mut found = Vec::new(alloc);
+        join.add_letters(self.letters, row, &others, &mut found)?;
+        Ok(Some(found))
     }
 
     // Adds the transitions from a key by these letters. The row is written over.

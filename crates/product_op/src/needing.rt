@@ -1,6 +1,6 @@
 //! The automaton of a connective that needs its first argument.
 
-ghost use Rattle.std.specs.Prelude.{◌≡◌, ◌+◌, ◌≤◌, ℕ, false, List, IfOk};
+ghost use Rattle.std.specs.Prelude.{◌≡◌, ◌+◌, ◌≤◌, ℕ, false, List, IfOk, IfSome};
 ghost use Rattle.std.specs.Result.{IsErrOf};
 ghost use Rattle.digit_tuple.specs.Deterministic.{accepts_of, states_of};
 ghost use Rattle.digit_tuple.specs.Letters.{product, IsWord};
@@ -8,7 +8,8 @@ ghost use Rattle.digit_tuple.specs.Width.{HasApart, HasWidth};
 ghost use Rattle.minimise.specs.Canonical.{IsCanonical};
 ghost use Rattle.product_op.specs.DeadPairs.{ArePair, is_dead_pair};
 ghost use Rattle.product_op.specs.LeadingLetters.{AreFewLetters};
-ghost use Rattle.product_op.specs.Readings.{automata_in, combined, first_key, flags_of, readings_in};
+ghost use Rattle.product_op.specs.LetterJoins.{IsJoin};
+ghost use Rattle.product_op.specs.Readings.{automata_in, combined, first_key, flags_of, reading_at, readings_in};
 ghost use Rattle.product_op.specs.Tuples.{LeadToOne};
 ghost use Rattle.product_op.specs.declared.rule.Rule.TheVariants.{Both};
 
@@ -27,8 +28,8 @@ use std::alloc::Global;
 /// readers accepts its part. The width is the number of pairs of states that words lead to, sinks counted too. `States`
 /// comes if and only if it passes the limit, and `Letters` never. Memory follows the pairs and the transitions of each
 /// reader's automaton. Time follows the pairs with all letters where they are few, and else those from which the
-/// connective may accept, with the letters by which the first leads on, and all pairs with the letters by which either
-/// leads on and those that are tried until one leads both to their sinks.
+/// connective may accept, with the letters by which the first leads on, or with a join the pairs of transitions, and all
+/// pairs with the transitions of both states and the letters that are tried to find dead pairs that are not known yet.
 pub fn pairs_needing_first(
     alloc: Global,
     graph: &LivePairs<'_>,
@@ -38,6 +39,7 @@ pub fn pairs_needing_first(
     requires pair { ArePair graph.now.letters graph.now.op (readings_in graph.now.readers.now) }
     requires few { AreFewLetters graph.now.letters graph.now.few.now }
     requires tables { graph.now.tables.now ≡ automata_in (readings_in graph.now.readers.now) }
+    requires join { IfSome graph.now.join.now (IsJoin graph.now.letters (reading_at (readings_in graph.now.readers.now) 0) (reading_at (readings_in graph.now.readers.now) 1)) }
     requires letters { graph.now.letters ≡ product alphabet }
     requires live { is_dead_pair graph.now.op (readings_in graph.now.readers.now) (first_key (readings_in graph.now.readers.now)) ≡ false }
     ensures sizes { IfOk result (λ stepped. stepped.result.sizes ≡ alphabet) }

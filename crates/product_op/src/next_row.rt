@@ -15,7 +15,7 @@ use digit_tuple::transitions::Transition;
 use std::alloc::Global;
 
 // To search for where a letter leads takes about as long as to write so many letters.
-const SEARCH: usize = 8;
+const SEARCH: usize = 128;
 
 /// Where each letter of an automaton leads from a state, or from its sink.
 #[derive(Drop)]
@@ -28,7 +28,7 @@ pub enum NextRow<'a> {
 
 impl<'a> NextRow<'a> {
     /// The row of a state or of the sink, for so many letters that are to be asked for. Where none is kept it is a list
-    /// if they are no fewer than an eighth of the automaton's letters, and takes time and memory as these are many; else
+    /// if they are no fewer than a 128th of the automaton's letters, and takes time and memory as these are many; else
     /// there is none. The transitions are written over.
     pub fn of_state(
         alloc: Global,

@@ -29,6 +29,9 @@ use minimise::tracked::Tracked;
 use std::alloc::Global;
 use std::rc::Rc;
 
+// So many letters for each transition of an argument are listed with their parts, since many pairs of states ask for them.
+const LISTED: u64 = 16;
+
 /// The words over the tracks of both automata of which the connective says that they are in it, by whether each
 /// automaton accepts the word's part on its tracks; but for `And` and `AndNot` among the valid words alone, whose track
 /// words are each in the track's language. Tracks of one name are one track, and have one number of digits in both
@@ -108,9 +111,15 @@ fn product_readers<'a>(
 {
     let _first = a.names();
     let _second = b.names();
+    let mut first = argument_reader(alloc, &joint.alphabet, &joint.names, a)?;
+    let mut second = argument_reader(alloc, &joint.alphabet, &joint.names, b)?;
+    let transitions = a.dfa().transitions().max(b.dfa().transitions());
+    let most = transitions.saturating_mul(LISTED);
+    first.parts.list_within(alloc, most)?;
+    second.parts.list_within(alloc, most)?;
     let mut readers = Vec::new(alloc);
-    readers.push(argument_reader(alloc, &joint.alphabet, &joint.names, a)?)?;
-    readers.push(argument_reader(alloc, &joint.alphabet, &joint.names, b)?)?;
+    readers.push(first)?;
+    readers.push(second)?;
     add_track_readers(alloc, &joint.alphabet, languages, &mut readers)?;
     Ok(readers)
 }

@@ -1,29 +1,27 @@
 //! Readers at their states.
 
-ghost use Rattle.std.specs.Prelude.{◌≡◌, ◌↔◌, ◌<◌, ◌≤◌, length, IfOk, IsTrue};
-ghost use Rattle.digit_tuple.specs.Deterministic.{letters_of};
-ghost use Rattle.product_op.specs.DeadExits.{AllLeadOn, IsReaderAt, LeadsOut};
+ghost use Rattle.std.specs.Prelude.{◌≡◌, ◌↔◌, ◌<◌, length, slice_index, IfOk, IsTrue, OnOk};
+ghost use Rattle.digit_tuple.specs.Deterministic.{IsRow, letters_of, states_of, transitions_of};
+ghost use Rattle.minimise.specs.Classes.{next_of};
+ghost use Rattle.product_op.specs.DeadExits.{IsReaderAt, LeadsOut};
 ghost use Rattle.product_op.specs.Readings.{IsReading, reading_in};
 
-use crate::live_pairs::next_by;
-use crate::next_row::NextRow;
 use crate::next_table::NextTable;
 use crate::reader::Reader;
-use digit_tuple::dfa::Dfa;
 use digit_tuple::faults::OutOfMemory;
 use digit_tuple::transitions::Transition;
 
-/// A reader at a state: where letters lead from there, if that is listed, and whether all of them are seen to lead on.
+/// A reader at a state: where letters lead from there, if that is kept, and whether all of them lead on.
 #[derive(Drop)]
 pub struct ReaderAt<'a> {
     pub reader: &'a Reader<'a>,
     pub state: u32,
-    pub row: Option<NextRow<'a>>,
+    pub row: Option<&'a [u32]>,
     pub leads_on: bool,
 }
 
 impl<'a> ReaderAt<'a> {
-    /// The reader at a state or at its sink. Time and memory follow the transitions of the state, which are written over.
+    /// The reader at a state or at its sink, whose transitions are written over the row. Time follows their number.
     pub fn new(
         reader: &'a Reader<'a>,
         table: &'a NextTable<'a>,
@@ -35,15 +33,15 @@ impl<'a> ReaderAt<'a> {
         ensures at { IfOk result IsReaderAt }
         ensures reader { IfOk result (λ at. reading_in at.reader.now ≡ reading_in reader.now) }
         ensures state { IfOk result (λ at. at.state ≡ state) }
+        ensures row { OnOk result (row.new.items ≡ transitions_of reader.now.dfa.now state) }
+        ensures transitions { OnOk result (IsRow (letters_of reader.now.dfa.now) (states_of reader.now.dfa.now) row.new.items) }
     {
-        let count = count_transitions(reader.dfa, state, row)?;
-        let leads_on = count >= reader.dfa.alphabet().letters() as usize;
-        let listed = NextRow::of_state(*row.allocator(), table, state, count, row)?;
+        read_row(reader, state, row)?;
         Ok(ReaderAt {
             reader,
             state,
-            row: listed,
-            leads_on,
+            row: table.row(state),
+            leads_on: row.len() >= reader.dfa.alphabet().letters() as usize,
         })
     }
 
@@ -53,18 +51,34 @@ impl<'a> ReaderAt<'a> {
         requires letter { letter < length self.now.reader.now.parts }
         ensures { IsTrue result ↔ LeadsOut (reading_in self.now.reader.now) self.now.state letter }
     {
-        self.reader
-            .is_sink(next_by(self.reader, self.state, &self.row, letter))
+        self.reader.is_sink(self.next(letter))
+    }
+
+    // Where a letter leads.
+    fn next(&self, letter: u32) -> u32
+        requires at { IsReaderAt self.now }
+        requires letter { letter < length self.now.reader.now.parts }
+        ensures { result ≡ next_of self.now.reader.now.dfa.now self.now.state (slice_index self.now.reader.now.parts letter) }
+    {
+        match self.row {
+            Some(row) => row[self.reader.parts.part(letter) as usize],
+            None => self.reader.next(self.state, letter),
+        }
     }
 }
 
-// How many transitions a state has, the sink none. They are written over.
-fn count_transitions(dfa: &Dfa, state: u32, row: &mut Vec<Transition>) -> Result<usize, OutOfMemory>
-    ensures { IfOk result (λ count. letters_of dfa.now ≤ count → AllLeadOn dfa.now state) }
+/// Writes the transitions of a state, of the sink none.
+pub fn read_row(
+    reader: &Reader<'_>,
+    state: u32,
+    row: &mut Vec<Transition>,
+) -> Result<(), OutOfMemory>
+    ensures row { OnOk result (row.new.items ≡ transitions_of reader.now.dfa.now state) }
+    ensures transitions { OnOk result (IsRow (letters_of reader.now.dfa.now) (states_of reader.now.dfa.now) row.new.items) }
 {
-    if state >= dfa.states() {
-        return Ok(0);
+    if state < reader.dfa.states() {
+        return reader.dfa.transitions_into(state, row);
     }
-    dfa.transitions_into(state, row)?;
-    Ok(row.len())
+    row.clear();
+    Ok(())
 }

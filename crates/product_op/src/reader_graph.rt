@@ -20,8 +20,8 @@ use digit_tuple::key_transitions::KeyTransitions;
 use digit_tuple::transitions::Transition;
 use std::alloc::Global;
 
-// So many letters are all tried, since to gather those with a transition would take longer.
-const FEW_LETTERS: u32 = 32;
+/// So many letters are all tried, since to gather those with a transition would take longer.
+pub const FEW_LETTERS: u32 = 32;
 
 /// All letters below this number where they are few, else none.
 pub fn few_letters(alloc: Global, letters: u32) -> Result<Vec<u32>, OutOfMemory>

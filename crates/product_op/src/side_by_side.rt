@@ -11,6 +11,7 @@ ghost use Rattle.product_op.specs.DeadPairs.{ArePair};
 ghost use Rattle.product_op.specs.Readings.{readings_in, AreSideBySide, AreCanonical, AreAlike, flags_of, combined};
 ghost use Rattle.product_op.specs.declared.rule.Rule.TheVariants.{Both};
 
+use crate::letter_joins::pair_join;
 use crate::live_pairs::LivePairs;
 use crate::needing::pairs_needing_first;
 use crate::op::Op;
@@ -115,12 +116,14 @@ fn pair_by_pair(
     let letters = alphabet.letters();
     let few = few_letters(alloc, letters)?;
     let tables = next_tables(alloc, readers)?;
+    let join = pair_join(alloc, readers, op, letters)?;
     let graph = LivePairs {
         readers: &*readers,
         tables: tables.as_slice(),
         op,
         letters,
         few: few.as_slice(),
+        join: &join,
     };
     let first = initial_states(alloc, readers)?;
     if graph.is_dead(&first) {

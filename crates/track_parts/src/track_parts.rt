@@ -68,7 +68,7 @@ impl TrackParts {
     pub fn list_within(&mut self, alloc: Global, most: u64) -> Result<(), OutOfMemory>
         ensures { OnOk result (self.new ≡ self.old) }
     {
-        if u64::from(self.alphabet.letters()) <= most {
+        if self.index.is_none() && u64::from(self.alphabet.letters()) <= most {
             let parts = self.listed(alloc)?;
             self.index = Some(PartIndex::new(alloc, parts, self.own.letters())?);
         }

@@ -4,6 +4,9 @@ use Rattle.product_op.specs.Readings.{readings_in}
 use Rattle.product_op.proofs.PairListLemmas.{AreTriedTo-more, HasWidth-tried}
 use Rattle.product_op.proofs.dead_pairs.add_dead_pairs.Goals as goal
 
+pub loop-place-init : goal.loop-place-init
+loop-place-init c = record { live = c.requires.live; marked = c.in_ok-marks.ensures c.args.keys.now; few = c.requires.few; tried = λ i less. absurd (omega (arith, less)) }
+
 pub loop-place-preserved : goal.loop-place-preserved
 loop-place-preserved c =
     let g = c.args.graph.now in
@@ -12,6 +15,7 @@ loop-place-preserved c =
     let key : c.deref.result.now ≡ key_at c.loop-place.keys place = c.deref.ensures.value ∙ c.in_ok-extend_from_slice.ensures.items ∙ ap (λ (ks : List ℕ). ks ++ c.key.result.now) c.clear.ensures.items ∙ c.key.ensures in
     record {
       live = c.in_ok-add_dead_after.ensures.live;
+      marked = c.in_ok-add_dead_after.ensures.marked;
       few = c.in_ok-add_dead_after.ensures.few;
       tried = AreTriedTo-more g.letters rs c.loop-place.keys c.add_dead_after.new.keys place c.deref.result.now (omega (arith, c.loop-place-test.true, c.len.ensures.len)) key
           c.in_ok-add_dead_after.ensures.begins c.in_ok-add_dead_after.ensures.after c.loop-place.invariant.tried;

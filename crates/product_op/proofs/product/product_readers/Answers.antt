@@ -1,5 +1,7 @@
-use Rattle.std.proofs.Common.{[], ◌∷◌, ◌++◌, map, ap, sym, ◌∙◌, subst}
+use Rattle.std.proofs.Common.{List, ℕ, [], ◌∷◌, ◌++◌, map, ap, sym, ◌∙◌, subst}
 use Rattle.std.specs.Rc.{rc_value}
+use Rattle.product_op.specs.declared.reader.Reader.{Reader}
+use Rattle.product_op.specs.Readings.{Reading}
 use Rattle.product_op.specs.TrackReadings.{AllFitTracks}
 use Rattle.product_op.proofs.ProductLemmas.{reads_first, reads_second, product_readings-made}
 use Rattle.product_op.proofs.product.product_readers.Goals as goal
@@ -29,11 +31,15 @@ add_track_readers-requires c = subst (λ ss. AllFitTracks ss (map rc_value c.arg
 
 pub returns : goal.returns
 returns c =
-    let first = c.in_ok-argument_reader.field-0 in
-    let second = c.in_ok-argument_reader-2.field-0 in
+    let one = c.in_ok-first.first in
+    let two = c.in_ok-second.second in
+    let first : Reader = record { dfa = one.dfa; parts = c.list_within.new.self } in
+    let second : Reader = record { dfa = two.dfa; parts = c.list_within-2.new.self } in
+    let first_by : List ℕ → Reading = λ parts. record { automaton = one.dfa.now; parts = parts } in
+    let second_by : List ℕ → Reading = λ parts. record { automaton = two.dfa.now; parts = parts } in
     product_readings-made c.args.a.now c.args.b.now (map rc_value c.args.languages.now) first second c.push-2.new.self.items _
     c.deref.result.now c.deref-2.result.now c.args.joint.now.alphabet
     (c.deref.ensures.value ∙ c.requires.names) (c.deref-2.ensures.value ∙ c.requires.names) c.requires.sizes
-    c.in_ok-argument_reader.ensures c.in_ok-argument_reader-2.ensures
+    (ap first_by c.in_ok-list_within.ensures ∙ c.in_ok-first.ensures) (ap second_by c.in_ok-list_within-2.ensures ∙ c.in_ok-second.ensures)
     (c.in_ok-push-2.ensures.items ∙ ap (λ rs. rs ++ second ∷ []) (c.in_ok-push.ensures.items ∙ ap (λ rs. rs ++ first ∷ []) c.new-readers.ensures.items))
     c.in_ok-add_track_readers.ensures

@@ -1,8 +1,17 @@
-use Rattle.std.proofs.Common.{◌≡◌, ◌+◌, true, sym, ◌∙◌, arith}
+use Rattle.std.proofs.Common.{◌≡◌, ◌+◌, false, true, sym, ap, ◌∙◌, subst, arith}
+use Rattle.std.specs.List.{Contains}
 use Rattle.product_op.specs.DeadPairs.{is_dead_pair}
-use Rattle.product_op.specs.Readings.{readings_in}
+use Rattle.product_op.specs.Readings.{next_key, readings_in}
 use Rattle.product_op.proofs.PairListLemmas.{HasApart-reached, IsNumbered-dead}
-use Rattle.product_op.proofs.dead_pairs.add_if_dead.Goals as goal
+use Rattle.product_op.proofs.leaving.add_if_dead.Goals as goal
+
+pub returns-then-not-is_dead-clause-there : goal.returns-then-not-is_dead-clause-there
+returns-then-not-is_dead-clause-there c =
+    let g = c.args.graph.now in
+    let rs = readings_in g.readers.now in
+    let after = c.requires.after in
+    let live : is_dead_pair g.op rs (next_key rs after.0 after.2.0) ≡ false = ap (is_dead_pair g.op rs) after.2.2 ∙ sym c.is_dead.ensures ∙ c.if-not-is_dead.true in
+    subst (Contains c.args.keys.now) after.2.2 (c.requires.live.live after.0 after.1 after.2.0 after.2.1 live)
 
 pub returns-then-len-limit-clause-states : goal.returns-then-len-limit-clause-states
 returns-then-len-limit-clause-states c refused =
