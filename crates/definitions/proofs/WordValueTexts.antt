@@ -2,7 +2,7 @@
 use Rattle.std.proofs.Common.{◌≡◌, ◌↔◌, ℕ, ◌<◌, List, [], ◌∷◌, length, ℤ, Some, ◌⊎◌, inl, inr, refl, sym, ap, ◌∙◌, subst, arith}
 use Rattle.std.specs.Int.{w32}
 use Rattle.std.specs.List.{All}
-use Rattle.std.specs.Prelude.{FitsSigned}
+use Rattle.std.specs.Prelude.{FitsSigned, slice_index}
 use Rattle.std.proofs.lemmas.List.{length-map}
 use Rattle.digit_tuple.specs.Letters.{IsWord}
 use Rattle.digit_tuple.specs.Paddings.{in_order}
@@ -100,22 +100,23 @@ base_named custom k rules has =
     let named : IsSystemNamed custom (system_name Msd (Base k)) Msd (base k) = inl (Base k, (record { least = has.base.0; most = has.base.1 }, refl), refl) in
     (named, tt)
 
-number_place : (ns : List ℕ) → length ns ≡ 1 → (n : ℕ) × (ns ≡ n ∷ [])
-number_place [] long = absurd (omega (arith, long))
-number_place (n ∷ []) long = (n, refl)
-number_place (n ∷ m ∷ ns) long = absurd (omega (arith, long))
+only_number : (ns : List ℕ) → length ns ≡ 1 → ns ≡ slice_index ns 0 ∷ []
+only_number [] long = absurd (omega (arith, long))
+only_number (n ∷ []) long = refl
+only_number (n ∷ m ∷ ns) long = absurd (omega (arith, long))
 
 -- the letters of a word over one system are those at its numbers
 pub at_numbers : (v : WordValue) (system : NamedSystem) (Has : ℕ → ℤ → Type 0) → ((n : ℕ) (letter : ℤ) → HasLetter v (n ∷ []) letter ↔ Has n letter) → HasLettersOf v (system ∷ []) (λ ns letter. AtNumber (λ n. Has n letter) ns)
 at_numbers v system Has says ns letter long = (there, back)
   where
+    only : ns ≡ slice_index ns 0 ∷ []
+    only = only_number ns long
+
     there : HasLetter v ns letter → AtNumber (λ n. Has n letter) ns
-    there has =
-        let place = number_place ns long in
-        (place.0, place.1, (says place.0 letter).0 (subst (λ (xs : List ℕ). HasLetter v xs letter) place.1 has))
+    there has = (long, (says (slice_index ns 0) letter).0 (subst (λ (xs : List ℕ). HasLetter v xs letter) only has))
 
     back : AtNumber (λ n. Has n letter) ns → HasLetter v ns letter
-    back (n, place, has) = subst (λ (xs : List ℕ). HasLetter v xs letter) (sym place) ((says n letter).1 has)
+    back (one, has) = subst (λ (xs : List ℕ). HasLetter v xs letter) (sym only) ((says (slice_index ns 0) letter).1 has)
 
 -- the word is over base k, the most significant digit first, and has at each place the letter of the fixed point
 pub record IsWordOfFixed (rules : Rules) (k : ℕ) (word : WordValue) : Type 0 where

@@ -19,7 +19,7 @@ use Rattle.reg_steps.specs.Relations.{IsRelation}
 use Rattle.definitions.specs.Tracks.{NamedSystem, systems_of, Tracks, OverSets, OverSystems, letter_sets, header_of}
 use Rattle.morph_words.specs.MorphismKinds.{HasFixedPoint}
 use Rattle.morph_words.specs.Rules.{Rules}
-use Rattle.definitions.specs.Trees.{Tree, File, Regex, Formula, Fixed, Image, Combine, Language, Transduced, Converted, MayBeIn, Entry, Bytes, Defined, Ledger, tree_of, custom_of}
+use Rattle.definitions.specs.Trees.{Tree, File, Regex, Formula, Fixed, Language, MayBeIn, Entry, Bytes, Defined, Ledger, tree_of, custom_of, word_direction, word_systems}
 use Rattle.definitions.specs.TreeMeanings.{tree_letter, tree_words}
 use Rattle.definitions.specs.WordTexts.{IsWordText, msd_base}
 use Rattle.system_files.specs.SystemFiles.{Custom}
@@ -64,17 +64,14 @@ pub record IsLanguageText (sets : List (List ℤ)) (InLanguage : List (List ℤ)
   pub canonical : IsCanonical automaton
   pub text_is : text ≡ relation_text (headers.Sets sets) automaton
 
--- the text of a definition
+-- the text of a definition; the last case is that of the other definitions of words
 abbrev pub HasTreeText : Custom → Tree → List ℕ → Type 0
 HasTreeText custom (File bytes) text = text ≡ bytes
 HasTreeText custom (Regex tracks expression) text = IsTrackText custom tracks expression text
 HasTreeText custom (Formula variables formula bindings) text = IsFormulaText custom bindings variables formula text
 HasTreeText custom (Fixed rules) text = IsFixedText custom rules text
-HasTreeText custom (Image direction system rules tree) text = IsWordText custom direction (system ∷ []) (λ ns letter. tree_letter custom (Image direction system rules tree) ns letter) text
-HasTreeText custom (Combine direction named parts) text = IsWordText custom direction named (λ ns letter. tree_letter custom (Combine direction named parts) ns letter) text
 HasTreeText custom (Language sets op trees) text = IsLanguageText sets (λ word. tree_words custom (Language sets op trees) word) text
-HasTreeText custom (Transduced system transducer tree) text = IsWordText custom Msd (system ∷ []) (λ ns letter. tree_letter custom (Transduced system transducer tree) ns letter) text
-HasTreeText custom (Converted direction system tree) text = IsWordText custom direction (system ∷ []) (λ ns letter. tree_letter custom (Converted direction system tree) ns letter) text
+HasTreeText custom tree text = IsWordText custom (word_direction tree) (word_systems tree) (λ ns letter. tree_letter custom tree ns letter) text
 
 -- the text of an entry
 abbrev pub HasText : Custom → Entry → List ℕ → Type 0

@@ -1,5 +1,5 @@
 -- Of which numbers a definition holds, which letters it has as a word, and which words it has as a language.
-use Rattle.std.specs.Prelude.{◌≡◌, ◌⊎◌, ℕ, ℤ, pos, Bool, true, false, List, [], ◌∷◌, ◌++◌, length, reverse, ⊤}
+use Rattle.std.specs.Prelude.{◌≡◌, ◌⊎◌, ℕ, ℤ, pos, Bool, true, false, List, [], ◌∷◌, ◌++◌, length, reverse, slice_index, ⊤}
 use Rattle.std.specs.List.{AllByRecursion, flat_map}
 use Rattle.wal_outside.specs.declared.folder.Folder.{Folder}
 use Rattle.wal_outside.specs.declared.folder.Folder.TheVariants.{Automata, Words}
@@ -33,7 +33,7 @@ RegexHolds (OverSystems direction named) expression ns = HasMatch direction (sys
 
 -- the position is one number, of which this holds
 abbrev pub AtNumber : (ℕ → Type 0) → List ℕ → Type 0
-AtNumber Holds ns = (n : ℕ) × (ns ≡ n ∷ []) × Holds n
+AtNumber Holds ns = (length ns ≡ 1) × Holds (slice_index ns 0)
 
 -- the one where it is so, and else the other
 abbrev pub chosen : Bool → Type 0 → Type 0 → Type 0

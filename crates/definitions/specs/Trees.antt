@@ -6,6 +6,7 @@ use Rattle.wal_outside.specs.declared.folder.Folder.{Folder}
 use Rattle.wal_outside.specs.declared.folder.Folder.TheVariants.{Automata, Words, Bases}
 use Rattle.wal_outside.specs.Files.{Files, same_file}
 use Rattle.digit_tuple.specs.declared.direction.Direction.{Direction}
+use Rattle.digit_tuple.specs.declared.direction.Direction.TheVariants.{Msd}
 use Rattle.formula_parse.specs.Trees as trees
 use Rattle.formula_resolve.specs.declared.file.File as formula_file
 use Rattle.formula_resolve.specs.declared.file.File.TheVariants.{Automaton, Word}
@@ -73,6 +74,20 @@ MayBeIn folder (Combine direction named parts) = folder ≡ Words
 MayBeIn folder (Language sets op trees) = (folder ≢ Words) × (folder ≢ Bases)
 MayBeIn folder (Transduced system transducer tree) = folder ≡ Words
 MayBeIn folder (Converted direction system tree) = folder ≡ Words
+
+-- Over which systems a definition of a word is, and in which direction they are read. The rules of a fixed point decide its system.
+abbrev pub word_systems : Tree → List NamedSystem
+word_systems (Image direction system rules tree) = system ∷ []
+word_systems (Combine direction named parts) = named
+word_systems (Transduced system transducer tree) = system ∷ []
+word_systems (Converted direction system tree) = system ∷ []
+word_systems _ = []
+
+abbrev pub word_direction : Tree → Direction
+word_direction (Image direction system rules tree) = direction
+word_direction (Combine direction named parts) = direction
+word_direction (Converted direction system tree) = direction
+word_direction _ = Msd
 
 -- what is under a name: bytes, or a definition
 pub data Entry : Type 0 where
