@@ -13,10 +13,10 @@
 //!
 //! Under `And` and `AndNot` only pairs of states from which a word may be accepted are explored (`LivePairs`); the
 //! others are counted for the width (`add_dead_pairs`). Under `And` the letters by which both automata lead on are added
-//! up of the least letters with their parts, where letters are not many beside transitions (`LetterJoin`). Time and memory follow the width and the letters by which some
-//! residual leads to one that is not empty, or all letters where they are at most 32. Where letters lead from all
-//! states is kept if that takes little memory, or if at least half of them lead on (`NextTable`). Not proved: time and
-//! memory.
+//! up of the least letters with their parts, where letters are not many beside transitions (`LetterJoin`). Time and
+//! memory follow the width and the letters by which some residual leads to one that is not empty, or all letters where
+//! they are at most 32. Where letters lead from all states is kept if that takes little memory, or if at least half of
+//! them lead on (`NextTable`). Not proved: time and memory.
 #![tactic(auto)]
 
 /// Connectives of two arguments.
