@@ -19,7 +19,8 @@ use Rattle.session_cli.specs.SessionLanguage.{IsAnswer}
 use Rattle.command_parts.specs.StoreFailures.{failed_at}
 use Rattle.command_parts.specs.Accepting.{Success, Said, Accepted, Storing, Saying}
 use Rattle.command_parts.specs.FileChanges.{IsFileChangeOf, IsAction, IsActionOf}
-use Rattle.session_cli.specs.Commands.{Commands, DoesAction, WritesChange}
+use Rattle.store_writes.specs.Writes.{DoesAction, WritesChange}
+use Rattle.session_cli.specs.Commands.{Commands}
 use Rattle.command_parts.specs.Lines.{said_text}
 use Rattle.command_parts.specs.StoreReads.{IsReadFault, HasRead}
 use Rattle.command_parts.proofs.StoreFaults.{is_store_fault}

@@ -3,21 +3,19 @@ ghost use Rattle.std.specs.Prelude.{◌≡◌, IfSome};
 ghost use Rattle.definitions.specs.Texts.{Stores};
 ghost use Rattle.definitions.specs.Trees.{Ledger};
 ghost use Rattle.session_cli.specs.Views.{SessionView};
-ghost use Rattle.command_parts.specs.declared.file_change.Action.TheVariants.{Write};
-ghost use Rattle.session_cli.specs.Commands.{Commands, DoesAction, WritesChange};
+ghost use Rattle.session_cli.specs.Commands.{Commands};
 
 use crate::actions::action_of;
 use command_parts::fault::Fault;
-use command_parts::file_change::{Action, FileChange};
 use command_parts::kept::Kept;
 use command_parts::printed::Printed;
 use command_parts::step_options::StepOptions;
-use digit_tuple::name::Name;
 use monitor::Monitor;
 use std::alloc::Global;
 use std::marker::Model;
 use std::rc::Rc;
-use wal_outside::{Folder, Store, WriteFault};
+use store_writes::actions::do_action;
+use wal_outside::Store;
 
 /// Answers commands, each step of which may have so many values.
 #[derive(Drop)]
@@ -78,45 +76,6 @@ impl Session {
         let found = action_of(alloc, options, text, &mut self.kept, store);
         self.kept.systems.clear_monitor();
         let action = found?;
-        done(action, store)
-    }
-}
-
-/// Does what is to be done for a command, and gives what is printed.
-///
-/// # Errors
-/// As `write_text`, where something is stored.
-fn done<T: Store>(action: Action, store: &mut T) -> Result<Printed, Fault>
-    ensures { DoesAction (T.view store.old) action result (T.view store.new) }
-{
-    match action {
-        Action::Write(change) => written(change, store),
-        Action::Print(printed) => Ok(printed),
-    }
-}
-
-/// Stores the text of a change, and gives what is printed.
-///
-/// # Errors
-/// As `write_text`.
-fn written<T: Store>(change: FileChange, store: &mut T) -> Result<Printed, Fault>
-    ensures { DoesAction (T.view store.old) (Write change) result (T.view store.new) }
-{
-    let FileChange { folder, name, made } = change;
-    write_text(folder, name, &made.stored, store)?;
-    Ok(made.printed)
-}
-
-/// Stores a text under a name in a folder.
-///
-/// # Errors
-/// `Store` where the store failed, and `Memory` where it had none; the store's texts are as before.
-fn write_text<T: Store>(folder: Folder, name: Name, text: &[u8], store: &mut T) -> Result<(), Fault>
-    ensures { WritesChange (T.view store.old) (folder, name) text.now result (T.view store.new) }
-{
-    match store.write(folder, name.as_str(), text) {
-        Ok(()) => Ok(()),
-        Err(WriteFault::Failed) => Err(Fault::Store(folder, name)),
-        Err(WriteFault::Memory) => Err(Fault::Memory),
+        do_action(action, store)
     }
 }

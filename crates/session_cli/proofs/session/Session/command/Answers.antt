@@ -23,4 +23,4 @@ returns-clause-command g c =
     λ ledger stores.
     let by = answering _ ledger from.found stores from.reported in
     let acts = subst (λ (limit : ℕ). (known : Ledger) → Stores known from.found → IsAction (custom_of known) (checks_of limit known c.args.text.now) c.args.shown c.in_ok-action.action) limit_is from.gives in
-    acted_command c.args.self.now.limit ledger _ _ _ c.args.text.now c.args.shown from.found by c.in_ok-action.action c.done.result (acts by.known by.stores) from.has_read c.done.ensures
+    acted_command c.args.self.now.limit ledger _ _ _ c.args.text.now c.args.shown from.found by c.in_ok-action.action c.do_action.result (acts by.known by.stores) from.has_read c.do_action.ensures

@@ -1,0 +1,2 @@
+-- What an action of a command does to a store.
+pub mod Writes
