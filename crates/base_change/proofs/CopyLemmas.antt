@@ -6,7 +6,7 @@ use Rattle.std.proofs.lemmas.Bool.{cases_lt}
 use Rattle.std.proofs.lemmas.List.{get_or-map, get_or_past, length-map}
 use Rattle.digit_tuple.specs.Deterministic.{Automaton, letters_of, run_of}
 use Rattle.digit_tuple.specs.Letters.{IsWord, product}
-use Rattle.minimise.specs.Classes.{class_of}
+use Rattle.residual_classes.specs.Classes.{class_of}
 use Rattle.word_output.specs.LetterFunctions.{IsLetterFunction, LetterFunctionValue, letter_after, letter_in, outputs_of}
 use Rattle.word_output.specs.StateLetters.{letter_at, letter_led}
 use Rattle.word_output.proofs.LetterEquality.{letter_functions}

@@ -6,7 +6,7 @@ use Rattle.digit_tuple.specs.Deterministic.{Automaton, letters_of, states_of}
 use Rattle.digit_tuple.specs.Explored.{IsExplored}
 use Rattle.digit_tuple.specs.Keys.{LeadAlike, key_run}
 use Rattle.digit_tuple.specs.Letters.{IsWord, product}
-use Rattle.minimise.specs.Classes.{first_of, next_of}
+use Rattle.residual_classes.specs.Classes.{first_of, next_of}
 use Rattle.minimise.proofs.LeadLemmas.{lead}
 use Rattle.word_output.specs.LetterFunctions.{IsLetterFunction, LetterFunctionValue, letter_after}
 use Rattle.word_output.specs.StateLetters.{letter_led}

@@ -9,7 +9,7 @@ use Rattle.digit_tuple.specs.Explored.{IsExplored}
 use Rattle.digit_tuple.specs.Keys.{LeadAlike, key_run}
 use Rattle.digit_tuple.specs.Letters.{IsWord, product}
 use Rattle.digit_tuple.specs.Paddings.{zeros}
-use Rattle.minimise.specs.Classes.{first_of, next_of}
+use Rattle.residual_classes.specs.Classes.{first_of, next_of}
 use Rattle.minimise.proofs.LeadLemmas.{lead}
 use Rattle.word_output.specs.LetterFunctions.{IsLetterFunction, LetterFunctionValue, letter_after}
 use Rattle.word_output.specs.StateLetters.{letter_led, letter_of_state}

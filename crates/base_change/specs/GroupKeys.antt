@@ -7,9 +7,9 @@ use Rattle.std.proofs.lemmas.List.{length_push}
 use Rattle.digit_tuple.specs.Deterministic.{Automaton, IsTable, accepting_of, letters_of, states_of, transitions_of}
 use Rattle.digit_tuple.specs.Letters.{IsWord}
 use Rattle.digit_tuple.proofs.WordLemmas.{IsWord-push}
-use Rattle.minimise.specs.Classes.{first_of, next_of}
+use Rattle.residual_classes.specs.Classes.{first_of, next_of}
+use Rattle.residual_classes.proofs.SinkLemmas.{next_within}
 use Rattle.minimise.proofs.LeadLemmas.{lead}
-use Rattle.minimise.proofs.SinkLemmas.{next_within}
 use Rattle.word_output.specs.LetterFunctions.{LetterFunctionValue}
 use Rattle.word_output.specs.StateLetters.{letter_of_state}
 use Rattle.base_change.specs.Digits.{lowest_digits, value_lsd}

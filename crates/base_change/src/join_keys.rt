@@ -2,7 +2,7 @@
 
 ghost use Rattle.std.specs.Prelude.{◌≤◌, ◌∷◌, [], false};
 ghost use Rattle.digit_tuple.specs.Deterministic.{IsTable, letters_of};
-ghost use Rattle.minimise.specs.Classes.{first_of};
+ghost use Rattle.residual_classes.specs.Classes.{first_of};
 ghost use Rattle.base_change.specs.GroupKeys.{IsGroupKey, first_state_is_key, join_after, join_after_is_key};
 
 use crate::digits::lead_digits;

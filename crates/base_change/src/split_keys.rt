@@ -1,7 +1,7 @@
 //! The keys of the step `split`.
 
 ghost use Rattle.std.specs.Prelude.{◌≡◌, ◌<◌, ◌∷◌, [], OnOk, false};
-ghost use Rattle.minimise.specs.Classes.{first_of};
+ghost use Rattle.residual_classes.specs.Classes.{first_of};
 ghost use Rattle.base_change.specs.GroupKeys.{AreGroups, IsGroupKey, first_is_key, split_after, split_after_is_key, split_next};
 
 use crate::digits::number_of;

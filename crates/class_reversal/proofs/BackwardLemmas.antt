@@ -5,9 +5,9 @@ use Rattle.std.specs.Option.{option_and_then}
 use Rattle.digit_tuple.specs.Deterministic.{Automaton, states_of}
 use Rattle.digit_tuple.specs.Keys.{key_run, some_nonzero}
 use Rattle.digit_tuple.proofs.PaddingLemmas.{reverse-cons}
-use Rattle.minimise.specs.Classes.{class_of, next_of}
-use Rattle.minimise.specs.ClassFunctions.{class_from}
-use Rattle.minimise.proofs.ClassFromLemmas.{class_from-next}
+use Rattle.residual_classes.specs.Classes.{class_of, next_of}
+use Rattle.residual_classes.specs.ClassFunctions.{class_from}
+use Rattle.residual_classes.proofs.ClassFromLemmas.{class_from-next}
 use Rattle.class_reversal.specs.BackwardClasses.{classes_back, has_some_class}
 use Rattle.class_reversal.proofs.StateClasses.{each_class, each_class-each, each_class-empty, length-each, map-twice, none_from_none}
 

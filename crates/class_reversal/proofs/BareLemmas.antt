@@ -1,8 +1,8 @@
 -- The automaton of no words, whose state has no class.
 use Rattle.std.proofs.Common.{◌≡◌, ℕ, List, [], ◌∷◌, refl}
 use Rattle.digit_tuple.specs.NoWords.{bare_automaton}
+use Rattle.residual_classes.specs.ClassFunctions.{class_after}
 use Rattle.minimise.specs.Canonical.{IsCanonicalWithClasses}
-use Rattle.minimise.specs.ClassFunctions.{class_after}
 use Rattle.minimise.proofs.BitLemmas.{with_bits}
 use Rattle.minimise.proofs.NoWordLemmas.{IsCanonical-bare}
 

@@ -12,10 +12,10 @@ use Rattle.digit_tuple.specs.Letters.{IsWord, product}
 use Rattle.digit_tuple.proofs.ExploredLemmas.{run_of-explored}
 use Rattle.digit_tuple.proofs.PaddingLemmas.{IsWord-reverse}
 use Rattle.digit_tuple.proofs.WordLemmas.{IsWord-append, IsWord-push, run_of-push}
+use Rattle.residual_classes.specs.Classes.{class_of}
+use Rattle.residual_classes.specs.ClassFunctions.{class_after, class_from}
+use Rattle.residual_classes.proofs.ClassFromLemmas.{class_from-append}
 use Rattle.minimise.specs.Canonical.{IsCanonicalWithClasses}
-use Rattle.minimise.specs.Classes.{class_of}
-use Rattle.minimise.specs.ClassFunctions.{class_after, class_from}
-use Rattle.minimise.proofs.ClassFromLemmas.{class_from-append}
 use Rattle.minimise.proofs.ClassLeadLemmas.{class_from-lead}
 use Rattle.minimise.proofs.LeadLemmas.{lead}
 use Rattle.class_reversal.specs.BackwardClasses.{classes_back, first_class, has_class, has_some_class}

@@ -4,7 +4,7 @@ use Rattle.digit_tuple.specs.Deterministic.{Automaton, letters_of}
 use Rattle.digit_tuple.specs.Letters.{IsWord, product}
 use Rattle.digit_tuple.proofs.PaddingLemmas.{IsWord-reverse}
 use Rattle.digit_tuple.proofs.WordLemmas.{IsWord-append}
-use Rattle.minimise.specs.ClassFunctions.{SameClassFunction}
+use Rattle.residual_classes.specs.ClassFunctions.{SameClassFunction}
 use Rattle.class_reversal.specs.ReversedClasses.{SameReversedClassAfter}
 
 module _ (d e : Automaton) (classes ones : List ℕ) (sizes : e.sizes ≡ d.sizes) (same : SameClassFunction d classes e ones) (w v : List ℕ) (over : IsWord (letters_of d) w) (there : IsWord (letters_of d) v) where

@@ -9,12 +9,12 @@ use Rattle.std.proofs.lemmas.List.FromFn.{length-map-range_with_len, get_or-map-
 use Rattle.digit_tuple.specs.declared.transitions.Transition.{Transition}
 use Rattle.digit_tuple.specs.Deterministic.{Automaton, states_of, target_by, run_of}
 use Rattle.digit_tuple.specs.Keys.{some_nonzero}
-use Rattle.minimise.specs.Classes.{class_of}
-use Rattle.minimise.specs.ClassFunctions.{class_from}
-use Rattle.minimise.proofs.ClassFromLemmas.{no_class_past}
+use Rattle.residual_classes.specs.Classes.{class_of}
+use Rattle.residual_classes.specs.ClassFunctions.{class_from}
+use Rattle.residual_classes.proofs.ClassFromLemmas.{no_class_past}
+use Rattle.residual_classes.proofs.SinkLemmas.{no_transitions_past}
 use Rattle.minimise.proofs.ClassLeadLemmas.{class_from-lead, class_of-lead}
 use Rattle.minimise.proofs.LeadLemmas.{lead}
-use Rattle.minimise.proofs.SinkLemmas.{no_transitions_past}
 use Rattle.class_reversal.specs.BackwardClasses.{first_class, has_some_class}
 
 -- functions with the same values make the same list

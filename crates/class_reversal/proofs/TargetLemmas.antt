@@ -6,7 +6,7 @@ use Rattle.std.proofs.Math.Nat.{mul-le-mul_left}
 use Rattle.digit_tuple.specs.Deterministic.{Automaton, letters_of, states_of}
 use Rattle.digit_tuple.specs.Keys.{AreKeyTransitions, KeyTransition, part_of, some_nonzero}
 use Rattle.digit_tuple.proofs.KeySpanLemmas.{slice_range-append, slice_range-grown}
-use Rattle.minimise.specs.Classes.{class_of}
+use Rattle.residual_classes.specs.Classes.{class_of}
 use Rattle.class_reversal.specs.BackwardClasses.{AreTargets, classes_back, targets_by}
 use Rattle.class_reversal.specs.BackwardLaws.{length-targets_by}
 

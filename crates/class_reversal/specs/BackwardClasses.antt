@@ -3,7 +3,7 @@ use Rattle.std.specs.Prelude.{◌≡◌, ◌==◌, ℕ, ◌*◌, ◌<◌, Bool, 
 use Rattle.std.specs.List.{list_any, range_with_len}
 use Rattle.digit_tuple.specs.Deterministic.{Automaton, letters_of, states_of}
 use Rattle.digit_tuple.specs.Keys.{part_of, some_nonzero}
-use Rattle.minimise.specs.Classes.{class_of, next_of}
+use Rattle.residual_classes.specs.Classes.{class_of, next_of}
 
 -- where the letter leads from each state, to the sink where there is no transition
 abbrev pub targets_by : Automaton → ℕ → List ℕ

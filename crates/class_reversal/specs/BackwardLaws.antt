@@ -5,7 +5,7 @@ use Rattle.std.proofs.Common.{◌∙◌}
 use Rattle.std.proofs.lemmas.List.{length-map}
 use Rattle.std.proofs.lemmas.List.FromFn.{length-range_with_len}
 use Rattle.digit_tuple.specs.Deterministic.{Automaton, states_of}
-use Rattle.minimise.specs.Classes.{class_of, next_of}
+use Rattle.residual_classes.specs.Classes.{class_of, next_of}
 use Rattle.class_reversal.specs.BackwardClasses.{HasStateClasses, classes_back, has_some_class, targets_by}
 
 -- each state has a target

@@ -2,7 +2,7 @@
 use Rattle.std.specs.Prelude.{◌≡◌, ℕ, List, ◌++◌, reverse}
 use Rattle.digit_tuple.specs.Deterministic.{Automaton, letters_of}
 use Rattle.digit_tuple.specs.Letters.{IsWord}
-use Rattle.minimise.specs.ClassFunctions.{class_after}
+use Rattle.residual_classes.specs.ClassFunctions.{class_after}
 
 -- each word over the alphabet has in e the class that the reversed word has in d
 abbrev pub GivesReversedClasses : Automaton → List ℕ → Automaton → List ℕ → Type 0

@@ -2,7 +2,7 @@
 
 ghost use Rattle.std.specs.Prelude.{◌≡◌, [], map, OnOk};
 ghost use Rattle.digit_tuple.specs.Deterministic.{letters_of};
-ghost use Rattle.minimise.specs.Classes.{class_of};
+ghost use Rattle.residual_classes.specs.Classes.{class_of};
 ghost use Rattle.class_reversal.specs.BackwardClasses.{AreTargets, HasStateClasses, classes_back, has_class};
 ghost use Rattle.class_reversal.specs.BackwardLaws.{back_has_state_classes};
 

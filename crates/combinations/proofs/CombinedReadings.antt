@@ -9,9 +9,9 @@ use Rattle.std.proofs.lemmas.List.FromFn.{length-map-range_with_len}
 use Rattle.digit_tuple.specs.Deterministic.{Automaton, accepting_of, accepts_of, run_of, states_of}
 use Rattle.digit_tuple.specs.Explored.{key_at}
 use Rattle.digit_tuple.specs.Letters.{IsWord, product}
+use Rattle.residual_classes.proofs.SinkLemmas.{not_accepting_past}
 use Rattle.minimise.specs.Canonical.{IsCanonical}
 use Rattle.minimise.specs.Residuals.{SameAfter}
-use Rattle.minimise.proofs.SinkLemmas.{not_accepting_past}
 use Rattle.product_op.specs.Readings.{AreAlike, AreCanonical, AreReadings, IsReading, Reading, all_true, flags_at, flags_of, reading_at, state_at, word_read}
 use Rattle.product_op.specs.SinkKeys.{are_sinks}
 use Rattle.product_op.specs.TrackReadings.{AllFitTracks, track_reading, track_readings, whole_reading}

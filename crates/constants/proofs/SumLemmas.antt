@@ -7,7 +7,7 @@ use Rattle.std.proofs.lemmas.List.Sums.{sum_by-cons}
 use Rattle.digit_tuple.specs.declared.transitions.Transition.{Transition}
 use Rattle.digit_tuple.specs.Deterministic.{IsByEarlier, target_by}
 use Rattle.digit_tuple.proofs.DfaLemmas.{target_by-other, target_by-first}
-use Rattle.minimise.proofs.TransitionLemmas.{rest_pairs, target_by-early}
+use Rattle.residual_classes.proofs.TransitionLemmas.{rest_pairs, target_by-early}
 use Rattle.numeration.proofs.CountLemmas.{sum_below, sum_below-same, sum_below-stops, count_by-cons}
 
 pub sum_below-none : (f : ℕ → ℕ) (n : ℕ) → ((k : ℕ) → k < n → f k ≡ 0) → sum_below f n ≡ 0

@@ -20,7 +20,7 @@ use Rattle.dfa_text.specs.Lists.{word_listed, AreOutputs}
 use Rattle.dfa_text.specs.RelationText.{word_text}
 use Rattle.dfa_text.proofs.ListedPaths.{runs_listed}
 use Rattle.dfa_text.proofs.PrintedWords.{text_lists_word}
-use Rattle.minimise.specs.Classes.{class_of}
+use Rattle.residual_classes.specs.Classes.{class_of}
 use Rattle.minimise.proofs.RunLemmas.{run_within}
 use Rattle.num_system.proofs.HoldLemmas.{one_tuple, representation_of}
 use Rattle.numeration.specs.Representation.{Represents, letters_in, sizes_of}

@@ -9,9 +9,9 @@ use Rattle.digit_tuple.specs.Deterministic.{Automaton, IsTable, IsByEarlier, let
 use Rattle.digit_tuple.proofs.DfaLemmas.{row_at, target_by-at}
 use Rattle.digit_tuple.proofs.MemberLemmas.{Contains-head, Contains-tail, Contains-cases, Contains-none}
 use Rattle.determinise.proofs.ReversalLemmas.{accepts_from-run}
+use Rattle.residual_classes.proofs.PartitionLemmas.{cases_contains}
 use Rattle.minimise.specs.Canonical.{IsCanonical}
 use Rattle.minimise.specs.Residuals.{IsDead}
-use Rattle.minimise.proofs.PartitionLemmas.{cases_contains}
 use Rattle.endless.proofs.ZeroLemmas.{step_within}
 
 -- a transition that is among a state's is where its letter leads

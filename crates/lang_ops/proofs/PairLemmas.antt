@@ -13,11 +13,11 @@ use Rattle.digit_tuple.specs.declared.transitions.Transition.{Transition}
 use Rattle.digit_tuple.proofs.WidthLemmas.{HasApart-same, HasWidth-same}
 use Rattle.digit_tuple.proofs.WordLemmas.{IsWord-append}
 use Rattle.determinise.proofs.ReversalLemmas.{accepts_from-run}
+use Rattle.residual_classes.specs.Classes.{first_of}
+use Rattle.residual_classes.proofs.SinkLemmas.{not_accepting_past}
 use Rattle.minimise.specs.Canonical.{IsCanonical}
-use Rattle.minimise.specs.Classes.{first_of}
 use Rattle.minimise.specs.Residuals.{SameLanguage}
 use Rattle.minimise.proofs.LeadLemmas.{SameAfter-lead, lead, one_lead}
-use Rattle.minimise.proofs.SinkLemmas.{not_accepting_past}
 use Rattle.product_op.specs.Connectives.{connective}
 use Rattle.product_op.specs.Readings.{AreReadings, IsReading, Reading, reading_in, readings_in}
 use Rattle.product_op.specs.SinkKeys.{are_sinks}

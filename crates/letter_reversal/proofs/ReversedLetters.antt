@@ -8,9 +8,9 @@ use Rattle.std.proofs.lemmas.List.Elements.{All-from_get_or}
 use Rattle.digit_tuple.specs.Deterministic.{Automaton, letters_of, run_of, states_of}
 use Rattle.digit_tuple.specs.Letters.{IsWord, product}
 use Rattle.digit_tuple.proofs.WidthLemmas.{IsEquivalence-values}
+use Rattle.residual_classes.specs.Classes.{class_of}
+use Rattle.residual_classes.specs.ClassFunctions.{class_after}
 use Rattle.minimise.specs.Canonical.{IsCanonicalWithClasses}
-use Rattle.minimise.specs.Classes.{class_of}
-use Rattle.minimise.specs.ClassFunctions.{class_after}
 use Rattle.class_reversal.specs.ReversedClasses.{GivesReversedClasses, SameReversedClassAfter}
 use Rattle.automaton_steps.specs.Laws.{HasOneOutcome}
 use Rattle.automaton_steps.proofs.StepAnswers.{step_one}

@@ -12,7 +12,7 @@ use digit_tuple::dfa::Dfa;
 use digit_tuple::faults::OutOfMemory;
 use minimise::canonical::{canonical, canonical_counted};
 use minimise::comparison::same;
-use minimise::looks::Looks;
+use residual_classes::looks::Looks;
 use std::alloc::Global;
 use std::marker::Brand;
 use std::process::Abort;

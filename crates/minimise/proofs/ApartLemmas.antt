@@ -4,8 +4,8 @@ use Rattle.digit_tuple.specs.Deterministic.{Automaton, letters_of, states_of, ac
 use Rattle.digit_tuple.specs.Letters.{IsWord}
 use Rattle.digit_tuple.specs.Width.{HasApart}
 pub use Rattle.digit_tuple.proofs.WidthLemmas.{apart_within_width}
+use Rattle.residual_classes.specs.Outputs.{bit_of, bits_of}
 use Rattle.minimise.specs.Canonical.{IsCanonical}
-use Rattle.minimise.specs.Outputs.{bit_of, bits_of}
 use Rattle.minimise.proofs.BitLemmas.{class_from-bits, with_bits}
 use Rattle.minimise.proofs.ClassLeadLemmas.{canonical_classes_apart}
 

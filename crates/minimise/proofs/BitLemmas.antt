@@ -5,10 +5,10 @@ use Rattle.std.proofs.lemmas.Bool.{cases_lt}
 use Rattle.std.proofs.lemmas.List.{get_or-map, get_or_past, length-map, ext_get_or}
 use Rattle.digit_tuple.specs.Deterministic.{Automaton, State, no_state, letters_of, states_of, accepting_of, step_of, run_of, accepts_from, accepts_of}
 use Rattle.digit_tuple.specs.Letters.{product, IsWord}
+use Rattle.residual_classes.specs.Classes.{class_of}
+use Rattle.residual_classes.specs.ClassFunctions.{class_from, SameClassesFrom, SameClassFunction, HasNoClassFrom}
+use Rattle.residual_classes.specs.Outputs.{bit_of, bits_of}
 use Rattle.minimise.specs.Residuals.{SameResidual, SameLanguage, IsDead}
-use Rattle.minimise.specs.Classes.{class_of}
-use Rattle.minimise.specs.ClassFunctions.{class_from, SameClassesFrom, SameClassFunction, HasNoClassFrom}
-use Rattle.minimise.specs.Outputs.{bit_of, bits_of}
 use Rattle.minimise.specs.Canonical.{IsCanonical, IsCanonicalWithClasses}
 
 pub bit_of-injective : (b c : Bool) → bit_of b ≡ bit_of c → b ≡ c

@@ -2,8 +2,8 @@
 use Rattle.std.proofs.Common.{◌≡◌, ℕ, ◌<◌, List, ◌∷◌, Some}
 use Rattle.digit_tuple.specs.Deterministic.{Automaton, letters_of, states_of, run_of}
 use Rattle.digit_tuple.specs.Letters.{IsWord}
+use Rattle.residual_classes.specs.Outputs.{bits_of}
 use Rattle.minimise.specs.Residuals.{SameResidual, IsDead}
-use Rattle.minimise.specs.Outputs.{bits_of}
 use Rattle.minimise.specs.Canonical.{IsCanonical, CanonicalFormsAreEqual}
 pub use Rattle.minimise.proofs.RunLemmas.{step_within, run_within}
 use Rattle.minimise.proofs.BitLemmas.{dead-no_class, residual-classes, with_bits}

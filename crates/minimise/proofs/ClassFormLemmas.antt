@@ -12,13 +12,13 @@ use Rattle.digit_tuple.specs.Shortlex.{IsBefore}
 use Rattle.digit_tuple.proofs.DfaLemmas.{row_at}
 use Rattle.digit_tuple.proofs.ShortlexLemmas.{IsBefore-trans, IsBefore-irreflexive}
 use Rattle.digit_tuple.proofs.WordLemmas.{IsWord-append, IsWord-push, run_of-push}
-use Rattle.minimise.specs.Classes.{class_of}
-use Rattle.minimise.specs.ClassFunctions.{class_from, SameClassesFrom, SameClassFunction, HasNoClassFrom}
+use Rattle.residual_classes.specs.Classes.{class_of}
+use Rattle.residual_classes.specs.ClassFunctions.{class_from, SameClassesFrom, SameClassFunction, HasNoClassFrom}
+use Rattle.residual_classes.proofs.TransitionLemmas.{same_transitions}
+use Rattle.residual_classes.proofs.ClassFromLemmas.{class_from-append}
 use Rattle.minimise.specs.Canonical.{IsCanonicalWithClasses, CanonicalClassesAreEqual}
 use Rattle.minimise.proofs.OrderLemmas.{same_in_order}
-use Rattle.minimise.proofs.TransitionLemmas.{same_transitions}
 use Rattle.minimise.proofs.RunLemmas.{step_within, run_within}
-use Rattle.minimise.proofs.ClassFromLemmas.{class_from-append}
 
 module _ (d : Automaton) (classes : List ℕ) (canonical : IsCanonicalWithClasses d classes) where
   -- what a word of one letter or more leads to has a class for some word

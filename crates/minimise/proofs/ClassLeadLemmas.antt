@@ -8,12 +8,12 @@ use Rattle.digit_tuple.specs.declared.transitions.Transition.{Transition}
 use Rattle.digit_tuple.specs.Letters.{IsWord}
 use Rattle.digit_tuple.specs.Width.{HasApart}
 use Rattle.digit_tuple.specs.Deterministic.{Automaton, letters_of, states_of, accepting_of, transitions_of, step_of, target_by, run_of, accepts_from}
+use Rattle.residual_classes.specs.Classes.{class_of, next_of, first_of}
+use Rattle.residual_classes.specs.ClassFunctions.{class_from, class_after, SameClassesFrom, SameClassAfter}
+use Rattle.residual_classes.proofs.SinkLemmas.{not_accepting_past, accepts_from-next}
+use Rattle.residual_classes.proofs.ClassFromLemmas.{class_from-append, class_from-next, class_from-sink, no_class_past}
 use Rattle.minimise.specs.Residuals.{IsDead}
-use Rattle.minimise.specs.Classes.{class_of, next_of, first_of}
-use Rattle.minimise.specs.ClassFunctions.{class_from, class_after, SameClassesFrom, SameClassAfter}
 use Rattle.minimise.specs.Canonical.{IsCanonicalWithClasses}
-use Rattle.minimise.proofs.SinkLemmas.{not_accepting_past, accepts_from-next}
-use Rattle.minimise.proofs.ClassFromLemmas.{class_from-append, class_from-next, class_from-sink, no_class_past}
 use Rattle.minimise.proofs.ClassFormLemmas.{one_class_state}
 use Rattle.minimise.proofs.PlaceLemmas.{lead, IsPlace, first_is_place, lead_is_place}
 

@@ -6,10 +6,10 @@ use Rattle.std.proofs.lemmas.List.{nil_from_length}
 use Rattle.digit_tuple.specs.declared.transitions.Transition.{Transition}
 use Rattle.digit_tuple.specs.Letters.{IsWord}
 use Rattle.digit_tuple.specs.Deterministic.{Automaton, letters_of, states_of, accepting_of, transitions_of, target_by, accepts_from, accepts_of}
+use Rattle.residual_classes.specs.Classes.{next_of, first_of}
+use Rattle.residual_classes.proofs.SinkLemmas.{sink_refuses, accepts_from-next}
 use Rattle.minimise.specs.Residuals.{SameResidual, SameAfter}
 use Rattle.minimise.specs.Canonical.{IsCanonical}
-use Rattle.minimise.specs.Classes.{next_of, first_of}
-use Rattle.minimise.proofs.SinkLemmas.{sink_refuses, accepts_from-next}
 use Rattle.minimise.proofs.CanonicalLemmas.{one_state}
 use Rattle.minimise.proofs.PlaceLemmas.{first_is_place, lead_is_place}
 pub use Rattle.minimise.proofs.PlaceLemmas.{lead, IsPlace}

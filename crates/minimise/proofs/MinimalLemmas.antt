@@ -4,11 +4,11 @@ use Rattle.std.specs.Option.{IfSome}
 use Rattle.digit_tuple.specs.Deterministic.{Automaton, IsTable, letters_of, states_of, transitions_of}
 use Rattle.digit_tuple.specs.FirstWords.{IsNumberedByFirsts}
 use Rattle.digit_tuple.proofs.DfaLemmas.{row_at, target_by-in_range}
+use Rattle.residual_classes.specs.CoarseClasses.{AreResidualClasses}
+use Rattle.residual_classes.specs.Leaders.{AreAlone}
+use Rattle.residual_classes.specs.Outputs.{bits_of}
+use Rattle.residual_classes.proofs.SinkLemmas.{sink_refuses}
 use Rattle.minimise.specs.Canonical.{IsCanonical}
-use Rattle.minimise.specs.CoarseClasses.{AreResidualClasses}
-use Rattle.minimise.specs.Leaders.{AreAlone}
-use Rattle.minimise.specs.Outputs.{bits_of}
-use Rattle.minimise.proofs.SinkLemmas.{sink_refuses}
 use Rattle.minimise.proofs.BitLemmas.{residual-classes}
 
 -- numbered by first words, they are canonical

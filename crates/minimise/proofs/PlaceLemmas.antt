@@ -5,9 +5,9 @@ use Rattle.std.proofs.lemmas.Bool.Decides.{Decides-eqb}
 use Rattle.digit_tuple.specs.declared.transitions.Transition.{Transition}
 use Rattle.digit_tuple.specs.Letters.{IsWord}
 use Rattle.digit_tuple.specs.Deterministic.{Automaton, IsTable, IsRow, letters_of, states_of, accepting_of, transitions_of, step_of, run_of, target_by, accepts_from}
+use Rattle.residual_classes.specs.Classes.{next_of, first_of}
+use Rattle.residual_classes.proofs.SinkLemmas.{no_transitions_past, row_of}
 use Rattle.minimise.specs.Residuals.{IsDead}
-use Rattle.minimise.specs.Classes.{next_of, first_of}
-use Rattle.minimise.proofs.SinkLemmas.{no_transitions_past, row_of}
 use Rattle.minimise.proofs.RunLemmas.{step_within}
 
 -- where a word leads from a state

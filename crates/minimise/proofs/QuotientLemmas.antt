@@ -11,17 +11,17 @@ use Rattle.digit_tuple.specs.FirstWords.{IsNumberedByFirsts}
 use Rattle.digit_tuple.specs.Letters.{product, IsWord}
 use Rattle.digit_tuple.specs.Keys.{KeyTransition, AreKeyTransitions, key_by}
 use Rattle.digit_tuple.specs.Explored.{IsExplored, key_at}
-use Rattle.minimise.specs.ClassFunctions.{class_from, SameClassFunction}
-use Rattle.minimise.specs.Outputs.{SameOutputs}
+use Rattle.residual_classes.specs.ClassFunctions.{class_from, SameClassFunction}
+use Rattle.residual_classes.specs.Outputs.{SameOutputs}
+use Rattle.residual_classes.specs.Classes.{class_of, next_of, dead_class}
+use Rattle.residual_classes.specs.CoarseClasses.{AreResidualClasses}
+use Rattle.residual_classes.specs.Leaders.{AreLeaders}
+use Rattle.residual_classes.specs.ClassTransitions.{class_transitions}
+use Rattle.residual_classes.proofs.SinkLemmas.{row_of, next_within}
+use Rattle.residual_classes.proofs.ClassFromLemmas.{class_from-sink, class_from-next}
+use Rattle.residual_classes.proofs.ClassTransitionLemmas.{class_transition, class_transitions-dead, class_transitions-live, class_transitions-all, class_transitions-pairs, class_transitions-lead}
 use Rattle.minimise.specs.Canonical.{IsCanonicalWithClasses}
-use Rattle.minimise.specs.Classes.{class_of, next_of, dead_class}
-use Rattle.minimise.specs.CoarseClasses.{AreResidualClasses}
-use Rattle.minimise.specs.Leaders.{AreLeaders}
-use Rattle.minimise.specs.ClassTransitions.{class_transitions}
 use Rattle.minimise.specs.Quotient.{IsQuotient, IsClass, leader_of, next_class, key_output, class_accepts, key_transition}
-use Rattle.minimise.proofs.SinkLemmas.{row_of, next_within}
-use Rattle.minimise.proofs.ClassFromLemmas.{class_from-sink, class_from-next}
-use Rattle.minimise.proofs.ClassTransitionLemmas.{class_transition, class_transitions-dead, class_transitions-live, class_transitions-all, class_transitions-pairs, class_transitions-lead}
 
 -- key transitions lead where the transitions do
 pub key_by-transitions : (es : List Transition) (a : ℕ) → key_by (map key_transition es) a ≡ option_map (λ class. class ∷ []) (target_by es a)

@@ -2,9 +2,9 @@
 use Rattle.std.specs.Prelude.{◌≡◌, ◌≢◌, ℕ, ◌<◌, List, length, Some, IsTrue, ◌↔◌}
 use Rattle.digit_tuple.specs.Deterministic.{Automaton, IsTable, letters_of, states_of, step_of, accepting_of}
 use Rattle.digit_tuple.specs.FirstWords.{IsNumberedByFirsts}
+use Rattle.residual_classes.specs.Classes.{class_of}
+use Rattle.residual_classes.specs.ClassFunctions.{SameClassesFrom, SameClassFunction, HasNoClassFrom}
 use Rattle.minimise.specs.Residuals.{SameResidual, SameLanguage, IsDead}
-use Rattle.minimise.specs.Classes.{class_of}
-use Rattle.minimise.specs.ClassFunctions.{SameClassesFrom, SameClassFunction, HasNoClassFrom}
 
 -- The states are the residual languages that words lead to, but the empty one only where the language is empty, in the order of the first
 -- words that lead to them. A letter leads nowhere if and only if no word is accepted after it.

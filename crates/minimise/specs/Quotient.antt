@@ -4,9 +4,9 @@ use Rattle.std.specs.Option.{option_map}
 use Rattle.digit_tuple.specs.Deterministic.{Automaton, IsTable, letters_of, states_of}
 use Rattle.digit_tuple.specs.declared.transitions.Transition.{Transition}
 use Rattle.digit_tuple.specs.Keys.{KeyTransition}
-use Rattle.minimise.specs.Leaders.{AreLeaders}
-use Rattle.minimise.specs.Classes.{class_of, next_of, live_class}
-use Rattle.minimise.specs.CoarseClasses.{AreResiduals}
+use Rattle.residual_classes.specs.Leaders.{AreLeaders}
+use Rattle.residual_classes.specs.Classes.{class_of, next_of, live_class}
+use Rattle.residual_classes.specs.CoarseClasses.{AreResiduals}
 
 -- the classes are residuals, and each has a state
 pub record IsQuotient (d : Automaton) (outputs classes leaders : List ℕ) : Type 0 where

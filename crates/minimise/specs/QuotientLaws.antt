@@ -5,7 +5,7 @@ use Rattle.std.proofs.Common.{arith, refl, ap, inl, inr}
 use Rattle.std.proofs.lemmas.Bool.{cases_lt, eqb-false}
 use Rattle.digit_tuple.specs.Deterministic.{Automaton, letters_of, states_of, step_of, transitions_of}
 use Rattle.digit_tuple.proofs.DfaLemmas.{row_at, target_by-in_range}
-use Rattle.minimise.specs.Classes.{class_of, next_of, dead_class}
+use Rattle.residual_classes.specs.Classes.{class_of, next_of, dead_class}
 use Rattle.minimise.specs.Quotient.{IsQuotient, IsClass, next_class, leader_of}
 
 module _ (d : Automaton) (outputs classes leaders : List ℕ) (quotient : IsQuotient d outputs classes leaders) where

@@ -8,13 +8,13 @@ ghost use Rattle.minimise.specs.Residuals.{SameLanguage};
 ghost use Rattle.minimise.specs.Canonical.{IsCanonical};
 
 use crate::canonical_classes::{canonical_classes, canonical_classes_counted};
-use crate::classes::residual_classes;
-use crate::leaders::are_alone;
-use crate::looks::Looks;
-use crate::machine::{Machine, accepting_outputs};
 use crate::minimal::minimal;
 use digit_tuple::dfa::Dfa;
 use digit_tuple::faults::OutOfMemory;
+use residual_classes::classes::residual_classes;
+use residual_classes::leaders::are_alone;
+use residual_classes::looks::Looks;
+use residual_classes::machine::{Machine, accepting_outputs};
 use std::alloc::Global;
 use std::sync::ledger::Ledger;
 

@@ -3,15 +3,15 @@
 ghost use Rattle.std.specs.Prelude.{◌≡◌, ℕ, ◌+◌, ◌*◌, ◌<◌, ◌≤◌, ◌^◌, length, IfOk};
 ghost use Rattle.digit_tuple.specs.Deterministic.{states_of};
 ghost use Rattle.digit_tuple.specs.TransitionCounts.{transition_count};
+ghost use Rattle.residual_classes.specs.ClassFunctions.{SameClassFunction};
 ghost use Rattle.minimise.specs.Canonical.{IsCanonicalWithClasses};
-ghost use Rattle.minimise.specs.ClassFunctions.{SameClassFunction};
 
-use crate::classes::{counted_classes, residual_classes};
-use crate::looks::Looks;
-use crate::machine::Machine;
 use crate::minimal::minimal;
 use digit_tuple::dfa::Dfa;
 use digit_tuple::faults::OutOfMemory;
+use residual_classes::classes::{counted_classes, residual_classes};
+use residual_classes::looks::Looks;
+use residual_classes::machine::Machine;
 use std::alloc::Global;
 use std::sync::ledger::Ledger;
 

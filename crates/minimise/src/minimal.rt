@@ -2,20 +2,20 @@
 
 ghost use Rattle.std.specs.Prelude.{◌≡◌, map, IfOk};
 ghost use Rattle.std.specs.List.{All};
+ghost use Rattle.residual_classes.specs.ClassFunctions.{SameClassFunction};
+ghost use Rattle.residual_classes.specs.CoarseClasses.{AreResidualClasses};
+ghost use Rattle.residual_classes.specs.Outputs.{HasOutputs};
 ghost use Rattle.minimise.specs.Canonical.{IsCanonicalWithClasses};
-ghost use Rattle.minimise.specs.ClassFunctions.{SameClassFunction};
-ghost use Rattle.minimise.specs.CoarseClasses.{AreResidualClasses};
-ghost use Rattle.minimise.specs.Outputs.{HasOutputs};
 ghost use Rattle.minimise.specs.Quotient.{IsQuotient, IsClass, key_output};
 
-use crate::leaders::leaders;
-use crate::machine::Machine;
 use crate::quotient::Quotient;
 use digit_tuple::dfa::Dfa;
 use digit_tuple::exploration::{Explored, explore_keys};
 use digit_tuple::faults::OutOfMemory;
 use digit_tuple::limit::Limit;
 use digit_tuple::numbering::Numbering;
+use residual_classes::leaders::leaders;
+use residual_classes::machine::Machine;
 use std::alloc::Global;
 
 /// The automaton whose states are the residuals that words lead to, with the output of each. A letter that leads to the

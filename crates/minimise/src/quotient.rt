@@ -3,8 +3,8 @@
 ghost use Rattle.std.specs.Prelude.{◌≡◌, ◌<◌, ◌++◌, [], ◌∷◌, length, map, IfOk, OnOk};
 ghost use Rattle.std.specs.List.{All};
 ghost use Rattle.digit_tuple.specs.Deterministic.{letters_of};
-ghost use Rattle.minimise.specs.Classes.{class_of};
-ghost use Rattle.minimise.specs.ClassTransitions.{class_transitions};
+ghost use Rattle.residual_classes.specs.Classes.{class_of};
+ghost use Rattle.residual_classes.specs.ClassTransitions.{class_transitions};
 ghost use Rattle.minimise.specs.Quotient.{IsQuotient, IsClass, next_class, class_accepts, key_transition, key_output};
 ghost use Rattle.minimise.specs.QuotientLaws.{start_is_class, next_class_is_class};
 

@@ -2,7 +2,7 @@
 
 ghost use Rattle.std.specs.Prelude.{◌≡◌};
 ghost use Rattle.digit_tuple.specs.Deterministic.{accepting_of};
-ghost use Rattle.minimise.specs.Classes.{next_of, first_of};
+ghost use Rattle.residual_classes.specs.Classes.{next_of, first_of};
 
 use digit_tuple::dfa::Dfa;
 

@@ -13,9 +13,9 @@ use Rattle.digit_tuple.specs.Deterministic.{Automaton, letters_of, accepting_of,
 use Rattle.digit_tuple.specs.Keys.{key_run, key_accepts, LeadAlike}
 use Rattle.digit_tuple.specs.declared.direction.Direction.{Direction}
 use Rattle.digit_tuple.proofs.LetterLemmas.{positive_right}
+use Rattle.residual_classes.specs.Classes.{next_of, first_of}
 use Rattle.minimise.specs.Residuals.{SameAfter}
 use Rattle.minimise.specs.Canonical.{IsCanonical}
-use Rattle.minimise.specs.Classes.{next_of, first_of}
 use Rattle.minimise.proofs.LeadLemmas.{lead, accepting_of-lead, accepts_of-first, SameAfter-lead, one_lead}
 use Rattle.numeration.specs.Words.{rank}
 use Rattle.numeration.specs.Systems.{System, IsSystem}

@@ -7,7 +7,7 @@ use Rattle.std.specs.Ordering.{nat_cmp, ordering_then, ordering_index}
 use Rattle.digit_tuple.specs.Deterministic.{Automaton, accepting_of}
 use Rattle.digit_tuple.specs.declared.direction.Direction.{Direction}
 use Rattle.digit_tuple.specs.declared.direction.Direction.TheVariants.{Msd, Lsd}
-use Rattle.minimise.specs.Classes.{next_of, first_of}
+use Rattle.residual_classes.specs.Classes.{next_of, first_of}
 
 -- the ordering of a number in a key
 abbrev pub ordering_at : ℕ → Ordering

@@ -8,7 +8,7 @@ use Rattle.digit_tuple.specs.declared.transitions.Transition.{Transition}
 use Rattle.digit_tuple.specs.Deterministic.{Automaton, IsRow, letters_of, states_of, transitions_of, target_by}
 use Rattle.digit_tuple.proofs.DfaLemmas.{target_by-in_range}
 use Rattle.digit_tuple.proofs.RowLemmas.{IsFrom, IsFrom-row, full_of}
-use Rattle.minimise.specs.Classes.{next_of}
+use Rattle.residual_classes.specs.Classes.{next_of}
 use Rattle.product_op.specs.DeadExits.{AllLeadOn, LeadsOut}
 use Rattle.product_op.specs.Readings.{Reading}
 

@@ -9,7 +9,7 @@ use Rattle.digit_tuple.specs.declared.transitions.Transition.{Transition}
 use Rattle.digit_tuple.specs.Deterministic.{Automaton, IsRow, letters_of, states_of, transitions_of, target_by}
 use Rattle.digit_tuple.proofs.DfaLemmas.{target_by-at}
 use Rattle.digit_tuple.proofs.RangeLemmas.{map-range-same}
-use Rattle.minimise.specs.Classes.{next_of}
+use Rattle.residual_classes.specs.Classes.{next_of}
 use Rattle.product_op.specs.declared.op.Op.{Op}
 use Rattle.product_op.specs.DeadExits.{LeadsOut}
 use Rattle.product_op.specs.DeadMarks.{AreMarked, HoldBeside, OtherOut, all_sinks, beside_sinks}

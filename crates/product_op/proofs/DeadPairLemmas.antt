@@ -7,8 +7,8 @@ use Rattle.digit_tuple.specs.declared.transitions.Transition.{Transition}
 use Rattle.digit_tuple.specs.Deterministic.{states_of, target_by}
 use Rattle.digit_tuple.specs.Keys.{key_run, key_accepts, LeadAlike}
 use Rattle.digit_tuple.proofs.KeyLemmas.{key_accepts-run}
-use Rattle.minimise.specs.Classes.{next_of}
-use Rattle.minimise.proofs.SinkLemmas.{no_transitions_past, not_accepting_past}
+use Rattle.residual_classes.specs.Classes.{next_of}
+use Rattle.residual_classes.proofs.SinkLemmas.{no_transitions_past, not_accepting_past}
 use Rattle.product_op.specs.declared.op.Op.{Op}
 use Rattle.product_op.specs.declared.rule.Rule.TheVariants.{Both}
 use Rattle.product_op.specs.Connectives.{connective}

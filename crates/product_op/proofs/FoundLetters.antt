@@ -16,7 +16,7 @@ use Rattle.digit_tuple.proofs.DfaLemmas.{target_by-none}
 use Rattle.digit_tuple.proofs.MemberLemmas.{Contains-flat_map, Contains-from_flat_map}
 use Rattle.digit_tuple.proofs.PartIndexLemmas.{Contains-letters, Contains-from_letters}
 use Rattle.digit_tuple.proofs.RangeLemmas.{All-range, Contains-range, Contains-from_range, range_more}
-use Rattle.minimise.specs.Classes.{next_of}
+use Rattle.residual_classes.specs.Classes.{next_of}
 use Rattle.product_op.specs.declared.rule.Rule.{Rule}
 use Rattle.product_op.specs.Readings.{Reading, AreReadings, no_reading, reading_at, part_read, state_at, next_key}
 use Rattle.product_op.specs.SinkKeys.{are_sinks, refuses_all_sinks, live_key_after}

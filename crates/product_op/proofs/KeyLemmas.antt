@@ -7,7 +7,7 @@ use Rattle.std.proofs.lemmas.List.FromFn.{fill_by_all, length-map-range_with_len
 use Rattle.digit_tuple.specs.Letters.{IsWord}
 use Rattle.digit_tuple.specs.Deterministic.{letters_of, accepting_of, accepts_of}
 use Rattle.digit_tuple.specs.Keys.{key_run, key_accepts, LeadAlike}
-use Rattle.minimise.specs.Classes.{next_of, first_of}
+use Rattle.residual_classes.specs.Classes.{next_of, first_of}
 use Rattle.digit_tuple.proofs.KeyLemmas.{key_accepts-run}
 use Rattle.product_op.specs.declared.rule.Rule.{Rule}
 use Rattle.product_op.specs.Readings.{Reading, AreReadings, AreCanonical, AreAlike, no_reading, reading_at, part_read, word_read, state_at, first_key, next_key, flags_at, flags_of, combined}

@@ -5,7 +5,7 @@ use Rattle.std.proofs.lemmas.List.Elements.{All-push, Contains-append_left, Cont
 use Rattle.digit_tuple.specs.declared.transitions.Transition.{Transition}
 use Rattle.digit_tuple.specs.Deterministic.{states_of, transitions_of, target_by}
 use Rattle.digit_tuple.proofs.DfaLemmas.{target_by-none}
-use Rattle.minimise.specs.Classes.{next_of}
+use Rattle.residual_classes.specs.Classes.{next_of}
 use Rattle.product_op.specs.declared.letter_joins.LetterJoin.{LetterJoin}
 use Rattle.product_op.specs.declared.letter_joins.LeastLetter.{LeastLetter}
 use Rattle.product_op.specs.declared.op.Op.{Op}

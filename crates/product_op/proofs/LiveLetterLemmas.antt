@@ -11,7 +11,7 @@ use Rattle.std.proofs.lemmas.List.Sorted.{Contains-permutation, IsPermutation-sy
 use Rattle.std.proofs.lemmas.Map.Keys.{IsStrictlyIncreasing-dedup}
 use Rattle.digit_tuple.specs.Deterministic.{states_of}
 use Rattle.digit_tuple.proofs.MemberLemmas.{Contains-filter, Contains-from_filter}
-use Rattle.minimise.specs.Classes.{next_of}
+use Rattle.residual_classes.specs.Classes.{next_of}
 use Rattle.product_op.specs.declared.op.Op.{Op}
 use Rattle.product_op.specs.DeadPairs.{ArePair, leads_on, live_pair_after, needs_second}
 use Rattle.product_op.specs.LeadingLetters.{letters_on, AreFound, AreLeading}

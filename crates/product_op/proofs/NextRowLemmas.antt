@@ -8,8 +8,8 @@ use Rattle.std.proofs.lemmas.List.FromFn.{fill_by_all, length-map-range_with_len
 use Rattle.digit_tuple.specs.declared.transitions.Transition.{Transition}
 use Rattle.digit_tuple.specs.Deterministic.{Automaton, IsByEarlier, letters_of, states_of, transitions_of, target_by}
 use Rattle.digit_tuple.proofs.DfaLemmas.{target_by-other, target_by-first}
-use Rattle.minimise.specs.Classes.{next_of}
-use Rattle.minimise.proofs.SinkLemmas.{no_transitions_past}
+use Rattle.residual_classes.specs.Classes.{next_of}
+use Rattle.residual_classes.proofs.SinkLemmas.{no_transitions_past}
 use Rattle.product_op.specs.declared.next_row.NextRow.{NextRow}
 use Rattle.product_op.specs.NextRows.{IsNextRow}
 use Rattle.product_op.specs.NextTables.{next_list}

@@ -7,7 +7,7 @@ use Rattle.std.proofs.Math.Nat.{min-eq_left, min-eq_right, mul-le-mul_right}
 use Rattle.std.proofs.Math.Seq.{drop-append-add}
 use Rattle.std.specs.List.{flat_map, range_with_len, slice_range}
 use Rattle.digit_tuple.specs.Deterministic.{Automaton, letters_of, states_of}
-use Rattle.minimise.specs.Classes.{next_of}
+use Rattle.residual_classes.specs.Classes.{next_of}
 use Rattle.product_op.proofs.NextRowLemmas.{next_list-sink}
 use Rattle.product_op.specs.NextTables.{next_list, all_rows, IsKept}
 

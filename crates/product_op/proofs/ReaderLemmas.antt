@@ -3,7 +3,7 @@ use Rattle.std.proofs.Common.{◌≡◌, ℕ, ◌+◌, ◌<◌, ◌≤◌, Bool,
 use Rattle.std.proofs.lemmas.List.{get_or-map, length-map, at_drop_more, at_drop_all}
 use Rattle.std.proofs.lemmas.List.FromFn.{fill_by_all, length-map-range_with_len, get_or-map-range_with_len}
 use Rattle.digit_tuple.specs.Deterministic.{accepting_of}
-use Rattle.minimise.specs.Classes.{next_of}
+use Rattle.residual_classes.specs.Classes.{next_of}
 use Rattle.product_op.specs.declared.reader.Reader.{Reader}
 use Rattle.product_op.specs.Readings.{Reading, no_reading, reading_in, readings_in, reading_at, part_read, state_at, next_key, flags_at, flag_at, all_true}
 

@@ -8,8 +8,8 @@ use Rattle.std.proofs.lemmas.List.Sums.{AllPass-from_list_all, list_all-from_All
 use Rattle.digit_tuple.specs.declared.transitions.Transition.{Transition}
 use Rattle.digit_tuple.specs.Deterministic.{states_of, accepting_of, target_by}
 use Rattle.digit_tuple.proofs.RangeLemmas.{map-range-same}
-use Rattle.minimise.specs.Classes.{next_of}
-use Rattle.minimise.proofs.SinkLemmas.{no_transitions_past, not_accepting_past}
+use Rattle.residual_classes.specs.Classes.{next_of}
+use Rattle.residual_classes.proofs.SinkLemmas.{no_transitions_past, not_accepting_past}
 use Rattle.product_op.specs.declared.rule.Rule.{Rule}
 use Rattle.product_op.specs.Readings.{Reading, reading_at, part_read, state_at, next_key, flags_at, combined}
 use Rattle.product_op.specs.SinkKeys.{are_sinks, refuses_all_sinks, is_dead_key}

@@ -12,7 +12,7 @@ use Rattle.digit_tuple.specs.Width.{HasApart, HasWidth}
 use Rattle.digit_tuple.proofs.ExploredLemmas.{run_of-explored}
 use Rattle.digit_tuple.proofs.RangeLemmas.{map-range-same, map-range-list}
 use Rattle.digit_tuple.proofs.WidthLemmas.{HasApart-same, HasWidth-one, HasWidth-same}
-use Rattle.minimise.specs.Classes.{first_of}
+use Rattle.residual_classes.specs.Classes.{first_of}
 use Rattle.minimise.proofs.LeadLemmas.{lead}
 use Rattle.product_op.specs.declared.rule.Rule.{Rule}
 use Rattle.product_op.specs.Readings.{Reading, AreReadings, AreCanonical, AreAlike, AreStates, no_reading, reading_at, word_read, state_at, first_key}

@@ -2,7 +2,7 @@
 use Rattle.std.specs.Prelude.{◌≡◌, ◌≢◌, ℕ, ◌<◌, IsTrue, length}
 use Rattle.std.specs.Option.{IfSome}
 use Rattle.digit_tuple.specs.Deterministic.{Automaton, letters_of, states_of}
-use Rattle.minimise.specs.Classes.{next_of}
+use Rattle.residual_classes.specs.Classes.{next_of}
 use Rattle.product_op.specs.NextTables.{next_list}
 use Rattle.product_op.specs.Readings.{IsReading, Reading, part_read, reading_in}
 use Rattle.product_op.specs.declared.reader_at.ReaderAt.{ReaderAt}

@@ -1,7 +1,7 @@
 -- Pairs of states from which a connective accepts no word, since a state that it needs is a sink, and where letters lead when such a pair is no key.
 use Rattle.std.specs.Prelude.{◌≡◌, ◌==◌, ℕ, Bool, true, false, not, ◌&&◌, ◌||◌, List, length, Option, None, Some, if◌then◌else◌}
 use Rattle.digit_tuple.specs.Deterministic.{states_of}
-use Rattle.minimise.specs.Classes.{next_of}
+use Rattle.residual_classes.specs.Classes.{next_of}
 use Rattle.product_op.specs.declared.op.Op.{Op}
 use Rattle.product_op.specs.declared.rule.Rule.TheVariants.{Both}
 use Rattle.product_op.specs.Connectives.{connective}

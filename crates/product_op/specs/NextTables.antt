@@ -2,7 +2,7 @@
 use Rattle.std.specs.Prelude.{◌≡◌, ℕ, ◌+◌, List, [], map, ◌⊎◌}
 use Rattle.std.specs.List.{flat_map, range_with_len}
 use Rattle.digit_tuple.specs.Deterministic.{Automaton, letters_of, states_of}
-use Rattle.minimise.specs.Classes.{next_of}
+use Rattle.residual_classes.specs.Classes.{next_of}
 
 -- where each letter of the automaton leads from a state
 abbrev pub next_list : Automaton → ℕ → List ℕ

@@ -4,8 +4,8 @@ use Rattle.std.proofs.Common.{arith, sym, subst}
 use Rattle.std.proofs.lemmas.List.{get_or-map, length-map}
 use Rattle.std.proofs.lemmas.List.FromFn.{length-map-range_with_len, get_or-map-range_with_len}
 use Rattle.digit_tuple.specs.Deterministic.{Automaton, states_of, accepting_of, transitions_of}
-use Rattle.minimise.specs.Classes.{next_of, first_of}
-use Rattle.minimise.proofs.SinkLemmas.{next_within}
+use Rattle.residual_classes.specs.Classes.{next_of, first_of}
+use Rattle.residual_classes.proofs.SinkLemmas.{next_within}
 use Rattle.product_op.specs.declared.rule.Rule.{Rule}
 use Rattle.product_op.specs.SinkKeys.{is_dead_key, live_key_after}
 use Rattle.product_op.specs.Readings.{Reading, AreReadings, AreStates, no_reading, reading_at, part_read, state_at, first_key, next_key}

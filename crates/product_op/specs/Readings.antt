@@ -3,8 +3,8 @@
 use Rattle.std.specs.Prelude.{◌≡◌, ℕ, ◌<◌, ◌≤◌, Bool, false, not, ◌&&◌, List, [], length, map, drop, slice_index_or}
 use Rattle.std.specs.List.{All, list_all, range_with_len}
 use Rattle.digit_tuple.specs.Deterministic.{Automaton, IsTable, states_of, letters_of, accepting_of, accepts_of}
+use Rattle.residual_classes.specs.Classes.{next_of, first_of}
 use Rattle.minimise.specs.Canonical.{IsCanonical}
-use Rattle.minimise.specs.Classes.{next_of, first_of}
 use Rattle.product_op.specs.Connectives.{connective}
 use Rattle.minimise.specs.Residuals.{SameAfter}
 use Rattle.product_op.specs.declared.rule.Rule.{Rule}

@@ -4,7 +4,7 @@ use Rattle.std.specs.List.{All}
 use Rattle.digit_tuple.specs.Deterministic.{Automaton, states_of, run_of}
 use Rattle.digit_tuple.specs.Explored.{key_at}
 use Rattle.digit_tuple.specs.Letters.{IsWord}
-use Rattle.minimise.specs.Classes.{first_of}
+use Rattle.residual_classes.specs.Classes.{first_of}
 use Rattle.minimise.proofs.LeadLemmas.{lead}
 use Rattle.product_op.specs.Readings.{Reading, AreStates, word_read}
 use Rattle.product_op.specs.SinkKeys.{are_sinks}

@@ -5,7 +5,7 @@ ghost use Rattle.std.specs.List.{All, Contains};
 ghost use Rattle.std.specs.Result.{IsErrOf};
 ghost use Rattle.digit_tuple.specs.Deterministic.{IsRow, letters_of, states_of, transitions_of};
 ghost use Rattle.digit_tuple.specs.Width.{HasApart};
-ghost use Rattle.minimise.specs.Classes.{next_of};
+ghost use Rattle.residual_classes.specs.Classes.{next_of};
 ghost use Rattle.product_op.specs.DeadExits.{IsReaderAt, LeadsOut};
 ghost use Rattle.product_op.specs.DeadMarks.{AreMarked, HoldBeside, IsLeaving, OtherOut, all_sinks};
 ghost use Rattle.product_op.specs.DeadPairs.{ArePair};

@@ -4,7 +4,7 @@ ghost use Rattle.std.specs.Prelude.{◌≡◌, ◌++◌, ◌<◌, [], List, ℕ,
 ghost use Rattle.std.specs.List.{All};
 ghost use Rattle.std.specs.Option.{option_map, option_to_list};
 ghost use Rattle.digit_tuple.specs.Keys.{AreKeyTransitions};
-ghost use Rattle.minimise.specs.Classes.{next_of};
+ghost use Rattle.residual_classes.specs.Classes.{next_of};
 ghost use Rattle.product_op.specs.DeadPairs.{ArePair, is_dead_pair, leads_on, live_pair, live_pair_after, pair_accepts};
 ghost use Rattle.product_op.specs.LeadingLetters.{AreFewLetters, AreFound, AreLeading, key_transition};
 ghost use Rattle.product_op.specs.LetterJoins.{IsJoin};

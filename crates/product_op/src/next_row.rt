@@ -2,7 +2,7 @@
 
 ghost use Rattle.std.specs.Prelude.{◌≡◌, ◌<◌, ℕ, List, length, IfOk, IfSome};
 ghost use Rattle.digit_tuple.specs.Deterministic.{Automaton, letters_of};
-ghost use Rattle.minimise.specs.Classes.{next_of};
+ghost use Rattle.residual_classes.specs.Classes.{next_of};
 ghost use Rattle.product_op.specs.NextRows.{AreNextRows, IsNextRow};
 ghost use Rattle.product_op.specs.NextTables.{next_list};
 ghost use Rattle.product_op.specs.Readings.{AreReadings, automata_in, next_key, readings_in};

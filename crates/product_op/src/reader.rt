@@ -2,7 +2,7 @@
 
 ghost use Rattle.std.specs.Prelude.{◌≡◌, ◌<◌, ◌++◌, ◌↔◌, length, OnOk, IsTrue, slice_index};
 ghost use Rattle.digit_tuple.specs.Deterministic.{IsTable, accepting_of, letters_of, states_of};
-ghost use Rattle.minimise.specs.Classes.{next_of, first_of};
+ghost use Rattle.residual_classes.specs.Classes.{next_of, first_of};
 ghost use Rattle.product_op.specs.Readings.{reading_in};
 ghost use Rattle.product_op.specs.LeadingLetters.{letters_on};
 

@@ -2,7 +2,7 @@
 
 ghost use Rattle.std.specs.Prelude.{◌≡◌, ◌↔◌, ◌<◌, length, slice_index, IfOk, IsTrue, OnOk};
 ghost use Rattle.digit_tuple.specs.Deterministic.{IsRow, letters_of, states_of, transitions_of};
-ghost use Rattle.minimise.specs.Classes.{next_of};
+ghost use Rattle.residual_classes.specs.Classes.{next_of};
 ghost use Rattle.product_op.specs.DeadExits.{IsReaderAt, LeadsOut};
 ghost use Rattle.product_op.specs.Readings.{IsReading, reading_in};
 

@@ -23,7 +23,7 @@ use Rattle.digit_tuple.specs.AcceptingStates.{AreAccepting}
 use Rattle.digit_tuple.specs.Reversed.{IsReversal, branch_at, transition_to}
 use Rattle.digit_tuple.proofs.MemberLemmas.{Contains-map, Contains-from_map}
 use Rattle.digit_tuple.proofs.ReversedLemmas.{contains_from_target_by, target_by-contains}
-use Rattle.minimise.proofs.SinkLemmas.{no_transitions_past}
+use Rattle.residual_classes.proofs.SinkLemmas.{no_transitions_past}
 use Rattle.project_close.specs.Image.{AreRelabelled, IsEnd, IsImage, part_at, relabelled_transition}
 use Rattle.project_close.specs.ZeroClosure.{IsOverFlagged, IsReached, flag_at}
 use Rattle.project_close.proofs.SinkLeads.{accepting_within}

@@ -11,11 +11,11 @@ use Rattle.digit_tuple.specs.declared.direction.Direction.{Direction}
 use Rattle.digit_tuple.specs.declared.direction.Direction.TheVariants.{Lsd}
 use Rattle.digit_tuple.proofs.PaddingLemmas.{IsWord-strip}
 use Rattle.digit_tuple.proofs.WordLemmas.{IsWord-append}
+use Rattle.residual_classes.specs.Classes.{first_of}
+use Rattle.residual_classes.proofs.SinkLemmas.{sink_refuses}
 use Rattle.minimise.specs.Canonical.{IsCanonical}
-use Rattle.minimise.specs.Classes.{first_of}
 use Rattle.minimise.specs.Residuals.{IsDead, SameAfter}
 use Rattle.minimise.proofs.LeadLemmas.{IsPlace, accepts_of-first, first_place}
-use Rattle.minimise.proofs.SinkLemmas.{sink_refuses}
 use Rattle.project_close.specs.Padding.{IsPadded, LsdPaddedAlike}
 use Rattle.project_close.proofs.SinkLeads.{first_cases}
 

@@ -15,11 +15,11 @@ use Rattle.digit_tuple.specs.Reversed.{IsReversal}
 use Rattle.determinise.proofs.ReversalLemmas as reversal
 use Rattle.digit_tuple.specs.Width.{HasWidth}
 use Rattle.digit_tuple.proofs.WidthLemmas.{HasApart-within}
+use Rattle.residual_classes.specs.Classes.{next_of, first_of}
+use Rattle.residual_classes.proofs.SinkLemmas.{not_accepting_past}
 use Rattle.minimise.specs.Canonical.{IsCanonical}
 use Rattle.minimise.proofs.ApartLemmas.{canonical_apart}
-use Rattle.minimise.specs.Classes.{next_of, first_of}
 use Rattle.minimise.proofs.LeadLemmas.{lead, SameAfter-lead, one_lead}
-use Rattle.minimise.proofs.SinkLemmas.{not_accepting_past}
 use Rattle.project_close.specs.Padding.{IsPadded, LsdPaddedAlike}
 use Rattle.project_close.specs.PaddedPairs.{AreFinal, KeepsAcceptance, are_sinks, pair_after, some_pair, twice}
 use Rattle.project_close.specs.ZeroClosure.{IsOverFlagged, IsReached, flag_at}

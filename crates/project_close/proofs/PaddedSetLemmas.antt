@@ -20,12 +20,12 @@ use Rattle.determinise.specs.Subsets.{IsStateSet, set_after, targets_of, has_acc
 use Rattle.determinise.specs.SubsetLaws.{after_is_state_set}
 use Rattle.digit_tuple.proofs.MemberLemmas.{Contains-none, list_any-contains, contains_from_list_any}
 use Rattle.determinise.proofs.SubsetLemmas.{set_of, key_run-members, same_set}
+use Rattle.residual_classes.specs.Classes.{first_of}
+use Rattle.residual_classes.proofs.SinkLemmas.{sink_refuses}
 use Rattle.minimise.specs.Canonical.{IsCanonical}
-use Rattle.minimise.specs.Classes.{first_of}
 use Rattle.minimise.specs.Residuals.{IsEmptyAfter, SameAfter}
 use Rattle.minimise.proofs.CanonicalLemmas.{run_within}
 use Rattle.minimise.proofs.LeadLemmas.{lead, IsPlace, first_place, lead_place, accepts_from-lead, accepts_of-first, SameAfter-lead, one_lead}
-use Rattle.minimise.proofs.SinkLemmas.{sink_refuses}
 use Rattle.project_close.specs.Padding.{IsPadded, HasResidualsOf, MsdPaddedAlike}
 use Rattle.project_close.specs.PaddedPairs.{first_within}
 use Rattle.project_close.specs.PaddedSets.{AreFirst, IsStateList, padded_after, padded_accepts}

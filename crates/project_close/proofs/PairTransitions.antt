@@ -12,8 +12,8 @@ use Rattle.digit_tuple.specs.Deterministic as deterministic
 use Rattle.digit_tuple.specs.Deterministic.{Automaton, IsTable, transitions_of, letters_of, states_of, step_of, target_by}
 use Rattle.digit_tuple.specs.Keys.{KeyTransition, AreKeyTransitions, IsByEarlier, key_by}
 use Rattle.digit_tuple.proofs.DfaLemmas.{target_by-in_range}
-use Rattle.minimise.specs.Classes.{next_of}
-use Rattle.minimise.proofs.SinkLemmas.{row_of}
+use Rattle.residual_classes.specs.Classes.{next_of}
+use Rattle.residual_classes.proofs.SinkLemmas.{row_of}
 use Rattle.project_close.specs.PaddedPairs.{are_sinks, transitions_by_others, transitions_by_zero, is_by_other, pair_after, pair_transition, some_pair, twice}
 
 -- one sink is two

@@ -14,9 +14,9 @@ use Rattle.digit_tuple.specs.Deterministic.{Automaton, IsTable, no_state, state_
 use Rattle.digit_tuple.proofs.DfaLemmas.{row_at}
 use Rattle.digit_tuple.specs.Reversed.{transition_to}
 use Rattle.digit_tuple.proofs.ReversedLemmas.{target_by-contains, contains_from_target_by}
-use Rattle.minimise.specs.Classes.{next_of, first_of}
+use Rattle.residual_classes.specs.Classes.{next_of, first_of}
+use Rattle.residual_classes.proofs.SinkLemmas.{no_transitions_past, not_accepting_past, row_of, next_within}
 use Rattle.minimise.proofs.LeadLemmas.{lead, accepting_of-lead, accepts_of-first}
-use Rattle.minimise.proofs.SinkLemmas.{no_transitions_past, not_accepting_past, row_of, next_within}
 use Rattle.project_close.specs.SameBranching.{branch_as, branching_as}
 
 module _ (d : Automaton) where

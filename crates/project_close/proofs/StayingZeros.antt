@@ -12,12 +12,12 @@ use Rattle.digit_tuple.specs.Width.{HasApart, HasWidth}
 use Rattle.digit_tuple.proofs.PaddingLemmas.{IsWord-without_zeros, IsWord-zeros_before, without_zeros-twice}
 use Rattle.digit_tuple.proofs.ReversedLemmas.{contains_from_target_by}
 use Rattle.digit_tuple.proofs.WordLemmas.{IsWord-push}
+use Rattle.residual_classes.specs.Classes.{first_of, next_of}
+use Rattle.residual_classes.proofs.SinkLemmas.{no_transitions_past, row_of}
 use Rattle.minimise.specs.Canonical.{IsCanonical}
-use Rattle.minimise.specs.Classes.{first_of, next_of}
 use Rattle.minimise.specs.Residuals.{IsDead, IsEmptyAfter, SameAfter}
 use Rattle.minimise.proofs.CanonicalLemmas.{step_within}
 use Rattle.minimise.proofs.LeadLemmas.{IsPlace, SameAfter-lead, accepting_of-lead, accepts_from-lead, first_place, lead, lead_place, one_lead}
-use Rattle.minimise.proofs.SinkLemmas.{no_transitions_past, row_of}
 use Rattle.project_close.specs.Padding.{AreZeros, HasResidualsOf, IsPadded, MsdPaddedAlike}
 use Rattle.project_close.specs.ZerosStay.{AreEnds, HasGap, HasReturn, ZerosStay}
 use Rattle.project_close.proofs.NoWordLemmas.{dead_from_sink}

@@ -6,9 +6,9 @@ use Rattle.digit_tuple.specs.Deterministic.{Automaton, IsTable, states_of, lette
 use Rattle.digit_tuple.specs.Keys.{KeyTransition}
 use Rattle.digit_tuple.specs.Paddings.{zeros}
 use Rattle.digit_tuple.specs.declared.transitions.Transition.{Transition}
-use Rattle.minimise.specs.Classes.{next_of, first_of}
+use Rattle.residual_classes.specs.Classes.{next_of, first_of}
+use Rattle.residual_classes.proofs.SinkLemmas.{next_within}
 use Rattle.minimise.proofs.LeadLemmas.{lead}
-use Rattle.minimise.proofs.SinkLemmas.{next_within}
 use Rattle.project_close.specs.ZeroClosure.{flag_at}
 
 -- for each state whether some number of zero letters leads from it to an accepting one

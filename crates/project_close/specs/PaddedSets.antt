@@ -9,7 +9,7 @@ use Rattle.digit_tuple.specs.Keys.{KeyTransition}
 use Rattle.digit_tuple.specs.Paddings.{zeros}
 use Rattle.determinise.specs.Subsets.{IsStateSet, set_after, has_accepting}
 use Rattle.determinise.specs.SubsetLaws.{after_is_state_set}
-use Rattle.minimise.specs.Classes.{first_of}
+use Rattle.residual_classes.specs.Classes.{first_of}
 use Rattle.minimise.proofs.LeadLemmas.{lead}
 
 -- states in order, or none

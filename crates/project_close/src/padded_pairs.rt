@@ -2,7 +2,7 @@
 
 ghost use Rattle.std.specs.Prelude.{◌≡◌, ◌++◌, slice_index, IfOk, OnOk};
 ghost use Rattle.digit_tuple.specs.Deterministic.{IsTable, transitions_of, letters_of};
-ghost use Rattle.minimise.specs.Classes.{first_of};
+ghost use Rattle.residual_classes.specs.Classes.{first_of};
 ghost use Rattle.project_close.specs.PaddedPairs.{IsPair, twice, pair_after, transitions_by_zero, transitions_by_others, first_is_pair, pair_after_is_pair};
 ghost use Rattle.project_close.specs.ZeroClosure.{flag_at};
 

@@ -11,7 +11,7 @@ use Rattle.digit_tuple.specs.Letters.{IsWord, product}
 use Rattle.numeration.specs.Representation.{letters_in}
 use Rattle.num_system.specs.Sealed.{SystemValue}
 use Rattle.num_system.specs.Tracks.{systems_of}
-use Rattle.minimise.specs.Classes.{class_of}
+use Rattle.residual_classes.specs.Classes.{class_of}
 use Rattle.morph_words.specs.Rules.{Rules}
 use Rattle.morph_words.specs.Images.{image}
 use Rattle.word_output.specs.LetterFunctions.{IsLetterFunction, LetterFunctionValue, letter_after, letter_in}

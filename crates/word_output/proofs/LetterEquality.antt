@@ -8,8 +8,8 @@ use Rattle.std.proofs.lemmas.List.{get_or_default, get_or_past}
 use Rattle.std.proofs.lemmas.Option.{none-some, same_Some}
 use Rattle.digit_tuple.specs.Deterministic.{letters_of, run_of, states_of}
 use Rattle.digit_tuple.specs.Letters.{IsWord, product}
-use Rattle.minimise.specs.Classes.{class_of}
-use Rattle.minimise.specs.ClassFunctions.{class_after}
+use Rattle.residual_classes.specs.Classes.{class_of}
+use Rattle.residual_classes.specs.ClassFunctions.{class_after}
 use Rattle.minimise.proofs.ClassFormLemmas.{canonical_classes_are_equal}
 use Rattle.minimise.proofs.OrderLemmas.{same_in_order}
 use Rattle.word_output.specs.LetterFunctions.{IsLetterFunction, LetterFunctionValue, LetterFunctionsAreEqual, SameLetterFunction, letter_after, letter_in}

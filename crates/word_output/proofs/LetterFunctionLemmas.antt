@@ -12,11 +12,11 @@ use Rattle.digit_tuple.specs.Sets.{IsAscending}
 use Rattle.digit_tuple.proofs.PigeonLemmas.{choose, few_below}
 use Rattle.digit_tuple.proofs.SetLemmas.{one_place}
 use Rattle.digit_tuple.proofs.WordLemmas.{IsWord-append}
+use Rattle.residual_classes.specs.Classes.{class_of}
+use Rattle.residual_classes.specs.ClassFunctions.{SameClassFunction, class_after, class_from}
+use Rattle.residual_classes.proofs.ClassFromLemmas.{class_from-append}
 use Rattle.minimise.specs.Canonical.{IsCanonicalWithClasses}
-use Rattle.minimise.specs.Classes.{class_of}
-use Rattle.minimise.specs.ClassFunctions.{SameClassFunction, class_after, class_from}
 use Rattle.minimise.proofs.ClassFormLemmas.{class_after_some}
-use Rattle.minimise.proofs.ClassFromLemmas.{class_from-append}
 use Rattle.minimise.proofs.RunLemmas.{run_within}
 use Rattle.word_output.specs.LetterFunctions.{LetterFunctionValue, IsLetterFunction, letter_after, letter_in}
 use Rattle.word_output.specs.StateLetters.{AreLettersOf, letter_at, letter_led}

@@ -4,8 +4,8 @@ use Rattle.std.proofs.lemmas.Bool.{cases_lt}
 use Rattle.std.proofs.lemmas.List.{get_or_past}
 use Rattle.digit_tuple.specs.Deterministic.{letters_of, states_of}
 use Rattle.digit_tuple.specs.Letters.{IsWord}
-use Rattle.minimise.specs.Classes.{class_of, first_of}
-use Rattle.minimise.specs.ClassFunctions.{class_after}
+use Rattle.residual_classes.specs.Classes.{class_of, first_of}
+use Rattle.residual_classes.specs.ClassFunctions.{class_after}
 use Rattle.minimise.proofs.LeadLemmas.{lead}
 use Rattle.minimise.proofs.ClassLeadLemmas.{SameClassAfter-lead, class_after-lead}
 use Rattle.word_output.specs.LetterFunctions.{LetterFunctionValue, IsLetterFunction, SameLettersAfter, letter_after, letter_in}

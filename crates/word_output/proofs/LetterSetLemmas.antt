@@ -8,8 +8,8 @@ use Rattle.digit_tuple.specs.Deterministic.{Automaton, accepting_of, accepts_fro
 use Rattle.digit_tuple.specs.Letters.{product, IsWord}
 use Rattle.digit_tuple.specs.Reflagged.{IsReflagged}
 use Rattle.digit_tuple.specs.declared.transitions.Transition.{Transition}
+use Rattle.residual_classes.specs.Classes.{class_of}
 use Rattle.minimise.specs.Canonical.{IsCanonical}
-use Rattle.minimise.specs.Classes.{class_of}
 use Rattle.minimise.specs.Residuals.{SameLanguage}
 use Rattle.minimise.proofs.RunLemmas.{run_within}
 use Rattle.num_system.specs.declared.comparison.Comparison.{Comparison}

@@ -17,7 +17,7 @@ use Rattle.dfa_reading.specs.Branching.{IsLetterOfDigits}
 use Rattle.dfa_reading.specs.Listed.{Listed, MovesAlong, output_of}
 use Rattle.dfa_reading.specs.ListedTable.{IsTableOf}
 use Rattle.dfa_reading.proofs.TableRows.{moves_along}
-use Rattle.minimise.specs.Classes.{first_of}
+use Rattle.residual_classes.specs.Classes.{first_of}
 use Rattle.minimise.proofs.LeadLemmas.{lead}
 use Rattle.minimise.proofs.PlaceLemmas.{lead-run}
 use Rattle.minimise.proofs.RunLemmas.{run_within}

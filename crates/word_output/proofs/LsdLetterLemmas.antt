@@ -11,7 +11,7 @@ use Rattle.digit_tuple.specs.Paddings.{strip}
 use Rattle.digit_tuple.specs.declared.direction.Direction.TheVariants.{Lsd}
 use Rattle.digit_tuple.proofs.ExploredLemmas.{run_of-explored}
 use Rattle.digit_tuple.proofs.PaddingLemmas.{IsWord-strip}
-use Rattle.minimise.specs.Classes.{first_of}
+use Rattle.residual_classes.specs.Classes.{first_of}
 use Rattle.minimise.proofs.LeadLemmas.{lead}
 use Rattle.project_close.specs.PaddedPairs.{are_sinks, pair_after, some_pair, twice}
 use Rattle.project_close.proofs.PaddedPairLemmas.{both_sinks, pair_run-first, same_pairs}

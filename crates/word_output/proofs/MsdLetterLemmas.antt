@@ -16,11 +16,11 @@ use Rattle.digit_tuple.specs.Letters.{IsWord}
 use Rattle.digit_tuple.specs.Paddings.{without_zeros}
 use Rattle.digit_tuple.specs.declared.transitions.Transition.{Transition}
 use Rattle.digit_tuple.proofs.PaddingLemmas.{IsWord-without_zeros}
-use Rattle.minimise.specs.Classes.{class_of, first_of}
+use Rattle.residual_classes.specs.Classes.{class_of, first_of}
+use Rattle.residual_classes.proofs.SinkLemmas.{no_transitions_past, row_of}
 use Rattle.minimise.proofs.LeadLemmas.{lead}
 use Rattle.minimise.proofs.PlaceLemmas.{lead-run}
 use Rattle.minimise.proofs.RunLemmas.{run_within}
-use Rattle.minimise.proofs.SinkLemmas.{no_transitions_past, row_of}
 use Rattle.project_close.proofs.SinkLeads.{first_cases}
 use Rattle.word_output.specs.LetterFunctions.{IsLetterFunction, LetterFunctionValue, letter_after, letter_in}
 use Rattle.word_output.specs.LetterPaddings.{MsdLettersAlike}

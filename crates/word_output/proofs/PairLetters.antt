@@ -11,7 +11,7 @@ use Rattle.digit_tuple.specs.Letters.{IsWord, product}
 use Rattle.digit_tuple.specs.Reflagged.{IsReflagged}
 use Rattle.digit_tuple.specs.Width.{HasApart, HasWidth}
 use Rattle.digit_tuple.proofs.WidthLemmas.{HasApart-same, HasWidth-same}
-use Rattle.minimise.specs.Classes.{first_of}
+use Rattle.residual_classes.specs.Classes.{first_of}
 use Rattle.minimise.specs.Residuals.{SameLanguage}
 use Rattle.minimise.proofs.LeadLemmas.{lead}
 use Rattle.num_system.specs.declared.comparison.Comparison.{Comparison}

@@ -8,7 +8,7 @@ use Rattle.digit_tuple.specs.Deterministic.{Automaton, run_of, states_of}
 use Rattle.digit_tuple.specs.Explored.{key_at}
 use Rattle.digit_tuple.specs.Letters.{IsWord, product}
 use Rattle.digit_tuple.specs.Parts.{part, picked}
-use Rattle.minimise.specs.Classes.{first_of}
+use Rattle.residual_classes.specs.Classes.{first_of}
 use Rattle.minimise.proofs.LeadLemmas.{lead}
 use Rattle.product_op.specs.Readings.{AreReadings, IsReading, Reading, reading_in, readings_in}
 use Rattle.product_op.specs.declared.reader.Reader.{Reader}

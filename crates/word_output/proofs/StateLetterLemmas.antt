@@ -16,7 +16,7 @@ use Rattle.std.proofs.lemmas.List.Kept.{AllPairs-cons, Contains-dedup, Contains-
 use Rattle.std.proofs.lemmas.List.Sorted.{Contains-permutation, IsPermutation-sym}
 use Rattle.digit_tuple.proofs.MemberLemmas.{Contains-flat_map, Contains-from_flat_map, Contains-head}
 use Rattle.digit_tuple.specs.Sets.{IsAscending}
-use Rattle.minimise.specs.Classes.{class_of}
+use Rattle.residual_classes.specs.Classes.{class_of}
 use Rattle.word_output.specs.LetterFunctions.{letter_in}
 use Rattle.word_output.specs.StateLetters.{AreLettersOf, letter_at}
 

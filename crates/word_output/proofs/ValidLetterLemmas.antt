@@ -7,7 +7,7 @@ use Rattle.digit_tuple.specs.Explored.{key_at}
 use Rattle.digit_tuple.specs.Letters.{IsWord}
 use Rattle.digit_tuple.specs.Width.{HasApart, HasWidth}
 use Rattle.digit_tuple.proofs.WidthLemmas.{HasApart-same, HasWidth-same}
-use Rattle.minimise.specs.Classes.{first_of}
+use Rattle.residual_classes.specs.Classes.{first_of}
 use Rattle.minimise.proofs.LeadLemmas.{lead}
 use Rattle.product_op.specs.Readings.{Reading, all_true, flags_at, state_at}
 use Rattle.product_op.specs.SinkKeys.{are_sinks}

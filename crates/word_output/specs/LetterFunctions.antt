@@ -3,8 +3,8 @@ use Rattle.std.specs.Prelude.{◌≡◌, ◌==◌, ℕ, ◌+◌, ◌-◌, ◌<�
 use Rattle.std.specs.List.{All, AllPairs, Contains}
 use Rattle.digit_tuple.specs.Deterministic.{Automaton, letters_of}
 use Rattle.digit_tuple.specs.Letters.{IsWord}
+use Rattle.residual_classes.specs.ClassFunctions.{class_after}
 use Rattle.minimise.specs.Canonical.{IsCanonicalWithClasses}
-use Rattle.minimise.specs.ClassFunctions.{class_after}
 
 -- An automaton, the class of each state, and the letters: class 1 has the first one, and so on; class 0 has none.
 pub record LetterFunctionValue : Type 0 where

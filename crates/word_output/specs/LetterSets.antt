@@ -2,8 +2,8 @@
 use Rattle.std.specs.Prelude.{◌≡◌, ◌≢◌, ◌↔◌, ℕ, ℤ, ◌<ℤ◌, ◌≤ℤ◌, List, Some, IsTrue}
 use Rattle.digit_tuple.specs.Deterministic.{Automaton, accepts_of, letters_of}
 use Rattle.digit_tuple.specs.Letters.{IsWord}
+use Rattle.residual_classes.specs.Classes.{class_of}
 use Rattle.minimise.specs.Canonical.{IsCanonical}
-use Rattle.minimise.specs.Classes.{class_of}
 use Rattle.num_system.specs.declared.comparison.Comparison.{Comparison}
 use Rattle.num_system.specs.declared.comparison.Comparison.TheVariants.{Equal, Unequal, Less, Greater, AtMost, AtLeast}
 use Rattle.word_output.specs.LetterFunctions.{LetterFunctionValue, letter_after, letter_in}

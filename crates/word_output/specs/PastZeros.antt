@@ -6,7 +6,7 @@ use Rattle.digit_tuple.specs.Deterministic.{Automaton, IsTable, transitions_of, 
 use Rattle.digit_tuple.specs.Keys.{KeyTransition}
 use Rattle.digit_tuple.specs.declared.transitions.Transition.{Transition}
 use Rattle.digit_tuple.proofs.DfaLemmas.{target_by-in_range}
-use Rattle.minimise.proofs.SinkLemmas.{row_of}
+use Rattle.residual_classes.proofs.SinkLemmas.{row_of}
 
 -- the key of a state
 abbrev pub key_of : ℕ → List ℕ

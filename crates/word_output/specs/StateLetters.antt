@@ -4,7 +4,7 @@ use Rattle.std.specs.List.{Contains}
 use Rattle.std.specs.Option.{option_and_then}
 use Rattle.digit_tuple.specs.Deterministic.{Automaton, run_of}
 use Rattle.digit_tuple.specs.Sets.{IsAscending}
-use Rattle.minimise.specs.Classes.{class_of}
+use Rattle.residual_classes.specs.Classes.{class_of}
 use Rattle.word_output.specs.LetterFunctions.{LetterFunctionValue, letter_in}
 
 -- the letter of a state, if it has one

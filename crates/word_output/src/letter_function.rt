@@ -4,7 +4,7 @@ ghost use Rattle.std.specs.Prelude.{◌≡◌, ◌≤◌, ℕ, List, length, IfO
 ghost use Rattle.digit_tuple.specs.Deterministic.{states_of, letters_of};
 ghost use Rattle.digit_tuple.specs.FirstWords.{IsNumberedByFirsts};
 ghost use Rattle.digit_tuple.specs.Letters.{IsWord};
-ghost use Rattle.minimise.specs.Classes.{class_of};
+ghost use Rattle.residual_classes.specs.Classes.{class_of};
 ghost use Rattle.word_output.specs.LetterFunctions.{IsLetterFunction, letter_after, letter_in, outputs_of};
 ghost use Rattle.word_output.specs.StateLetters.{letter_led};
 
@@ -26,7 +26,7 @@ pub struct LetterFunction {
 }
 
 impl Model for LetterFunction {
-    ghost use Rattle.minimise.specs.Classes.{class_of};
+    ghost use Rattle.residual_classes.specs.Classes.{class_of};
     ghost use Rattle.word_output.specs.LetterFunctions.{LetterFunctionValue, IsLetterFunction};
 
     ghost Value = { LetterFunctionValue };

@@ -5,7 +5,7 @@ ghost use Rattle.std.specs.Result.{IsErrOf};
 ghost use Rattle.digit_tuple.specs.Deterministic.{letters_of, states_of};
 ghost use Rattle.digit_tuple.specs.Width.{HasApart, HasWidth};
 ghost use Rattle.digit_tuple.specs.declared.direction.Direction.TheVariants.{Lsd};
-ghost use Rattle.minimise.specs.Classes.{first_of};
+ghost use Rattle.residual_classes.specs.Classes.{first_of};
 ghost use Rattle.word_output.specs.LetterPaddings.{IsLetterPadding, PaddedLettersAlike};
 
 use crate::head_letters::head_letters;

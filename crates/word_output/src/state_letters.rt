@@ -3,7 +3,7 @@
 ghost use Rattle.std.specs.Prelude.{◌≡◌, ◌<◌, ◌≤◌, ◌^◌, ℕ, ℤ, List, length, IfOk, Some};
 ghost use Rattle.std.specs.List.{All, Contains};
 ghost use Rattle.digit_tuple.specs.Sets.{IsAscending};
-ghost use Rattle.minimise.specs.Classes.{class_of};
+ghost use Rattle.residual_classes.specs.Classes.{class_of};
 ghost use Rattle.word_output.specs.LetterFunctions.{letter_in};
 ghost use Rattle.word_output.specs.StateLetters.{AreLettersOf, letter_at};
 

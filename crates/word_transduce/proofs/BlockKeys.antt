@@ -7,7 +7,7 @@ use Rattle.std.proofs.lemmas.Nat.{div-mul-add, mod-mul-add, mod_below}
 use Rattle.digit_tuple.specs.Deterministic.{letters_of, states_of}
 use Rattle.digit_tuple.specs.Keys.{key_run}
 use Rattle.digit_tuple.specs.Letters.{IsWord}
-use Rattle.minimise.specs.Classes.{next_of}
+use Rattle.residual_classes.specs.Classes.{next_of}
 use Rattle.transducer_reading.specs.Transducers.{IsTransducer, Transducer}
 use Rattle.word_output.specs.LetterFunctions.{IsLetterFunction, LetterFunctionValue}
 use Rattle.word_transduce.specs.Blocks.{base_of, place_of}

@@ -7,9 +7,9 @@ use Rattle.std.proofs.lemmas.Nat.{div-mul-add, mod-mul-add}
 use Rattle.digit_tuple.specs.Deterministic.{run_of, states_of}
 use Rattle.digit_tuple.specs.Letters.{IsWord}
 use Rattle.digit_tuple.proofs.PaddingLemmas.{IsWord-reverse}
-use Rattle.minimise.specs.Classes.{next_of}
-use Rattle.minimise.specs.ClassFunctions.{class_from}
-use Rattle.minimise.proofs.ClassFromLemmas.{class_from-append, class_from-next}
+use Rattle.residual_classes.specs.Classes.{next_of}
+use Rattle.residual_classes.specs.ClassFunctions.{class_from}
+use Rattle.residual_classes.proofs.ClassFromLemmas.{class_from-append, class_from-next}
 use Rattle.class_reversal.proofs.StateClasses.{class_from-past}
 use Rattle.base_k.specs.Positional.{value}
 use Rattle.word_output.specs.LetterFunctions.{IsLetterFunction, LetterFunctionValue, letter_in}

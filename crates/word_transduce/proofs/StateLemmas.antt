@@ -6,7 +6,7 @@ use Rattle.std.proofs.lemmas.List.FromFn.{get_or-map-range_with_len}
 use Rattle.std.proofs.lemmas.List.Sums.{prefix_len_is}
 use Rattle.std.proofs.lemmas.Option.{none-some, same_Some}
 use Rattle.digit_tuple.specs.Deterministic.{Automaton, letters_of, states_of}
-use Rattle.minimise.specs.Classes.{next_of}
+use Rattle.residual_classes.specs.Classes.{next_of}
 use Rattle.class_reversal.specs.BackwardClasses.{AreTargets}
 use Rattle.transducer_reading.specs.Transducers.{Transducer}
 use Rattle.word_output.specs.LetterFunctions.{LetterFunctionValue}

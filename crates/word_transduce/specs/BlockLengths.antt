@@ -6,7 +6,7 @@ use Rattle.std.specs.List.{position_or_len, range_with_len}
 use Rattle.std.specs.declared.alloc.Global.{Global}
 use Rattle.digit_tuple.specs.Deterministic.{letters_of}
 use Rattle.digit_tuple.specs.Explored.{key_at}
-use Rattle.minimise.specs.Classes.{next_of}
+use Rattle.residual_classes.specs.Classes.{next_of}
 use Rattle.transducer_reading.specs.Transducers.{Transducer}
 use Rattle.word_output.specs.LetterFunctions.{LetterFunctionValue}
 use Rattle.word_transduce.specs.BlockMaps.{at_pairs, first_end, first_output, output_in, pairs_of, state_before}

@@ -5,7 +5,7 @@ use Rattle.std.specs.List.{position_or_len, range_with_len}
 use Rattle.std.specs.Option.{option_and_then}
 use Rattle.std.specs.Ordering.{int_eq}
 use Rattle.digit_tuple.specs.Deterministic.{letters_of, states_of}
-use Rattle.minimise.specs.Classes.{next_of}
+use Rattle.residual_classes.specs.Classes.{next_of}
 use Rattle.class_reversal.specs.BackwardClasses.{AreTargets}
 use Rattle.transducer_reading.specs.declared.transducer.TransducerLine.{TransducerLine}
 use Rattle.transducer_reading.specs.Transducers.{IsTransducer, Transducer, target_of}

@@ -2,7 +2,7 @@
 
 ghost use Rattle.std.specs.Prelude.{◌≡◌, ◌+◌, ◌*◌, ◌/◌, ◌%◌, ◌<◌, ◌^◌, ◌++◌, length, slice_index, IfOk, OnOk};
 ghost use Rattle.digit_tuple.specs.Deterministic.{letters_of, states_of};
-ghost use Rattle.minimise.specs.Classes.{next_of};
+ghost use Rattle.residual_classes.specs.Classes.{next_of};
 ghost use Rattle.word_transduce.specs.BlockMaps.{IsBlockGraph, at_pairs, first_end, first_output, map_at, pairs_of};
 ghost use Rattle.word_transduce.specs.BlockLengths.{ends_after, place_at};
 

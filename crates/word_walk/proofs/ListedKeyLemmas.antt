@@ -16,7 +16,7 @@ use Rattle.digit_tuple.specs.declared.transitions.Transition.{Transition}
 use Rattle.digit_tuple.proofs.AcceptedLemmas.{accepted_over}
 use Rattle.digit_tuple.proofs.PaddingLemmas.{reverse-cons}
 use Rattle.determinise.proofs.ReversalLemmas.{same_bool}
-use Rattle.minimise.proofs.SinkLemmas.{row_of}
+use Rattle.residual_classes.proofs.SinkLemmas.{row_of}
 use Rattle.numeration.specs.Words.{is_plain}
 use Rattle.word_walk.specs.Listed.{is_shortest, is_listed, IsListing}
 use Rattle.word_walk.specs.ListedKeys.{accepts_key, goes_on, key_after, key_transition, key_transitions, mark_after, mark_in, may_end, state_in}

@@ -5,7 +5,7 @@ use Rattle.std.specs.Option.{option_map, IfSome}
 use Rattle.digit_tuple.specs.Deterministic.{Automaton, IsTable, letters_of, states_of, step_of, transitions_of}
 use Rattle.digit_tuple.specs.declared.direction.Direction.{Direction}
 use Rattle.digit_tuple.proofs.DfaLemmas.{target_by-in_range}
-use Rattle.minimise.proofs.SinkLemmas.{row_of}
+use Rattle.residual_classes.proofs.SinkLemmas.{row_of}
 use Rattle.word_walk.specs.ListedKeys.{IsKey, key_after, goes_on, mark_after, mark_in, state_in}
 
 pub start_is_key : (d : Automaton) → IsTable (letters_of d) d.states → IsKey d (0 ∷ 0 ∷ [])

@@ -8,7 +8,7 @@ use Rattle.digit_tuple.specs.Letters.{IsAlphabet, product, IsWord}
 use Rattle.digit_tuple.specs.Width.{HasApart, HasWidth}
 use Rattle.digit_tuple.specs.declared.faults.OpFault.TheVariants.{States}
 use Rattle.digit_tuple.proofs.WidthLemmas.{HasApart-same, HasWidth-same}
-use Rattle.minimise.specs.Classes.{first_of}
+use Rattle.residual_classes.specs.Classes.{first_of}
 use Rattle.word_output.specs.StateLetters.{letter_led}
 use Rattle.base_change.specs.GroupKeys.{IsGroupKey, join_after}
 use Rattle.base_change.specs.Joins.{JoinAlike}

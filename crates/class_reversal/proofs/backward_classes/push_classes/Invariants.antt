@@ -1,5 +1,5 @@
 use Rattle.std.proofs.Common.{◌≡◌, map, take}
-use Rattle.minimise.specs.Classes.{class_of}
+use Rattle.residual_classes.specs.Classes.{class_of}
 use Rattle.class_reversal.proofs.backward_classes.push_classes.Given as goal
 
 abbrev pub invariant-loop-state : goal.invariant-loop-state

@@ -2,7 +2,7 @@ use Rattle.std.proofs.Common.{◌++◌, reverse}
 use Rattle.digit_tuple.specs.Deterministic.{letters_of}
 use Rattle.digit_tuple.specs.Letters.{IsWord}
 use Rattle.digit_tuple.proofs.WidthLemmas.{IsEquivalence-values, IsOneWidth-equivalence}
-use Rattle.minimise.specs.ClassFunctions.{class_after}
+use Rattle.residual_classes.specs.ClassFunctions.{class_after}
 use Rattle.class_reversal.specs.ReversedClasses.{SameReversedClassAfter}
 use Rattle.class_reversal.proofs.laws.reversal_has_one_width.Goals as goal
 

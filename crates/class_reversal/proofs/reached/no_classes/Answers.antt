@@ -6,8 +6,8 @@ use Rattle.digit_tuple.specs.NoWords.{bare_automaton}
 use Rattle.digit_tuple.specs.Width.{HasApart, HasWidth}
 use Rattle.digit_tuple.specs.declared.faults.OpFault.TheVariants.{States}
 use Rattle.digit_tuple.proofs.WidthLemmas.{HasApart-one, HasWidth-one}
+use Rattle.residual_classes.specs.ClassFunctions.{class_after}
 use Rattle.minimise.specs.Canonical.{IsCanonicalWithClasses}
-use Rattle.minimise.specs.ClassFunctions.{class_after}
 use Rattle.class_reversal.specs.ReversedClasses.{SameReversedClassAfter}
 use Rattle.class_reversal.proofs.BareLemmas.{bare_classes, class_after-bare}
 use Rattle.class_reversal.proofs.ReversalLemmas.{no_class_after}

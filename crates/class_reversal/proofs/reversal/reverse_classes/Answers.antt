@@ -4,7 +4,7 @@ use Rattle.digit_tuple.specs.Deterministic.{letters_of}
 use Rattle.digit_tuple.specs.Letters.{product}
 use Rattle.digit_tuple.specs.Width.{HasApart, HasWidth}
 use Rattle.digit_tuple.proofs.WidthLemmas.{HasApart-same, HasWidth-same}
-use Rattle.minimise.specs.ClassFunctions.{SameClassFunction}
+use Rattle.residual_classes.specs.ClassFunctions.{SameClassFunction}
 use Rattle.class_reversal.specs.ReversedClasses.{SameReversedClassAfter}
 use Rattle.class_reversal.proofs.SameFunctions.{reversed_same, same_reversed}
 use Rattle.class_reversal.proofs.reversal.reverse_classes.Goals as goal

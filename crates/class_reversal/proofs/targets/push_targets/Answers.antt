@@ -1,7 +1,7 @@
 use Rattle.std.proofs.Common.{◌++◌, ◌∷◌, [], List, ℕ, map, ap, ◌∙◌, sym, append_assoc, arith}
 use Rattle.std.specs.List.{range_with_len}
 use Rattle.std.proofs.lemmas.List.FromFn.{map-range_with_len_more}
-use Rattle.minimise.specs.Classes.{next_of}
+use Rattle.residual_classes.specs.Classes.{next_of}
 use Rattle.class_reversal.proofs.targets.push_targets.Goals as goal
 
 pub loop-state-preserved : goal.loop-state-preserved

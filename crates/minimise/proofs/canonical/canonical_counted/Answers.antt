@@ -1,5 +1,5 @@
 use Rattle.std.proofs.Common.{List, ℕ, length, ap, ◌∙◌, subst}
-use Rattle.minimise.specs.ClassFunctions.{SameClassFunction}
+use Rattle.residual_classes.specs.ClassFunctions.{SameClassFunction}
 use Rattle.minimise.proofs.BitLemmas.{length-bits, SameLanguage-bits, IsCanonical-bits}
 use Rattle.minimise.proofs.canonical.canonical_counted.Goals as goal
 

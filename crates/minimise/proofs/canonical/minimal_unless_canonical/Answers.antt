@@ -2,10 +2,10 @@ use Rattle.std.proofs.Common.{List, ℕ, ◌<◌, length, sym, ap, ◌∙◌, su
 use Rattle.std.specs.List.{All}
 use Rattle.std.proofs.lemmas.List.{length-map}
 use Rattle.digit_tuple.specs.Deterministic.{IsTable, State, letters_of}
-use Rattle.minimise.specs.Outputs.{bit_of}
-use Rattle.minimise.specs.ClassFunctions.{SameClassFunction}
-use Rattle.minimise.specs.CoarseClasses.{AreResidualClasses}
-use Rattle.minimise.specs.Leaders.{AreAlone}
+use Rattle.residual_classes.specs.Outputs.{bit_of}
+use Rattle.residual_classes.specs.ClassFunctions.{SameClassFunction}
+use Rattle.residual_classes.specs.CoarseClasses.{AreResidualClasses}
+use Rattle.residual_classes.specs.Leaders.{AreAlone}
 use Rattle.minimise.proofs.BitLemmas.{SameLanguage-bits, IsCanonical-bits}
 use Rattle.minimise.proofs.MinimalLemmas.{IsCanonical-alone}
 use Rattle.minimise.proofs.canonical.minimal_unless_canonical.Goals as goal

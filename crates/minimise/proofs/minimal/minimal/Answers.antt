@@ -1,5 +1,5 @@
 use Rattle.std.proofs.Common.{List, ℕ, ◌∙◌, sym, subst, arith}
-use Rattle.minimise.specs.ClassFunctions.{SameClassFunction}
+use Rattle.residual_classes.specs.ClassFunctions.{SameClassFunction}
 use Rattle.minimise.specs.Canonical.{IsCanonicalWithClasses}
 use Rattle.minimise.proofs.QuotientLemmas.{IsQuotient-read, SameClassFunction-explored, IsCanonical-explored}
 use Rattle.minimise.proofs.minimal.minimal.Goals as goal

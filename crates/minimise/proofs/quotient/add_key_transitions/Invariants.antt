@@ -1,5 +1,5 @@
 use Rattle.std.proofs.Common.{◌≡◌, ◌++◌, take, map}
-use Rattle.minimise.specs.ClassTransitions.{class_transitions}
+use Rattle.residual_classes.specs.ClassTransitions.{class_transitions}
 use Rattle.minimise.specs.Quotient.{key_transition}
 use Rattle.minimise.proofs.quotient.add_key_transitions.Given as goal
 

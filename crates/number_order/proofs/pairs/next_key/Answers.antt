@@ -1,6 +1,6 @@
 use Rattle.std.proofs.Common.{ℕ, ◌/◌, ◌%◌, [], ◌∷◌, ap, ◌∙◌, Ordering}
 use Rattle.std.specs.Ordering.{ordering_index}
-use Rattle.minimise.specs.Classes.{next_of}
+use Rattle.residual_classes.specs.Classes.{next_of}
 use Rattle.number_order.specs.PairKeys.{at, compared_more}
 use Rattle.number_order.proofs.PairLemmas.{letter_digits, at-next_states}
 use Rattle.number_order.proofs.pairs.next_key.Goals as goal

@@ -1,7 +1,7 @@
 use Rattle.std.proofs.Common.{◌≡◌, ℕ, ◌<◌, List, length, get_or, ap, sym, ◌∙◌, subst, arith}
 use Rattle.std.proofs.lemmas.List.{get_or-map, length-map}
 use Rattle.digit_tuple.specs.Deterministic.{Automaton, letters_of}
-use Rattle.minimise.specs.Classes.{next_of}
+use Rattle.residual_classes.specs.Classes.{next_of}
 use Rattle.product_op.specs.declared.next_row.NextRow.{NextRow}
 use Rattle.product_op.specs.declared.reader.Reader.{Reader}
 use Rattle.product_op.specs.NextRows.{IsNextRow, AreNextRows}

@@ -1,7 +1,7 @@
 use Rattle.std.proofs.Common.{List, sym, ◌∙◌, subst, arith}
 use Rattle.digit_tuple.specs.declared.transitions.Transition.{Transition}
 use Rattle.digit_tuple.specs.Deterministic.{IsRow, letters_of, states_of}
-use Rattle.minimise.proofs.SinkLemmas.{no_transitions_past}
+use Rattle.residual_classes.proofs.SinkLemmas.{no_transitions_past}
 use Rattle.product_op.proofs.reader_at.read_row.Goals as goal
 
 pub returns-clause-row : goal.returns-clause-row

@@ -1,5 +1,5 @@
 use Rattle.std.proofs.Common.{◌≡◌, length, ap, sym, ◌∙◌, subst, arith}
-use Rattle.minimise.specs.Classes.{next_of}
+use Rattle.residual_classes.specs.Classes.{next_of}
 use Rattle.product_op.specs.Readings.{Reading, readings_in, part_read, state_at, no_reading}
 use Rattle.product_op.proofs.ReaderLemmas.{LeadTo-all, LeadTo-more, length-readings, reading_at-reader}
 use Rattle.product_op.proofs.reader_states.next_states.Goals as goal

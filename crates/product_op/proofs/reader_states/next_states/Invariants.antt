@@ -1,5 +1,5 @@
 use Rattle.std.proofs.Common.{◌≡◌, ℕ, ◌<◌}
-use Rattle.minimise.specs.Classes.{next_of}
+use Rattle.residual_classes.specs.Classes.{next_of}
 use Rattle.product_op.specs.Readings.{readings_in, reading_at, part_read, state_at}
 use Rattle.product_op.proofs.reader_states.next_states.Given as goal
 

@@ -1,6 +1,6 @@
 use Rattle.std.proofs.Common.{◌≡◌, ℕ, ◌<◌}
 use Rattle.digit_tuple.specs.Deterministic.{accepting_of}
-use Rattle.minimise.specs.Classes.{next_of}
+use Rattle.residual_classes.specs.Classes.{next_of}
 use Rattle.project_close.proofs.padding_lsd.keeps_acceptance.Given as goal
 
 abbrev pub invariant-loop-state : goal.invariant-loop-state

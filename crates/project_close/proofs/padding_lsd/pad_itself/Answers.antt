@@ -10,7 +10,7 @@ use Rattle.digit_tuple.specs.Keys.{LeadAlike}
 use Rattle.digit_tuple.specs.Letters.{product}
 use Rattle.digit_tuple.specs.Width.{HasApart, HasWidth}
 use Rattle.digit_tuple.proofs.WidthLemmas.{HasApart-same, HasWidth-same}
-use Rattle.minimise.specs.Classes.{first_of}
+use Rattle.residual_classes.specs.Classes.{first_of}
 use Rattle.project_close.specs.Padding.{LsdPaddedAlike}
 use Rattle.project_close.specs.PaddedPairs.{pair_after, twice}
 use Rattle.project_close.proofs.NoWordLemmas.{dead_from_sink}

@@ -2,7 +2,7 @@ use Rattle.std.proofs.Common.{◌≡◌, ℕ, List, ◌⊎◌, inl, inr, sym, �
 use Rattle.std.proofs.lemmas.Result.{IfOk-weaker}
 use Rattle.digit_tuple.specs.Automaton.{Branching}
 use Rattle.digit_tuple.specs.Deterministic.{states_of}
-use Rattle.minimise.specs.Classes.{first_of}
+use Rattle.residual_classes.specs.Classes.{first_of}
 use Rattle.project_close.specs.PaddedSets.{AreFirst}
 use Rattle.project_close.specs.ZeroClosure.{AreAfterZeros}
 use Rattle.project_close.proofs.NoWordLemmas.{dead_from_sink, sink_from_dead}

@@ -8,7 +8,7 @@ use Rattle.digit_tuple.specs.Letters.{product, IsWord}
 use Rattle.digit_tuple.specs.Width.{HasApart, HasWidth}
 use Rattle.digit_tuple.specs.declared.faults.OpFault.TheVariants.{States}
 use Rattle.digit_tuple.proofs.WidthLemmas.{HasApart-same, HasWidth-same}
-use Rattle.minimise.specs.Classes.{first_of}
+use Rattle.residual_classes.specs.Classes.{first_of}
 use Rattle.project_close.specs.PaddedPairs.{pair_after, twice}
 use Rattle.word_output.specs.LetterPaddings.{LsdLettersAlike}
 use Rattle.word_output.specs.StateLetters.{letter_led}

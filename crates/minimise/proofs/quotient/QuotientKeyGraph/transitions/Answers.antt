@@ -3,8 +3,8 @@ use Rattle.std.proofs.lemmas.Result.{on_ok_weaker}
 use Rattle.digit_tuple.specs.declared.transitions.Transition.{Transition}
 use Rattle.digit_tuple.specs.Deterministic.{letters_of, transitions_of}
 use Rattle.digit_tuple.specs.Keys.{KeyTransition, AreKeyTransitions}
-use Rattle.minimise.specs.Classes.{class_of}
-use Rattle.minimise.specs.ClassTransitions.{class_transitions}
+use Rattle.residual_classes.specs.Classes.{class_of}
+use Rattle.residual_classes.specs.ClassTransitions.{class_transitions}
 use Rattle.minimise.specs.Quotient.{next_class, leader_of, key_transition}
 use Rattle.minimise.proofs.QuotientLemmas.{AreKeyTransitions-class}
 use Rattle.minimise.proofs.quotient.QuotientKeyGraph.transitions.Goals as goal

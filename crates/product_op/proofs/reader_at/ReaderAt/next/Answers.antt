@@ -1,6 +1,6 @@
 use Rattle.std.proofs.Common.{◌≡◌, List, ℕ, Option, Bor, ap, ◌∙◌, subst, arith}
 use Rattle.std.specs.Option.{IfSome}
-use Rattle.minimise.specs.Classes.{next_of}
+use Rattle.residual_classes.specs.Classes.{next_of}
 use Rattle.product_op.specs.NextTables.{next_list}
 use Rattle.product_op.proofs.NextRowLemmas.{length-next_list, next_list-at}
 use Rattle.product_op.proofs.reader_at.ReaderAt.next.Goals as goal

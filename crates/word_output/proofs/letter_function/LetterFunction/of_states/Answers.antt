@@ -1,7 +1,7 @@
 use Rattle.std.proofs.Common.{◌≡◌, ◌≤◌, ℕ, ℤ, List, length, ◌∙◌, sym, ap, subst, arith}
 use Rattle.std.specs.List.{All}
-use Rattle.minimise.specs.Classes.{class_of}
-use Rattle.minimise.specs.ClassFunctions.{SameClassFunction}
+use Rattle.residual_classes.specs.Classes.{class_of}
+use Rattle.residual_classes.specs.ClassFunctions.{SameClassFunction}
 use Rattle.word_output.specs.LetterFunctions.{letter_in}
 use Rattle.word_output.specs.StateLetters.{AreLettersOf, letter_at}
 use Rattle.word_output.proofs.LetterFunctionLemmas.{AreClasses, IsLetterFunction-made, few_states, letters-led}

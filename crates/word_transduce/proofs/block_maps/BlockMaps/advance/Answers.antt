@@ -1,6 +1,6 @@
 use Rattle.std.proofs.Common.{◌/◌, slice_index, ◌∙◌, arith}
 use Rattle.std.proofs.lemmas.List.FromFn.{fill_by_all}
-use Rattle.minimise.specs.Classes.{next_of}
+use Rattle.residual_classes.specs.Classes.{next_of}
 use Rattle.word_transduce.specs.BlockMaps.{map_at, pairs_of}
 use Rattle.word_transduce.proofs.block_maps.BlockMaps.advance.Goals as goal
 

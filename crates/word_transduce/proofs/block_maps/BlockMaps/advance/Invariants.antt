@@ -1,5 +1,5 @@
 use Rattle.std.proofs.Common.{◌≡◌, ℕ, ◌/◌, ◌<◌, ◌≤◌, length, slice_index}
-use Rattle.minimise.specs.Classes.{next_of}
+use Rattle.residual_classes.specs.Classes.{next_of}
 use Rattle.word_transduce.specs.BlockMaps.{map_at}
 use Rattle.word_transduce.proofs.block_maps.BlockMaps.advance.Given as goal
 

@@ -1,5 +1,5 @@
 use Rattle.std.proofs.Common.{◌/◌, slice_index, ap, ◌∙◌}
-use Rattle.minimise.specs.Classes.{next_of}
+use Rattle.residual_classes.specs.Classes.{next_of}
 use Rattle.word_transduce.specs.BlockMaps.{pairs_of}
 use Rattle.word_transduce.specs.BlockLengths.{place_at}
 use Rattle.word_transduce.proofs.PushLemmas.{values_more}

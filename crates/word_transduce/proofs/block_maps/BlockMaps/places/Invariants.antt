@@ -1,6 +1,6 @@
 use Rattle.std.proofs.Common.{◌≡◌, ◌/◌, map, slice_index}
 use Rattle.std.specs.List.{range_with_len}
-use Rattle.minimise.specs.Classes.{next_of}
+use Rattle.residual_classes.specs.Classes.{next_of}
 use Rattle.word_transduce.specs.BlockMaps.{pairs_of}
 use Rattle.word_transduce.specs.BlockLengths.{place_at}
 use Rattle.word_transduce.proofs.block_maps.BlockMaps.places.Given as goal

@@ -1,4 +1,0 @@
-use Rattle.minimise.proofs.classes.residual_classes.Given as goal
-
-abbrev pub ghosts-classes_of_ledger : goal.ghosts-classes_of_ledger
-ghosts-classes_of_ledger a = record { name = a.blank.name; parts = a.blank.parts }

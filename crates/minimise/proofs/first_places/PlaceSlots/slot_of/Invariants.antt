@@ -1,5 +1,0 @@
-use Rattle.minimise.specs.PlaceSlots.{ArePassed}
-use Rattle.minimise.proofs.first_places.PlaceSlots.slot_of.Given as goal
-
-abbrev pub invariant-loop-slot : goal.invariant-loop-slot
-invariant-loop-slot l = ArePassed l.self l.numbers l.number l.slot

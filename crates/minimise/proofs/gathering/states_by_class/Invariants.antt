@@ -1,6 +1,0 @@
-use Rattle.std.proofs.Common.{◌≡◌, take}
-use Rattle.minimise.specs.Gathering.{transitions_by_class}
-use Rattle.minimise.proofs.gathering.states_by_class.Given as goal
-
-abbrev pub invariant-loop-state : goal.invariant-loop-state
-invariant-loop-state l = l.transitions.items ≡ transitions_by_class l.classes (take l.state-index l.set)

@@ -1,6 +1,0 @@
-use Rattle.std.proofs.Common.{take}
-use Rattle.minimise.specs.Partition.{IsGiven}
-use Rattle.minimise.proofs.partition.give.Given as goal
-
-abbrev pub invariant-loop-state : goal.invariant-loop-state
-invariant-loop-state l = IsGiven l.fn.classes.items l.classes.items (take l.state-index l.states) l.class
