@@ -22,7 +22,7 @@ use Rattle.num_system.specs.Joined.{AreLanguagesOf}
 use Rattle.num_system.specs.Representations.{HasRepresentation, IgnoresZeros}
 use Rattle.num_system.proofs.SuccessorLemmas.{holds_same}
 use Rattle.num_system.proofs.ValidityLinks.{valid_part_represents}
-use Rattle.project_close.specs.Padding.{IsPadded}
+use Rattle.pad_rename.specs.Padding.{IsPadded}
 use Rattle.automaton_steps.specs.Makings.{Making, DoesStep}
 use Rattle.automaton_steps.specs.PadSteps.{IsClosure, pad_step}
 use Rattle.automaton_steps.specs.ValiditySteps.{IsValidPart, valid_step}

@@ -9,7 +9,7 @@ use Rattle.digit_tuple.proofs.NameLemmas.{place_of-contained}
 use Rattle.minimise.specs.Tracked.{NamedAutomaton, size_of}
 use Rattle.product_op.specs.declared.op.Op.TheVariants.{And}
 use Rattle.product_op.specs.Tracks.{AgreeOnShared, joint_sizes}
-use Rattle.project_close.specs.StayingTracks.{staying_sizes}
+use Rattle.pad_rename.specs.StayingTracks.{staying_sizes}
 use Rattle.num_system.specs.Operations.{IsProjection}
 use Rattle.num_system.specs.SuccessorSteps.{name_x, name_y, order_on}
 use Rattle.num_system.proofs.SuccessorLemmas.{under_names}

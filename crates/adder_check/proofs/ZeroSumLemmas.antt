@@ -8,7 +8,7 @@ use Rattle.minimise.specs.Residuals.{SameLanguage}
 use Rattle.minimise.specs.Tracked.{NamedAutomaton}
 use Rattle.product_op.specs.declared.op.Op.TheVariants.{And}
 use Rattle.product_op.specs.Tracks.{joint_sizes}
-use Rattle.project_close.specs.StayingTracks.{staying_sizes}
+use Rattle.pad_rename.specs.StayingTracks.{staying_sizes}
 use Rattle.numeration.specs.Systems.{System, IsSystem}
 use Rattle.numeration.specs.Relations.{HoldsOf, IsZero, IsZeroOf, IsEqual, IsEqualityOf}
 use Rattle.numeration.specs.SomeTracks.{completed}

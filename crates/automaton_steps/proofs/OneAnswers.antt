@@ -3,8 +3,9 @@ use Rattle.digit_tuple.specs.declared.direction.Direction.{Direction}
 use Rattle.digit_tuple.specs.Deterministic.{letters_of}
 use Rattle.number_order.proofs.OrderWidthLemmas.{IsEquivalence-order}
 use Rattle.product_op.proofs.WidthLaws.{IsEquivalence-product, IsEquivalence-validity}
-use Rattle.project_close.specs.StayingTracks.{staying_places}
-use Rattle.project_close.proofs.WidthLaws.{IsEquivalence-padded, IsEquivalence-projection}
+use Rattle.pad_rename.specs.StayingTracks.{staying_places}
+use Rattle.pad_rename.proofs.WidthLaws.{IsEquivalence-padded}
+use Rattle.project_close.proofs.WidthLaws.{IsEquivalence-projection}
 use Rattle.automaton_steps.specs.JoinSteps.{join_step}
 use Rattle.automaton_steps.specs.Laws.{ReadHasOneOutcome, ReverseHasOneOutcome, PadHasOneOutcome, ValidHasOneOutcome, JoinHasOneOutcome, ComplementHasOneOutcome, ProjectHasOneOutcome, OrderHasOneOutcome}
 use Rattle.automaton_steps.specs.OrderSteps.{order_step}

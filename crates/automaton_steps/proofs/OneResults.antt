@@ -13,9 +13,9 @@ use Rattle.numeration.specs.Relations.{IsLanguageOf, IsOrderOf, IsLess}
 use Rattle.numeration.specs.Representation.{Represents, sizes_of}
 use Rattle.numeration.specs.Systems.{System, IsSystem}
 use Rattle.product_op.specs.declared.op.Op.{Op}
-use Rattle.project_close.specs.Padding.{IsPadded}
+use Rattle.pad_rename.specs.Padding.{IsPadded}
+use Rattle.pad_rename.specs.StayingTracks.{staying_places}
 use Rattle.project_close.specs.Projection.{InProjection}
-use Rattle.project_close.specs.StayingTracks.{staying_places}
 use Rattle.automaton_steps.specs.ReadSteps.{IsRead}
 use Rattle.automaton_steps.specs.ReverseSteps.{IsReversed}
 use Rattle.automaton_steps.specs.PadSteps.{IsClosure}

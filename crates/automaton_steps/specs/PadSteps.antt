@@ -5,7 +5,7 @@ use Rattle.digit_tuple.specs.Letters.{IsWord}
 use Rattle.digit_tuple.specs.declared.direction.Direction.{Direction}
 use Rattle.digit_tuple.specs.declared.kind.Kind.TheVariants as kinds
 use Rattle.minimise.specs.Canonical.{IsCanonical}
-use Rattle.project_close.specs.Padding.{IsPadded, PaddedAlike}
+use Rattle.pad_rename.specs.Padding.{IsPadded, PaddedAlike}
 use Rattle.automaton_steps.specs.Makings.{Making}
 
 -- the canonical automaton that accepts the words which the other one accepts with other zeros at that end

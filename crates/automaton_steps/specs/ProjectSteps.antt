@@ -7,8 +7,8 @@ use Rattle.digit_tuple.specs.declared.direction.Direction.{Direction}
 use Rattle.digit_tuple.specs.declared.kind.Kind.TheVariants as kinds
 use Rattle.minimise.specs.Canonical.{IsCanonical}
 use Rattle.minimise.specs.Tracked.{NamedAutomaton}
+use Rattle.pad_rename.specs.StayingTracks.{staying_places, staying_sizes}
 use Rattle.project_close.specs.Projection.{InProjection, ProjectionAlike}
-use Rattle.project_close.specs.StayingTracks.{staying_places, staying_sizes}
 use Rattle.automaton_steps.specs.Makings.{Making}
 
 -- the canonical automaton, on the other tracks, that accepts the words which are in the projection

@@ -11,7 +11,7 @@ use digit_tuple::kind::Kind;
 use digit_tuple::step_fault::StepFault;
 use digit_tuple::stepped::Stepped;
 use digit_tuple::steps::Steps;
-use project_close::padding::pad;
+use pad_rename::padding::pad;
 use std::alloc::Global;
 
 /// The closure of a canonical automaton under zeros at the end of the most significant letters, by the

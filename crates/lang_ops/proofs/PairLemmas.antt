@@ -27,7 +27,7 @@ use Rattle.product_op.specs.declared.op.Op.{Op}
 use Rattle.product_op.specs.declared.reader.Reader.{Reader}
 use Rattle.product_op.proofs.ReadingLemmas.{IsReading-whole, word_read-all}
 use Rattle.product_op.proofs.SinkKeyLemmas.{are_sinks-at}
-use Rattle.project_close.proofs.SinkLeads.{accepts_of-lead}
+use Rattle.pad_rename.proofs.SinkLeads.{accepts_of-lead}
 use Rattle.automaton_steps.proofs.StepSizes.{AreKept}
 use Rattle.lang_ops.specs.PairKeys.{key_holds}
 use Rattle.lang_ops.specs.Pairs.{PairAlike}

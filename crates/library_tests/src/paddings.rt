@@ -5,7 +5,7 @@ use crate::outcomes::table_outcome;
 use crate::table_texts::language;
 use digit_tuple::direction::Direction;
 use digit_tuple::limit::Limit;
-use project_close::padding::pad;
+use pad_rename::padding::pad;
 use std::alloc::Global;
 use std::process::Abort;
 

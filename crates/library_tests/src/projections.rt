@@ -8,8 +8,8 @@ use digit_tuple::direction::Direction;
 use digit_tuple::limit::Limit;
 use digit_tuple::name::Name;
 use digit_tuple::names::find_name;
+use pad_rename::zero_closure::{flagged, zero_closure};
 use project_close::projection::project;
-use project_close::zero_closure::{flagged, zero_closure};
 use std::alloc::Global;
 use std::process::Abort;
 

@@ -5,8 +5,8 @@ use crate::outcomes::expect_text;
 use crate::table_texts::{line_of, tracked};
 use digit_tuple::name::Name;
 use digit_tuple::names::are_distinct;
-use project_close::renaming::rename;
-use project_close::restriction::{are_two_tracks, restrict};
+use pad_rename::renaming::rename;
+use pad_rename::restriction::{are_two_tracks, restrict};
 use std::alloc::Global;
 use std::process::Abort;
 

@@ -9,7 +9,7 @@ use Rattle.digit_tuple.specs.Deterministic.{accepts_of}
 use Rattle.digit_tuple.specs.declared.direction.Direction.{Direction}
 use Rattle.digit_tuple.proofs.NameLemmas.{places_of-within}
 use Rattle.minimise.specs.Tracked.{NamedAutomaton}
-use Rattle.project_close.specs.StayingTracks.{staying_places}
+use Rattle.pad_rename.specs.StayingTracks.{staying_places}
 use Rattle.project_close.proofs.ProjectionLemmas.{names_without-there}
 use Rattle.numeration.specs.Systems.{System, AreSystems}
 use Rattle.numeration.specs.Relations.{HoldsOf}

@@ -11,8 +11,8 @@ use Rattle.minimise.specs.Tracked.{NamedAutomaton}
 use Rattle.product_op.specs.declared.op.Op.{Op}
 use Rattle.product_op.specs.Products.{in_product}
 use Rattle.product_op.specs.Tracks.{joint_sizes}
+use Rattle.pad_rename.specs.StayingTracks.{staying_places, staying_sizes}
 use Rattle.project_close.specs.Projection.{InProjection}
-use Rattle.project_close.specs.StayingTracks.{staying_places, staying_sizes}
 use Rattle.num_system.specs.Operations.{IsProduct, IsProjection}
 use Rattle.num_system.specs.SuccessorSteps.{name_u, name_x, name_y}
 use Rattle.num_system.proofs.SuccessorLemmas.{under_names}

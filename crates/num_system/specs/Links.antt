@@ -7,7 +7,7 @@ use Rattle.minimise.specs.Tracked.{NamedAutomaton}
 use Rattle.product_op.specs.declared.op.Op.{Op}
 use Rattle.product_op.specs.Connectives.{among_valid}
 use Rattle.product_op.specs.Tracks.{joint_sizes}
-use Rattle.project_close.specs.StayingTracks.{staying_places}
+use Rattle.pad_rename.specs.StayingTracks.{staying_places}
 use Rattle.numeration.specs.Systems.{System, AreSystems}
 use Rattle.numeration.specs.Representation.{sizes_of}
 use Rattle.numeration.specs.Relations.{HoldsOf}

@@ -9,8 +9,8 @@ use Rattle.minimise.specs.Tracked.{NamedAutomaton}
 use Rattle.product_op.specs.declared.op.Op.{Op}
 use Rattle.product_op.specs.Tracks.{joint_sizes}
 use Rattle.product_op.specs.Products.{in_product, in_complement, in_valid_part}
+use Rattle.pad_rename.specs.StayingTracks.{staying_places, staying_sizes}
 use Rattle.project_close.specs.Projection.{InProjection}
-use Rattle.project_close.specs.StayingTracks.{staying_places, staying_sizes}
 
 -- the canonical automaton of a product
 pub record IsProduct (op : Op) (a b : NamedAutomaton) (languages : List Automaton) (c : NamedAutomaton) : Type 0 where

@@ -8,8 +8,8 @@ use Rattle.minimise.specs.Tracked.{NamedAutomaton}
 use Rattle.product_op.specs.declared.op.Op.TheVariants.{And, AndNot}
 use Rattle.product_op.specs.Tracks.{joint_sizes}
 use Rattle.product_op.specs.Products.{ProductAlike}
+use Rattle.pad_rename.specs.StayingTracks.{staying_places, staying_sizes}
 use Rattle.project_close.specs.Projection.{ProjectionAlike}
-use Rattle.project_close.specs.StayingTracks.{staying_places, staying_sizes}
 use Rattle.num_system.specs.Operations.{IsProduct, IsProjection}
 
 -- the names of tracks, u, x and y

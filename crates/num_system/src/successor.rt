@@ -10,7 +10,7 @@ ghost use Rattle.minimise.specs.Canonical.{IsCanonical};
 ghost use Rattle.numeration.specs.Systems.{System, IsSystem};
 ghost use Rattle.numeration.specs.Relations.{HoldsOf, IsOrderOf};
 ghost use Rattle.product_op.specs.Tracks.{joint_sizes};
-ghost use Rattle.project_close.specs.StayingTracks.{staying_sizes};
+ghost use Rattle.pad_rename.specs.StayingTracks.{staying_sizes};
 ghost use Rattle.num_system.specs.Successor.{IsInside, HasInside, IsSuccessorOf};
 ghost use Rattle.num_system.specs.Operations.{IsProduct, IsProjection};
 ghost use Rattle.num_system.specs.SuccessorSteps.{IsChain, ChainAlike, BetweenAlike, NextAlike, AreWithin, Exceeds, chain_sizes, name_u, name_x, name_y, order_on as order_under};

@@ -8,7 +8,7 @@ use Rattle.digit_tuple.proofs.NameLemmas.{place_of-is}
 use Rattle.minimise.specs.Canonical.{IsCanonical}
 use Rattle.minimise.specs.Tracked.{NamedAutomaton}
 use Rattle.product_op.proofs.SizeLemmas.{AreDistinct-ordered}
-use Rattle.project_close.specs.Substitution.{sizes_under, word_under}
+use Rattle.pad_rename.specs.Substitution.{sizes_under, word_under}
 use Rattle.num_system.specs.Sealed.{SystemValue}
 use Rattle.num_system.specs.Tracks.{absent_system, AgreeUnder, systems_under}
 use Rattle.number_relations.specs.Relations.{RelationValue, IsRelation, named_of, relation_over}

@@ -19,8 +19,8 @@ use Rattle.numeration.specs.SomeTracks.{no_system, system_at, systems_at}
 use Rattle.numeration.proofs.ReadingLinks.{reading_holds}
 use Rattle.num_system.specs.Sealed.{SystemValue, system_of, IsSealed}
 use Rattle.num_system.proofs.NamedLinks.{place_among}
-use Rattle.project_close.specs.Substitution.{IsSubstitution, sizes_under, word_under}
-use Rattle.project_close.proofs.SubstitutionLemmas.{size_under, sizes_under-map}
+use Rattle.pad_rename.specs.Substitution.{IsSubstitution, sizes_under, word_under}
+use Rattle.pad_rename.proofs.SubstitutionLemmas.{size_under, sizes_under-map}
 use Rattle.num_system.specs.Tracks.{ShareDirection, systems_of, direction_of, absent_system, system_under, AgreeUnder, systems_under}
 use Rattle.number_relations.specs.Relations.{IsRelation, IsClosedOver, HoldsOver, RelationHolds, IsRelationOf, relation_over}
 use Rattle.number_relations.specs.Placed.{IsPlaced, each_once}

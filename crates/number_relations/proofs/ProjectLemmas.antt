@@ -4,7 +4,7 @@ use Rattle.std.specs.List.{All, AllByRecursion, Contains}
 use Rattle.std.proofs.lemmas.List.{length-map}
 use Rattle.digit_tuple.specs.Names.{AreDistinct, names_without, place_of}
 use Rattle.digit_tuple.specs.declared.direction.Direction.{Direction}
-use Rattle.project_close.specs.StayingTracks.{staying_places}
+use Rattle.pad_rename.specs.StayingTracks.{staying_places}
 use Rattle.project_close.proofs.ProjectionLemmas.{names_without-distinct, names_without-there}
 use Rattle.numeration.specs.Systems.{System}
 use Rattle.numeration.specs.Relations.{HoldsOf}

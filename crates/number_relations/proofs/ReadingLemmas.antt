@@ -15,7 +15,7 @@ use Rattle.digit_tuple.specs.declared.step_fault.StepFault.{StepFault}
 use Rattle.digit_tuple.proofs.PaddingLemmas.{IsWord-in_order}
 use Rattle.digit_tuple.proofs.TruthLemmas.{same_tests}
 use Rattle.minimise.specs.Tracked.{NamedAutomaton}
-use Rattle.project_close.specs.Padding.{IsPadded}
+use Rattle.pad_rename.specs.Padding.{IsPadded}
 use Rattle.numeration.specs.Systems.{System}
 use Rattle.numeration.specs.Relations.{HoldsOf}
 use Rattle.numeration.specs.Representation.{letters_in, sizes_of}

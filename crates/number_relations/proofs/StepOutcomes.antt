@@ -9,7 +9,7 @@ use Rattle.digit_tuple.proofs.TruthLemmas.{same_tests}
 use Rattle.minimise.specs.Canonical.{IsCanonical}
 use Rattle.minimise.proofs.CanonicalLemmas.{canonical_forms}
 use Rattle.product_op.proofs.WidthLaws.{IsEquivalence-product, IsEquivalence-validity}
-use Rattle.project_close.specs.StayingTracks.{staying_places}
+use Rattle.pad_rename.specs.StayingTracks.{staying_places}
 use Rattle.project_close.proofs.WidthLaws.{IsEquivalence-projection}
 use Rattle.numeration.specs.Systems.{System}
 use Rattle.automaton_steps.specs.Makings.{DoesStep}

@@ -6,7 +6,7 @@ use Rattle.digit_tuple.specs.Names.{AreDistinct, places_of}
 use Rattle.digit_tuple.specs.Steps.{StepLog}
 use Rattle.digit_tuple.specs.declared.step_fault.StepFault.TheVariants.{Memory}
 use Rattle.product_op.specs.declared.op.Op.{Op}
-use Rattle.project_close.specs.StayingTracks.{staying_places}
+use Rattle.pad_rename.specs.StayingTracks.{staying_places}
 use Rattle.numeration.specs.Representation.{sizes_of}
 use Rattle.numeration.specs.SomeTracks.{completed}
 use Rattle.num_system.specs.Joined.{joined, IsBound}

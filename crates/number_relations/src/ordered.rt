@@ -6,7 +6,7 @@ ghost use Rattle.number_relations.specs.Placed.{IsOrdered};
 use crate::placed::systems_for;
 use crate::relation::Relation;
 use digit_tuple::faults::OutOfMemory;
-use project_close::renaming::rename;
+use pad_rename::renaming::rename;
 use std::alloc::Global;
 
 impl Relation {

@@ -6,7 +6,7 @@ ghost use Rattle.std.specs.Rc.{rc_value};
 ghost use Rattle.digit_tuple.specs.Deterministic.{accepts_of};
 ghost use Rattle.digit_tuple.specs.Letters.{product, IsWord};
 ghost use Rattle.minimise.specs.Canonical.{IsCanonical};
-ghost use Rattle.project_close.specs.Substitution.{IsSubstitution, sizes_under, word_under};
+ghost use Rattle.pad_rename.specs.Substitution.{IsSubstitution, sizes_under, word_under};
 ghost use Rattle.num_system.specs.Tracks.{ShareDirection, system_under, AgreeUnder, systems_under};
 ghost use Rattle.number_relations.specs.Relations.{IsClosedOver, system_named};
 ghost use Rattle.number_relations.specs.Placed.{IsPlaced, IsRenamed, changed_name as changed_name_of, changed_names as changed_names_of, each_once as each_once_of};
@@ -19,7 +19,7 @@ use digit_tuple::names::find_name;
 use minimise::tracked::Tracked;
 use num_system::sealed::are_sealed;
 use num_system::system::System;
-use project_close::substitution::substitute;
+use pad_rename::substitution::substitute;
 use std::alloc::Global;
 use std::rc::Rc;
 

@@ -6,8 +6,8 @@ use Rattle.std.proofs.lemmas.List.{ext_get_or, get_or_default, get_or-map, lengt
 use Rattle.std.proofs.lemmas.List.Elements.{All-contains_itself, All-weaker}
 use Rattle.digit_tuple.specs.PartIndex.{letters_with}
 use Rattle.digit_tuple.proofs.PartIndexLemmas.{Contains-from_letters, Contains-letters}
+use Rattle.pad_rename.specs.ZeroClosure.{flag_at}
 use Rattle.project_close.specs.Image.{AreFlagsAt}
-use Rattle.project_close.specs.ZeroClosure.{flag_at}
 
 -- one place more
 pub AreFlagsAt-more : (count : ℕ) (flags : List Bool) (places : List ℕ) (first : ℕ) → get_or places first 0 < count → AreFlagsAt count flags places first

@@ -24,10 +24,10 @@ use Rattle.digit_tuple.specs.Reversed.{IsReversal, branch_at, transition_to}
 use Rattle.digit_tuple.proofs.MemberLemmas.{Contains-map, Contains-from_map}
 use Rattle.digit_tuple.proofs.ReversedLemmas.{contains_from_target_by, target_by-contains}
 use Rattle.residual_classes.proofs.SinkLemmas.{no_transitions_past}
+use Rattle.pad_rename.specs.ZeroClosure.{IsOverFlagged, IsReached, flag_at}
+use Rattle.pad_rename.proofs.SinkLeads.{accepting_within}
+use Rattle.pad_rename.proofs.ZeroClosureLemmas.{IsReached-more}
 use Rattle.project_close.specs.Image.{AreRelabelled, IsEnd, IsImage, part_at, relabelled_transition}
-use Rattle.project_close.specs.ZeroClosure.{IsOverFlagged, IsReached, flag_at}
-use Rattle.project_close.proofs.SinkLeads.{accepting_within}
-use Rattle.project_close.proofs.ZeroClosureLemmas.{IsReached-more}
 
 -- a state from which a letter leads is there
 step_state : (d : Automaton) (p a q : ℕ) → step_of d p a ≡ Some q → p < states_of d

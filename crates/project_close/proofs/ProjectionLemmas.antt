@@ -32,10 +32,10 @@ use Rattle.minimise.specs.Canonical.{IsCanonical}
 use Rattle.minimise.specs.Residuals.{IsEmptyAfter, IsDead, SameAfter}
 use Rattle.minimise.specs.Tracked.{IsTracked, NamedAutomaton}
 use Rattle.minimise.proofs.CanonicalLemmas.{live_after, one_state, run_within}
+use Rattle.pad_rename.specs.StayingTracks.{staying_places}
+use Rattle.pad_rename.specs.ZeroClosure.{flag_at}
 use Rattle.project_close.specs.Image.{AreFirst, IsEnd, IsImage, ReadsProjection}
 use Rattle.project_close.specs.Projection.{HaveResiduals, InProjection, ProjectionAlike, HasPart}
-use Rattle.project_close.specs.StayingTracks.{staying_places}
-use Rattle.project_close.specs.ZeroClosure.{flag_at}
 use Rattle.project_close.proofs.ImageLemmas.{path_of_word, word_of_path}
 
 -- a word whose part is two words in turn is two words with these parts

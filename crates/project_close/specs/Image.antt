@@ -10,7 +10,7 @@ use Rattle.digit_tuple.specs.Parts.{part, parts_of_letters, picked}
 use Rattle.digit_tuple.specs.declared.direction.Direction.{Direction}
 use Rattle.digit_tuple.specs.declared.direction.Direction.TheVariants.{Msd, Lsd}
 use Rattle.digit_tuple.specs.declared.transitions.Transition.{Transition}
-use Rattle.project_close.specs.ZeroClosure.{AreAfterZeros, flag_at}
+use Rattle.pad_rename.specs.ZeroClosure.{AreAfterZeros, flag_at}
 
 -- so many flags, of which those at the first so many places are set
 pub record AreFlagsAt (count : ℕ) (flags : List Bool) (places : List ℕ) (first : ℕ) : Type 0 where

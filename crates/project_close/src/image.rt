@@ -7,10 +7,9 @@ ghost use Rattle.digit_tuple.specs.Automaton.{IsBranchTable};
 ghost use Rattle.digit_tuple.specs.Deterministic.{accepting_of, letters_of, states_of};
 ghost use Rattle.digit_tuple.specs.Letters.{product};
 ghost use Rattle.digit_tuple.specs.Parts.{parts_of_letters, picked};
+ghost use Rattle.pad_rename.specs.ZeroClosure.{flag_at};
 ghost use Rattle.project_close.specs.Image.{AreFirst, AreFlagsAt, AreRelabelled, IsEnd, IsImage, ReadsProjection};
-ghost use Rattle.project_close.specs.ZeroClosure.{flag_at};
 
-use crate::zero_closure::{reached, zero_closure};
 use digit_tuple::accepting_states::{accepting_flags, accepting_states};
 use digit_tuple::alphabet::Alphabet;
 use digit_tuple::dfa::Dfa;
@@ -19,6 +18,7 @@ use digit_tuple::faults::OutOfMemory;
 use digit_tuple::nfa::Nfa;
 use digit_tuple::reversed::reversed;
 use digit_tuple::transitions::{NfaState, Transition};
+use pad_rename::zero_closure::{reached, zero_closure};
 use std::alloc::Global;
 use track_parts::track_parts::TrackParts;
 

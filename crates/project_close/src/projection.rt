@@ -11,13 +11,11 @@ ghost use Rattle.digit_tuple.specs.Width.{HasApart, HasWidth};
 ghost use Rattle.minimise.specs.Canonical.{IsCanonical};
 ghost use Rattle.minimise.specs.Residuals.{IsDead};
 ghost use Rattle.minimise.specs.Tracked.{IsTracked};
+ghost use Rattle.pad_rename.specs.StayingTracks.{staying_places, staying_sizes};
 ghost use Rattle.project_close.specs.Projection.{InProjection, ProjectionAlike};
-ghost use Rattle.project_close.specs.StayingTracks.{staying_places, staying_sizes};
 
 use crate::canonical_sets::canonical_sets;
-use crate::emptiness::accepts_nothing;
 use crate::image::reading_on;
-use crate::track_sizes::sizes_at;
 use digit_tuple::alphabet::Alphabet;
 use digit_tuple::dfa::Dfa;
 use digit_tuple::direction::Direction;
@@ -28,6 +26,8 @@ use digit_tuple::names::{names_without, places_in};
 use digit_tuple::no_words::no_words_within;
 use digit_tuple::stepped::Stepped;
 use minimise::tracked::Tracked;
+use pad_rename::emptiness::accepts_nothing;
+use pad_rename::track_sizes::sizes_at;
 use std::alloc::Global;
 
 /// The words over the tracks but one for which there is a value on that track, which is one of the automaton's: a word

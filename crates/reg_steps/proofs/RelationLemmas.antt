@@ -13,7 +13,7 @@ use Rattle.digit_tuple.proofs.TupleLemmas.{tuples_from_word, IsWord-codes}
 use Rattle.minimise.specs.Tracked.{NamedAutomaton}
 use Rattle.minimise.proofs.CanonicalLemmas.{canonical_forms}
 use Rattle.product_op.specs.Validity.{is_valid}
-use Rattle.project_close.specs.Padding.{IsPadded}
+use Rattle.pad_rename.specs.Padding.{IsPadded}
 use Rattle.numeration.specs.Systems.{System, AreSystems}
 use Rattle.numeration.specs.Representation as representation
 use Rattle.numeration.specs.Representation.{Represents, letters_in}

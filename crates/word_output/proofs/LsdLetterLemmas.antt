@@ -13,9 +13,9 @@ use Rattle.digit_tuple.proofs.ExploredLemmas.{run_of-explored}
 use Rattle.digit_tuple.proofs.PaddingLemmas.{IsWord-strip}
 use Rattle.residual_classes.specs.Classes.{first_of}
 use Rattle.minimise.proofs.LeadLemmas.{lead}
-use Rattle.project_close.specs.PaddedPairs.{are_sinks, pair_after, some_pair, twice}
-use Rattle.project_close.proofs.PaddedPairLemmas.{both_sinks, pair_run-first, same_pairs}
-use Rattle.project_close.proofs.SinkLeads.{lead-sink}
+use Rattle.pad_rename.specs.PaddedPairs.{are_sinks, pair_after, some_pair, twice}
+use Rattle.pad_rename.proofs.PaddedPairLemmas.{both_sinks, pair_run-first, same_pairs}
+use Rattle.pad_rename.proofs.SinkLeads.{lead-sink}
 use Rattle.word_output.specs.LetterFunctions.{IsLetterFunction, LetterFunctionValue, letter_after}
 use Rattle.word_output.specs.LetterPaddings.{LsdLettersAlike}
 use Rattle.word_output.specs.StateLetters.{head_letters, letter_at, letter_led, letter_of_state}

@@ -17,11 +17,11 @@ use Rattle.digit_tuple.specs.Paddings.{without_zeros}
 use Rattle.digit_tuple.specs.declared.transitions.Transition.{Transition}
 use Rattle.digit_tuple.proofs.PaddingLemmas.{IsWord-without_zeros}
 use Rattle.residual_classes.specs.Classes.{class_of, first_of}
-use Rattle.residual_classes.proofs.SinkLemmas.{no_transitions_past, row_of}
 use Rattle.minimise.proofs.LeadLemmas.{lead}
 use Rattle.minimise.proofs.PlaceLemmas.{lead-run}
 use Rattle.minimise.proofs.RunLemmas.{run_within}
-use Rattle.project_close.proofs.SinkLeads.{first_cases}
+use Rattle.residual_classes.proofs.SinkLemmas.{no_transitions_past, row_of}
+use Rattle.pad_rename.proofs.SinkLeads.{first_cases}
 use Rattle.word_output.specs.LetterFunctions.{IsLetterFunction, LetterFunctionValue, letter_after, letter_in}
 use Rattle.word_output.specs.LetterPaddings.{MsdLettersAlike}
 use Rattle.word_output.specs.PastZeros.{transition_to_target, transitions_from, is_by_other, key_of, key_to, past_after, past_transitions}

@@ -6,7 +6,7 @@ use Rattle.digit_tuple.specs.Paddings.{strip, without_zeros}
 use Rattle.digit_tuple.specs.declared.direction.Direction.{Direction}
 use Rattle.digit_tuple.specs.declared.direction.Direction.TheVariants.{Msd, Lsd}
 use Rattle.digit_tuple.specs.declared.kind.Kind.TheVariants as kinds
-use Rattle.project_close.specs.Padding.{AreZeros}
+use Rattle.pad_rename.specs.Padding.{AreZeros}
 use Rattle.automaton_steps.specs.Makings.{Making}
 use Rattle.word_output.specs.LetterFunctions.{LetterFunctionValue, IsLetterFunction, letter_after, SameLettersAfter}
 

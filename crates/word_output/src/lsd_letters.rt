@@ -17,7 +17,7 @@ use digit_tuple::limit::Limit;
 use digit_tuple::no_words::no_words_within;
 use digit_tuple::stepped::Stepped;
 use minimise::sink::initial_state;
-use project_close::padded_pairs::PaddedPairs;
+use pad_rename::padded_pairs::PaddedPairs;
 use std::alloc::Global;
 
 /// The letters of words without their trailing zeros. `pad_letters` says more.

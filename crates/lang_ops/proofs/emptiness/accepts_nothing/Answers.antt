@@ -1,6 +1,6 @@
 use Rattle.std.proofs.Common.{sym, ◌∙◌, eq-eqb}
 use Rattle.std.proofs.lemmas.Bool.{eqb-true}
-use Rattle.project_close.proofs.NoWordLemmas.{dead_from_sink, sink_from_dead}
+use Rattle.pad_rename.proofs.NoWordLemmas.{dead_from_sink, sink_from_dead}
 use Rattle.lang_ops.proofs.emptiness.accepts_nothing.Goals as goal
 
 pub returns : goal.returns

@@ -2,7 +2,7 @@ use Rattle.std.proofs.Common.{rules, ◌+◌}
 use Rattle.digit_tuple.specs.Letters.{product}
 use Rattle.digit_tuple.specs.Width.{HasApart}
 use Rattle.product_op.specs.Tracks.{joint_sizes}
-use Rattle.project_close.specs.StayingTracks.{staying_sizes}
+use Rattle.pad_rename.specs.StayingTracks.{staying_sizes}
 use Rattle.num_system.specs.SuccessorSteps.{BetweenAlike, NextAlike, at_between, at_next, order_on, name_u, name_x, name_y}
 use Rattle.num_system.proofs.successor.successor_of.Goals as goal
 

@@ -3,8 +3,8 @@ use Rattle.digit_tuple.specs.Deterministic.{Automaton, accepts_of}
 use Rattle.digit_tuple.specs.Letters.{product, IsWord}
 use Rattle.digit_tuple.specs.Names.{AreDistinct}
 use Rattle.minimise.specs.Tracked.{NamedAutomaton}
-use Rattle.project_close.specs.Substitution.{sizes_under, word_under}
-use Rattle.project_close.proofs.SubstitutionLemmas.{sizes_under-themselves, word_under-themselves}
+use Rattle.pad_rename.specs.Substitution.{sizes_under, word_under}
+use Rattle.pad_rename.proofs.SubstitutionLemmas.{sizes_under-themselves, word_under-themselves}
 use Rattle.number_relations.proofs.OnceLemmas.{once_all}
 use Rattle.number_relations.proofs.placed.placed_table.Goals as goal
 

@@ -4,10 +4,10 @@ use Rattle.std.proofs.lemmas.Result.{IfOk-weaker}
 use Rattle.digit_tuple.specs.Automaton as branching
 use Rattle.digit_tuple.specs.AcceptingStates.{AreAccepting}
 use Rattle.digit_tuple.specs.declared.direction.Direction.{Direction}
+use Rattle.pad_rename.specs.ZeroClosure.{flag_at}
+use Rattle.pad_rename.proofs.SinkLeads.{AreAccepting-in_range}
 use Rattle.project_close.specs.Image.{IsEnd}
-use Rattle.project_close.specs.ZeroClosure.{flag_at}
 use Rattle.project_close.proofs.ImageLemmas.{IsEnd-reached}
-use Rattle.project_close.proofs.SinkLeads.{AreAccepting-in_range}
 use Rattle.project_close.proofs.image.ends.Goals as goal
 
 pub reached-requires : goal.reached-requires

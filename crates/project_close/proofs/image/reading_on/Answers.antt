@@ -2,8 +2,8 @@ use Rattle.std.proofs.Common.{◌≡◌, ◌<◌, ◌↔◌, ℕ, List, Bool, tr
 use Rattle.std.specs.List.{All}
 use Rattle.digit_tuple.specs.Letters.{product}
 use Rattle.digit_tuple.specs.Parts.{parts_of_letters, picked}
+use Rattle.pad_rename.specs.ZeroClosure.{flag_at}
 use Rattle.project_close.specs.Image.{IsEnd}
-use Rattle.project_close.specs.ZeroClosure.{flag_at}
 use Rattle.project_close.proofs.ImageLemmas.{length-parts, parts-below}
 use Rattle.project_close.proofs.ProjectionLemmas.{reads_made}
 use Rattle.project_close.proofs.image.reading_on.Goals as goal

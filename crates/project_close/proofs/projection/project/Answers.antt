@@ -4,8 +4,8 @@ use Rattle.digit_tuple.specs.Deterministic.{Automaton, accepts_of}
 use Rattle.digit_tuple.specs.Letters.{IsWord, product}
 use Rattle.digit_tuple.specs.Names.{AreDistinct}
 use Rattle.minimise.specs.Tracked.{NamedAutomaton}
+use Rattle.pad_rename.specs.StayingTracks.{staying_places}
 use Rattle.project_close.specs.Projection.{InProjection}
-use Rattle.project_close.specs.StayingTracks.{staying_places}
 use Rattle.project_close.proofs.ProjectionLemmas.{names_without-distinct, staying_places-within}
 use Rattle.project_close.proofs.projection.project.Goals as goal
 

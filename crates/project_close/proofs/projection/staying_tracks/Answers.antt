@@ -2,7 +2,7 @@ use Rattle.std.proofs.Common.{◌≡◌, ◌<◌, ℕ, List, length, sym, ap, �
 use Rattle.std.specs.List.{All, Contains}
 use Rattle.digit_tuple.specs.Deterministic.{Automaton}
 use Rattle.digit_tuple.specs.Names.{places_of, names_without}
-use Rattle.project_close.specs.StayingTracks.{staying_places}
+use Rattle.pad_rename.specs.StayingTracks.{staying_places}
 use Rattle.project_close.proofs.ProjectionLemmas.{names_without-there, staying_places-within}
 use Rattle.project_close.proofs.projection.staying_tracks.Goals as goal
 

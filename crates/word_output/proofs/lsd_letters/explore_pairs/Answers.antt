@@ -9,7 +9,7 @@ use Rattle.digit_tuple.specs.Width.{HasApart, HasWidth}
 use Rattle.digit_tuple.specs.declared.faults.OpFault.TheVariants.{States}
 use Rattle.digit_tuple.proofs.WidthLemmas.{HasApart-same, HasWidth-same}
 use Rattle.residual_classes.specs.Classes.{first_of}
-use Rattle.project_close.specs.PaddedPairs.{pair_after, twice}
+use Rattle.pad_rename.specs.PaddedPairs.{pair_after, twice}
 use Rattle.word_output.specs.LetterPaddings.{LsdLettersAlike}
 use Rattle.word_output.specs.StateLetters.{letter_led}
 use Rattle.word_output.proofs.LsdLetterLemmas.{alike_from_pairs, letters-pairs, pairs_from_alike}

@@ -2,7 +2,7 @@ use Rattle.std.proofs.Common.{map, sym, ap, ◌∙◌, subst}
 use Rattle.std.specs.List.{All, Contains}
 use Rattle.std.specs.Rc.{rc_value}
 use Rattle.std.proofs.lemmas.List.{length-map}
-use Rattle.project_close.specs.Substitution.{IsSubstitution}
+use Rattle.pad_rename.specs.Substitution.{IsSubstitution}
 use Rattle.num_system.specs.Tracks.{systems_under}
 use Rattle.number_relations.specs.Placed.{IsPlaced, each_once}
 use Rattle.number_relations.proofs.OnceLemmas.{once_others}

@@ -1,6 +1,0 @@
-use Rattle.std.proofs.Common.{◌≡◌, ◌++◌, filter, take}
-use Rattle.project_close.specs.PaddedSets.{is_by_other}
-use Rattle.project_close.proofs.padding_msd.push_by_others.Given as goal
-
-abbrev pub invariant-loop-place : goal.invariant-loop-place
-invariant-loop-place l = l.out ≡ l.initial.out ++ filter is_by_other (take l.place l.transitions)

@@ -1,6 +1,0 @@
-use Rattle.digit_tuple.specs.DfaRows.{states_in}
-use Rattle.project_close.specs.PartReading.{AreReading}
-use Rattle.project_close.proofs.part_reading.states_reading.Given as goal
-
-abbrev pub invariant-loop-state : goal.invariant-loop-state
-invariant-loop-state l = AreReading l.dfa l.parts l.state (states_in l.states.items)

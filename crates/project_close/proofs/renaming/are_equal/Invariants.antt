@@ -1,5 +1,0 @@
-use Rattle.std.proofs.Common.{◌≡◌, ℕ, ◌<◌, [], length, get_or}
-use Rattle.project_close.proofs.renaming.are_equal.Given as goal
-
-abbrev pub invariant-loop-place : goal.invariant-loop-place
-invariant-loop-place l = (length l.a ≡ length l.b) × ((k : ℕ) → k < l.place → get_or l.a k [] ≡ get_or l.b k [])

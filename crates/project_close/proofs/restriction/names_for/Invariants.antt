@@ -1,6 +1,0 @@
-use Rattle.std.proofs.Common.{◌≡◌, take}
-use Rattle.project_close.specs.Restriction.{names_for}
-use Rattle.project_close.proofs.restriction.names_for.Given as goal
-
-abbrev pub invariant-loop-name : goal.invariant-loop-name
-invariant-loop-name l = l.under.items ≡ names_for (take l.name-index l.names) l.kept l.dropped

@@ -1,5 +1,0 @@
-use Rattle.project_close.specs.ZerosStay.{AreEnds}
-use Rattle.project_close.proofs.zeros_stay.find_ends.Given as goal
-
-abbrev pub invariant-loop-state : goal.invariant-loop-state
-invariant-loop-state l = AreEnds l.a l.state l.returns l.gap
