@@ -2,7 +2,8 @@
 use Rattle.digit_tuple.specs.declared.direction.Direction.{Direction}
 use Rattle.digit_tuple.specs.Deterministic.{letters_of}
 use Rattle.number_order.proofs.OrderWidthLemmas.{IsEquivalence-order}
-use Rattle.product_op.proofs.WidthLaws.{IsEquivalence-product, IsEquivalence-validity}
+use Rattle.product_op.proofs.WidthLaws.{IsEquivalence-product}
+use Rattle.validity.proofs.WidthLaws.{IsEquivalence-validity}
 use Rattle.pad_rename.specs.StayingTracks.{staying_places}
 use Rattle.pad_rename.proofs.WidthLaws.{IsEquivalence-padded}
 use Rattle.project_close.proofs.WidthLaws.{IsEquivalence-projection}

@@ -6,7 +6,7 @@ use Rattle.digit_tuple.specs.declared.kind.Kind.{Kind}
 use Rattle.digit_tuple.specs.declared.kind.Kind.TheVariants as kinds
 use Rattle.minimise.specs.Canonical.{IsCanonical}
 use Rattle.minimise.specs.Tracked.{NamedAutomaton}
-use Rattle.product_op.specs.Products.{in_valid_part, in_complement, ValidityAlike}
+use Rattle.validity.specs.ValidParts.{in_valid_part, in_complement, ValidityAlike}
 use Rattle.automaton_steps.specs.Makings.{Making}
 
 -- the canonical automaton, on the tracks of the other one, that accepts these words

@@ -13,9 +13,9 @@ use digit_tuple::step_fault::StepFault;
 use digit_tuple::stepped::Stepped;
 use digit_tuple::steps::Steps;
 use minimise::tracked::Tracked;
-use product_op::validity::valid_part;
 use std::alloc::Global;
 use std::rc::Rc;
+use validity::valid_words::valid_part;
 
 /// The words that are accepted and whose tracks are each in the track's language, by the step `valid`
 /// as the next one. There is a canonical language for each track. The tracks, the width and the cost

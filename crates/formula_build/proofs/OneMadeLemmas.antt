@@ -5,7 +5,7 @@ use Rattle.std.specs.Str.{bytes_eq}
 use Rattle.std.proofs.lemmas.Option.{none-some, same_Some}
 use Rattle.digit_tuple.specs.Deterministic.{Automaton}
 use Rattle.automaton_steps.proofs.OneResults.{one_join, one_on_tracks, one_projection}
-use Rattle.product_op.specs.Products.{in_complement}
+use Rattle.validity.specs.ValidParts.{in_complement}
 use Rattle.num_system.specs.Sealed.{SystemValue, IsSealed}
 use Rattle.num_system.specs.Tracks.{direction_of, languages_of}
 use Rattle.number_relations.specs.Relations.{RelationValue, RelationHolds, named_of}

@@ -22,11 +22,11 @@ use product_op::joint_tracks::{agree_on_shared, joint_tracks, sizes_of_names};
 use product_op::languages::are_languages;
 use product_op::op::Op;
 use product_op::product::product;
-use product_op::validity::{complement_in, valid_part};
 use reference::words::all_words;
 use std::alloc::Global;
 use std::process::Abort;
 use std::rc::Rc;
+use validity::valid_words::{complement_in, valid_part};
 
 // Words with an even number of 1s, words that end in 1, and words without two 1s in a row.
 const EVEN: &str = "x:2 = (0|10*1)*";

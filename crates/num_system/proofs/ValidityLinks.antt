@@ -8,7 +8,7 @@ use Rattle.digit_tuple.specs.declared.direction.Direction.{Direction}
 use Rattle.digit_tuple.proofs.PaddingLemmas.{IsWord-in_order}
 use Rattle.minimise.specs.Tracked.{NamedAutomaton}
 use Rattle.product_op.specs.Validity.{is_valid}
-use Rattle.product_op.specs.Products.{in_complement, in_valid_part}
+use Rattle.validity.specs.ValidParts.{in_complement, in_valid_part}
 use Rattle.numeration.specs.Systems.{System, AreSystems}
 use Rattle.numeration.specs.Representation.{sizes_of, letters_in, Represents}
 use Rattle.numeration.specs.Relations.{HoldsOf}

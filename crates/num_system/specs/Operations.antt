@@ -8,7 +8,8 @@ use Rattle.minimise.specs.Canonical.{IsCanonical}
 use Rattle.minimise.specs.Tracked.{NamedAutomaton}
 use Rattle.product_op.specs.declared.op.Op.{Op}
 use Rattle.product_op.specs.Tracks.{joint_sizes}
-use Rattle.product_op.specs.Products.{in_product, in_complement, in_valid_part}
+use Rattle.product_op.specs.Products.{in_product}
+use Rattle.validity.specs.ValidParts.{in_complement, in_valid_part}
 use Rattle.pad_rename.specs.StayingTracks.{staying_places, staying_sizes}
 use Rattle.project_close.specs.Projection.{InProjection}
 

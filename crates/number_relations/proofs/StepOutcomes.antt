@@ -8,7 +8,8 @@ use Rattle.digit_tuple.specs.declared.step_fault.StepFault.TheVariants.{Memory}
 use Rattle.digit_tuple.proofs.TruthLemmas.{same_tests}
 use Rattle.minimise.specs.Canonical.{IsCanonical}
 use Rattle.minimise.proofs.CanonicalLemmas.{canonical_forms}
-use Rattle.product_op.proofs.WidthLaws.{IsEquivalence-product, IsEquivalence-validity}
+use Rattle.product_op.proofs.WidthLaws.{IsEquivalence-product}
+use Rattle.validity.proofs.WidthLaws.{IsEquivalence-validity}
 use Rattle.pad_rename.specs.StayingTracks.{staying_places}
 use Rattle.project_close.proofs.WidthLaws.{IsEquivalence-projection}
 use Rattle.numeration.specs.Systems.{System}

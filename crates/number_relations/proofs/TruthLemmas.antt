@@ -9,7 +9,7 @@ use Rattle.digit_tuple.specs.declared.direction.Direction.TheVariants.{Msd}
 use Rattle.minimise.specs.Canonical.{IsCanonical}
 use Rattle.minimise.specs.Tracked.{NamedAutomaton}
 use Rattle.numeration.specs.Relations.{HoldsOf}
-use Rattle.product_op.specs.Products.{in_complement}
+use Rattle.validity.specs.ValidParts.{in_complement}
 use Rattle.product_op.specs.Validity.{is_valid}
 use Rattle.number_relations.specs.Relations.{IsRelation, relation_over}
 use Rattle.number_relations.specs.Comparisons.{IsTruth}

@@ -16,9 +16,9 @@ use minimise::tracked::Tracked;
 use num_system::comparison::Comparison;
 use num_system::sealed::is_sealed;
 use num_system::system::System;
-use product_op::validity::complement_in;
 use std::alloc::Global;
 use std::rc::Rc;
+use validity::valid_words::complement_in;
 
 impl Relation {
     /// The numbers of a system that compare so, under two names, which may be the same. The tracks are in this order,

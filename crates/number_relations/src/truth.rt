@@ -13,8 +13,8 @@ use digit_tuple::faults::OutOfMemory;
 use digit_tuple::limit::Limit;
 use digit_tuple::no_words::no_words;
 use minimise::tracked::Tracked;
-use product_op::validity::complement_in;
 use std::alloc::Global;
+use validity::valid_words::complement_in;
 
 impl Relation {
     /// The sentence of this truth, a relation without tracks. Only OutOfMemory is answered.

@@ -1,5 +1,5 @@
--- Products, complements and valid parts as automata that read side by side.
-use Rattle.std.proofs.Common.{◌≡◌, ℕ, ◌+◌, ◌<◌, ◌≤◌, Bool, true, false, not, ◌&&◌, List, [], ◌∷◌, ◌++◌, length, map, refl, sym, ap, ◌∙◌, subst, arith, IsTrue, if◌then◌else◌}
+-- Products as automata that read side by side.
+use Rattle.std.proofs.Common.{◌≡◌, ℕ, ◌+◌, ◌<◌, Bool, true, false, ◌&&◌, List, [], ◌∷◌, ◌++◌, length, map, refl, sym, ap, ◌∙◌, subst, arith, IsTrue, if◌then◌else◌}
 use Rattle.std.specs.List.{All, Contains, range_with_len}
 use Rattle.std.proofs.lemmas.List.{length-map, append_assoc}
 use Rattle.std.proofs.lemmas.List.FromFn.{map-range_with_len_more}
@@ -14,20 +14,18 @@ use Rattle.digit_tuple.proofs.NameLemmas.{places_of-within}
 use Rattle.minimise.specs.Canonical.{IsCanonical}
 use Rattle.minimise.specs.Tracked.{NamedAutomaton, IsTracked}
 use Rattle.product_op.specs.declared.op.Op.{Op}
-use Rattle.product_op.specs.declared.rule.Rule.{Rule}
-use Rattle.product_op.specs.declared.rule.Rule.TheVariants.{Both, NotFirst}
-use Rattle.product_op.specs.declared.rule.Rule.TheVariants as rules
+use Rattle.product_op.specs.declared.rule.Rule.TheVariants.{Both}
 use Rattle.product_op.specs.declared.reader.Reader.{Reader}
 use Rattle.product_op.specs.Connectives.{connective, among_valid}
 use Rattle.digit_tuple.specs.Names.{AreJoint, joint_names}
 use Rattle.product_op.specs.Tracks.{AgreeOnShared, joint_size, joint_sizes}
 use Rattle.product_op.specs.Validity.{AreLanguages, is_valid, TracksAlike}
-use Rattle.product_op.specs.Products.{joint_part, in_product, ProductAlike, in_complement, in_valid_part, ValidityAlike}
-use Rattle.product_op.specs.Readings.{Reading, IsReading, AreReadings, AreCanonical, reading_in, readings_in, AreSideBySide, AreAlike, word_read, flags_of, all_true, combined, arguments_of}
+use Rattle.product_op.specs.Products.{joint_part, in_product, ProductAlike}
+use Rattle.product_op.specs.Readings.{Reading, IsReading, AreReadings, AreCanonical, reading_in, readings_in, AreSideBySide, AreAlike, word_read, flags_of, all_true, combined}
 use Rattle.product_op.specs.TrackReadings.{read_on, whole_reading, track_reading, track_readings, counted_of, argument_reading, product_readings, validity_readings, AllFitTracks}
 use Rattle.digit_tuple.proofs.JointNames.{AreJoint-joint_names}
 use Rattle.product_op.proofs.SizeLemmas.{joint_size-first, joint_size-second, picked_sizes}
-use Rattle.product_op.proofs.ReadingLemmas.{AllFitTracks-languages, IsReading-on, IsReading-whole, AreReadings-tracks, AreCanonical-tracks, word_read-part, word_read-all, SameAfter-words, all_true-valid, tracks_from_alike, alike_from_tracks, alike_cons, alike_head, alike_tail}
+use Rattle.product_op.proofs.ReadingLemmas.{AllFitTracks-languages, IsReading-on, IsReading-whole, AreReadings-tracks, AreCanonical-tracks, word_read-part, SameAfter-words, all_true-valid, tracks_from_alike, alike_from_tracks, alike_cons, alike_head, alike_tail}
 
 -- where languages count, they fit the tracks
 pub AllFitTracks-counted : (op : Op) (sizes : List ℕ) (languages : List Automaton) → (IsTrue (among_valid op) → AreLanguages sizes languages) → AllFitTracks sizes (counted_of op languages)
@@ -81,33 +79,6 @@ module _ (op : Op) (a b : NamedAutomaton) (languages : List Automaton) where
         (alike_cons (argument_reading a b b) (track_readings (joint_sizes a b) (counted_of op languages)) w v
         (SameAfter-words b.automaton (joint_part a b b.names w) (word_read (argument_reading a b b) w) (joint_part a b b.names v) (word_read (argument_reading a b b) v) (sym (argument_read b w over)) (sym (argument_read b v there)) same.second)
         (alike_from_tracks (joint_sizes a b) (counted_of op languages) w v over there (counted_tracks (among_valid op) same.tracks)))
-
-module _ (a : NamedAutomaton) (languages : List Automaton) where
-  whole_read : (w : List ℕ) → IsWord (product a.automaton.sizes) w → word_read (whole_reading a.automaton) w ≡ w
-  whole_read w over = word_read-all a.automaton w over
-
-  pub valid_part_flags : (w : List ℕ) → IsWord (product a.automaton.sizes) w → combined rules.All (flags_of (validity_readings a.automaton languages) w) ≡ in_valid_part a languages w
-  valid_part_flags w over =
-      ap (λ x. accepts_of a.automaton x && all_true (flags_of (track_readings a.automaton.sizes languages) w)) (whole_read w over)
-      ∙ ap (λ z. accepts_of a.automaton w && z) (all_true-valid a.automaton.sizes languages w over)
-
-  pub complement_flags : (w : List ℕ) → IsWord (product a.automaton.sizes) w → combined NotFirst (flags_of (validity_readings a.automaton languages) w) ≡ in_complement a languages w
-  complement_flags w over =
-      ap (λ x. not (accepts_of a.automaton x) && all_true (flags_of (track_readings a.automaton.sizes languages) w)) (whole_read w over)
-      ∙ ap (λ z. not (accepts_of a.automaton w) && z) (all_true-valid a.automaton.sizes languages w over)
-
-  module _ (w v : List ℕ) (over : IsWord (product a.automaton.sizes) w) (there : IsWord (product a.automaton.sizes) v) where
-    pub validity_from_alike : AreAlike (validity_readings a.automaton languages) w v → ValidityAlike a languages w v
-    validity_from_alike alike = record {
-      argument = SameAfter-words a.automaton (word_read (whole_reading a.automaton) w) w (word_read (whole_reading a.automaton) v) v (whole_read w over) (whole_read v there) (alike_head (whole_reading a.automaton) (track_readings a.automaton.sizes languages) w v alike);
-      tracks = tracks_from_alike a.automaton.sizes languages w v over there (alike_tail (whole_reading a.automaton) (track_readings a.automaton.sizes languages) w v alike);
-    }
-
-    pub alike_from_validity : ValidityAlike a languages w v → AreAlike (validity_readings a.automaton languages) w v
-    alike_from_validity same =
-        alike_cons (whole_reading a.automaton) (track_readings a.automaton.sizes languages) w v
-        (SameAfter-words a.automaton w (word_read (whole_reading a.automaton) w) v (word_read (whole_reading a.automaton) v) (sym (whole_read w over)) (sym (whole_read v there)) same.argument)
-        (alike_from_tracks a.automaton.sizes languages w v over there same.tracks)
 
 module _ (a b : NamedAutomaton) (is_a : IsTracked a) (is_b : IsTracked b) (agree : AgreeOnShared a b) where
   joint : AreJoint a.names b.names (joint_names a.names b.names)
@@ -163,15 +134,6 @@ module _ (a b : NamedAutomaton) (is_a : IsTracked a) (is_b : IsTracked b) (agree
 pub AreReadings-validity : (d : Automaton) → IsTable (letters_of d) d.states → (languages : List Automaton) → AllFitTracks d.sizes languages → AreReadings (product d.sizes) (validity_readings d languages)
 AreReadings-validity d table languages fit = All-cons (IsReading (product d.sizes)) (whole_reading d) (track_readings d.sizes languages) (IsReading-whole d table) (AreReadings-tracks d.sizes languages fit)
 
-pub AreCanonical-validity : (d : Automaton) → IsCanonical d → (languages : List Automaton) → AllFitTracks d.sizes languages → AreCanonical (validity_readings d languages)
-AreCanonical-validity d canonical languages fit = All-cons (λ (r : Reading). IsCanonical r.automaton) (whole_reading d) (track_readings d.sizes languages) canonical (AreCanonical-tracks d.sizes languages fit)
-
-pub AreSideBySide-validity : (d : Automaton) → IsCanonical d → (languages : List Automaton) (rule : Rule) → AllFitTracks d.sizes languages → arguments_of rule ≤ 1 → AreSideBySide (product d.sizes) (validity_readings d languages) rule
-AreSideBySide-validity d canonical languages rule fit few = record {
-  readings_are = AreReadings-validity d canonical.table languages fit;
-  enough = omega (arith, few);
-}
-
 -- what is known of the readings that the code made, in the words of products
 module _ (op : Op) (a b : NamedAutomaton) (languages : List Automaton) (made : List Reading) (sizes : List ℕ) (are : made ≡ product_readings op a b languages) (same : sizes ≡ joint_sizes a b) where
   pub AreSideBySide-made : AreSideBySide (product (joint_sizes a b)) (product_readings op a b languages) (Both op) → AreSideBySide (product sizes) made (Both op)
@@ -191,27 +153,6 @@ module _ (op : Op) (a b : NamedAutomaton) (languages : List Automaton) (made : L
   product-apart k apart =
       HasApart-same (AreAlike (product_readings op a b languages)) (ProductAlike op a b languages) (product (joint_sizes a b)) k (alike_from_product op a b languages)
       (subst (λ rs. HasApart (AreAlike rs) (product (joint_sizes a b)) k) are (subst (λ ss. HasApart (AreAlike made) (product ss) k) same apart))
-
--- and in those of valid parts
-module _ (a : NamedAutomaton) (languages : List Automaton) (rule : Rule) (made : List Reading) (sizes : List ℕ) (are : made ≡ validity_readings a.automaton languages) (same : sizes ≡ a.automaton.sizes) where
-  pub AreSideBySide-valid : IsCanonical a.automaton → AllFitTracks a.automaton.sizes languages → arguments_of rule ≤ 1 → AreSideBySide (product sizes) made rule
-  AreSideBySide-valid canonical fit few =
-      subst (λ rs. AreSideBySide (product sizes) rs rule) (sym are)
-      (subst (λ ss. AreSideBySide (product ss) (validity_readings a.automaton languages) rule) (sym same) (AreSideBySide-validity a.automaton canonical languages rule fit few))
-
-  pub validity-language : (accepts : List ℕ → Bool) → ((w : List ℕ) → IsWord (product sizes) w → accepts w ≡ combined rule (flags_of made w))
-      → (w : List ℕ) → IsWord (product a.automaton.sizes) w → accepts w ≡ combined rule (flags_of (validity_readings a.automaton languages) w)
-  validity-language accepts says w over = says w (subst (λ ss. IsWord (product ss) w) (sym same) over) ∙ ap (λ rs. combined rule (flags_of rs w)) are
-
-  pub validity-width : (k : ℕ) → HasWidth (AreAlike made) (product sizes) k → HasWidth (ValidityAlike a languages) (product a.automaton.sizes) k
-  validity-width k width =
-      HasWidth-same (AreAlike (validity_readings a.automaton languages)) (ValidityAlike a languages) (product a.automaton.sizes) k (validity_from_alike a languages) (alike_from_validity a languages)
-      (subst (λ rs. HasWidth (AreAlike rs) (product a.automaton.sizes) k) are (subst (λ ss. HasWidth (AreAlike made) (product ss) k) same width))
-
-  pub validity-apart : (k : ℕ) → HasApart (AreAlike made) (product sizes) k → HasApart (ValidityAlike a languages) (product a.automaton.sizes) k
-  validity-apart k apart =
-      HasApart-same (AreAlike (validity_readings a.automaton languages)) (ValidityAlike a languages) (product a.automaton.sizes) k (alike_from_validity a languages)
-      (subst (λ rs. HasApart (AreAlike rs) (product a.automaton.sizes) k) are (subst (λ ss. HasApart (AreAlike made) (product ss) k) same apart))
 
 -- the readers of the code, when those of both arguments and of the languages were added
 pub product_readings-made : (a b : NamedAutomaton) (languages : List Automaton) (r s : Reader) (items : List Reader) (made : List Reading) (ns ms : List (List ℕ)) (sizes : List ℕ)

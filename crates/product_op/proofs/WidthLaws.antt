@@ -1,10 +1,10 @@
--- Words that are alike to products and to valid parts: these are equivalences.
+-- Words that are alike to products: this is an equivalence.
 use Rattle.std.proofs.Common.{List, sym, ◌∙◌, refl}
 use Rattle.digit_tuple.specs.Deterministic.{Automaton}
 use Rattle.digit_tuple.specs.Width.{IsEquivalence}
 use Rattle.minimise.specs.Tracked.{NamedAutomaton}
 use Rattle.product_op.specs.declared.op.Op.{Op}
-use Rattle.product_op.specs.Products.{ProductAlike, ValidityAlike}
+use Rattle.product_op.specs.Products.{ProductAlike}
 
 pub IsEquivalence-product : (op : Op) (a b : NamedAutomaton) (languages : List Automaton) → IsEquivalence (ProductAlike op a b languages)
 IsEquivalence-product op a b languages = record {
@@ -18,15 +18,5 @@ IsEquivalence-product op a b languages = record {
     first = λ t more. one.first t more ∙ two.first t more;
     second = λ t more. one.second t more ∙ two.second t more;
     tracks = λ counts track less t more. one.tracks counts track less t more ∙ two.tracks counts track less t more;
-  };
-}
-
-pub IsEquivalence-validity : (a : NamedAutomaton) (languages : List Automaton) → IsEquivalence (ValidityAlike a languages)
-IsEquivalence-validity a languages = record {
-  reflexive = λ w. record { argument = λ t more. refl; tracks = λ track less t more. refl };
-  symmetric = λ w v alike. record { argument = λ t more. sym (alike.argument t more); tracks = λ track less t more. sym (alike.tracks track less t more) };
-  transitive = λ u v w one two. record {
-    argument = λ t more. one.argument t more ∙ two.argument t more;
-    tracks = λ track less t more. one.tracks track less t more ∙ two.tracks track less t more;
   };
 }

@@ -1,15 +1,11 @@
--- Widths of products, of complements among valid words and of valid parts.
+-- Widths of products.
 use Rattle.std.specs.Prelude.{ℕ, List}
 use Rattle.digit_tuple.specs.Deterministic.{Automaton}
 use Rattle.digit_tuple.specs.Width.{IsOneWidth}
 use Rattle.minimise.specs.Tracked.{NamedAutomaton}
 use Rattle.product_op.specs.declared.op.Op.{Op}
-use Rattle.product_op.specs.Products.{ProductAlike, ValidityAlike}
+use Rattle.product_op.specs.Products.{ProductAlike}
 
 -- a product has one width
 abbrev pub OneProductWidth : Type 0
 OneProductWidth = (op : Op) (a b : NamedAutomaton) (languages : List Automaton) (letters : ℕ) → IsOneWidth (ProductAlike op a b languages) letters
-
--- a complement among valid words has one width, and a valid part the same
-abbrev pub OneValidityWidth : Type 0
-OneValidityWidth = (a : NamedAutomaton) (languages : List Automaton) (letters : ℕ) → IsOneWidth (ValidityAlike a languages) letters

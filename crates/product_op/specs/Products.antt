@@ -1,5 +1,5 @@
 -- Products of two automata over the tracks of both.
-use Rattle.std.specs.Prelude.{ℕ, Bool, true, not, ◌&&◌, List, IsTrue, if◌then◌else◌}
+use Rattle.std.specs.Prelude.{ℕ, Bool, true, ◌&&◌, List, IsTrue, if◌then◌else◌}
 use Rattle.digit_tuple.specs.Deterministic.{Automaton, accepts_of}
 use Rattle.minimise.specs.Tracked.{NamedAutomaton}
 use Rattle.product_op.specs.declared.op.Op.{Op}
@@ -25,16 +25,3 @@ pub record ProductAlike (op : Op) (a b : NamedAutomaton) (languages : List Autom
   pub first : SameAfter a.automaton (joint_part a b a.names w) (joint_part a b a.names v)
   pub second : SameAfter b.automaton (joint_part a b b.names w) (joint_part a b b.names v)
   pub tracks : IsTrue (among_valid op) → TracksAlike (joint_sizes a b) languages w v
-
--- whether a word is valid and not in a
-abbrev pub in_complement : NamedAutomaton → List Automaton → List ℕ → Bool
-in_complement a languages w = not (accepts_of a.automaton w) && is_valid a.automaton.sizes languages w
-
--- whether a word is valid and in a
-abbrev pub in_valid_part : NamedAutomaton → List Automaton → List ℕ → Bool
-in_valid_part a languages w = accepts_of a.automaton w && is_valid a.automaton.sizes languages w
-
--- the automaton has one residual after the two words, and so has each track's language
-pub record ValidityAlike (a : NamedAutomaton) (languages : List Automaton) (w v : List ℕ) : Type 0 where
-  pub argument : SameAfter a.automaton w v
-  pub tracks : TracksAlike a.automaton.sizes languages w v

@@ -6,7 +6,7 @@ ghost use Rattle.std.specs.List.{All, Contains};
 ghost use Rattle.digit_tuple.specs.Names.{places_of};
 ghost use Rattle.digit_tuple.specs.Parts.{picked};
 ghost use Rattle.product_op.specs.Readings.{reading_in, readings_in};
-ghost use Rattle.product_op.specs.TrackReadings.{read_on, whole_reading, track_readings, AllFitTracks};
+ghost use Rattle.product_op.specs.TrackReadings.{read_on, whole_reading, track_readings, validity_readings, AllFitTracks};
 
 use crate::numbers_below::numbers_below;
 use crate::reader::Reader;
@@ -64,6 +64,27 @@ pub fn add_track_readers<'a>(
         readers.push(reader_on(alloc, alphabet, &[track as u32], language.as_ref())?)?;
     }
     Ok(())
+}
+
+/// The readers of an automaton on all tracks and of each language on its track: so it is seen whether a word is valid,
+/// each of its track words in the track's language, and whether the automaton accepts it. `alphabet` is that of the
+/// automaton, and `valid` has canonical languages of the first tracks, each over its track's digits. The reader of the
+/// automaton is the first, those of the languages follow in the order of tracks. The one error is that memory runs out.
+/// Time and memory follow the tracks and the transitions of all these automata.
+pub fn validity_readers<'a>(
+    alloc: Global,
+    alphabet: &Alphabet,
+    dfa: &'a Dfa,
+    valid: &'a [Rc<Dfa>],
+) -> Result<Vec<Reader<'a>>, OutOfMemory>
+    requires sizes { alphabet.now ≡ dfa.now.sizes }
+    requires languages { AllFitTracks dfa.now.sizes (map rc_value valid.now) }
+    ensures { IfOk result (λ readers. readings_in readers.items ≡ validity_readings dfa.now (map rc_value valid.now)) }
+{
+    let mut readers = Vec::new(alloc);
+    readers.push(whole_reader(alloc, dfa)?)?;
+    add_track_readers(alloc, alphabet, valid, &mut readers)?;
+    Ok(readers)
 }
 
 /// The reader of an automaton on the tracks at these places, counted from 0. Time and memory follow the tracks and the

@@ -1,10 +1,10 @@
-//! Canonical automata combined over the tracks of both, and their parts on valid words.
+//! Canonical automata combined over the tracks of both.
 //!
 //! `product` gives the words of which a connective (`Op`) holds, by whether each of two automata accepts the word's
 //! part on its tracks. Tracks of one name are one track, and those of the result are in byte order of names. A word is
-//! valid if on each track its word is in the track's language: `complement_in` gives the valid words that are not
-//! accepted, `valid_part` those that are. These results are canonical. `explore_tuples` gives the automaton of the
-//! tuples of states that words lead to, and does not say which of them accept.
+//! valid if on each track its word is in the track's language. `tracked_side_by_side` gives the words of which a rule
+//! holds, by whether each of several automata accepts its part. These results are canonical. `explore_tuples` gives the
+//! automaton of the tuples of states that words lead to, and does not say which of them accept.
 //!
 //! Each is a product construction: automata are read side by side, the languages of tracks among them. A missing
 //! transition leads to a sink, which may be part of a tuple. `And` and `AndNot` accept words of the first automaton
@@ -26,7 +26,7 @@ pub mod op;
 pub mod joint_tracks;
 
 /// What says whether automata that read side by side accept.
-mod rule;
+pub mod rule;
 
 /// Where letters lead from all states of an automaton, in one table.
 mod next_table;
@@ -71,7 +71,7 @@ mod dead_pairs;
 mod needing;
 
 /// The automaton whose states are tuples of residuals.
-mod side_by_side;
+pub mod side_by_side;
 
 /// The automaton whose states are the tuples of states that words lead automata to.
 pub mod tuples;
@@ -82,8 +82,5 @@ pub mod languages;
 /// Products of two automata over the tracks of both.
 pub mod product;
 
-/// Parts of automata on valid words.
-pub mod validity;
-
-/// Laws of widths.
+/// The law of widths.
 pub mod laws;

@@ -31,9 +31,14 @@ use minimise::tracked::Tracked;
 use std::alloc::Global;
 
 /// The canonical automaton, its tracks under these names, of the words of which the rule holds, by whether each reader
-/// accepts its part. The width is the number of tuples of residuals that words lead to, the empty residual counted too.
-/// `States` comes if and only if it passes the limit, and `Letters` never. Time and memory follow the tuples and the
-/// letters by which some residual of a tuple leads to one that is not empty, or all letters where they are at most 32.
+/// accepts its part. The readers read canonical automata, each a part of every letter of `alphabet`, and there are at
+/// least as many as the rule has arguments. There is a name for each track, and no name twice.
+///
+/// The width is the number of tuples of residuals that words lead to, the empty residual counted too. `States` comes if
+/// and only if it passes the limit, and `Letters` never. The result has at most as many states as the width. Memory may
+/// also run out where 2^32 - 1 states are not enough. Time and memory follow the tuples and the letters by which some
+/// residual of a tuple leads to one that is not empty, or all letters where they are at most 32; under `And` and `AndNot`
+/// of two readers they follow what `product` says of these.
 pub fn tracked_side_by_side(
     alloc: Global,
     alphabet: Alphabet,

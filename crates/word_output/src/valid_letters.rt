@@ -17,10 +17,10 @@ use digit_tuple::numbering::Numbering;
 use digit_tuple::step_fault::StepFault;
 use digit_tuple::stepped::Stepped;
 use digit_tuple::steps::Steps;
+use product_op::argument_readers::validity_readers;
 use product_op::reader::Reader;
 use product_op::reader_states::all_accept;
 use product_op::tuples::explore_tuples;
-use product_op::validity::validity_readers;
 use std::alloc::Global;
 use std::rc::Rc;
 

@@ -3,7 +3,7 @@ use Rattle.std.specs.Rc.{rc_value}
 use Rattle.digit_tuple.specs.Deterministic.{Automaton, accepts_of, letters_of}
 use Rattle.digit_tuple.specs.Letters.{IsWord}
 use Rattle.numeration.specs.Relations.{HoldsOf}
-use Rattle.product_op.specs.Products.{in_complement}
+use Rattle.validity.specs.ValidParts.{in_complement}
 use Rattle.product_op.specs.Validity.{AreLanguages}
 use Rattle.num_system.specs.Sealed.{SystemValue, system_of, IsSealed}
 use Rattle.num_system.proofs.ValidityLinks.{complement_holds}

@@ -2,7 +2,7 @@ use Rattle.std.proofs.Common.{[], ◌∷◌, ◌++◌, map, ap, sym, ◌∙◌, 
 use Rattle.std.specs.Rc.{rc_value}
 use Rattle.product_op.specs.TrackReadings.{AllFitTracks}
 use Rattle.product_op.proofs.ProductLemmas.{validity_readings-made}
-use Rattle.product_op.proofs.validity.validity_readers.Goals as goal
+use Rattle.product_op.proofs.argument_readers.validity_readers.Goals as goal
 
 pub add_track_readers-requires : goal.add_track_readers-requires
 add_track_readers-requires c = subst (λ ss. AllFitTracks ss (map rc_value c.args.valid.now)) (sym c.requires.sizes) c.requires.languages

@@ -1,4 +1,4 @@
-//! Parts of automata on valid words.
+//! Complements of automata among valid words, and their parts on these.
 
 ghost use Rattle.std.specs.Prelude.{◌≡◌, ◌+◌, ◌≤◌, ℕ, List, IfOk, map};
 ghost use Rattle.std.specs.Rc.{rc_value};
@@ -8,21 +8,19 @@ ghost use Rattle.digit_tuple.specs.Letters.{IsWord};
 ghost use Rattle.digit_tuple.specs.Width.{HasApart, HasWidth};
 ghost use Rattle.minimise.specs.Canonical.{IsCanonical};
 ghost use Rattle.product_op.specs.Validity.{AreLanguages};
-ghost use Rattle.product_op.specs.Products.{in_complement, in_valid_part, ValidityAlike};
-ghost use Rattle.product_op.specs.Readings.{readings_in, flags_of, combined, arguments_of};
+ghost use Rattle.product_op.specs.Readings.{flags_of, combined, arguments_of};
 ghost use Rattle.product_op.specs.TrackReadings.{AllFitTracks, validity_readings};
+ghost use Rattle.validity.specs.ValidParts.{in_complement, in_valid_part, ValidityAlike};
 
-use crate::argument_readers::{add_track_readers, whole_reader};
-use crate::reader::Reader;
-use crate::rule::Rule;
-use crate::side_by_side::tracked_side_by_side;
-use digit_tuple::alphabet::Alphabet;
 use digit_tuple::dfa::Dfa;
 use digit_tuple::faults::{OpFault, OutOfMemory};
 use digit_tuple::limit::Limit;
 use digit_tuple::name::Name;
 use digit_tuple::stepped::Stepped;
 use minimise::tracked::Tracked;
+use product_op::argument_readers::validity_readers;
+use product_op::rule::Rule;
+use product_op::side_by_side::tracked_side_by_side;
 use std::alloc::Global;
 use std::rc::Rc;
 
@@ -79,31 +77,31 @@ pub fn valid_part(
     among_valid(alloc, a, valid, Rule::All, limit)
 }
 
-// The words of which the rule holds, by whether the automaton and each track's language accept.
+// The words of which the rule holds, by whether the automaton and each of the first tracks' languages accept.
 fn among_valid(
     alloc: Global,
     a: &Tracked,
-    valid: &[Rc<Dfa>],
+    languages: &[Rc<Dfa>],
     rule: Rule,
     limit: Limit<'_>,
 ) -> Result<Stepped<Tracked>, OpFault>
-    requires languages { AreLanguages a.now.automaton.sizes (map rc_value valid.now) }
+    requires fit { AllFitTracks a.now.automaton.sizes (map rc_value languages.now) }
     requires enough { arguments_of rule ≤ 1 }
     ensures names { IfOk result (λ stepped. stepped.result.names ≡ a.now.names) }
     ensures sizes { IfOk result (λ stepped. stepped.result.automaton.sizes ≡ a.now.automaton.sizes) }
     ensures canonical { IfOk result (λ stepped. IsCanonical stepped.result.automaton) }
     ensures language { IfOk result (λ stepped. (w : List ℕ) → IsWord (letters_of a.now.automaton) w
-        → accepts_of stepped.result.automaton w ≡ combined rule (flags_of (validity_readings a.now.automaton (map rc_value valid.now)) w)) }
-    ensures width { IfOk result (λ stepped. HasWidth (ValidityAlike a.now (map rc_value valid.now)) (letters_of a.now.automaton) stepped.width) }
+        → accepts_of stepped.result.automaton w ≡ combined rule (flags_of (validity_readings a.now.automaton (map rc_value languages.now)) w)) }
+    ensures width { IfOk result (λ stepped. HasWidth (ValidityAlike a.now (map rc_value languages.now)) (letters_of a.now.automaton) stepped.width) }
     ensures size { IfOk result (λ stepped. states_of stepped.result.automaton ≤ stepped.width) }
     ensures within { IfOk result (λ stepped. stepped.width ≤ limit.entry.most) }
-    ensures states { IsErrOf result OpFault.States → HasApart (ValidityAlike a.now (map rc_value valid.now)) (letters_of a.now.automaton) (limit.entry.most + 1) }
+    ensures states { IsErrOf result OpFault.States → HasApart (ValidityAlike a.now (map rc_value languages.now)) (letters_of a.now.automaton) (limit.entry.most + 1) }
     ensures no_letters { ¬ IsErrOf result OpFault.Letters }
 {
     let names = copied_names(alloc, a.names())?;
     let dfa = a.dfa();
     let alphabet = dfa.alphabet().copy(alloc)?;
-    let readers = validity_readers(alloc, &alphabet, dfa, valid)?;
+    let readers = validity_readers(alloc, &alphabet, dfa, languages)?;
     tracked_side_by_side(alloc, alphabet, names, &readers, rule, limit)
 }
 
@@ -116,21 +114,4 @@ fn copied_names(alloc: Global, names: &[Name]) -> Result<Vec<Name>, OutOfMemory>
         copied.push(name.copy(alloc)?)?;
     }
     Ok(copied)
-}
-
-/// The readers of the automaton and of each track's language.
-pub fn validity_readers<'a>(
-    alloc: Global,
-    alphabet: &Alphabet,
-    dfa: &'a Dfa,
-    valid: &'a [Rc<Dfa>],
-) -> Result<Vec<Reader<'a>>, OutOfMemory>
-    requires sizes { alphabet.now ≡ dfa.now.sizes }
-    requires languages { AllFitTracks dfa.now.sizes (map rc_value valid.now) }
-    ensures { IfOk result (λ readers. readings_in readers.items ≡ validity_readings dfa.now (map rc_value valid.now)) }
-{
-    let mut readers = Vec::new(alloc);
-    readers.push(whole_reader(alloc, dfa)?)?;
-    add_track_readers(alloc, alphabet, valid, &mut readers)?;
-    Ok(readers)
 }

@@ -1,5 +1,5 @@
 use Rattle.std.proofs.Common.{◌≡◌, take}
-use Rattle.product_op.proofs.validity.copied_names.Given as goal
+use Rattle.validity.proofs.valid_words.copied_names.Given as goal
 
 abbrev pub invariant-loop-name : goal.invariant-loop-name
 invariant-loop-name l = l.copied.items ≡ take l.name-index l.names

@@ -5,29 +5,28 @@ use Rattle.digit_tuple.specs.Deterministic.{Automaton, accepts_of}
 use Rattle.digit_tuple.specs.Names.{AreDistinct}
 use Rattle.product_op.specs.Readings.{readings_in, AreCanonical}
 use Rattle.product_op.specs.TrackReadings.{AllFitTracks, validity_readings}
-use Rattle.product_op.proofs.ReadingLemmas.{AllFitTracks-languages}
-use Rattle.product_op.proofs.ProductLemmas.{AreSideBySide-valid, AreCanonical-validity, validity-language, validity-width, validity-apart}
-use Rattle.product_op.proofs.validity.among_valid.Goals as goal
+use Rattle.validity.proofs.ValidityLemmas.{AreSideBySide-valid, AreCanonical-validity, validity-language, validity-width, validity-apart}
+use Rattle.validity.proofs.valid_words.among_valid.Goals as goal
 
 pub validity_readers-requires-clause-languages : goal.validity_readers-requires-clause-languages
 validity_readers-requires-clause-languages c =
-    let languages = map rc_value c.args.valid.now in
-    subst (λ (d : Automaton). AllFitTracks d.sizes languages) (sym c.dfa-dfa.ensures.value) (AllFitTracks-languages c.args.a.now.automaton.sizes languages c.requires.languages)
+    let languages = map rc_value c.args.languages.now in
+    subst (λ (d : Automaton). AllFitTracks d.sizes languages) (sym c.dfa-dfa.ensures.value) c.requires.fit
 
 pub tracked_side_by_side-requires-clause-readers : goal.tracked_side_by_side-requires-clause-readers
 tracked_side_by_side-requires-clause-readers c =
     let a = c.args.a.now in
-    let languages = map rc_value c.args.valid.now in
+    let languages = map rc_value c.args.languages.now in
     let are = ap readings_in c.deref.ensures.value ∙ c.in_ok-readers.ensures ∙ ap (λ (x : Automaton). validity_readings x languages) c.dfa-dfa.ensures.value in
     let sizes = c.in_ok-alphabet.ensures ∙ c.alphabet.ensures.sizes ∙ ap (λ (x : Automaton). x.sizes) c.dfa-dfa.ensures.value in
-    AreSideBySide-valid a languages c.args.rule (readings_in c.deref.result.now) c.in_ok-alphabet.alphabet are sizes c.names.ensures.tracked.canonical (AllFitTracks-languages a.automaton.sizes languages c.requires.languages) c.requires.enough
+    AreSideBySide-valid a languages c.args.rule (readings_in c.deref.result.now) c.in_ok-alphabet.alphabet are sizes c.names.ensures.tracked.canonical c.requires.fit c.requires.enough
 
 pub tracked_side_by_side-requires-clause-canonical : goal.tracked_side_by_side-requires-clause-canonical
 tracked_side_by_side-requires-clause-canonical c =
     let a = c.args.a.now in
-    let languages = map rc_value c.args.valid.now in
+    let languages = map rc_value c.args.languages.now in
     let are = ap readings_in c.deref.ensures.value ∙ c.in_ok-readers.ensures ∙ ap (λ (x : Automaton). validity_readings x languages) c.dfa-dfa.ensures.value in
-    subst AreCanonical (sym are) (AreCanonical-validity a.automaton c.names.ensures.tracked.canonical languages (AllFitTracks-languages a.automaton.sizes languages c.requires.languages))
+    subst AreCanonical (sym are) (AreCanonical-validity a.automaton c.names.ensures.tracked.canonical languages c.requires.fit)
 
 pub tracked_side_by_side-requires-clause-count : goal.tracked_side_by_side-requires-clause-count
 tracked_side_by_side-requires-clause-count c =
@@ -39,7 +38,7 @@ tracked_side_by_side-requires-clause-distinct c = subst AreDistinct (sym (c.in_o
 
 pub returns-clause-language : goal.returns-clause-language
 returns-clause-language c =
-    let languages = map rc_value c.args.valid.now in
+    let languages = map rc_value c.args.languages.now in
     let are = ap readings_in c.deref.ensures.value ∙ c.in_ok-readers.ensures ∙ ap (λ (x : Automaton). validity_readings x languages) c.dfa-dfa.ensures.value in
     let sizes = c.in_ok-alphabet.ensures ∙ c.alphabet.ensures.sizes ∙ ap (λ (x : Automaton). x.sizes) c.dfa-dfa.ensures.value in
     IfOk-weaker c.tracked_side_by_side.result _ _
@@ -48,7 +47,7 @@ returns-clause-language c =
 
 pub returns-clause-width : goal.returns-clause-width
 returns-clause-width c =
-    let languages = map rc_value c.args.valid.now in
+    let languages = map rc_value c.args.languages.now in
     let are = ap readings_in c.deref.ensures.value ∙ c.in_ok-readers.ensures ∙ ap (λ (x : Automaton). validity_readings x languages) c.dfa-dfa.ensures.value in
     let sizes = c.in_ok-alphabet.ensures ∙ c.alphabet.ensures.sizes ∙ ap (λ (x : Automaton). x.sizes) c.dfa-dfa.ensures.value in
     IfOk-weaker c.tracked_side_by_side.result _ _
@@ -57,7 +56,7 @@ returns-clause-width c =
 
 pub returns-clause-states : goal.returns-clause-states
 returns-clause-states c refused =
-    let languages = map rc_value c.args.valid.now in
+    let languages = map rc_value c.args.languages.now in
     let are = ap readings_in c.deref.ensures.value ∙ c.in_ok-readers.ensures ∙ ap (λ (x : Automaton). validity_readings x languages) c.dfa-dfa.ensures.value in
     let sizes = c.in_ok-alphabet.ensures ∙ c.alphabet.ensures.sizes ∙ ap (λ (x : Automaton). x.sizes) c.dfa-dfa.ensures.value in
     validity-apart c.args.a.now languages c.args.rule (readings_in c.deref.result.now) c.in_ok-alphabet.alphabet are sizes (c.args.limit.most + 1) (c.tracked_side_by_side.ensures.states refused)

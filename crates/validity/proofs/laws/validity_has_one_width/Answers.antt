@@ -1,7 +1,7 @@
 use Rattle.digit_tuple.proofs.WidthLemmas.{IsOneWidth-equivalence}
-use Rattle.product_op.specs.Products.{ValidityAlike}
-use Rattle.product_op.proofs.WidthLaws.{IsEquivalence-validity}
-use Rattle.product_op.proofs.laws.validity_has_one_width.Goals as goal
+use Rattle.validity.specs.ValidParts.{ValidityAlike}
+use Rattle.validity.proofs.WidthLaws.{IsEquivalence-validity}
+use Rattle.validity.proofs.laws.validity_has_one_width.Goals as goal
 
 pub returns : goal.returns
 returns c a languages letters = IsOneWidth-equivalence (ValidityAlike a languages) letters (IsEquivalence-validity a languages)

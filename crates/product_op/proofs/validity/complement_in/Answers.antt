@@ -1,9 +1,0 @@
-use Rattle.std.proofs.Common.{◌∙◌, map}
-use Rattle.std.specs.Rc.{rc_value}
-use Rattle.std.proofs.lemmas.Result.{IfOk-weaker}
-use Rattle.product_op.proofs.ProductLemmas.{complement_flags}
-use Rattle.product_op.proofs.validity.complement_in.Goals as goal
-
-pub returns-clause-language : goal.returns-clause-language
-returns-clause-language c =
-    IfOk-weaker c.among_valid.result _ _ (λ stepped h w over. h w over ∙ complement_flags c.args.a.now (map rc_value c.args.valid.now) w over) c.among_valid.ensures.language

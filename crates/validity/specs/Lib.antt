@@ -1,0 +1,2 @@
+pub mod ValidParts
+pub mod OneWidth
