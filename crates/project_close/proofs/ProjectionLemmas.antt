@@ -34,7 +34,7 @@ use Rattle.minimise.specs.Tracked.{IsTracked, NamedAutomaton}
 use Rattle.minimise.proofs.CanonicalLemmas.{live_after, one_state, run_within}
 use Rattle.pad_rename.specs.StayingTracks.{staying_places}
 use Rattle.pad_rename.specs.ZeroClosure.{flag_at}
-use Rattle.project_close.specs.Image.{AreFirst, IsEnd, IsImage, ReadsProjection}
+use Rattle.project_close.specs.Image.{AreFirst, IsEnd, IsImage, IsImageOn, ReadsProjection}
 use Rattle.project_close.specs.Projection.{HaveResiduals, InProjection, ProjectionAlike, HasPart}
 use Rattle.project_close.proofs.ImageLemmas.{path_of_word, word_of_path}
 
@@ -265,14 +265,13 @@ module _ (d : Automaton) (places sizes : List ℕ) (ends : List Bool) (n : Branc
             (λ there. members_from w q (states_from_residuals d canonical live places direction v w alike.back q (members_to v q there))),
           ))
 
-pub reads_made : (d : Automaton) (places : List ℕ) (direction : Direction) (sizes parts : List ℕ) (ends : List Bool) (n : Branching) (first : List ℕ) → sizes ≡ picked places d.sizes → parts ≡ parts_of_letters d.sizes places
-    → IsImage d ends parts sizes n → IsBranchTable (branching.letters_of n) n.states → ((q : ℕ) → (flag_at ends q ≡ true) ↔ IsEnd direction d places q) → AreFirst direction n first → ReadsProjection d places direction n first
-reads_made d places direction sizes parts ends n first sizes_are parts_are image table ends_are first_are = record {
+pub IsImageOn-made : (d : Automaton) (places : List ℕ) (direction : Direction) (sizes parts : List ℕ) (ends : List Bool) (n : Branching) → sizes ≡ picked places d.sizes → parts ≡ parts_of_letters d.sizes places
+    → IsImage d ends parts sizes n → IsBranchTable (branching.letters_of n) n.states → ((q : ℕ) → (flag_at ends q ≡ true) ↔ IsEnd direction d places q) → IsImageOn d places direction n
+IsImageOn-made d places direction sizes parts ends n sizes_are parts_are image table ends_are = record {
   ends = ends;
   image = subst (λ (ps : List ℕ). IsImage d ends ps (picked places d.sizes) n) parts_are (subst (λ (ss : List ℕ). IsImage d ends parts ss n) sizes_are image);
   table = table;
   ends_are = ends_are;
-  first_are = first_are;
 }
 
 module _ (d : Automaton) (places : List ℕ) (direction : Direction) (n : Branching) (first : List ℕ) (reads : ReadsProjection d places direction n first) where

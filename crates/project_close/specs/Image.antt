@@ -50,6 +50,13 @@ abbrev pub AreFirst : Direction → Branching → List ℕ → Type 0
 AreFirst Msd n first = AreAfterZeros n first
 AreFirst Lsd n first = first ≡ 0 ∷ []
 
+-- The automaton n has d's states, its transitions by their parts on the tracks at the places, and accepts where a word may end.
+pub record IsImageOn (d : Automaton) (places : List ℕ) (direction : Direction) (n : Branching) : Type 0 where
+  pub ends : List Bool
+  pub image : IsImage d ends (parts_of_letters d.sizes places) (picked places d.sizes) n
+  pub table : IsBranchTable (branching.letters_of n) n.states
+  pub ends_are : (q : ℕ) → (flag_at ends q ≡ true) ↔ IsEnd direction d places q
+
 -- The automaton n reads d's words on the tracks at the places, from the initial states on.
 pub record ReadsProjection (d : Automaton) (places : List ℕ) (direction : Direction) (n : Branching) (first : List ℕ) : Type 0 where
   pub ends : List Bool

@@ -8,7 +8,7 @@ ghost use Rattle.digit_tuple.specs.Deterministic.{accepting_of, letters_of, stat
 ghost use Rattle.digit_tuple.specs.Letters.{product};
 ghost use Rattle.digit_tuple.specs.Parts.{parts_of_letters, picked};
 ghost use Rattle.pad_rename.specs.ZeroClosure.{flag_at};
-ghost use Rattle.project_close.specs.Image.{AreFirst, AreFlagsAt, AreRelabelled, IsEnd, IsImage, ReadsProjection};
+ghost use Rattle.project_close.specs.Image.{AreFirst, AreFlagsAt, AreRelabelled, IsEnd, IsImage, IsImageOn, ReadsProjection};
 
 use digit_tuple::accepting_states::{accepting_flags, accepting_states};
 use digit_tuple::alphabet::Alphabet;
@@ -43,11 +43,26 @@ pub fn reading_on(
     requires alphabet { alphabet.now ≡ picked places.now d.now.sizes }
     ensures { IfOk result (λ reading. ReadsProjection d.now places.now direction reading.image reading.first.items) }
 {
-    let parts = TrackParts::new(alloc, d.alphabet(), places, alphabet)?;
-    let ends = ends(alloc, d, &parts, direction)?;
-    let image = image(alloc, d, &ends, &parts, alphabet.copy(alloc)?)?;
+    let image = image_on(alloc, d, places, alphabet, direction)?;
     let first = initial_states(alloc, &image, direction)?;
     Ok(Reading { image, first })
+}
+
+// The automaton read on the tracks at some places, without where reading begins.
+fn image_on(
+    alloc: Global,
+    d: &Dfa,
+    places: &[u32],
+    alphabet: &Alphabet,
+    direction: Direction,
+) -> Result<Nfa, OutOfMemory>
+    requires places { All (λ place. place < length d.now.sizes) places.now }
+    requires alphabet { alphabet.now ≡ picked places.now d.now.sizes }
+    ensures { IfOk result (IsImageOn d.now places.now direction) }
+{
+    let parts = TrackParts::new(alloc, d.alphabet(), places, alphabet)?;
+    let ends = ends(alloc, d, &parts, direction)?;
+    image(alloc, d, &ends, &parts, alphabet.copy(alloc)?)
 }
 
 // The automaton with its part, a letter of `alphabet`, in place of each letter. A letter may then lead
