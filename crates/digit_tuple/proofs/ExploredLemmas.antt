@@ -13,9 +13,10 @@ use Rattle.digit_tuple.specs.Width.{HasApart, HasWidth}
 use Rattle.digit_tuple.proofs.WordLemmas.{IsWord-push}
 use Rattle.digit_tuple.specs.Keys.{key_run, key_accepts, LeadAlike}
 use Rattle.digit_tuple.specs.Explored.{AreApart, key_at, IsExplored}
+use Rattle.digit_tuple.specs.Exploring.{NoLater, IsFrontier, LeadsTo, IsStateOf, IsGap, IsExploring}
 use Rattle.digit_tuple.proofs.KeyTransitionLemmas.{IsStateFrom, Overflows}
 use Rattle.digit_tuple.proofs.RowLemmas.{IsFrom, IsFrom-row, gap_of, full_of}
-use Rattle.digit_tuple.proofs.FrontierLemmas.{IsFrontier, IsFrontier-next, IsFrontier-start, IsStateOf, IsStateOf-tried, IsStateOf-grows, LeadsTo, IsTrail, IsTrail-are, IsTrail-prefix, AreTried, AreTried-transitions, NoLater, NoLater-trans, NoLater-push, key_run-push}
+use Rattle.digit_tuple.proofs.FrontierLemmas.{IsFrontier-next, IsFrontier-start, IsStateOf-tried, IsStateOf-grows, IsTrail, IsTrail-are, IsTrail-prefix, AreTried, AreTried-transitions, NoLater-trans, NoLater-push, key_run-push}
 
 -- what holds of reads at one default
 pub AllPairs-from_get_or : {X : Type 0} (R : X → X → Type 0) (xs : List X) (e : X) → ((i j : ℕ) → i < j → j < length xs → R (get_or xs i e) (get_or xs j e)) → AllPairs R xs
@@ -62,25 +63,13 @@ module _ (letters : ℕ) (start : List ℕ) (after : List ℕ → ℕ → Option
     HasApart-gap = record { words = firsts ++ w ∷ []; count = omega (arith, length_push firsts w, f.count); over = All-push (IsWord letters) firsts w over_firsts over; apart = apart_gap }
 
 module _ (letters : ℕ) (start : List ℕ) (after : List ℕ → ℕ → Option (List ℕ)) (accepts : List ℕ → Bool) where
-  -- whether a word leads to no key, as far as the states were tried
-  abbrev pub IsGap : List State → Bool → Type 0
-  IsGap states true = (w : List ℕ) × IsWord letters w × (key_run after start w ≡ None)
-  IsGap states false = (p a : ℕ) → p < length states → a < letters → (t : ℕ) × (target_by (get_or states p no_state).transitions a ≡ Some t)
-
-  -- the states so far are those of the first keys, and the keys have first words
-  pub record IsExploring (keys : List (List ℕ)) (states : List State) (gap : Bool) : Type 0 where
-    pub firsts : List (List ℕ)
-    pub frontier : IsFrontier letters start after keys firsts (length states) 0
-    pub rows : (p : ℕ) → p < length states → IsStateOf letters start after accepts keys firsts p (get_or states p no_state)
-    pub gap_is : IsGap states gap
-
-  pub IsExploring-start : IsExploring (start ∷ []) [] false
+  pub IsExploring-start : IsExploring letters start after accepts (start ∷ []) [] false
   IsExploring-start = record { firsts = [] ∷ []; frontier = IsFrontier-start letters start after; rows = λ p within. absurd (omega arith); gap_is = λ p a within small. absurd (omega arith) }
 
   -- one more state
-  pub IsExploring-row : (keys new : List (List ℕ)) (states : List State) (state : State) (gap now : Bool) → IsExploring keys states gap → length states < length keys
+  pub IsExploring-row : (keys new : List (List ℕ)) (states : List State) (state : State) (gap now : Bool) → IsExploring letters start after accepts keys states gap → length states < length keys
       → IsStateFrom letters (after (key_at keys (length states))) (accepts (key_at keys (length states))) keys new state
-      → ((length state.transitions < letters) × (now ≡ true)) ⊎ ((letters ≤ length state.transitions) × (now ≡ gap)) → IsExploring new (states ++ state ∷ []) now
+      → ((length state.transitions < letters) × (now ≡ true)) ⊎ ((letters ≤ length state.transitions) × (now ≡ gap)) → IsExploring letters start after accepts new (states ++ state ∷ []) now
   IsExploring-row keys new states state gap now e here from short = record {
     firsts = tried.more;
     frontier = subst (λ n. IsFrontier letters start after new tried.more n 0) (sym size) (IsFrontier-next letters start after new tried.more (length states) tried.bound still tried.frontier);
@@ -97,38 +86,38 @@ module _ (letters : ℕ) (start : List ℕ) (after : List ℕ → ℕ → Option
       still : length states < length new
       still = omega (arith, tried.keys_grow.more, here)
 
-      row : IsStateOf letters start after accepts new tried.more (length states) state
+      row : IsStateOf letters after accepts new tried.more (length states) state
       row = IsStateOf-tried letters start after accepts keys new tried.more (length states) from.key_transitions state (tried.keys_grow.same (length states) here) from.are tried.led from.accepting_is
 
       at_last : get_or (states ++ state ∷ []) (length states) no_state ≡ state
       at_last = get_or_push states state no_state (length states) refl
 
-      rows : (q : ℕ) → q < length (states ++ state ∷ []) → IsStateOf letters start after accepts new tried.more q (get_or (states ++ state ∷ []) q no_state)
+      rows : (q : ℕ) → q < length (states ++ state ∷ []) → IsStateOf letters after accepts new tried.more q (get_or (states ++ state ∷ []) q no_state)
       rows q within = by (cases_lt q (length states))
         where
-          by : (q < length states) ⊎ (length states ≤ q) → IsStateOf letters start after accepts new tried.more q (get_or (states ++ state ∷ []) q no_state)
-          by (inl less) = subst (IsStateOf letters start after accepts new tried.more q) (sym (get_or_append_left states (state ∷ []) no_state q less))
+          by : (q < length states) ⊎ (length states ≤ q) → IsStateOf letters after accepts new tried.more q (get_or (states ++ state ∷ []) q no_state)
+          by (inl less) = subst (IsStateOf letters after accepts new tried.more q) (sym (get_or_append_left states (state ∷ []) no_state q less))
               (IsStateOf-grows letters start after accepts keys new e.firsts tried.more q (get_or states q no_state) tried.keys_grow tried.firsts_grow e.frontier.count (omega (arith, here)) (e.rows q less))
           by (inr more) =
               let same : length states ≡ q = omega (arith, size, within) in
-              subst (λ n. IsStateOf letters start after accepts new tried.more n (get_or (states ++ state ∷ []) n no_state)) same
-              (subst (IsStateOf letters start after accepts new tried.more (length states)) (sym at_last) row)
+              subst (λ n. IsStateOf letters after accepts new tried.more n (get_or (states ++ state ∷ []) n no_state)) same
+              (subst (IsStateOf letters after accepts new tried.more (length states)) (sym at_last) row)
 
       from_0 : IsFrom letters 0 state.transitions
       from_0 = IsFrom-row letters 0 state.transitions (λ k d within. (row.in_range k d within).0) row.ascending (λ k d within. omega arith)
 
-      gap_of_row : (b : Bool) → ((length state.transitions < letters) × (now ≡ true)) ⊎ ((letters ≤ length state.transitions) × (now ≡ b)) → IsGap states b → IsGap (states ++ state ∷ []) now
+      gap_of_row : (b : Bool) → ((length state.transitions < letters) × (now ≡ true)) ⊎ ((letters ≤ length state.transitions) × (now ≡ b)) → IsGap letters start after states b → IsGap letters start after (states ++ state ∷ []) now
       gap_of_row b (inl h) g =
           let found : (a : ℕ) × (0 ≤ a) × (a < letters) × (target_by state.transitions a ≡ None) = gap_of letters 0 state.transitions from_0 (omega (arith, h.0)) in
           let none : after (key_at new (length states)) found.0 ≡ None =
-          subst (λ o. MatchOption o (after (key_at new (length states)) found.0 ≡ None) (LeadsTo letters start after new tried.more (length states) found.0)) found.3 (row.leads found.0 found.2) in
-          subst (IsGap (states ++ state ∷ [])) (sym h.1) (
+          subst (λ o. MatchOption o (after (key_at new (length states)) found.0 ≡ None) (LeadsTo after new tried.more (length states) found.0)) found.3 (row.leads found.0 found.2) in
+          subst (IsGap letters start after (states ++ state ∷ [])) (sym h.1) (
             get_or tried.more (length states) [] ++ found.0 ∷ [],
             IsWord-push letters (get_or tried.more (length states) []) found.0 (tried.frontier.over (length states) still) found.2,
             key_run-push after start (key_at new (length states)) (get_or tried.more (length states) []) found.0 (tried.frontier.lead (length states) still) ∙ none,
           )
-      gap_of_row true (inr h) g = subst (IsGap (states ++ state ∷ [])) (sym h.1) g
-      gap_of_row false (inr h) g = subst (IsGap (states ++ state ∷ [])) (sym h.1) (λ q a within small. by q a (cases_lt q (length states)) within small)
+      gap_of_row true (inr h) g = subst (IsGap letters start after (states ++ state ∷ [])) (sym h.1) g
+      gap_of_row false (inr h) g = subst (IsGap letters start after (states ++ state ∷ [])) (sym h.1) (λ q a within small. by q a (cases_lt q (length states)) within small)
         where
           by : (q a : ℕ) → (q < length states) ⊎ (length states ≤ q) → q < length (states ++ state ∷ []) → a < letters → (t : ℕ) × (target_by (get_or (states ++ state ∷ []) q no_state).transitions a ≡ Some t)
           by q a (inl less) within small = let old = g q a less small in (old.0, ap (λ (s : State). target_by s.transitions a) (get_or_append_left states (state ∷ []) no_state q less) ∙ old.1)
@@ -137,7 +126,7 @@ module _ (letters : ℕ) (start : List ℕ) (after : List ℕ → ℕ → Option
               (found.0, ap (λ (s : State). target_by s.transitions a) (get_or_push states state no_state q (omega (arith, size, within))) ∙ found.1)
 
   -- a transition too many
-  pub IsExploring-overflows : (keys new : List (List ℕ)) (states : List State) (gap : Bool) (count : ℕ) → IsExploring keys states gap → length states < length keys
+  pub IsExploring-overflows : (keys new : List (List ℕ)) (states : List State) (gap : Bool) (count : ℕ) → IsExploring letters start after accepts keys states gap → length states < length keys
       → Overflows letters (after (key_at keys (length states))) keys new count → HasApart (LeadAlike after start) letters count
   IsExploring-overflows keys new states gap count e here over =
       let trail = IsTrail-prefix letters start after (key_at keys (length states)) 0 over.some.prefix over.some.rest
@@ -146,7 +135,7 @@ module _ (letters : ℕ) (start : List ℕ) (after : List ℕ → ℕ → Option
       subst (HasApart (LeadAlike after start) letters) over.some.count_is (HasApart-firsts letters start after new tried.more (length states) tried.bound tried.frontier)
 
   -- a word that leads to no key too many
-  pub IsExploring-gap : (keys : List (List ℕ)) (states : List State) (count : ℕ) → IsExploring keys states true → length keys ≡ count → HasApart (LeadAlike after start) letters (count + 1)
+  pub IsExploring-gap : (keys : List (List ℕ)) (states : List State) (count : ℕ) → IsExploring letters start after accepts keys states true → length keys ≡ count → HasApart (LeadAlike after start) letters (count + 1)
   IsExploring-gap keys states count e full =
       subst (λ n. HasApart (LeadAlike after start) letters (n + 1)) full (HasApart-gap letters start after keys e.firsts (length states) 0 e.frontier e.gap_is.0 e.gap_is.1 e.gap_is.2)
 
@@ -212,7 +201,7 @@ module _ (letters : ℕ) (start : List ℕ) (after : List ℕ → ℕ → Option
     transitions = λ q a within small. by q a (step_of d q a) ((e.rows q within).leads a small);
   }
     where
-      by : (q a : ℕ) (o : Option ℕ) → MatchOption o (after (key_at keys q) a ≡ None) (LeadsTo letters start after keys e.firsts q a)
+      by : (q a : ℕ) (o : Option ℕ) → MatchOption o (after (key_at keys q) a ≡ None) (LeadsTo after keys e.firsts q a)
           → MatchOption o (after (key_at keys q) a ≡ None) (λ t. (t < states_of d) × (after (key_at keys q) a ≡ Some (key_at keys t)))
       by q a None none = none
       by q a (Some t) leads = (omega (arith, leads.within, done), leads.key_is)
@@ -227,7 +216,7 @@ module _ (letters : ℕ) (start : List ℕ) (after : List ℕ → ℕ → Option
       number_same p q same = cc
   no_later (a ∷ w) v p q within over first leads = by (step_of d p a) ((e.rows p within).leads a over.0) leads (λ t inside sooner rest. no_later w (v ++ a ∷ []) t q inside over.1 sooner rest)
     where
-      by : (o : Option ℕ) → MatchOption o (after (key_at keys p) a ≡ None) (LeadsTo letters start after keys e.firsts p a) → option_and_then (λ t. run_of d t w) o ≡ Some q
+      by : (o : Option ℕ) → MatchOption o (after (key_at keys p) a ≡ None) (LeadsTo after keys e.firsts p a) → option_and_then (λ t. run_of d t w) o ≡ Some q
           → ((t : ℕ) → t < states_of d → NoLater (get_or e.firsts t []) (v ++ a ∷ []) → run_of d t w ≡ Some q → NoLater (get_or e.firsts q []) ((v ++ a ∷ []) ++ w)) → NoLater (get_or e.firsts q []) (v ++ a ∷ w)
       by None none is rest = let both : None ≡ Some q = is in cc
       by (Some t) led is rest = subst (NoLater (get_or e.firsts q [])) (append_assoc v (a ∷ []) w)
@@ -250,7 +239,7 @@ module _ (letters : ℕ) (start : List ℕ) (after : List ℕ → ℕ → Option
       like : (w : List ℕ) (t : ℕ) → t < states_of d → key_run after start w ≡ Some (key_at keys t) → LeadAlike after start w (get_or e.firsts t [])
       like w t within leads = leads ∙ sym (e.frontier.lead t (omega (arith, within, done)))
 
-      by : (b : Bool) → IsGap letters start after accepts d.states b → HasWidth (LeadAlike after start) letters (length keys + (if b then 1 else 0))
+      by : (b : Bool) → IsGap letters start after d.states b → HasWidth (LeadAlike after start) letters (length keys + (if b then 1 else 0))
       by true g = record {
         some = record {
           words = e.firsts ++ g.0 ∷ [];
@@ -283,8 +272,8 @@ module _ (letters : ℕ) (start : List ℕ) (after : List ℕ → ℕ → Option
           some_run [] p within over none = cc
           some_run (a ∷ w) p within over none =
               let next = g p a within over.0 in
-              let led : LeadsTo letters start after keys e.firsts p a next.0 =
-              subst (λ o. MatchOption o (after (key_at keys p) a ≡ None) (LeadsTo letters start after keys e.firsts p a)) next.1 ((e.rows p within).leads a over.0) in
+              let led : LeadsTo after keys e.firsts p a next.0 =
+              subst (λ o. MatchOption o (after (key_at keys p) a ≡ None) (LeadsTo after keys e.firsts p a)) next.1 ((e.rows p within).leads a over.0) in
               some_run w next.0 (omega (arith, led.within, done)) over.1 (sym (ap (λ o. option_and_then (λ q. run_of d q w) o) next.1) ∙ none)
 
           whole : (w : List ℕ) → IsWord letters w → Any (LeadAlike after start w) e.firsts

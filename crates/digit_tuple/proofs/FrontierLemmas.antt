@@ -8,19 +8,15 @@ use Rattle.std.proofs.lemmas.List.{length_push, get_or_append_left, get_or_push}
 use Rattle.std.proofs.lemmas.List.Quantifiers.{all_pairs_push}
 use Rattle.digit_tuple.specs.declared.transitions.Transition.{Transition}
 use Rattle.digit_tuple.specs.Deterministic.{State, target_by}
-use Rattle.digit_tuple.specs.Deterministic as det
 use Rattle.digit_tuple.specs.Letters.{IsWord}
-use Rattle.digit_tuple.specs.Shortlex.{IsBefore, AreInOrder}
+use Rattle.digit_tuple.specs.Shortlex.{IsBefore}
 use Rattle.digit_tuple.proofs.ShortlexLemmas.{IsBefore-trans, IsBefore-push, IsBefore-last}
 use Rattle.digit_tuple.proofs.WordLemmas.{IsWord-push}
 use Rattle.digit_tuple.specs.Keys.{KeyTransition, key_by, key_run, AreKeyTransitions, IsByEarlier}
 use Rattle.digit_tuple.specs.Explored.{AreApart, IsNumbered, AreNumbered, key_at}
+use Rattle.digit_tuple.specs.Exploring.{NoLater, IsFrontier, LeadsTo, IsStateOf}
 use Rattle.digit_tuple.proofs.KeyTransitionLemmas.{All-are_numbered, IsStateFrom}
 use Rattle.std.specs.Bool.{⊤}
-
--- the one word is the other or before it
-abbrev pub NoLater : List ℕ → List ℕ → Type 0
-NoLater w v = (w ≡ v) ⊎ IsBefore w v
 
 pub NoLater-trans : (u v w : List ℕ) → NoLater u v → NoLater v w → NoLater u w
 NoLater-trans u v w (inl same) later = subst (λ x. NoLater x w) (sym same) later
@@ -77,31 +73,6 @@ key_run-push after key k (b ∷ w) a leads = by (after key b) leads (λ next is.
     by (Some next) is rest = rest next is
 
 module _ (letters : ℕ) (start : List ℕ) (after : List ℕ → ℕ → Option (List ℕ)) where
-  -- the keys and their first words, when the letters below a of the key p were tried
-  pub record IsFrontier (keys firsts : List (List ℕ)) (p a : ℕ) : Type 0 where
-    pub count : length firsts ≡ length keys
-    pub positive : 0 < length keys
-    pub start_is : key_at keys 0 ≡ start
-    pub first_word : get_or firsts 0 [] ≡ []
-    pub apart : AreApart keys
-    pub over : (q : ℕ) → q < length keys → IsWord letters (get_or firsts q [])
-    pub lead : (q : ℕ) → q < length keys → key_run after start (get_or firsts q []) ≡ Some (key_at keys q)
-    pub ordered : AreInOrder firsts
-    pub below : p < length keys → (q : ℕ) → q < length keys → IsBefore (get_or firsts q []) (get_or firsts p [] ++ a ∷ [])
-
-  -- the letter a leads from the key p to the key t, whose first word is no later than that of p and a
-  pub record LeadsTo (keys firsts : List (List ℕ)) (p a t : ℕ) : Type 0 where
-    pub within : t < length keys
-    pub key_is : after (key_at keys p) a ≡ Some (key_at keys t)
-    pub first : NoLater (get_or firsts t []) (get_or firsts p [] ++ a ∷ [])
-
-  -- the state is that of the key p
-  pub record IsStateOf (accepts : List ℕ → Bool) (keys firsts : List (List ℕ)) (p : ℕ) (state : State) : Type 0 where
-    pub accepting : state.accepting ≡ accepts (key_at keys p)
-    pub in_range : All (λ transition. (transition.letter < letters) × (transition.target < length keys)) state.transitions
-    pub ascending : AllPairs det.IsByEarlier state.transitions
-    pub leads : (a : ℕ) → a < letters → MatchOption (target_by state.transitions a) (after (key_at keys p) a ≡ None) (LeadsTo keys firsts p a)
-
   -- the key transitions are by letters from one on, and lead where the letters do
   abbrev pub IsTrail : List ℕ → ℕ → List KeyTransition → Type 0
   IsTrail key from [] = Unit {0}
@@ -112,10 +83,10 @@ module _ (letters : ℕ) (start : List ℕ) (after : List ℕ → ℕ → Option
   AreLed keys firsts p [] [] = Unit {0}
   AreLed keys firsts p [] (e ∷ es) = ⊥
   AreLed keys firsts p (s ∷ ss) [] = ⊥
-  AreLed keys firsts p (s ∷ ss) (e ∷ es) = (e.letter ≡ s.letter) × LeadsTo keys firsts p s.letter e.target × AreLed keys firsts p ss es
+  AreLed keys firsts p (s ∷ ss) (e ∷ es) = (e.letter ≡ s.letter) × LeadsTo after keys firsts p s.letter e.target × AreLed keys firsts p ss es
 
   -- the first key
-  pub IsFrontier-start : IsFrontier (start ∷ []) ([] ∷ []) 0 0
+  pub IsFrontier-start : IsFrontier letters start after (start ∷ []) ([] ∷ []) 0 0
   IsFrontier-start = record {
     count = refl;
     positive = omega arith;
@@ -141,8 +112,8 @@ module _ (letters : ℕ) (start : List ℕ) (after : List ℕ → ℕ → Option
       below (suc q) within = absurd (omega arith)
 
   -- another key and letter that are tried next
-  pub IsFrontier-at : (keys firsts : List (List ℕ)) (p a q b : ℕ) → IsFrontier keys firsts p a
-      → (q < length keys → (k : ℕ) → k < length keys → IsBefore (get_or firsts k []) (get_or firsts q [] ++ b ∷ [])) → IsFrontier keys firsts q b
+  pub IsFrontier-at : (keys firsts : List (List ℕ)) (p a q b : ℕ) → IsFrontier letters start after keys firsts p a
+      → (q < length keys → (k : ℕ) → k < length keys → IsBefore (get_or firsts k []) (get_or firsts q [] ++ b ∷ [])) → IsFrontier letters start after keys firsts q b
   IsFrontier-at keys firsts p a q b f below = record {
     count = f.count;
     positive = f.positive;
@@ -156,7 +127,7 @@ module _ (letters : ℕ) (start : List ℕ) (after : List ℕ → ℕ → Option
   }
 
   -- a later letter
-  pub IsFrontier-later : (keys firsts : List (List ℕ)) (p a b : ℕ) → a ≤ b → IsFrontier keys firsts p a → IsFrontier keys firsts p b
+  pub IsFrontier-later : (keys firsts : List (List ℕ)) (p a b : ℕ) → a ≤ b → IsFrontier letters start after keys firsts p a → IsFrontier letters start after keys firsts p b
   IsFrontier-later keys firsts p a b later f = IsFrontier-at keys firsts p a p b f (λ inside q within. by (get_or firsts q []) (cases_lt a b) (f.below inside q within))
     where
       by : (w : List ℕ) → (a < b) ⊎ (b ≤ a) → IsBefore w (get_or firsts p [] ++ a ∷ []) → IsBefore w (get_or firsts p [] ++ b ∷ [])
@@ -164,21 +135,21 @@ module _ (letters : ℕ) (start : List ℕ) (after : List ℕ → ℕ → Option
       by w (inr same) before = let e : a ≡ b = omega arith in subst (λ (n : ℕ). IsBefore w (get_or firsts p [] ++ n ∷ [])) e before
 
   -- the next key
-  pub IsFrontier-next : (keys firsts : List (List ℕ)) (p a : ℕ) → p < length keys → IsFrontier keys firsts p a → IsFrontier keys firsts (p + 1) 0
+  pub IsFrontier-next : (keys firsts : List (List ℕ)) (p a : ℕ) → p < length keys → IsFrontier letters start after keys firsts p a → IsFrontier letters start after keys firsts (p + 1) 0
   IsFrontier-next keys firsts p a here f = IsFrontier-at keys firsts p a (p + 1) 0 f (λ inside q within.
       IsBefore-trans (get_or firsts q []) (get_or firsts p [] ++ a ∷ []) (get_or firsts (p + 1) [] ++ 0 ∷ []) (f.below here q within)
       (IsBefore-push (get_or firsts p []) (get_or firsts (p + 1) []) a 0 (f.ordered p (p + 1) [] (omega arith) (omega (arith, f.count)))))
 
   -- a letter that leads to a key that was seen
-  pub IsFrontier-old : (keys firsts : List (List ℕ)) (p a t : ℕ) → p < length keys → t < length keys → after (key_at keys p) a ≡ Some (key_at keys t) → IsFrontier keys firsts p a
-      → IsFrontier keys firsts p (a + 1) × LeadsTo keys firsts p a t
+  pub IsFrontier-old : (keys firsts : List (List ℕ)) (p a t : ℕ) → p < length keys → t < length keys → after (key_at keys p) a ≡ Some (key_at keys t) → IsFrontier letters start after keys firsts p a
+      → IsFrontier letters start after keys firsts p (a + 1) × LeadsTo after keys firsts p a t
   IsFrontier-old keys firsts p a t here there leads f =
       (IsFrontier-later keys firsts p a (a + 1) (omega arith) f, record { within = there; key_is = leads; first = inr (f.below here t there) })
 
   -- a letter that leads to a new key
-  pub IsFrontier-new : (keys firsts : List (List ℕ)) (p a : ℕ) (key : List ℕ) → p < length keys → a < letters → after (key_at keys p) a ≡ Some key → AreApart (keys ++ key ∷ []) → IsFrontier keys firsts p a
-      → IsFrontier (keys ++ key ∷ []) (firsts ++ (get_or firsts p [] ++ a ∷ []) ∷ []) p (a + 1)
-      × LeadsTo (keys ++ key ∷ []) (firsts ++ (get_or firsts p [] ++ a ∷ []) ∷ []) p a (length keys)
+  pub IsFrontier-new : (keys firsts : List (List ℕ)) (p a : ℕ) (key : List ℕ) → p < length keys → a < letters → after (key_at keys p) a ≡ Some key → AreApart (keys ++ key ∷ []) → IsFrontier letters start after keys firsts p a
+      → IsFrontier letters start after (keys ++ key ∷ []) (firsts ++ (get_or firsts p [] ++ a ∷ []) ∷ []) p (a + 1)
+      × LeadsTo after (keys ++ key ∷ []) (firsts ++ (get_or firsts p [] ++ a ∷ []) ∷ []) p a (length keys)
   IsFrontier-new keys firsts p a key here small leads apart f = (frontier, led)
     where
       word : List ℕ
@@ -202,7 +173,7 @@ module _ (letters : ℕ) (start : List ℕ) (after : List ℕ → ℕ → Option
       last : IsBefore word bound
       last = IsBefore-last (get_or firsts p []) a (a + 1) (omega arith)
 
-      frontier : IsFrontier (keys ++ key ∷ []) (firsts ++ word ∷ []) p (a + 1)
+      frontier : IsFrontier letters start after (keys ++ key ∷ []) (firsts ++ word ∷ []) p (a + 1)
       frontier = record {
         count = omega (arith, size, length_push firsts word, f.count);
         positive = omega (arith, size);
@@ -224,7 +195,7 @@ module _ (letters : ℕ) (start : List ℕ) (after : List ℕ → ℕ → Option
               get_or_same (x ∷ xs) zero e inside = refl
               get_or_same (x ∷ xs) (suc i) e inside = get_or_same xs i e (omega arith)
 
-      led : LeadsTo (keys ++ key ∷ []) (firsts ++ word ∷ []) p a (length keys)
+      led : LeadsTo after (keys ++ key ∷ []) (firsts ++ word ∷ []) p a (length keys)
       led = record {
         within = omega (arith, size);
         key_is = ap (λ k. after k a) key_kept ∙ leads ∙ ap Some (sym (get_or_push keys key [] (length keys) refl));
@@ -232,7 +203,7 @@ module _ (letters : ℕ) (start : List ℕ) (after : List ℕ → ℕ → Option
       }
 
   -- what a letter leads to stays
-  pub LeadsTo-grows : (keys new firsts more : List (List ℕ)) (p a t : ℕ) → Grows keys new → Grows firsts more → length firsts ≡ length keys → p < length keys → LeadsTo keys firsts p a t → LeadsTo new more p a t
+  pub LeadsTo-grows : (keys new firsts more : List (List ℕ)) (p a t : ℕ) → Grows keys new → Grows firsts more → length firsts ≡ length keys → p < length keys → LeadsTo after keys firsts p a t → LeadsTo after new more p a t
   LeadsTo-grows keys new firsts more p a t g h count here leads = record {
     within = omega (arith, leads.within, g.more);
     key_is = ap (λ k. after k a) (g.same p here) ∙ leads.key_is ∙ ap Some (sym (g.same t leads.within));
@@ -245,10 +216,10 @@ module _ (letters : ℕ) (start : List ℕ) (after : List ℕ → ℕ → Option
     pub more : List (List ℕ)
     pub keys_grow : Grows keys new
     pub firsts_grow : Grows firsts more
-    pub frontier : IsFrontier new more p (a + 1)
-    pub leads : LeadsTo new more p a t
+    pub frontier : IsFrontier letters start after new more p (a + 1)
+    pub leads : LeadsTo after new more p a t
 
-  pub IsTried-letter : (keys firsts new : List (List ℕ)) (p a : ℕ) (key : List ℕ) (t : ℕ) → IsFrontier keys firsts p a → p < length keys → a < letters → after (key_at keys p) a ≡ Some key → IsNumbered keys new key t → IsTried keys firsts new p a t
+  pub IsTried-letter : (keys firsts new : List (List ℕ)) (p a : ℕ) (key : List ℕ) (t : ℕ) → IsFrontier letters start after keys firsts p a → p < length keys → a < letters → after (key_at keys p) a ≡ Some key → IsNumbered keys new key t → IsTried keys firsts new p a t
   IsTried-letter keys firsts new p a key t f here small leads numbered = by numbered.old_or_new
     where
       by : ((new ≡ keys) × (t < length keys)) ⊎ ((t ≡ length keys) × (new ≡ keys ++ key ∷ [])) → IsTried keys firsts new p a t
@@ -265,7 +236,7 @@ module _ (letters : ℕ) (start : List ℕ) (after : List ℕ → ℕ → Option
             keys_grow = Grows-push keys key;
             firsts_grow = Grows-push firsts (get_or firsts p [] ++ a ∷ []);
             frontier = both.0;
-            leads = subst (λ n. LeadsTo (keys ++ key ∷ []) (firsts ++ (get_or firsts p [] ++ a ∷ []) ∷ []) p a n) (sym fresh.0) both.1;
+            leads = subst (λ n. LeadsTo after (keys ++ key ∷ []) (firsts ++ (get_or firsts p [] ++ a ∷ []) ∷ []) p a n) (sym fresh.0) both.1;
           })
 
   -- the transitions from a key were tried
@@ -274,10 +245,10 @@ module _ (letters : ℕ) (start : List ℕ) (after : List ℕ → ℕ → Option
     pub bound : ℕ
     pub keys_grow : Grows keys new
     pub firsts_grow : Grows firsts more
-    pub frontier : IsFrontier new more p bound
+    pub frontier : IsFrontier letters start after new more p bound
     pub led : AreLed new more p ss es
 
-  pub AreTried-transitions : (ss : List KeyTransition) (es : List Transition) (keys firsts new : List (List ℕ)) (p a : ℕ) → IsFrontier keys firsts p a → p < length keys → IsTrail (key_at keys p) a ss → AreNumbered ss es keys new → AreTried keys firsts new p ss es
+  pub AreTried-transitions : (ss : List KeyTransition) (es : List Transition) (keys firsts new : List (List ℕ)) (p a : ℕ) → IsFrontier letters start after keys firsts p a → p < length keys → IsTrail (key_at keys p) a ss → AreNumbered ss es keys new → AreTried keys firsts new p ss es
   AreTried-transitions [] [] keys firsts new p a f here trail numbered = subst (λ ks. AreTried keys firsts ks p [] []) numbered
       (record { more = firsts; bound = a; keys_grow = Grows-refl keys; firsts_grow = Grows-refl firsts; frontier = f; led = tt })
   AreTried-transitions [] (e ∷ es) keys firsts new p a f here trail numbered = absurd numbered
@@ -334,19 +305,19 @@ module _ (letters : ℕ) (start : List ℕ) (after : List ℕ → ℕ → Option
 
   -- the transitions lead as the first key transition by each letter says
   pub AreLed-match : (keys firsts : List (List ℕ)) (p : ℕ) (ss : List KeyTransition) (es : List Transition) → AreLed letters start after keys firsts p ss es → (a : ℕ)
-      → MatchOption (target_by es a) (key_by ss a ≡ None) (LeadsTo letters start after keys firsts p a)
+      → MatchOption (target_by es a) (key_by ss a ≡ None) (LeadsTo after keys firsts p a)
   AreLed-match keys firsts p [] [] led a = refl
   AreLed-match keys firsts p [] (e ∷ es) led a = absurd led
   AreLed-match keys firsts p (s ∷ ss) [] led a = absurd led
   AreLed-match keys firsts p (s ∷ ss) (e ∷ es) led a =
-      subst (λ n. MatchOption (if n == a then Some e.target else target_by es a) (key_by (s ∷ ss) a ≡ None) (LeadsTo letters start after keys firsts p a)) (sym led.0)
+      subst (λ n. MatchOption (if n == a then Some e.target else target_by es a) (key_by (s ∷ ss) a ≡ None) (LeadsTo after keys firsts p a)) (sym led.0)
       (by (eqb_tells s.letter a) (AreLed-match keys firsts p ss es led.2 a))
     where
-      by : (((s.letter == a) ≡ true) × (s.letter ≡ a)) ⊎ (((s.letter == a) ≡ false) × (s.letter ≢ a)) → MatchOption (target_by es a) (key_by ss a ≡ None) (LeadsTo letters start after keys firsts p a)
-          → MatchOption (if s.letter == a then Some e.target else target_by es a) ((if s.letter == a then Some s.key else key_by ss a) ≡ None) (LeadsTo letters start after keys firsts p a)
-      by (inl same) rest = subst (λ b. MatchOption (if b then Some e.target else target_by es a) ((if b then Some s.key else key_by ss a) ≡ None) (LeadsTo letters start after keys firsts p a)) (sym same.0)
-          (subst (λ n. LeadsTo letters start after keys firsts p n e.target) same.1 led.1)
-      by (inr other) rest = subst (λ b. MatchOption (if b then Some e.target else target_by es a) ((if b then Some s.key else key_by ss a) ≡ None) (LeadsTo letters start after keys firsts p a)) (sym other.0) rest
+      by : (((s.letter == a) ≡ true) × (s.letter ≡ a)) ⊎ (((s.letter == a) ≡ false) × (s.letter ≢ a)) → MatchOption (target_by es a) (key_by ss a ≡ None) (LeadsTo after keys firsts p a)
+          → MatchOption (if s.letter == a then Some e.target else target_by es a) ((if s.letter == a then Some s.key else key_by ss a) ≡ None) (LeadsTo after keys firsts p a)
+      by (inl same) rest = subst (λ b. MatchOption (if b then Some e.target else target_by es a) ((if b then Some s.key else key_by ss a) ≡ None) (LeadsTo after keys firsts p a)) (sym same.0)
+          (subst (λ n. LeadsTo after keys firsts p n e.target) same.1 led.1)
+      by (inr other) rest = subst (λ b. MatchOption (if b then Some e.target else target_by es a) ((if b then Some s.key else key_by ss a) ≡ None) (LeadsTo after keys firsts p a)) (sym other.0) rest
 
   -- transitions are as many as their key transitions, by the same letters, and lead to keys
   pub AreLed-length : (keys firsts : List (List ℕ)) (p : ℕ) (ss : List KeyTransition) (es : List Transition) → AreLed letters start after keys firsts p ss es → length es ≡ length ss
@@ -371,7 +342,7 @@ module _ (letters : ℕ) (start : List ℕ) (after : List ℕ → ℕ → Option
 
   -- the state of a key whose transitions were tried
   pub IsStateOf-tried : (accepts : List ℕ → Bool) (old keys firsts : List (List ℕ)) (p : ℕ) (ss : List KeyTransition) (state : State) → key_at keys p ≡ key_at old p → AreKeyTransitions letters (after (key_at old p)) ss → AreLed letters start after keys firsts p ss state.transitions
-      → state.accepting ≡ accepts (key_at old p) → IsStateOf letters start after accepts keys firsts p state
+      → state.accepting ≡ accepts (key_at old p) → IsStateOf letters after accepts keys firsts p state
   IsStateOf-tried accepts old keys firsts p ss state same are led accepting = record {
     accepting = accepting ∙ ap accepts (sym same);
     in_range = λ k d within. let c : KeyTransition = record { letter = 0; key = [] } in
@@ -379,14 +350,14 @@ module _ (letters : ℕ) (start : List ℕ) (after : List ℕ → ℕ → Option
     ascending = λ i j d before within. let c : KeyTransition = record { letter = 0; key = [] } in
         let less = are.ascending i j c before (omega (arith, size)) in
         omega (arith, less, AreLed-letters keys firsts p ss state.transitions led i d c (omega arith), AreLed-letters keys firsts p ss state.transitions led j d c within);
-    leads = λ a small. subst (λ o. MatchOption (target_by state.transitions a) (o ≡ None) (LeadsTo letters start after keys firsts p a)) (are.lead a small ∙ ap (λ k. after k a) (sym same)) (AreLed-match keys firsts p ss state.transitions led a);
+    leads = λ a small. subst (λ o. MatchOption (target_by state.transitions a) (o ≡ None) (LeadsTo after keys firsts p a)) (are.lead a small ∙ ap (λ k. after k a) (sym same)) (AreLed-match keys firsts p ss state.transitions led a);
   }
     where
       size : length state.transitions ≡ length ss
       size = AreLed-length keys firsts p ss state.transitions led
 
   pub IsStateOf-grows : (accepts : List ℕ → Bool) (keys new firsts more : List (List ℕ)) (p : ℕ) (state : State) → Grows keys new → Grows firsts more → length firsts ≡ length keys → p < length keys
-      → IsStateOf letters start after accepts keys firsts p state → IsStateOf letters start after accepts new more p state
+      → IsStateOf letters after accepts keys firsts p state → IsStateOf letters after accepts new more p state
   IsStateOf-grows accepts keys new firsts more p state g h count here is = record {
     accepting = is.accepting ∙ ap accepts (sym (g.same p here));
     in_range = λ k d within. let range = is.in_range k d within in (range.0, omega (arith, range.1, g.more));
@@ -394,6 +365,6 @@ module _ (letters : ℕ) (start : List ℕ) (after : List ℕ → ℕ → Option
     leads = λ a small. by a (target_by state.transitions a) (is.leads a small);
   }
     where
-      by : (a : ℕ) (o : Option ℕ) → MatchOption o (after (key_at keys p) a ≡ None) (LeadsTo letters start after keys firsts p a) → MatchOption o (after (key_at new p) a ≡ None) (LeadsTo letters start after new more p a)
+      by : (a : ℕ) (o : Option ℕ) → MatchOption o (after (key_at keys p) a ≡ None) (LeadsTo after keys firsts p a) → MatchOption o (after (key_at new p) a ≡ None) (LeadsTo after new more p a)
       by a None none = ap (λ k. after k a) (g.same p here) ∙ none
       by a (Some t) leads = LeadsTo-grows letters start after keys new firsts more p a t g h count here leads

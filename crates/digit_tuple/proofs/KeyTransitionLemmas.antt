@@ -55,6 +55,14 @@ length-numbered old new key number numbered = by numbered.old_or_new
     by (inl kept) = (omega (arith, ap length kept.0), omega (arith, ap length kept.0))
     by (inr pushed) = (omega (arith, ap length pushed.1, length_push old key), omega (arith, ap length pushed.1, length_push old key))
 
+-- a number is below how many there are
+pub number-within : (old new : List (List ℕ)) (key : List ℕ) (number : ℕ) → IsNumbered old new key number → number < length new
+number-within old new key number numbered = by numbered.old_or_new
+  where
+    by : ((new ≡ old) × (number < length old)) ⊎ ((number ≡ length old) × (new ≡ old ++ key ∷ [])) → number < length new
+    by (inl kept) = omega (arith, ap length kept.0, kept.1)
+    by (inr pushed) = omega (arith, ap length pushed.1, length_push old key, pushed.0)
+
 -- the keys of the first transitions were numbered
 pub NumbersSome-at : (key_transitions : List KeyTransition) (n : ℕ) (transitions : List Transition) (old mid new : List (List ℕ)) (d : KeyTransition) (target count : ℕ) → n < length key_transitions → AreNumbered (take n key_transitions) transitions old mid
     → IsNumbered mid new (get_or key_transitions n d).key target → length new ≡ count → NumbersSome key_transitions old new count

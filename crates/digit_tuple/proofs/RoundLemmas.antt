@@ -4,9 +4,10 @@ use Rattle.std.specs.List.{All, AllPairs}
 use Rattle.digit_tuple.specs.Deterministic.{State, IsByEarlier}
 use Rattle.digit_tuple.specs.Keys.{KeyTransition, AreKeyTransitions}
 use Rattle.digit_tuple.specs.Explored.{AreNumbered, key_at}
+use Rattle.digit_tuple.specs.Exploring.{IsStateOf, IsExploring}
 use Rattle.digit_tuple.proofs.KeyTransitionLemmas.{IsStateFrom, IsStateFrom-written}
-use Rattle.digit_tuple.proofs.FrontierLemmas.{IsStateOf, IsStateOf-tried, IsTrail-are, AreTried, AreTried-transitions}
-use Rattle.digit_tuple.proofs.ExploredLemmas.{IsExploring, IsExploring-row}
+use Rattle.digit_tuple.proofs.FrontierLemmas.{IsStateOf-tried, IsTrail-are, AreTried, AreTried-transitions}
+use Rattle.digit_tuple.proofs.ExploredLemmas.{IsExploring-row}
 
 module _ (letters : ℕ) (start : List ℕ) (after : List ℕ → ℕ → Option (List ℕ)) (accepts : List ℕ → Bool) where
   -- a round makes the state of the first key that has none, and numbers the keys that its transitions lead to
@@ -33,5 +34,5 @@ module _ (letters : ℕ) (start : List ℕ) (after : List ℕ → ℕ → Option
       tried : AreTried letters start after keys e.firsts new (length states) from.key_transitions state.transitions
       tried = AreTried-transitions letters start after from.key_transitions state.transitions keys e.firsts new (length states) 0 e.frontier here (IsTrail-are letters start after (key_at keys (length states)) from.key_transitions from.are) from.numbered
 
-      row : IsStateOf letters start after accepts new tried.more (length states) state
+      row : IsStateOf letters after accepts new tried.more (length states) state
       row = IsStateOf-tried letters start after accepts keys new tried.more (length states) from.key_transitions state (tried.keys_grow.same (length states) here) from.are tried.led from.accepting_is

@@ -31,6 +31,7 @@ pub mod Slots
 pub mod Groups
 pub mod ExploredWidth
 pub mod Explored
+pub mod Exploring
 pub mod NoWords
 pub mod Tables
 pub mod Starts

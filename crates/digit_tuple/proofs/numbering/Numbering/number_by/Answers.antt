@@ -1,6 +1,7 @@
-use Rattle.std.proofs.Common.{◌≡◌, ◌++◌, ◌∷◌, [], ℕ, List, map, sym, subst, ap, ◌∙◌, arith}
+use Rattle.std.proofs.Common.{◌≡◌, ◌++◌, ◌∷◌, [], ℕ, List, map, inl, refl, sym, subst, ap, ◌∙◌, arith}
 use Rattle.std.proofs.lemmas.Grind.{common_steps}
 use Rattle.std.proofs.lemmas.List.{length-map, map-append}
+use Rattle.std.specs.List.{Contains}
 use Rattle.digit_tuple.specs.Explored.{AreApart, IsNumbered}
 use Rattle.digit_tuple.specs.KeyHashes.{hash_of}
 use Rattle.digit_tuple.specs.Slots.{AreSlotted}
@@ -36,3 +37,35 @@ returns-clause-number c =
     let pushed : c.push.new.self ≡ keys ++ key ∷ [] = c.in_ok-push.ensures.ok in
     subst (λ (old : List (List ℕ)). IsNumbered old c.push.new.self key c.len-number.result) c.self.view_is
     (subst (λ (new : List (List ℕ)). IsNumbered keys new key c.len-number.result) (sym pushed) (IsNumbered-new keys key c.len-number.result c.self.invariant.0 c.in_default.ensures c.len-number.ensures.len))
+
+pub known_number-requires-clause-slots : goal.known_number-requires-clause-slots
+known_number-requires-clause-slots c = c.self.invariant.1
+
+pub returns-in-Some-clause-number : goal.returns-in-Some-clause-number
+returns-in-Some-clause-number c =
+    subst (λ (old : List (List ℕ)). IsNumbered old old c.args.key.now c.in-Some.number) c.self.view_is
+    (record { apart = c.self.invariant.0; key_is = c.in-Some.ensures.1; old_or_new = inl (refl, c.in-Some.ensures.0) })
+
+pub make_room-requires : goal.make_room-requires
+make_room-requires c = c.self.invariant.1
+
+pub invariant_of-self : goal.invariant_of-self
+invariant_of-self c = (c.self.invariant.0, c.make_room.ensures)
+
+pub returns-in_err-make_room-clause-seen : goal.returns-in_err-make_room-clause-seen
+returns-in_err-make_room-clause-seen c there = absurd (c.in_default.ensures (subst (λ (ks : List (List ℕ)). Contains ks c.args.key.now) (sym c.self.view_is) there))
+
+pub invariant_of-self-in_err-push : goal.invariant_of-self-in_err-push
+invariant_of-self-in_err-push c = (
+  subst AreApart (sym c.in_err-push.ensures.err) c.self.invariant.0,
+  subst (λ (ks : List (List ℕ)). AreSlotted c.make_room.new.table (map hash_of ks)) (sym c.in_err-push.ensures.err) c.make_room.ensures,
+)
+
+pub returns-in_err-push-clause-seen : goal.returns-in_err-push-clause-seen
+returns-in_err-push-clause-seen c there = absurd (c.in_default.ensures (subst (λ (ks : List (List ℕ)). Contains ks c.args.key.now) (sym c.self.view_is) there))
+
+pub put-requires : goal.put-requires
+put-requires c = c.make_room.ensures.homes
+
+pub returns-in-Err-clause-seen : goal.returns-in-Err-clause-seen
+returns-in-Err-clause-seen c there = absurd (c.in_default.ensures (subst (λ (ks : List (List ℕ)). Contains ks c.args.key.now) (sym c.self.view_is) there))
