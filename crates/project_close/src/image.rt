@@ -62,7 +62,7 @@ fn image_on(
 {
     let parts = TrackParts::new(alloc, d.alphabet(), places, alphabet)?;
     let ends = ends(alloc, d, &parts, direction)?;
-    image(alloc, d, &ends, &parts, alphabet.copy(alloc)?)
+    image(alloc, d, &ends, &parts, alphabet)
 }
 
 // The automaton with its part, a letter of `alphabet`, in place of each letter. A letter may then lead
@@ -72,12 +72,12 @@ fn image(
     d: &Dfa,
     accepting: &[bool],
     parts: &TrackParts,
-    alphabet: Alphabet,
+    alphabet: &Alphabet,
 ) -> Result<Nfa, OutOfMemory>
     requires accepting { length accepting.now ≡ states_of d.now }
     requires parts { length parts.now ≡ letters_of d.now }
-    requires letters { All (λ part. part < product alphabet) parts.now }
-    ensures image { IfOk result (IsImage d.now accepting.now parts.now alphabet) }
+    requires letters { All (λ part. part < product alphabet.now) parts.now }
+    ensures image { IfOk result (IsImage d.now accepting.now parts.now alphabet.now) }
     ensures table { IfOk result (λ nfa. IsBranchTable (branching.letters_of nfa) nfa.states) }
 {
     let states = d.states();
@@ -90,7 +90,7 @@ fn image(
             transitions: relabelled(alloc, &row, parts)?,
         })?;
     }
-    Nfa::from_states(alloc, alphabet, rows)
+    Nfa::from_states(alloc, alphabet.copy(alloc)?, rows)
 }
 
 // The transitions with other letters in place of theirs, in order.

@@ -1,9 +1,10 @@
-use Rattle.std.proofs.Common.{◌≡◌, ◌+◌, ◌++◌, [], ◌∷◌, List, false, get_or, refl, sym, ap, ◌∙◌, subst, arith}
+use Rattle.std.proofs.Common.{◌≡◌, ◌+◌, ◌++◌, [], ◌∷◌, ℕ, List, false, get_or, refl, sym, ap, ◌∙◌, subst, arith}
 use Rattle.std.proofs.lemmas.List.{map-append}
 use Rattle.std.proofs.lemmas.Result.{IfOk-weaker}
 use Rattle.digit_tuple.specs.Automaton as branching
 use Rattle.digit_tuple.specs.Automaton.{Branch, Branching, IsBranchTable}
 use Rattle.digit_tuple.specs.Deterministic.{states_of}
+use Rattle.digit_tuple.specs.Letters.{product}
 use Rattle.digit_tuple.specs.Rows.{branch_in, branches_in}
 use Rattle.digit_tuple.specs.declared.transitions.Transition.{Transition}
 use Rattle.project_close.specs.Image.{AreRelabelled, IsImage}
@@ -26,27 +27,32 @@ loop-state-preserved c =
 pub from_states-requires : goal.from_states-requires
 from_states-requires c =
     let d = c.args.d.now in
+    let rows = branches_in c.loop-state.rows.items in
     let all : c.loop-state.state ≡ states_of d = omega (arith, c.loop-state-test.false, c.states-states.ensures.value) in
-    IsBranchTable-image d c.states-states.ensures.table c.args.accepting.now c.args.parts.now c.args.alphabet (branches_in c.loop-state.rows.items)
-    (subst (AreImageRows d c.args.accepting.now c.args.parts.now (branches_in c.loop-state.rows.items)) all c.loop-state.invariant)
-    c.requires.parts c.requires.letters
+    subst (λ (ss : List ℕ). IsBranchTable (product ss) rows) (sym c.in_ok-copy.ensures)
+    (IsBranchTable-image d c.states-states.ensures.table c.args.accepting.now c.args.parts.now c.args.alphabet.now rows
+    (subst (AreImageRows d c.args.accepting.now c.args.parts.now rows) all c.loop-state.invariant)
+    c.requires.parts c.requires.letters)
 
 pub returns-clause-image : goal.returns-clause-image
 returns-clause-image c =
     let d = c.args.d.now in
+    let rows = branches_in c.loop-state.rows.items in
     let all : c.loop-state.state ≡ states_of d = omega (arith, c.loop-state-test.false, c.states-states.ensures.value) in
-    IfOk-weaker c.from_states.result (λ nfa. nfa ≡ record { sizes = c.args.alphabet; states = branches_in c.loop-state.rows.items }) (IsImage d c.args.accepting.now c.args.parts.now c.args.alphabet)
-    (λ nfa is. IsImage-rows d c.states-states.ensures.table c.args.accepting.now c.args.parts.now c.args.alphabet (branches_in c.loop-state.rows.items)
-    (subst (AreImageRows d c.args.accepting.now c.args.parts.now (branches_in c.loop-state.rows.items)) all c.loop-state.invariant) nfa is c.requires.accepting)
+    IfOk-weaker c.from_states.result _ (IsImage d c.args.accepting.now c.args.parts.now c.args.alphabet.now)
+    (λ nfa is. IsImage-rows d c.states-states.ensures.table c.args.accepting.now c.args.parts.now c.args.alphabet.now rows
+    (subst (AreImageRows d c.args.accepting.now c.args.parts.now rows) all c.loop-state.invariant)
+    nfa (is ∙ ap (λ (ss : List ℕ). record { sizes = ss; states = rows }) c.in_ok-copy.ensures) c.requires.accepting)
     c.from_states.ensures
 
 pub returns-clause-table : goal.returns-clause-table
 returns-clause-table c =
     let d = c.args.d.now in
+    let rows = branches_in c.loop-state.rows.items in
     let all : c.loop-state.state ≡ states_of d = omega (arith, c.loop-state-test.false, c.states-states.ensures.value) in
-    let table = IsBranchTable-image d c.states-states.ensures.table c.args.accepting.now c.args.parts.now c.args.alphabet (branches_in c.loop-state.rows.items)
-    (subst (AreImageRows d c.args.accepting.now c.args.parts.now (branches_in c.loop-state.rows.items)) all c.loop-state.invariant)
+    let table = IsBranchTable-image d c.states-states.ensures.table c.args.accepting.now c.args.parts.now c.args.alphabet.now rows
+    (subst (AreImageRows d c.args.accepting.now c.args.parts.now rows) all c.loop-state.invariant)
     c.requires.parts c.requires.letters in
-    IfOk-weaker c.from_states.result (λ nfa. nfa ≡ record { sizes = c.args.alphabet; states = branches_in c.loop-state.rows.items }) (λ nfa. IsBranchTable (branching.letters_of nfa) nfa.states)
-    (λ nfa is. subst (λ (m : Branching). IsBranchTable (branching.letters_of m) m.states) (sym is) table)
+    IfOk-weaker c.from_states.result _ (λ nfa. IsBranchTable (branching.letters_of nfa) nfa.states)
+    (λ nfa is. subst (λ (m : Branching). IsBranchTable (branching.letters_of m) m.states) (sym (is ∙ ap (λ (ss : List ℕ). record { sizes = ss; states = rows }) c.in_ok-copy.ensures)) table)
     c.from_states.ensures

@@ -25,8 +25,7 @@ image-requires-clause-letters c =
     let sizes = c.args.d.now.sizes in
     let places = c.args.places.now in
     let parts : c.in_ok-parts.parts ≡ parts_of_letters sizes places = c.in_ok-parts.ensures ∙ ap (λ (ss : List ℕ). parts_of_letters ss places) c.alphabet.ensures.sizes in
-    let copied : picked places sizes ≡ c.in_ok-copy.field-0 = sym (c.in_ok-copy.ensures ∙ c.requires.alphabet) in
-    subst (λ (ss : List ℕ). All (λ part. part < product ss) c.in_ok-parts.parts) copied
+    subst (λ (ss : List ℕ). All (λ part. part < product ss) c.in_ok-parts.parts) (sym c.requires.alphabet)
     (subst (λ (ps : List ℕ). All (λ part. part < product (picked places sizes)) ps) (sym parts) (parts-below sizes places c.requires.places))
 
 pub returns : goal.returns
@@ -38,5 +37,5 @@ returns c =
     let ends : (q : ℕ) → (flag_at c.deref.result.now q ≡ true) ↔ IsEnd direction d places q =
     subst (λ (fs : List Bool). (q : ℕ) → (flag_at fs q ≡ true) ↔ IsEnd direction d places q) (sym c.deref.ensures.value) (c.in_ok-ends.ensures.ends places parts) in
     IfOk-weaker c.image.result _ (IsImageOn d places direction)
-    (λ n made. IsImageOn-made d places direction c.in_ok-copy.field-0 c.in_ok-parts.parts c.deref.result.now n (c.in_ok-copy.ensures ∙ c.requires.alphabet) parts made.0 made.1 ends)
+    (λ n made. IsImageOn-made d places direction c.args.alphabet.now c.in_ok-parts.parts c.deref.result.now n c.requires.alphabet parts made.0 made.1 ends)
     (IfOk-both c.image.result _ _ c.image.ensures.image c.image.ensures.table)
