@@ -2,10 +2,10 @@
 
 ghost use Rattle.std.specs.Prelude.{◌≡◌, ◌++◌, ℕ, ◌<◌, List, length, map, IfOk, OnOk};
 ghost use Rattle.std.specs.List.{All, AllPairs};
-ghost use Rattle.digit_tuple.specs.Deterministic.{IsByEarlier, accepts_of, states_of};
+ghost use Rattle.digit_tuple.specs.Deterministic.{IsByEarlier, IsTable, accepts_of, letters_of, states_of};
 ghost use Rattle.digit_tuple.specs.DfaRows.{state_in, states_in};
 ghost use Rattle.digit_tuple.specs.Letters.{product, IsWord};
-ghost use Rattle.digit_tuple.specs.Parts.{picked, part};
+ghost use Rattle.digit_tuple.specs.Parts.{picked, part, parts_of_letters};
 ghost use Rattle.digit_tuple.specs.Reversed.{transition_to};
 ghost use Rattle.pad_rename.specs.PartReading.{AreTransitionsByParts, AreReading, IsReading};
 
@@ -30,10 +30,25 @@ pub fn read_parts(
     ensures language { IfOk result (λ reader. (w : List ℕ) → IsWord (product alphabet) w
         → accepts_of reader w ≡ accepts_of dfa.now (part alphabet places.now w)) }
 {
-    let mut parts = TrackParts::new(alloc, &alphabet, places, dfa.alphabet())?;
-    parts.list_within(alloc, dfa.transitions())?;
-    let states = states_reading(alloc, dfa, &parts)?;
+    let states = states_by_parts(alloc, dfa, &alphabet, places)?;
     Dfa::from_states(alloc, alphabet, states)
+}
+
+// The states of the automaton that reads the parts on the tracks at these places.
+fn states_by_parts(
+    alloc: Global,
+    dfa: &Dfa,
+    alphabet: &Alphabet,
+    places: &[u32],
+) -> Result<Vec<DfaState>, OutOfMemory>
+    requires places { All (λ place. place < length alphabet.now) places.now }
+    requires sizes { picked places.now alphabet.now ≡ dfa.now.sizes }
+    ensures reading { IfOk result (λ states. AreReading dfa.now (parts_of_letters alphabet.now places.now) (states_of dfa.now) (states_in states.items)) }
+    ensures table { IsTable (letters_of dfa.now) dfa.now.states }
+{
+    let mut parts = TrackParts::new(alloc, alphabet, places, dfa.alphabet())?;
+    parts.list_within(alloc, dfa.transitions())?;
+    states_reading(alloc, dfa, &parts)
 }
 
 // The states of the automaton, each with the transitions by the letters of which these parts lead on.
