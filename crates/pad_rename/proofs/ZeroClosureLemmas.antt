@@ -1,10 +1,10 @@
 -- A search for the states that words over some letters lead to.
-use Rattle.std.proofs.Common.{◌≡◌, ◌≢◌, ℕ, zero, suc, ◌+◌, ◌<◌, ◌≤◌, Bool, true, false, List, [], ◌∷◌, ◌++◌, length, take, get_or, ◌↔◌, ◌⊎◌, inl, inr, refl, sym, ap, ◌∙◌, subst, true≢false, arith, append_assoc, length-append}
+use Rattle.std.proofs.Common.{◌≡◌, ◌≢◌, ℕ, zero, suc, ◌+◌, ◌<◌, ◌≤◌, Bool, true, false, List, [], ◌∷◌, ◌++◌, length, take, get_or, ◌↔◌, ◌⊎◌, inl, inr, refl, sym, ap, ◌∙◌, subst, true≢false, arith, append_assoc, length-append, set, get_or-set_same, get_or-set_other}
 use Rattle.std.specs.Prelude.{eqb}
 use Rattle.std.specs.List.{AllByRecursion, Contains, IsDistinct, list_any}
-use Rattle.std.proofs.lemmas.Bool.{cases_lt, eqb-true, false_from_ne_true}
-use Rattle.std.proofs.lemmas.List.{get_or_append_left, get_or_push, get_or_past, get_or_default, length_push, take_more, take_all, take-append-le}
-use Rattle.std.proofs.lemmas.List.Elements.{Contains-append_left, Contains-push, Contains-push_cases, All-contains_itself}
+use Rattle.std.proofs.lemmas.Bool.{cases_eq, cases_lt, eqb-true, false_from_ne_true}
+use Rattle.std.proofs.lemmas.List.{get_or_append_left, get_or_push, get_or_past, get_or_default, length_push, take_more, take_all, take-append-le, length-set}
+use Rattle.std.proofs.lemmas.List.Elements.{Contains-append_left, Contains-push, Contains-push_cases, All-contains_itself, All-push}
 use Rattle.std.proofs.lemmas.List.Folds.{Any-from_list_any}
 use Rattle.std.proofs.lemmas.List.Quantifiers.{all_pairs_push}
 use Rattle.std.proofs.lemmas.Map.Steps.{length-le_from_distinct_below}
@@ -14,6 +14,41 @@ use Rattle.digit_tuple.specs.declared.transitions.Transition.{Transition}
 use Rattle.digit_tuple.proofs.PathLemmas.{Path-push, Path-in_range}
 use Rattle.digit_tuple.proofs.MemberLemmas.{Contains-head, Contains-cases, Contains-none}
 use Rattle.pad_rename.specs.ZeroClosure.{AreAfterZeros, AreFlagged, AreFound, AreFoundToo, IsOverFlagged, IsReached, IsTargetOf, flag_at}
+
+-- one more state is found, and flagged
+pub AreFound-push : (flags : List Bool) (found new : List ℕ) (state : ℕ) → state < length flags → flag_at flags state ≡ false → new ≡ found ++ state ∷ [] → AreFound (length flags) flags found
+    → AreFound (length flags) (set flags state true) new
+AreFound-push flags found new state inside unset is are = subst (AreFound (length flags) (set flags state true)) (sym is) (record {
+  size = length-set flags state true;
+  in_range = All-push (λ q. q < length flags) found state are.in_range inside;
+  apart = all_pairs_push (λ p q. p ≢ q) found state are.apart (λ k d within same. missing (subst (Contains found) same (All-contains_itself found k d within)));
+  flagged = λ q. by q (cases_eq q state);
+})
+  where
+    missing : ¬ Contains found state
+    missing there = true≢false (sym ((are.flagged state).1 there) ∙ unset)
+
+    before : (q : ℕ) → q ≢ state → Contains found q ⊎ (state ≡ q) → Contains found q
+    before q other (inl there) = there
+    before q other (inr same) = absurd (other (sym same))
+
+    by : (q : ℕ) → (q ≡ state) ⊎ (q ≢ state) → (flag_at (set flags state true) q ≡ true) ↔ Contains (found ++ state ∷ []) q
+    by q (inl same) = (
+      (λ flagged. subst (Contains (found ++ state ∷ [])) (sym same) (Contains-push found state)),
+      (λ there. ap (flag_at (set flags state true)) same ∙ get_or-set_same flags state true false inside),
+    )
+    by q (inr other) = (
+      (λ flagged. Contains-append_left found (state ∷ []) q ((are.flagged q).0 (sym (get_or-set_other flags state q true false other) ∙ flagged))),
+      (λ there. get_or-set_other flags state q true false other ∙ (are.flagged q).1 (before q other (Contains-push_cases found state q there))),
+    )
+
+pub AreFoundToo-push : (found new : List ℕ) (state : ℕ) → new ≡ found ++ state ∷ [] → AreFoundToo found new (λ q. state ≡ q)
+AreFoundToo-push found new state is = record {
+  later = state ∷ [];
+  new_is = is;
+  from = λ q there. Contains-push_cases found state q (subst (λ xs. Contains xs q) is there);
+  all = λ q same. subst (λ xs. Contains xs q) (sym is) (subst (Contains (found ++ state ∷ [])) same (Contains-push found state));
+}
 
 -- more are found, and more again
 pub AreFoundToo-more : (old mid new : List ℕ) (P Q R : ℕ → Type 0) → ((q : ℕ) → R q → P q ⊎ Q q) → ((q : ℕ) → P q → R q) → ((q : ℕ) → Q q → R q)
