@@ -28,3 +28,6 @@ pub mod Depths
 pub mod AdvanceSteps
 pub mod ParseSteps
 pub mod OtherTokens
+pub mod Innermost
+pub mod OpenFrames
+pub mod PrefixParts
