@@ -154,3 +154,12 @@ letters-one_track (x ∷ xs) targets same =
     ∙ ap (λ (ns : List ℕ). ns ∷ map letters_in (joined_rows 1 xs (drop (length x) (map only_transition targets)))) (letters-joined x targets (omega (arith, total, same)))
     ∙ ap (λ (rows : List (List Transition)). x ∷ map letters_in (joined_rows 1 xs rows)) (drop-map only_transition (length x) targets)
     ∙ ap (λ (ns : List (List ℕ)). x ∷ ns) (letters-one_track xs (drop (length x) targets) (omega (arith, total, same, length-drop (length x) targets)))
+
+-- the letters before a digit of a sound row, and those that it counts, are in range
+pub digit_fits : (d : Decisions) (track : Track) (p : Box (Unit {0}) Global) (below : Decisions) (base place count : ℕ) (digits : List ℕ) (digit : ℕ) → d ≡ OnTrack' track p below → IsSound d → place < length (rows_in d)
+    → base + product (sizes_in d) < 4294967296 → digits ≡ digits_at track place → count < length digits → digit ≡ get_or digits count 0 → base + digit * track.weight < 4294967296
+digit_fits d track p below base place count digits digit is sound within whole same less read =
+    let on = IsRowOn-sound d track p below place is sound within in
+    let all : base + track.size * product (sizes_in below) < 4294967296 = subst (λ (d : Decisions). base + product (sizes_in d) < 4294967296) is whole in
+    let small : digit < track.size = subst (λ n. n < track.size) (sym read) (subst (λ (ns : List ℕ). get_or ns count 0 < track.size) (sym same) (on.at.digits.below count 0 (omega (arith, less, ap length same)))) in
+    omega (arith, after_digit-fits base track.size track.weight (product (sizes_in below)) digit on.track_is.weight small all)

@@ -215,3 +215,12 @@ row-one transitions place z within =
 pub map-ahead_zero : (row : List Transition) → map (ahead 0) row ≡ row
 map-ahead_zero [] = refl
 map-ahead_zero (e ∷ row) = let same : e.letter - 0 ≡ e.letter = omega arith in ap (λ n. transition_to n e.target ∷ map (ahead 0) row) same ∙ ap (λ es. e ∷ es) (map-ahead_zero row)
+
+-- the letters from the low one on, up to those of the next digit, are in range
+pub low_fits : (base : ℕ) (transitions : List Transition) (track grown : Track) (place digit : ℕ) (z : Transition) → place < length transitions → All (IsFrom base (track.size * track.weight)) transitions → grown.weight ≡ track.weight
+    → digit ≡ ((get_or (take (length transitions - place) (drop place transitions)) 0 z).letter - base) / grown.weight → base + track.size * track.weight ≤ 65536 → base + digit * grown.weight + grown.weight ≤ 65536
+low_fits base transitions track grown place digit z within from weight digit_is narrow =
+    let first : (get_or (take (length transitions - place) (drop place transitions)) 0 z).letter ≡ (get_or transitions place z).letter = ap (λ es. (get_or es 0 z).letter) (rest-is transitions place) ∙ first-letter transitions place z in
+    let is = IsDigit-of base track (get_or transitions place z).letter digit (from place z within) (digit_is ∙ ap (λ n. (n - base) / grown.weight) first ∙ ap (λ n. ((get_or transitions place z).letter - base) / n) weight) in
+    let scaled : digit * grown.weight ≡ digit * track.weight = ap (λ n. digit * n) weight in
+    omega (arith, is.within, narrow, scaled, weight)

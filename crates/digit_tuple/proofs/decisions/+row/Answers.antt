@@ -4,7 +4,7 @@ use Rattle.digit_tuple.specs.declared.transitions.Transition.{Transition}
 use Rattle.digit_tuple.specs.Letters.{product}
 use Rattle.digit_tuple.specs.Deterministic.{IsByEarlier}
 use Rattle.digit_tuple.specs.Decisions.{rows_in, sizes_in, ahead, IsFrom}
-use Rattle.digit_tuple.proofs.RowGrowthLemmas.{IsGrown-begin, IsGrown-more, IsRun-next, ascending-drop, ascending-take, rest-is}
+use Rattle.digit_tuple.proofs.RowGrowthLemmas.{IsGrown-begin, IsGrown-more, IsRun-next, ascending-drop, ascending-take, rest-is, low_fits}
 use Rattle.digit_tuple.proofs.decisions.+row.Goals as goal
 
 pub Track::add_row-loop-start-init : goal.Track::add_row-loop-start-init
@@ -80,3 +80,36 @@ Track::add_row-loop-start-preserved t c =
       grown = IsGrown-more c.args.base transitions track (rows_in c.args.below.now) start (product (sizes_in c.args.below.now)) grown (rows_in c.loop-start.below) count digit low c.add.new.self (rows_in c.add_row.new.self)
           is run c.in_ok-add.ensures (c.in_ok-add_row.ensures.rows ∙ ap (λ es. rows_in c.loop-start.below ++ map (ahead low) (take count es) ∷ []) (rest-is transitions start));
     }
+
+pub Track::add_row-overflow_mul-low : goal.Track::add_row-overflow_mul-low
+Track::add_row-overflow_mul-low t c =
+    let transitions = c.args.transitions.now in
+    let start = c.loop-start.start in
+    let grown = c.loop-start.self in
+    let z : Transition = record { letter = 0; target = 0 } in
+    let digit : ℕ = ((get_or (take (length transitions - start) (drop start transitions)) 0 z).letter - c.args.base) / grown.weight in
+    let fits = low_fits c.args.base transitions c.args.self.now grown start digit z c.loop-start-test.true c.requires.letters c.loop-start.invariant.grown.weight refl c.requires.narrow in
+    omega (arith, fits)
+
+pub Track::add_row-overflow_add-low : goal.Track::add_row-overflow_add-low
+Track::add_row-overflow_add-low t c =
+    let transitions = c.args.transitions.now in
+    let start = c.loop-start.start in
+    let grown = c.loop-start.self in
+    let z : Transition = record { letter = 0; target = 0 } in
+    let digit : ℕ = ((get_or (take (length transitions - start) (drop start transitions)) 0 z).letter - c.args.base) / grown.weight in
+    let fits = low_fits c.args.base transitions c.args.self.now grown start digit z c.loop-start-test.true c.requires.letters c.loop-start.invariant.grown.weight refl c.requires.narrow in
+    omega (arith, fits)
+
+pub Track::add_row-overflow_add-low-in-loop-start : goal.Track::add_row-overflow_add-low-in-loop-start
+Track::add_row-overflow_add-low-in-loop-start t c =
+    let transitions = c.args.transitions.now in
+    let start = c.loop-start.start in
+    let grown = c.loop-start.self in
+    let z : Transition = record { letter = 0; target = 0 } in
+    let digit : ℕ = ((get_or (take (length transitions - start) (drop start transitions)) 0 z).letter - c.args.base) / grown.weight in
+    let fits = low_fits c.args.base transitions c.args.self.now grown start digit z c.loop-start-test.true c.requires.letters c.loop-start.invariant.grown.weight refl c.requires.narrow in
+    omega (arith, fits)
+
+pub Track::add_row-add-requires-clause-some : goal.Track::add_row-add-requires-clause-some
+Track::add_row-add-requires-clause-some t c = c.loop-start.invariant.grown.some

@@ -7,7 +7,7 @@ use Rattle.digit_tuple.specs.declared.transitions.Transition.{Transition}
 use Rattle.digit_tuple.specs.declared.decisions.Decisions.{Decisions}
 use Rattle.digit_tuple.specs.Decisions.{rows_in, sizes_in, joined, after_digit, LeadsAs, IsSound}
 use Rattle.digit_tuple.proofs.TruthLemmas.{never_true, ever_true}
-use Rattle.digit_tuple.proofs.DecisionReads.{IsRowOn-sound, digits_at, start_at, joined-next, after_digit-fits}
+use Rattle.digit_tuple.proofs.DecisionReads.{IsRowOn-sound, digits_at, start_at, joined-next, after_digit-fits, digit_fits}
 use Rattle.digit_tuple.proofs.SameRows.{all-joined}
 use Rattle.digit_tuple.proofs.AllLemmas.{all_append}
 use Rattle.digit_tuple.proofs.decisions.Decisions.+is_within.Goals as goal
@@ -95,3 +95,18 @@ returns-after-loop-count t c =
     (subst (λ (es : List Transition). AllByRecursion P (map (after_digit c.args.base) es)) (sym row)
     (subst (λ n. AllByRecursion P (map (after_digit c.args.base) (joined track.weight digits (drop n (rows_in below))))) c.start-start.ensures.value
     (subst (λ (ns : List ℕ). AllByRecursion P (map (after_digit c.args.base) (joined track.weight ns (drop c.start-start.result (rows_in below))))) (all ∙ c.list-digit-items.ensures) c.loop-count.invariant)))
+
+pub overflow_mul-more : goal.overflow_mul-more
+overflow_mul-more t c =
+    let fits = digit_fits _ c.in-OnTrack.track _ c.in-OnTrack.below.value c.args.base c.args.place c.loop-count.count c.list-digit-items.result.now c.from.result c.in-OnTrack.is c.requires.sound c.requires.place c.requires.base
+    c.list-digit-items.ensures c.loop-count-test.true c.from.ensures in
+    omega (arith, fits)
+
+pub overflow_add-more : goal.overflow_add-more
+overflow_add-more t c =
+    let fits = digit_fits _ c.in-OnTrack.track _ c.in-OnTrack.below.value c.args.base c.args.place c.loop-count.count c.list-digit-items.result.now c.from.result c.in-OnTrack.is c.requires.sound c.requires.place c.requires.base
+    c.list-digit-items.ensures c.loop-count-test.true c.from.ensures in
+    omega (arith, fits)
+
+pub overflow_add-start : goal.overflow_add-start
+overflow_add-start t c = omega (arith, c.start-start.ensures.fits, c.loop-count-test.true, ap length c.list-digit-items.ensures)

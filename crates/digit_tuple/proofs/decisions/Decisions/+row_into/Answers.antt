@@ -5,7 +5,7 @@ use Rattle.digit_tuple.specs.Letters.{product}
 use Rattle.digit_tuple.specs.declared.transitions.Transition.{Transition}
 use Rattle.digit_tuple.specs.declared.decisions.Decisions.{Decisions}
 use Rattle.digit_tuple.specs.Decisions.{rows_in, sizes_in, joined, joined_rows, only_transition, after_digit, IsSound, IsTrack}
-use Rattle.digit_tuple.proofs.DecisionReads.{IsRowOn-sound, joined-next, after_digit-fits}
+use Rattle.digit_tuple.proofs.DecisionReads.{IsRowOn-sound, joined-next, after_digit-fits, digit_fits}
 use Rattle.digit_tuple.proofs.decisions.Decisions.+row_into.Goals as goal
 
 pub last_row_into-requires-clause-track : goal.last_row_into-requires-clause-track
@@ -93,3 +93,15 @@ returns-after-loop-count t c =
     ∙ ap (λ n. c.args.row.now.items ++ map (after_digit c.args.base) (joined track.weight (get_or track.digits c.args.place []) (drop n (rows_in below)))) c.start-start.ensures.value
     ∙ ap (λ (es : List Transition). c.args.row.now.items ++ map (after_digit c.args.base) es) (sym on.at.row)
     ∙ ap (λ (d : Decisions). c.args.row.now.items ++ map (after_digit c.args.base) (get_or (rows_in d) c.args.place [])) (sym c.in-OnTrack.is)
+
+pub overflow_mul-more : goal.overflow_mul-more
+overflow_mul-more t c =
+    let fits = digit_fits _ c.in-OnTrack.track _ c.in-OnTrack.below.value c.args.base c.args.place c.loop-count.count c.list-digit-items.result.now c.from.result c.in-OnTrack.is c.requires.sound c.requires.place c.requires.base
+    c.list-digit-items.ensures c.loop-count-test.true c.from.ensures in
+    omega (arith, fits)
+
+pub overflow_add-more : goal.overflow_add-more
+overflow_add-more t c =
+    let fits = digit_fits _ c.in-OnTrack.track _ c.in-OnTrack.below.value c.args.base c.args.place c.loop-count.count c.list-digit-items.result.now c.from.result c.in-OnTrack.is c.requires.sound c.requires.place c.requires.base
+    c.list-digit-items.ensures c.loop-count-test.true c.from.ensures in
+    omega (arith, fits)
