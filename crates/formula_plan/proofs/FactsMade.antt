@@ -9,9 +9,9 @@ use Rattle.formula_parse.specs.Trees.{Term, Terms, no_terms, terms}
 use Rattle.formula_parse.specs.Views.{term_view, terms_view}
 use Rattle.formula_parse.specs.declared.tree.Term as parsed
 use Rattle.formula_plan.specs.Tracks.{Track}
-use Rattle.formula_plan.specs.Plans.{Plan, compared}
+use Rattle.formula_plan.specs.Plans.{Plan, compared, Made}
 use Rattle.formula_plan.specs.TermPlans.{Placed, TermPlan, closed, closing, term_plan}
-use Rattle.formula_plan.specs.FactPlans.{Places, no_places, places, tracks_of, all_places, closed_all, closing_all, TermPlans, and_term, over_terms, count, argument_plans, long, compare_by}
+use Rattle.formula_plan.specs.FactPlans.{Places, no_places, places, tracks_of, all_places, closed_all, closing_all, TermPlans, and_term, over_terms, count, argument_plans, named, named_by, long, compare_by}
 use Rattle.formula_plan.specs.Makings.{track_view, plan_at}
 use Rattle.formula_plan.specs.Planning.{Adds, IsAt, Does, DoesTerm, DoesTerms, base_made, step_made, closed_made, closed_all_made, placed_at, places_at, IsWithin, AreWithin, tracks_in}
 use Rattle.formula_plan.specs.declared.planner.Planner.{Planner}
@@ -96,6 +96,18 @@ tracks_after plans prefix (p ∷ ps) = tracks_after plans (places prefix (placed
 pub tracks_there : (plans : List Plan) (ps : List found.Placed) → tracks_of (places_at plans ps) ≡ tracks_in ps
 tracks_there plans ps = tracks_after plans no_places ps
 
+-- a value under a variable's name
+pub named_does : (old mid new : Planner) (v : found.Placed) (i : ℕ) (s n : Name) (p : TermPlan) → DoesTerm old mid v p
+    → Does mid new i (base_made (named_by s n (placed_at mid.plans v).track (placed_at mid.plans v).relation) mid.next) → Does old new i (named s n p)
+named_does old mid new v i s n p first second =
+    let last : Does mid new i (base_made (named_by s n p.placed.track p.placed.relation) mid.next) =
+    subst (λ (z : Placed). Does mid new i (base_made (named_by s n z.track z.relation) mid.next)) first.placed_is second in
+    record {
+      adds = subst (λ l. Adds old.plans new.plans l) (append-nil p.steps) (adds_then old.plans mid.plans new.plans p.steps [] first.adds last.adds);
+      last = last.last;
+      next = last.next ∙ first.next;
+    }
+
 -- two values compared
 pub compared_does : (old left right base half new : Planner) (v w : found.Placed) (i j k : ℕ) (s : Name) (r : Relation) (t u : Term) → DoesTerm old left v (term_plan s t old.next) → DoesTerm left right w (term_plan s u left.next)
     → Does right base i (base_made (compared s r (track_view v.track) (track_view w.track)) right.next) → Does base half j (closed_made base.next (placed_at base.plans v) (plan_at base.plans i))
@@ -149,6 +161,10 @@ base_does old mid base new ps ds es i j qs f same_ds same_es first second third 
     over_does old mid base new ps i j qs (f (tracks_of qs.placed)) first
     (subst (λ ts. Does mid base i (base_made (f ts) mid.next)) (ap tracks_in same_ds ∙ sym (tracks_there mid.plans ps) ∙ ap tracks_of first.places_are) second)
     (subst (λ l. Does base new j (closed_all_made base.next (places_at base.plans l) (plan_at base.plans i))) same_es third)
+
+-- values are there after more was made
+pub still_there : (mid new : Planner) (ps ds : List found.Placed) (i : ℕ) (m : Made) → ds ≡ ps → AreWithin mid.plans ps → Does mid new i m → AreWithin new.plans ds
+still_there mid new ps ds i m same within does = subst (AreWithin new.plans) (sym same) (are_within_later mid.plans new.plans m.steps ps does.adds within)
 
 -- the values of two words
 closed_both : (ps qs : Places) (base : Plan) → closed_all (all_places ps qs) base ≡ closed_all qs (closed_all ps base)

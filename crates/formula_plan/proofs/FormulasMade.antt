@@ -6,7 +6,7 @@ use Rattle.std.proofs.Math.Seq.{get_or-append_seam}
 use Rattle.std.proofs.lemmas.List.Sums.{fold-append}
 use Rattle.formula_parse.specs.Tokens.{Name, Quantifier, some, every, infinite}
 use Rattle.formula_parse.specs.Tokens as tokens
-use Rattle.formula_parse.specs.Trees.{Names, no_names, names, Joint, and, Formula, negated, chain, quantified}
+use Rattle.formula_parse.specs.Trees.{Names, no_names, names, no_operands, Joint, and, Formula, negated, chain, quantified}
 use Rattle.formula_parse.specs.Views.{formula_view, operand_view, operands_view, with_operand, names_view, connective_view}
 use Rattle.formula_parse.specs.declared.tree.Operand.{Operand}
 use Rattle.formula_truth.proofs.ViewLemmas.{operands_more}
@@ -104,6 +104,14 @@ operands_within_more plans fs f are here i d below =
 
 operands_end : (plans : List Plan) (fs : List Prefix) (f : Prefix) → operands_at plans (fs ++ f ∷ []) ≡ made (operands_at plans fs) (plan_at plans f.place) (connective_view f.connective)
 operands_end plans fs f = ap (fold with_made none_made) (map-append (operand_at plans) fs (f ∷ [])) ∙ fold-append with_made none_made (map (operand_at plans) fs) (operand_at plans f ∷ [])
+
+pub operands_none : (h : Headers) (old : Planner) (fs : List Prefix) → fs ≡ [] → DoesOperands old old fs (operand_plans h no_operands old.next)
+operands_none h old fs none = subst (λ l. DoesOperands old old l (operand_plans h no_operands old.next)) (sym none) (record {
+  adds = adds_none old.plans;
+  within = λ i d below. absurd (omega (arith, below));
+  operands_are = refl;
+  next = refl;
+})
 
 pub operands_then : (h : Headers) (os : List Operand) (i : ℕ) (o : Operand) (old mid new : Planner) (fs gs : List Prefix) (j : ℕ) → i < length os → o ≡ get_or os i o
     → DoesOperands old mid fs (operand_plans h (operands_view (take i os)) old.next) → Does mid new j (plan_of h (formula_view o.formula) mid.next)

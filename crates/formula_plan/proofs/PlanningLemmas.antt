@@ -1,15 +1,19 @@
 -- What a planner does, one thing after another.
 use Rattle.std.specs.List.{fold}
-use Rattle.std.proofs.Common.{◌≡◌, ℕ, ◌+◌, ◌<◌, ◌≤◌, List, [], ◌∷◌, ◌++◌, map, filter, length, get_or, take, Option, None, Some, refl, sym, ◌∙◌, ap, subst, arith, length-append, append_assoc}
+use Rattle.std.proofs.Common.{◌≡◌, ℕ, ◌+◌, ◌<◌, ◌≤◌, List, [], ◌∷◌, ◌++◌, map, filter, length, get_or, take, Option, None, Some, Result, Ok, Err, IfOk, refl, sym, ◌∙◌, ap, subst, arith, length-append, append_assoc}
 use Rattle.std.proofs.lemmas.List.{take_more, map-append, append-nil}
 use Rattle.std.proofs.lemmas.List.Sums.{fold-append}
 use Rattle.std.proofs.lemmas.List.Elements.{filter-append}
-use Rattle.formula_plan.specs.Plans.{Plan, is_step, Made}
+use Rattle.formula_parse.specs.Trees.{and}
+use Rattle.formula_parse.specs.declared.tree.Connective.TheVariants.{And}
+use Rattle.formula_plan.specs.Plans.{Plan, joined, projected, is_step, Made}
 use Rattle.formula_plan.specs.TermPlans.{Placed}
 use Rattle.formula_plan.specs.FactPlans.{Places, no_places, places, closed_all, closing_all}
 use Rattle.formula_plan.specs.Makings.{track_view, plan_at}
-use Rattle.formula_plan.specs.Planning.{Adds, IsAt, Does, relation_at, placed_at, places_at, IsWithin, AreWithin, closed_made, closed_all_made}
+use Rattle.formula_plan.specs.Planning.{Adds, IsAt, Does, made_by, linked_at, step_made, relation_at, placed_at, places_at, IsWithin, AreWithin, closed_made, closed_all_made}
 use Rattle.formula_plan.specs.PlanLists.{IsPlanOf}
+use Rattle.formula_plan.specs.declared.making.Making.TheVariants.{Joined, Projected}
+use Rattle.formula_plan.specs.declared.track.Track.{Track}
 use Rattle.formula_plan.specs.declared.planner.Planner.{Planner}
 use Rattle.formula_plan.specs.declared.planner.Placed as found
 use Rattle.formula_plan.proofs.MakingLemmas.{at_grown}
@@ -59,6 +63,20 @@ does_then old mid new i j m n one two = record {
   last = two.last;
   next = two.next;
 }
+
+-- two relations joined on a track
+pub link_answers : {E : Type 0} (r : Result ℕ E) (old mid new : Planner) (i a b : ℕ) (t u : Track) → t ≡ u → Does old mid i (made_by old (Joined And a b))
+    → IfOk r (λ j. Does mid new j (made_by mid (Projected t i))) → IfOk r (λ j. Does old new j (linked_at (plan_at old.plans a) (plan_at old.plans b) (track_view u) old.next))
+link_answers (Err e) old mid new i a b t u same first second = second
+link_answers (Ok j) old mid new i a b t u same first second =
+    let both : Plan = joined and (plan_at old.plans a) (plan_at old.plans b) in
+    let last : Does mid new j (step_made (projected (track_view u) both) mid.next) =
+    subst (λ p. Does mid new j (step_made (projected (track_view u) p) mid.next)) first.last.is (subst (λ (v : Track). Does mid new j (made_by mid (Projected v i))) same second) in
+    record {
+      adds = adds_then old.plans mid.plans new.plans (both ∷ []) (projected (track_view u) both ∷ []) first.adds last.adds;
+      last = last.last;
+      next = last.next ∙ first.next;
+    }
 
 -- one track closed after others
 pub places_more : (plans : List Plan) (ps : List found.Placed) (i : ℕ) (p : found.Placed) → i < length ps → p ≡ get_or ps i p

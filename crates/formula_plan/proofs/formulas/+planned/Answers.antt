@@ -1,11 +1,11 @@
-use Rattle.std.proofs.Common.{arith, take, ◌++◌, ap, sym, ◌∙◌}
+use Rattle.std.proofs.Common.{arith, take, ◌++◌, append-nil, ap, sym, ◌∙◌}
 use Rattle.formula_parse.specs.Trees as trees
 use Rattle.formula_parse.specs.Views.{formula_view, operands_view, names_view, quantifier_view, atom_view}
 use Rattle.formula_parse.proofs.ViewSteps.{view_atom, view_negated, view_chain, view_quantified, view_marked}
 use Rattle.formula_plan.specs.FormulaPlans.{plan_of, operand_plans}
 use Rattle.formula_plan.specs.OwnNames.{own_of, has_name}
 use Rattle.formula_plan.specs.FactPlanning.{headers_of}
-use Rattle.formula_plan.proofs.FormulasMade.{operands_then, chain_does, chain_within, quantified_does, formula_agrees, formula_seen, negated_does, names_seen, names_more, names_chained, names_quantified}
+use Rattle.formula_plan.proofs.FormulasMade.{operands_none, operands_then, chain_does, chain_within, quantified_does, formula_agrees, formula_seen, negated_does, names_seen, names_more, names_chained, names_quantified}
 use Rattle.formula_plan.proofs.formulas.+planned.Goals as goal
 
 pub loop-operand-preserved : goal.loop-operand-preserved
@@ -89,3 +89,18 @@ pub returns-in_ok-marked-in-Marked-clause-names : goal.returns-in_ok-marked-in-M
 returns-in_ok-marked-in-Marked-clause-names t c =
     names_seen (formula_view c.args.formula.now) (trees.marked (names_view c.in-Marked.field-0.items) (formula_view c.deref-in-Marked.result.now)) c.args.free.now c.planned-in-Marked.new.free
     (ap formula_view c.in-Marked.is ∙ view_marked c.in-Marked.field-0 c.in-Marked.inside ∙ ap (λ f. trees.marked (names_view c.in-Marked.field-0.items) (formula_view f)) (sym c.deref-in-Marked.ensures)) c.in_ok-marked-in-Marked.ensures.names
+
+pub loop-operand-init : goal.loop-operand-init
+loop-operand-init t c = record {
+  made = operands_none (headers_of c.args.headers.now) c.args.planner.now c.new-made.result.items c.new-made.ensures.items;
+  names = λ n. ap (λ l. has_name l n) (sym (append-nil c.args.free.now));
+}
+
+pub complement-requires : goal.complement-requires
+complement-requires t c = c.in_ok-place-in-Negated.ensures.plan.last.within
+
+pub chained-requires-clause-last : goal.chained-requires-clause-last
+chained-requires-clause-last t c = c.in_ok-end-in-Chain.ensures.plan.last.within
+
+pub quantified-requires-clause-place : goal.quantified-requires-clause-place
+quantified-requires-clause-place t c = c.in_ok-place-in-Quantified.ensures.plan.last.within

@@ -1,7 +1,8 @@
-use Rattle.std.proofs.Common.{Some, refl, subst}
-use Rattle.formula_plan.specs.Planning.{placed_at}
+use Rattle.std.proofs.Common.{Some, refl, sym, subst}
+use Rattle.formula_plan.specs.Planning.{IsWithin, placed_at}
 use Rattle.formula_plan.specs.TermPlanning.{IsSumWithin}
 use Rattle.formula_plan.specs.declared.track.Track.TheVariants.{Fresh}
+use Rattle.formula_plan.proofs.PlanningLemmas.{within_later}
 use Rattle.formula_plan.proofs.TermsMade.{sum_does, sum_answers}
 use Rattle.formula_plan.proofs.terms.added.Goals as goal
 
@@ -13,3 +14,20 @@ returns c =
     c.in_ok-base.base c.in_ok-half.half c.in_ok-closed.closed c.in_ok-fresh.field-0 c.args.system.now
     (subst (IsSumWithin c.args.planner.now.plans) c.in-Some.is c.requires.before) c.requires.value
     c.in_ok-fresh.ensures.0 c.in_ok-fresh.ensures.1 c.in_ok-fresh.ensures.2 c.in_ok-base.ensures c.in_ok-half.ensures c.in_ok-closed.ensures c.in_ok-closed.ensures.last.within refl)
+
+pub close-requires-clause-base : goal.close-requires-clause-base
+close-requires-clause-base c = c.in_ok-base.ensures.last.within
+
+pub close-requires-clause-placed : goal.close-requires-clause-placed
+close-requires-clause-placed c =
+    within_later c.fresh.new.self.plans c.sum_base.new.planner.plans _ c.in-Some.before.sum.relation c.in_ok-base.ensures.adds
+    (subst (λ plans. IsWithin plans c.in-Some.before.sum.relation) (sym c.in_ok-fresh.ensures.2) (subst (IsSumWithin c.args.planner.now.plans) c.in-Some.is c.requires.before))
+
+pub close-requires-2-clause-base : goal.close-requires-2-clause-base
+close-requires-2-clause-base c = c.in_ok-half.ensures.last.within
+
+pub close-requires-2-clause-placed : goal.close-requires-2-clause-placed
+close-requires-2-clause-placed c =
+    within_later c.sum_base.new.planner.plans c.close.new.self.plans _ c.args.value.relation c.in_ok-half.ensures.adds
+    (within_later c.fresh.new.self.plans c.sum_base.new.planner.plans _ c.args.value.relation c.in_ok-base.ensures.adds
+    (subst (λ plans. IsWithin plans c.args.value.relation) (sym c.in_ok-fresh.ensures.2) c.requires.value))
