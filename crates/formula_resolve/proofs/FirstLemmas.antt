@@ -2,13 +2,14 @@
 use Rattle.std.proofs.Common.{◌≡◌, ◌≢◌, refl, sym, ap, subst, ◌∙◌, ℕ, zero, suc, ◌+◌, ◌<◌, ◌≤◌, Bool, true, false, ◌||◌, cond, List, [], ◌∷◌, ◌++◌, map, length, take, get_or, fold, bytes_eq, inl, inr, arith, rules}
 use Rattle.std.specs.List.{flat_map}
 use Rattle.std.proofs.lemmas.Bool.{cases_lt, false_from_ne_true}
-use Rattle.std.proofs.lemmas.List.{length-map, length-append, take-append-le, get_or_append_left}
+use Rattle.std.proofs.lemmas.List.{length-map, length-append, take-append-le, take_more, map-append, flat_map_more, get_or_append_left}
+use Rattle.std.proofs.lemmas.List.Sums.{fold-append}
 use Rattle.std.proofs.Math.Seq.{get_or-append_seam, take-append_seam}
 use Rattle.std.proofs.lemmas.List.Elements.{Contains-append_right}
 use Rattle.std.proofs.lemmas.Slice.Eq.{bytes_eq-Decides}
 use Rattle.digit_tuple.specs.Explored.{AreApart, IsNumbered}
 use Rattle.digit_tuple.proofs.MemberLemmas.{AllPairs-tail, AllPairs-head}
-use Rattle.formula_resolve.specs.FirstMentions.{has, with_new, is_same_file, file_key, mentioned_files, first_files, IsOnce}
+use Rattle.formula_resolve.specs.FirstMentions.{has, with_new, each_once, is_same_file, file_key, mentioned_files, first_files, IsOnce}
 use Rattle.formula_resolve.specs.declared.mention.Mention.{Mention}
 use Rattle.formula_resolve.specs.declared.file.File.{File}
 use Rattle.formula_resolve.specs.declared.file.File.TheVariants.{Automaton, Word}
@@ -80,6 +81,23 @@ pub file_there : (files : List File) (seen new : List (List ℕ)) (key : List �
 file_there files seen new key f number same is numbered other =
     sym (ap (λ b. cond b files (files ++ f ∷ []))
     (has_file files f ∙ (λ i. has bytes_eq (sym same i) (sym is i)) ∙ (numbered_old seen new key number numbered (λ at. other (at ∙ ap length same ∙ map_length files))).1))
+
+-- the keys that were seen are still those of the files
+pub seen_kept : (files : List File) (seen new : List (List ℕ)) (key : List ℕ) (number : ℕ) → seen ≡ map file_key files → IsNumbered seen new key number → number ≢ length files → new ≡ map file_key files
+seen_kept files seen new key number same numbered other = (numbered_old seen new key number numbered (λ at. other (at ∙ ap length same ∙ map_length files))).0 ∙ same
+
+pub seen_added : (files all : List File) (seen new : List (List ℕ)) (key : List ℕ) (f : File) (number : ℕ) → seen ≡ map file_key files → key ≡ file_key f → IsNumbered seen new key number → number ≡ length files
+    → all ≡ files ++ f ∷ [] → new ≡ map file_key all
+seen_added files all seen new key f number same is numbered next pushed =
+    (numbered_new seen new key number numbered (next ∙ sym (map_length files) ∙ ap length (sym same))).0
+    ∙ (λ i. same i ++ is i ∷ []) ∙ sym (map-append file_key files (f ∷ [])) ∙ ap (map file_key) (sym pushed)
+
+-- what one mention more names
+pub once_then : {X Y : Type 0} (same : X → X → Bool) (f : Y → List X) (ms : List Y) (i : ℕ) (m : Y) (old new : List X) → i < length ms → m ≡ get_or ms i m
+    → old ≡ each_once same (flat_map f (take i ms)) → new ≡ fold (with_new same) old (f m) → new ≡ each_once same (flat_map f (take (i + 1) ms))
+once_then same f ms i m old new within at so_far is =
+    is ∙ ap (λ xs. fold (with_new same) xs (f m)) so_far ∙ sym (fold-append (with_new same) [] (flat_map f (take i ms)) (f m))
+    ∙ ap (each_once same) (flat_map_more f [] (take i ms) m) ∙ ap (λ n. each_once same (flat_map f (take i ms ++ n ∷ []))) at ∙ ap (λ ns. each_once same (flat_map f ns)) (sym (take_more ms i m within))
 
 -- one more that is none of those before it
 with_other : (files : List File) (x : File) → IsOnce files → has is_same_file files x ≡ false → IsOnce (files ++ x ∷ [])

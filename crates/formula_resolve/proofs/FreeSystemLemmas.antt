@@ -1,6 +1,5 @@
 -- The system at the first free occurrence of a variable.
 use Rattle.std.specs.Str.{bytes_eq}
-use Rattle.std.specs.List.{filter}
 use Rattle.std.proofs.Common.{◌≡◌, ◌≢◌, refl, sym, ap, ◌∙◌, ℕ, ◌+◌, ◌<◌, ◌≤◌, ◌==◌, nat_lt, Bool, true, false, ◌&&◌, cond, if◌then◌else◌, List, [], ◌∷◌, ◌++◌, map, length, take, drop, get_or, Option, None, Some, arith}
 use Rattle.std.proofs.lemmas.Bool.{false≢true, eqb-true, eqb-false, le-ltb}
 use Rattle.std.proofs.lemmas.Option.{none-some}

@@ -1,10 +1,11 @@
-use Rattle.std.proofs.Common.{◌≡◌, ap, sym, subst, ◌∙◌, ◌++◌, OnOk}
-use Rattle.std.proofs.lemmas.List.{take_all}
+use Rattle.std.proofs.Common.{◌≡◌, ap, sym, subst, ◌∙◌, ◌++◌, take, OnOk, arith}
+use Rattle.std.proofs.lemmas.List.{take_all, append-nil}
 use Rattle.formula_parse.specs.Trees as trees
 use Rattle.formula_parse.specs.Views.{formula_view, operands_view, names_view, quantifier_view}
 use Rattle.formula_parse.proofs.ViewSteps.{view_atom, view_negated, view_chain, view_quantified, view_marked}
 use Rattle.formula_resolve.specs.Mentions.{mentions, mentions_among, marks}
-use Rattle.formula_resolve.proofs.ListLemmas.{added_twice}
+use Rattle.formula_resolve.proofs.ListLemmas.{added_twice, added_then}
+use Rattle.formula_resolve.proofs.WalkLemmas.{operand_more}
 use Rattle.formula_resolve.proofs.mention.+add_mentions.Goals as goal
 
 pub returns-in-Atom : goal.returns-in-Atom
@@ -38,3 +39,14 @@ returns-in_ok-add_marks-in-Marked t c =
     (added_twice c.add_mentions-in-Marked.result c.args.found.now.items c.add_marks.new.found.items c.add_mentions-in-Marked.new.found.items (marks (names_view c.in-Marked.systems.items)) (mentions (formula_view c.deref-in-Marked-2.result.now))
     (c.in_ok-add_marks-in-Marked.ensures ∙ ap (λ ms. c.args.found.now.items ++ marks (names_view ms)) c.deref-in-Marked.ensures.value)
     c.add_mentions-in-Marked.ensures)
+
+pub loop-operand-init : goal.loop-operand-init
+loop-operand-init t c = sym (append-nil c.args.found.now.items)
+
+pub loop-operand-preserved : goal.loop-operand-preserved
+loop-operand-preserved t c =
+    let os = c.deref-operand-items.result.now in
+    let i = c.loop-operand.operand-index in
+    added_then c.args.found.now.items c.loop-operand.found.items c.add_mentions-in-loop-operand.new.found.items (mentions_among (operands_view (take i os))) (mentions (formula_view c.operand-item.result.formula))
+    c.loop-operand.invariant c.in_ok-add_mentions-in-Chain.ensures
+    ∙ ap (λ v. c.args.found.now.items ++ mentions_among v) (sym (operand_more os i c.operand-item.result (omega (arith, c.loop-operand-test.true)) c.operand-item.is))

@@ -1,11 +1,11 @@
-use Rattle.std.proofs.Common.{◌≡◌, ap, sym, subst, ◌∙◌, ◌++◌, ◌∷◌, [], OnOk}
+use Rattle.std.proofs.Common.{◌≡◌, ap, sym, subst, ◌∙◌, ◌++◌, ◌∷◌, [], take, OnOk, arith}
 use Rattle.std.proofs.lemmas.List.{take_all, append-nil}
 use Rattle.formula_parse.specs.Trees as trees
 use Rattle.formula_parse.specs.Views.{term_view, factor_view, factors_view, addends_view}
 use Rattle.formula_parse.proofs.ViewSteps.{view_variable, view_numeral, view_product, view_sum, view_divided}
 use Rattle.formula_resolve.specs.Occurrences.{term_occurrences, factor_of, factor_occurrences, addend_occurrences}
 use Rattle.formula_resolve.specs.Scopes.{binders_of}
-use Rattle.formula_resolve.proofs.ListLemmas.{added_twice}
+use Rattle.formula_resolve.proofs.ListLemmas.{added_twice, added_then, factors_then, addends_then}
 use Rattle.formula_resolve.proofs.occurrence.+occurring.Goals as goal
 
 pub add_term-returns-in_ok-push-in-Variable : goal.add_term-returns-in_ok-push-in-Variable
@@ -38,3 +38,29 @@ pub add_factor-returns-in-Divided : goal.add_factor-returns-in-Divided
 add_factor-returns-in-Divided t c =
     sym (append-nil c.args.found.now.items)
     ∙ ap (λ f. c.args.found.now.items ++ factor_of c.args.system.now (binders_of c.args.scope.now) f) (sym (ap factor_view c.in-Divided.is ∙ view_divided c.in-Divided.field-0))
+
+pub add_term-loop-factor-init : goal.add_term-loop-factor-init
+add_term-loop-factor-init t c = sym (append-nil c.args.found.now.items)
+
+pub add_term-loop-addend-init : goal.add_term-loop-addend-init
+add_term-loop-addend-init t c = sym (append-nil c.args.found.now.items)
+
+pub add_term-loop-factor-preserved : goal.add_term-loop-factor-preserved
+add_term-loop-factor-preserved t c =
+    let system = c.args.system.now in
+    let binders = binders_of c.args.scope.now in
+    let fs = c.deref-factor-items.result.now in
+    let i = c.loop-factor.factor-index in
+    added_then c.args.found.now.items c.loop-factor.found.items c.add_factor.new.found.items (factor_occurrences system binders (factors_view (take i fs))) (factor_of system binders (factor_view c.factor-item.result))
+    c.loop-factor.invariant c.in_ok-add_factor-in-Product.ensures
+    ∙ ap (λ v. c.args.found.now.items ++ factor_occurrences system binders v) (sym (factors_then fs i c.factor-item.result (omega (arith, c.loop-factor-test.true)) c.factor-item.is))
+
+pub add_term-loop-addend-preserved : goal.add_term-loop-addend-preserved
+add_term-loop-addend-preserved t c =
+    let system = c.args.system.now in
+    let binders = binders_of c.args.scope.now in
+    let ss = c.deref-addend-items.result.now in
+    let i = c.loop-addend.addend-index in
+    added_then c.args.found.now.items c.loop-addend.found.items c.add_term.new.found.items (addend_occurrences system binders (addends_view (take i ss))) (term_occurrences system binders (term_view c.addend-item.result.term))
+    c.loop-addend.invariant c.in_ok-add_term-in-Sum.ensures
+    ∙ ap (λ v. c.args.found.now.items ++ addend_occurrences system binders v) (sym (addends_then ss i c.addend-item.result (omega (arith, c.loop-addend-test.true)) c.addend-item.is))

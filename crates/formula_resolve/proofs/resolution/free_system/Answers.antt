@@ -1,4 +1,4 @@
-use Rattle.std.proofs.Common.{None, Some, map, ap, sym, ◌∙◌}
+use Rattle.std.proofs.Common.{None, Some, ap, sym, ◌∙◌}
 use Rattle.std.specs.Option.{option_copied}
 use Rattle.formula_parse.specs.Views.{formula_view}
 use Rattle.formula_resolve.proofs.FreeSystemLemmas.{system_in, system_is}

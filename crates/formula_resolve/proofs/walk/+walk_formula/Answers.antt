@@ -1,5 +1,5 @@
-use Rattle.std.proofs.Common.{◌≡◌, ap, sym, refl, subst, ◌∙◌, ℕ, map, take, drop, OnOk, arith}
-use Rattle.std.proofs.lemmas.List.{take_all}
+use Rattle.std.proofs.Common.{◌≡◌, ap, sym, refl, subst, ◌∙◌, ℕ, map, length, take, drop, OnOk, arith}
+use Rattle.std.proofs.lemmas.List.{take_all, append-nil, length-map}
 use Rattle.std.specs.Option.{option_or}
 use Rattle.formula_parse.specs.Trees as trees
 use Rattle.formula_parse.specs.Views.{formula_view, operands_view, names_view, quantifier_view, connective_view}
@@ -10,6 +10,8 @@ use Rattle.formula_resolve.specs.Scopes.{binders_of}
 use Rattle.formula_resolve.specs.Meetings.{IsMet}
 use Rattle.formula_resolve.specs.Walks.{Walked, WalkedAmong}
 use Rattle.formula_resolve.specs.declared.walk.Walk.{Walk}
+use Rattle.formula_resolve.proofs.ListLemmas.{longer}
+use Rattle.formula_resolve.proofs.MeetingLemmas.{option_or_none}
 use Rattle.formula_resolve.proofs.WalkLemmas.{on_ok, walked_more, walked_chain, walked_quantified, operand_more}
 use Rattle.formula_resolve.proofs.ScopeLemmas.{restored}
 use Rattle.formula_resolve.proofs.walk.+walk_formula.Goals as goal
@@ -87,3 +89,25 @@ returns-in-Marked t c =
     (Walked c.args.headers.now (formula_view c.deref-in-Marked.result.now) c.args.walk.now c.walk_formula-in-Marked.new.walk)
     (Walked c.args.headers.now (trees.marked (names_view c.in-Marked.field-0.items) (formula_view c.deref-in-Marked.result.now)) c.args.walk.now c.walk_formula-in-Marked.new.walk)
     (λ w. record { scope = w.scope; found = w.found; next = w.next; conflict = w.conflict }) c.walk_formula-in-Marked.ensures)
+
+pub loop-operand-init : goal.loop-operand-init
+loop-operand-init t c = record {
+  scope = refl;
+  found = sym (append-nil c.args.walk.now.occurrences.items);
+  next = refl;
+  conflict = sym (option_or_none c.args.walk.now.conflict);
+  met = record { first = c.new-meeting.ensures.first; other = c.new-meeting.ensures.other };
+}
+
+pub met-requires : goal.met-requires
+met-requires t c =
+    omega (arith, c.start-start.ensures.len, longer c.walk_formula-in-loop-operand.new.walk.occurrences.items c.loop-operand.walk.occurrences.items _ c.in_ok-walk_formula-in-Chain.ensures.found)
+
+pub met-requires-in-Chain : goal.met-requires-in-Chain
+met-requires-in-Chain t c =
+    omega (arith, c.start-start-in-Chain.ensures.len, longer c.walk_formula-in-Chain.new.walk.occurrences.items c.loop-operand.walk.occurrences.items _ c.in_ok-walk_formula-in-Chain-2.ensures.found)
+
+pub restore-requires : goal.restore-requires
+restore-requires t c =
+    ap length (c.deref-in-Quantified-4.ensures.value ∙ c.in_ok-outside-in-Quantified.ensures.outside) ∙ length-map c.deref-in-Quantified.result.now (binders_of c.args.walk.now.scope)
+    ∙ ap length (c.deref-in-Quantified.ensures.value ∙ sym c.deref-in-Quantified-3.ensures.value)
