@@ -20,3 +20,4 @@ pub mod LiveLetterLemmas
 pub mod LetterJoinLemmas
 pub mod DeadMarkLemmas
 pub mod PairWidths
+pub mod PairReaders

@@ -1,19 +1,21 @@
 //! Products of two automata over the tracks of both.
 
-ghost use Rattle.std.specs.Prelude.{◌≡◌, ◌+◌, ◌≤◌, ◌∷◌, ℕ, List, IfOk, OnOk, IsTrue, map};
+ghost use Rattle.std.specs.Prelude.{◌≡◌, ◌+◌, ◌≤◌, ◌∷◌, ℕ, List, length, IfOk, OnOk, IsTrue, map};
+ghost use Rattle.std.specs.List.{All, Contains};
 ghost use Rattle.std.specs.Rc.{rc_value};
 ghost use Rattle.std.specs.Result.{IsErrOf};
 ghost use Rattle.digit_tuple.specs.Deterministic.{accepts_of, states_of};
 ghost use Rattle.digit_tuple.specs.Letters.{product as letter_count, IsAlphabet, IsTooLarge, IsWord};
 ghost use Rattle.digit_tuple.specs.Width.{HasApart, HasWidth};
 ghost use Rattle.minimise.specs.Canonical.{IsCanonical};
-ghost use Rattle.digit_tuple.specs.Names.{AreJoint, joint_names as joint_names_of};
+ghost use Rattle.digit_tuple.specs.Names.{AreJoint, joint_names as joint_names_of, places_of};
+ghost use Rattle.digit_tuple.specs.Parts.{picked};
 ghost use Rattle.product_op.specs.Connectives.{among_valid};
 ghost use Rattle.product_op.specs.Tracks.{AgreeOnShared, joint_sizes};
 ghost use Rattle.product_op.specs.Validity.{AreLanguages};
 ghost use Rattle.product_op.specs.Products.{in_product, ProductAlike};
-ghost use Rattle.product_op.specs.Readings.{readings_in};
-ghost use Rattle.product_op.specs.TrackReadings.{AllFitTracks, argument_reading, counted_of, track_readings};
+ghost use Rattle.product_op.specs.Readings.{reading_in, readings_in};
+ghost use Rattle.product_op.specs.TrackReadings.{AllFitTracks, argument_reading, counted_of, read_on, track_readings};
 
 use crate::argument_readers::{add_track_readers, argument_reader};
 use crate::joint_tracks::{JointTracks, joint_tracks};
@@ -111,15 +113,28 @@ fn product_readers<'a>(
 {
     let _first = a.names();
     let _second = b.names();
-    let mut first = argument_reader(alloc, &joint.alphabet, &joint.names, a)?;
-    let mut second = argument_reader(alloc, &joint.alphabet, &joint.names, b)?;
     let transitions = a.dfa().transitions().max(b.dfa().transitions());
     let most = transitions.saturating_mul(LISTED);
-    first.parts.list_within(alloc, most)?;
-    second.parts.list_within(alloc, most)?;
     let mut readers = Vec::new(alloc);
-    readers.push(first)?;
-    readers.push(second)?;
+    readers.push(listed_reader(alloc, joint, a, most)?)?;
+    readers.push(listed_reader(alloc, joint, b, most)?)?;
     add_track_readers(alloc, &joint.alphabet, languages, &mut readers)?;
     Ok(readers)
+}
+
+// The reader of an automaton on the tracks of its names, whose parts are listed if the letters are at most so many.
+fn listed_reader<'a>(
+    alloc: Global,
+    joint: &JointTracks,
+    argument: &'a Tracked,
+    most: u64,
+) -> Result<Reader<'a>, OutOfMemory>
+    requires count { length joint.now.names.items ≡ length joint.now.alphabet }
+    requires there { All (Contains joint.now.names.items) argument.now.names }
+    requires sizes { picked (places_of joint.now.names.items argument.now.names) joint.now.alphabet ≡ argument.now.automaton.sizes }
+    ensures { IfOk result (λ reader. reading_in reader ≡ read_on joint.now.alphabet argument.now.automaton (places_of joint.now.names.items argument.now.names)) }
+{
+    let mut reader = argument_reader(alloc, &joint.alphabet, &joint.names, argument)?;
+    reader.parts.list_within(alloc, most)?;
+    Ok(reader)
 }

@@ -23,8 +23,8 @@ use std::alloc::Global;
 /// So many letters are all tried, since to gather those with a transition would take longer.
 pub const FEW_LETTERS: u32 = 32;
 
-/// All letters below this number where they are few, else none.
-pub fn few_letters(alloc: Global, letters: u32) -> Result<Vec<u32>, OutOfMemory>
+// All letters below this number where they are few, else none.
+fn few_letters(alloc: Global, letters: u32) -> Result<Vec<u32>, OutOfMemory>
     ensures { IfOk result (λ few. AreFewLetters letters few.items) }
 {
     if letters <= FEW_LETTERS {
@@ -34,8 +34,8 @@ pub fn few_letters(alloc: Global, letters: u32) -> Result<Vec<u32>, OutOfMemory>
     }
 }
 
-/// Where the letters of each reader's automaton lead.
-pub fn next_tables<'a>(
+// Where the letters of each reader's automaton lead.
+fn next_tables<'a>(
     alloc: Global,
     readers: &'a [Reader<'_>],
 ) -> Result<Vec<NextTable<'a>>, OutOfMemory>
@@ -46,6 +46,29 @@ pub fn next_tables<'a>(
         tables.push(NextTable::new(alloc, reader.dfa)?)?;
     }
     Ok(tables)
+}
+
+/// What a walk over the states of readers begins with: all letters where they are few, else none, where the letters of
+/// each reader's automaton lead, and the initial states.
+#[derive(Drop)]
+pub struct Beginning<'a> {
+    pub few: Vec<u32>,
+    pub tables: Vec<NextTable<'a>>,
+    pub first: Vec<u32>,
+}
+
+impl<'a> Beginning<'a> {
+    /// That of these readers, which read so many letters.
+    pub fn new(alloc: Global, readers: &'a [Reader<'_>], letters: u32) -> Result<Self, OutOfMemory>
+        ensures few { IfOk result (λ beginning. AreFewLetters letters beginning.few.items) }
+        ensures tables { IfOk result (λ beginning. beginning.tables.items ≡ automata_in (readings_in readers.now)) }
+        ensures first { IfOk result (λ beginning. beginning.first.items ≡ first_key (readings_in readers.now)) }
+    {
+        let few = few_letters(alloc, letters)?;
+        let tables = next_tables(alloc, readers)?;
+        let first = initial_states(alloc, readers)?;
+        Ok(Beginning { few, tables, first })
+    }
 }
 
 /// Automata that read side by side, where their letters lead, the rule by which they accept, how many

@@ -16,8 +16,7 @@ use crate::live_pairs::LivePairs;
 use crate::needing::pairs_needing_first;
 use crate::op::Op;
 use crate::reader::Reader;
-use crate::reader_graph::{SideBySide, few_letters, next_tables};
-use crate::reader_states::initial_states;
+use crate::reader_graph::{Beginning, SideBySide};
 use crate::rule::Rule;
 use digit_tuple::alphabet::Alphabet;
 use digit_tuple::dfa::Dfa;
@@ -119,8 +118,7 @@ fn pair_by_pair(
     ensures no_letters { ¬ IsErrOf result OpFault.Letters }
 {
     let letters = alphabet.letters();
-    let few = few_letters(alloc, letters)?;
-    let tables = next_tables(alloc, readers)?;
+    let Beginning { few, tables, first } = Beginning::new(alloc, readers, letters)?;
     let join = pair_join(alloc, readers, op, letters)?;
     let graph = LivePairs {
         readers: &*readers,
@@ -130,7 +128,6 @@ fn pair_by_pair(
         few: few.as_slice(),
         join: &join,
     };
-    let first = initial_states(alloc, readers)?;
     if graph.is_dead(&first) {
         return side_by_side(alloc, alphabet, readers, Rule::Both(op), limit);
     }
@@ -158,8 +155,7 @@ fn side_by_side(
     ensures no_letters { ¬ IsErrOf result OpFault.Letters }
 {
     let letters = alphabet.letters();
-    let few = few_letters(alloc, letters)?;
-    let tables = next_tables(alloc, readers)?;
+    let Beginning { few, tables, first } = Beginning::new(alloc, readers, letters)?;
     let graph = SideBySide {
         readers,
         tables: tables.as_slice(),
@@ -167,7 +163,6 @@ fn side_by_side(
         letters,
         few: few.as_slice(),
     };
-    let first = initial_states(alloc, readers)?;
     if graph.is_dead(&first) {
         no_words_within(alloc, alphabet, limit)
     } else {

@@ -11,8 +11,7 @@ ghost use Rattle.product_op.specs.Readings.{readings_in, AreReadings};
 ghost use Rattle.product_op.specs.Tuples.{AreTuples, LeadToOne};
 
 use crate::reader::Reader;
-use crate::reader_graph::{SideBySide, few_letters, next_tables};
-use crate::reader_states::initial_states;
+use crate::reader_graph::{Beginning, SideBySide};
 use crate::rule::Rule;
 use digit_tuple::alphabet::Alphabet;
 use digit_tuple::exploration::{Explored, explore_keys};
@@ -46,8 +45,7 @@ pub fn explore_tuples(
     ensures no_letters { ¬ IsErrOf result OpFault.Letters }
 {
     let letters = alphabet.letters();
-    let few = few_letters(alloc, letters)?;
-    let tables = next_tables(alloc, readers)?;
+    let Beginning { few, tables, first } = Beginning::new(alloc, readers, letters)?;
     let graph = SideBySide {
         readers,
         tables: tables.as_slice(),
@@ -55,7 +53,6 @@ pub fn explore_tuples(
         letters,
         few: few.as_slice(),
     };
-    let first = initial_states(alloc, readers)?;
     if graph.is_dead(&first) {
         explore_none(alloc, alphabet, &first, limit)
     } else {

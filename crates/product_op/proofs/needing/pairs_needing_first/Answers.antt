@@ -47,3 +47,24 @@ returns-in_err-live-clause-states c refused =
     let from = c.from_residual.ensures in
     let some : HasApart (LeadAlike (live_pair_after g.op rs) (first_key rs)) g.letters (c.args.limit.most + 1) = search rules in
     subst (λ n. HasApart (LeadToOne rs) n (c.args.limit.most + 1)) c.requires.letters (apart_pairs g.letters g.op rs c.requires.pair c.requires.live (c.args.limit.most + 1) some)
+
+pub explore_keys-requires-clause-graph : goal.explore_keys-requires-clause-graph
+explore_keys-requires-clause-graph c = (c.requires.pair, c.requires.few, c.requires.tables, c.requires.join)
+
+pub explore_keys-requires-clause-letters : goal.explore_keys-requires-clause-letters
+explore_keys-requires-clause-letters c = c.requires.letters
+
+pub add_dead_pairs-requires-clause-pair : goal.add_dead_pairs-requires-clause-pair
+add_dead_pairs-requires-clause-pair c = c.requires.pair
+
+pub add_dead_pairs-requires-clause-tables : goal.add_dead_pairs-requires-clause-tables
+add_dead_pairs-requires-clause-tables c = c.requires.tables
+
+pub returns-clause-sizes : goal.returns-clause-sizes
+returns-clause-sizes c = c.in_ok-result.ensures.sizes ∙ c.in_ok-live.ensures.sizes
+
+pub returns-clause-canonical : goal.returns-clause-canonical
+returns-clause-canonical c = c.in_ok-result.ensures.canonical
+
+pub returns-clause-within : goal.returns-clause-within
+returns-clause-within c = omega (arith, c.in_ok-add_dead_pairs.ensures.within, c.len-width.ensures.len)

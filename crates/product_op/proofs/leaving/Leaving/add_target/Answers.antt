@@ -96,3 +96,12 @@ returns-in_default-clause-there c a small has out =
     let long : length f.parts ≡ l.graph.letters = sym (ap (λ (r : Reading). length r.parts) own_is) ∙ length-parts l.graph.letters l.graph.op rs pair l.own c.requires.leaving.own in
     absurd (match_none c.in_ok-letter.field-0 _ _ c.in_default.is c.in_ok-letter.ensures a (omega (arith, small, long)) (ap (λ (r : Reading). part_read r a) (sym own_is) ∙ has)
     (LeadsOut-same (reading_in other.reader.now) (reading_at rs (1 - l.own)) other.state (state_at l.key.now (1 - l.own)) a (sym c.requires.leaving.reader) (sym c.requires.leaving.state) out))
+
+pub bounds-self-self : goal.bounds-self-self
+bounds-self-self c = omega (arith, c.requires.leaving.own, length-readings c.args.self.now.graph.readers.now, c.requires.leaving.pair.count)
+
+pub index-requires : goal.index-requires
+index-requires c = omega (arith, c.requires.within, c.requires.marked.count)
+
+pub index_mut-requires : goal.index_mut-requires
+index_mut-requires c = omega (arith, c.requires.within, c.requires.marked.count)

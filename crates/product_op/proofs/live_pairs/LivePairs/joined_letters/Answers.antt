@@ -6,6 +6,7 @@ use Rattle.product_op.specs.DeadPairs.{needs_second}
 use Rattle.product_op.specs.Readings.{Reading, reading_at, reading_in, readings_in, state_at}
 use Rattle.product_op.proofs.LetterJoinLemmas.{AreFound-joined}
 use Rattle.product_op.proofs.ReaderLemmas.{length-readings, reading_at-reader}
+use Rattle.product_op.proofs.PairReaders.{length-pair}
 use Rattle.product_op.proofs.live_pairs.LivePairs.joined_letters.Goals as goal
 
 pub add_letters-requires-clause-first : goal.add_letters-requires-clause-first
@@ -44,3 +45,27 @@ returns c =
     (c.deref.ensures.value ∙ c.in_ok-read_row.ensures.row ∙ ap (λ (r : Reading). transitions_of r.automaton (state_at key 0)) (sym first_is))
     (c.deref-2.ensures.value ∙ c.in_ok-read_row-2.ensures.row ∙ ap (λ (r : Reading). transitions_of r.automaton (state_at key 1)) (sym second_is))
     c.in_ok-add_letters.ensures.below c.in_ok-add_letters.ensures.joined
+
+pub bounds-self-0 : goal.bounds-self-0
+bounds-self-0 c =
+    let g = c.args.self.now in
+    omega (arith, length-pair g.letters g.op g.readers.now c.requires.pair)
+
+pub bounds-key-0 : goal.bounds-key-0
+bounds-key-0 c = omega (arith, c.requires.key.count, c.requires.pair.count)
+
+pub bounds-self-1 : goal.bounds-self-1
+bounds-self-1 c =
+    let g = c.args.self.now in
+    omega (arith, length-pair g.letters g.op g.readers.now c.requires.pair)
+
+pub bounds-key-1 : goal.bounds-key-1
+bounds-key-1 c = omega (arith, c.requires.key.count, c.requires.pair.count)
+
+pub bounds-self-0-2 : goal.bounds-self-0-2
+bounds-self-0-2 c =
+    let g = c.args.self.now in
+    omega (arith, length-pair g.letters g.op g.readers.now c.requires.pair)
+
+pub add_letters-requires-clause-positive : goal.add_letters-requires-clause-positive
+add_letters-requires-clause-positive c = c.requires.join.positive

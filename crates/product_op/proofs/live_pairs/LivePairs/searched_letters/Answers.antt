@@ -7,6 +7,7 @@ use Rattle.product_op.specs.LeadingLetters.{letters_on}
 use Rattle.product_op.specs.Readings.{Reading, no_reading, reading_at, reading_in, readings_in, state_at}
 use Rattle.product_op.proofs.LiveLetterLemmas.{AreFound-first, AreFound-both}
 use Rattle.product_op.proofs.ReaderLemmas.{length-readings, reading_at-reader}
+use Rattle.product_op.proofs.PairReaders.{IsReading-at, length-automata, length-pair, table-at}
 use Rattle.product_op.proofs.live_pairs.LivePairs.searched_letters.Goals as goal
 use Rattle.product_op.proofs.live_pairs.LivePairs.searched_letters.Goals.{then-needs_second+in_ok-found, else-needs_second}
 
@@ -48,3 +49,36 @@ returns c =
           ∙ ap (λ (r : Reading). filter (leads_on r (state_at key 1)) (letters_on (reading_at rs 0) (state_at key 0))) (sym second_is)))
       | else-needs_second w ↦ AreFound-first g.letters g.op rs c.requires.pair key found (ap (λ (v : Vec ℕ Global). v.items) w.found-is ∙ items)
     ]
+
+pub bounds-self-0 : goal.bounds-self-0
+bounds-self-0 c =
+    let g = c.args.self.now in
+    omega (arith, length-pair g.letters g.op g.readers.now c.requires.pair)
+
+pub bounds-key-0 : goal.bounds-key-0
+bounds-key-0 c = omega (arith, c.requires.key.count, c.requires.pair.count)
+
+pub bounds-self-1 : goal.bounds-self-1
+bounds-self-1 c =
+    let g = c.args.self.now in
+    omega (arith, length-pair g.letters g.op g.readers.now c.requires.pair)
+
+pub bounds-key-1 : goal.bounds-key-1
+bounds-key-1 c = omega (arith, c.requires.key.count, c.requires.pair.count)
+
+pub bounds-self-1-then-needs_second : goal.bounds-self-1-then-needs_second
+bounds-self-1-then-needs_second c =
+    let g = c.args.self.now in
+    omega (arith, ap length c.requires.tables, length-automata (readings_in g.readers.now), c.requires.pair.count)
+
+pub leading_on-requires-clause-reading : goal.leading_on-requires-clause-reading
+leading_on-requires-clause-reading c =
+    let g = c.args.self.now in
+    let s = get_or g.readers.now 1 c.index-self-1.result in
+    IsReading-at g.letters g.op g.readers.now c.requires.pair 1 s (omega arith) (get_or_default g.readers.now 1 c.index-self-1.result s (omega (arith, length-pair g.letters g.op g.readers.now c.requires.pair)))
+
+pub leading_on-requires-clause-table : goal.leading_on-requires-clause-table
+leading_on-requires-clause-table c =
+    let g = c.args.self.now in
+    let s = get_or g.readers.now 1 c.index-self-1.result in
+    table-at g.letters g.op g.readers.now c.requires.pair g.tables.now 1 s c.index-self-1-then-needs_second.result c.requires.tables (omega arith) (get_or_default g.readers.now 1 c.index-self-1.result s (omega (arith, length-pair g.letters g.op g.readers.now c.requires.pair)))

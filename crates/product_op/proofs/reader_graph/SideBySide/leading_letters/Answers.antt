@@ -40,3 +40,6 @@ returns c =
     let whole : c.loop-place.place ≡ length rs = omega (arith, length-readings s.readers.now, c.loop-place.auto.place-end, c.loop-place-test.false) in
     AreLeading-found s.letters rs c.requires.graph.readings_are s.rule refuses c.args.key.now found sorted c.dedup.new.self.items
     (c.loop-place.invariant ∙ ap (letters_to rs c.args.key.now) whole) c.sort_unstable.ensures.permutation c.sort_unstable.ensures.sorted (dedup_is (λ a b. a == b) sorted c.dedup.new.self.items c.dedup.ensures.filtered)
+
+pub bounds-key-place : goal.bounds-key-place
+bounds-key-place c = omega (arith, c.loop-place-test.true, c.requires.key.count, length-readings c.args.self.now.readers.now)
