@@ -10,10 +10,11 @@ use Rattle.minimise.specs.Tracked.{NamedAutomaton}
 use Rattle.product_op.specs.declared.rule.Rule.{Rule}
 use Rattle.product_op.specs.declared.rule.Rule.TheVariants.{NotFirst}
 use Rattle.product_op.specs.declared.rule.Rule.TheVariants as rules
+use Rattle.product_op.specs.Validity.{AreLanguages}
 use Rattle.product_op.specs.Readings.{Reading, AreCanonical, AreSideBySide, AreAlike, word_read, flags_of, all_true, combined, arguments_of}
 use Rattle.product_op.specs.TrackReadings.{whole_reading, track_readings, validity_readings, AllFitTracks}
 use Rattle.product_op.proofs.ProductLemmas.{AreReadings-validity}
-use Rattle.product_op.proofs.ReadingLemmas.{AreCanonical-tracks, word_read-all, SameAfter-words, all_true-valid, tracks_from_alike, alike_from_tracks, alike_cons, alike_head, alike_tail}
+use Rattle.product_op.proofs.ReadingLemmas.{AllFitTracks-languages, AreCanonical-tracks, word_read-all, SameAfter-words, all_true-valid, tracks_from_alike, alike_from_tracks, alike_cons, alike_head, alike_tail}
 use Rattle.validity.specs.ValidParts.{in_complement, in_valid_part, ValidityAlike}
 
 module _ (a : NamedAutomaton) (languages : List Automaton) where
@@ -52,6 +53,10 @@ AreSideBySide-validity d canonical languages rule fit few = record {
   readings_are = AreReadings-validity d canonical.table languages fit;
   enough = omega (arith, few);
 }
+
+-- languages of all tracks fit these
+pub languages_fit : (sizes : List ℕ) (languages : List Automaton) → AreLanguages sizes languages → AllFitTracks sizes languages
+languages_fit = AllFitTracks-languages
 
 -- what is known of the readings that the code made, in the words of valid parts
 module _ (a : NamedAutomaton) (languages : List Automaton) (rule : Rule) (made : List Reading) (sizes : List ℕ) (are : made ≡ validity_readings a.automaton languages) (same : sizes ≡ a.automaton.sizes) where

@@ -33,6 +33,7 @@ use std::rc::Rc;
 /// at most as many states as the width. Memory may also run out where 2^32 - 1 states are not enough. Time and memory
 /// follow the width and the letters by which some residual leads to one that is not empty, or all letters where they
 /// are at most 32, and the residuals of the arguments with their transitions.
+#[tactic(auto, using(crate::proofs::ValidityLemmas::languages_fit))]
 pub fn complement_in(
     alloc: Global,
     a: &Tracked,
@@ -56,6 +57,7 @@ pub fn complement_in(
 
 /// The valid words that are accepted. The tracks, the languages, the width and the faults are as for
 /// `complement_in`. The result is canonical.
+#[tactic(auto, using(crate::proofs::ValidityLemmas::languages_fit))]
 pub fn valid_part(
     alloc: Global,
     a: &Tracked,

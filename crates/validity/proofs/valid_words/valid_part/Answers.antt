@@ -1,12 +1,8 @@
 use Rattle.std.proofs.Common.{◌∙◌, map}
 use Rattle.std.specs.Rc.{rc_value}
 use Rattle.std.proofs.lemmas.Result.{IfOk-weaker}
-use Rattle.product_op.proofs.ReadingLemmas.{AllFitTracks-languages}
 use Rattle.validity.proofs.ValidityLemmas.{valid_part_flags}
 use Rattle.validity.proofs.valid_words.valid_part.Goals as goal
-
-pub among_valid-requires-clause-fit : goal.among_valid-requires-clause-fit
-among_valid-requires-clause-fit c = AllFitTracks-languages c.args.a.now.automaton.sizes (map rc_value c.args.valid.now) c.requires
 
 pub returns-clause-language : goal.returns-clause-language
 returns-clause-language c =
