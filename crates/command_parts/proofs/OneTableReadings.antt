@@ -7,7 +7,7 @@ use Rattle.automaton_steps.proofs.AnswerCases.{memory_alone, one_value, same_fau
 use Rattle.dfa_loading.specs.declared.loaded.Loaded.{Loaded}
 use Rattle.formula_resolve.specs.declared.file.File.{File}
 use Rattle.formula_resolve.specs.declared.file.File.TheVariants.{Automaton, Word}
-use Rattle.formula_build.specs.Libraries.{NamedRelation, NamedWord}
+use Rattle.plan_relations.specs.Libraries.{NamedRelation, NamedWord}
 use Rattle.named_systems.specs.NamedSystems.{NamedSystem}
 use Rattle.num_system.specs.Sealed.{SystemValue}
 use Rattle.word_output.specs.Laws.{WordReadingsHaveOneOutcome}

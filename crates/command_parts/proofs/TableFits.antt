@@ -18,7 +18,7 @@ use Rattle.formula_resolve.specs.Headers.{Headers, known, automaton_tracks, word
 use Rattle.formula_resolve.specs.declared.file.File.{File}
 use Rattle.formula_resolve.specs.declared.file.File.TheVariants.{Automaton, Word}
 use Rattle.formula_build.specs.KnownNames.{IsFileIn}
-use Rattle.formula_build.specs.Libraries.{NamedRelation, NamedWord, AreRelations, AreWords, relation_named, word_named}
+use Rattle.plan_relations.specs.Libraries.{NamedRelation, NamedWord, AreRelations, AreWords, relation_named, word_named}
 use Rattle.named_systems.specs.NamedSystems.{NamedSystem, AreSealed, system_named}
 use Rattle.formula_build.specs.Resolved.{plan_headers}
 use Rattle.formula_build.specs.Solutions.{direction_named}

@@ -15,7 +15,7 @@ use Rattle.formula_resolve.specs.FirstMentions.{IsOnce}
 use Rattle.formula_resolve.specs.declared.file.File.{File}
 use Rattle.formula_resolve.specs.declared.file.File.TheVariants.{Automaton, Word}
 use Rattle.formula_truth.proofs.MeaningLemmas.{MeanTheSame}
-use Rattle.formula_build.specs.Libraries.{NamedRelation, NamedWord, relation_named, word_named, meanings_of}
+use Rattle.plan_relations.specs.Libraries.{NamedRelation, NamedWord, relation_named, word_named, meanings_of}
 use Rattle.named_systems.specs.NamedSystems.{NamedSystem, AreSealed}
 use Rattle.definitions.specs.Laws.{TextsMeanTheirTrees, WordTextsMeanTheirTrees}
 use Rattle.definitions.specs.TableLaws.{TablesHold}

@@ -14,7 +14,7 @@ use Rattle.dfa_reading.specs.WordFiles.{IsWordListed}
 use Rattle.formula_resolve.specs.declared.file.File.{File}
 use Rattle.formula_resolve.specs.declared.file.File.TheVariants.{Automaton, Word}
 use Rattle.dfa_loading.specs.declared.loaded.Loaded.{Loaded}
-use Rattle.formula_build.specs.Libraries.{NamedRelation, NamedWord, ReadValue, with_relation, with_word}
+use Rattle.plan_relations.specs.Libraries.{NamedRelation, NamedWord, ReadValue, with_relation, with_word}
 use Rattle.named_systems.specs.NamedSystems.{NamedSystem, system_named}
 use Rattle.num_system.specs.Sealed.{SystemValue}
 use Rattle.num_system.specs.Tracks.{ShareDirection}

@@ -14,7 +14,7 @@ use Rattle.num_system.specs.Sealed.{SystemValue, IsSealed, system_of}
 use Rattle.num_system.specs.Tracks as relations
 use Rattle.num_system.specs.Tracks.{ShareDirection, direction_of}
 use Rattle.number_relations.specs.Relations.{RelationHolds}
-use Rattle.formula_build.specs.Libraries.{NamedRelation}
+use Rattle.plan_relations.specs.Libraries.{NamedRelation}
 use Rattle.named_systems.specs.NamedSystems.{NamedSystem, AreSealed, system_named}
 use Rattle.definitions.specs.Tracks as tracks
 use Rattle.definitions.specs.Tracks.{names_of, systems_of}

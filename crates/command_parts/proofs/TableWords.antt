@@ -9,7 +9,7 @@ use Rattle.num_system.specs.Tracks.{ShareDirection, direction_of}
 use Rattle.word_output.specs.WordReadings.{DoesWordSteps}
 use Rattle.word_output.specs.Words.{WordValue, IsWordValue, HasLetter}
 use Rattle.word_output.proofs.WordSteps.{steps_made, word_is}
-use Rattle.formula_build.specs.Libraries.{NamedWord}
+use Rattle.plan_relations.specs.Libraries.{NamedWord}
 use Rattle.named_systems.specs.NamedSystems.{NamedSystem, AreSealed}
 use Rattle.definitions.specs.WordFiles.{FileLetter}
 use Rattle.definitions.specs.WordLaws.{NamesMean, WordsHaveFileLetters}

@@ -9,7 +9,7 @@ use Rattle.digit_tuple.specs.declared.steps.StepLine.{StepLine}
 use Rattle.dfa_loading.specs.Headers.{headers_of}
 use Rattle.dfa_loading.specs.declared.loaded.Loaded.{Loaded}
 use Rattle.formula_parse.specs.Trees as trees
-use Rattle.formula_build.specs.Libraries.{LibraryValue}
+use Rattle.plan_relations.specs.Libraries.{LibraryValue}
 use Rattle.named_systems.specs.NamedSystems.{NamedSystem, AreSealed}
 use Rattle.formula_build.specs.Solutions.{BuildsFormula, formula_plan}
 use Rattle.num_system.specs.Sealed.{system_of}

@@ -8,7 +8,7 @@ use Rattle.dfa_loading.specs.Places.{lists_of}
 use Rattle.dfa_loading.specs.declared.loaded.Loaded.{Loaded}
 use Rattle.dfa_reading.specs.WordFiles.{IsWordListed}
 use Rattle.formula_resolve.specs.declared.file.File.TheVariants.{Automaton, Word}
-use Rattle.formula_build.specs.Libraries.{ReadValue, with_relation, with_word}
+use Rattle.plan_relations.specs.Libraries.{ReadValue, with_relation, with_word}
 use Rattle.named_systems.specs.NamedSystems.{NamedSystem}
 use Rattle.num_system.specs.Sealed.{SystemValue}
 use Rattle.num_system.specs.Tracks.{ShareDirection}

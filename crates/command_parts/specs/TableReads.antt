@@ -9,7 +9,7 @@ use Rattle.dfa_reading.specs.Listed.{Listed}
 use Rattle.dfa_loading.specs.declared.loaded.Loaded.{Loaded}
 use Rattle.formula_resolve.specs.declared.file.File.{File}
 use Rattle.formula_resolve.specs.declared.file.File.TheVariants.{Automaton, Word}
-use Rattle.formula_build.specs.Libraries.{NamedRelation, NamedWord, ReadValue, LibraryValue}
+use Rattle.plan_relations.specs.Libraries.{NamedRelation, NamedWord, ReadValue, LibraryValue}
 use Rattle.named_systems.specs.NamedSystems.{NamedSystem, system_named}
 use Rattle.num_system.specs.Sealed.{SystemValue}
 use Rattle.word_output.specs.WordReadings.{DoesWord}

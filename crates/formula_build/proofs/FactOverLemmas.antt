@@ -28,7 +28,7 @@ use Rattle.formula_resolve.specs.declared.direction.Conflict.{Conflict}
 use Rattle.formula_resolve.specs.declared.occurrence.Occurrence.{Occurrence}
 use Rattle.formula_build.specs.TrackSystems.{TrackSystems, TracksHaveOneDirection, with_system, IsOver}
 use Rattle.formula_build.specs.Resolved.{plan_headers, ShareDirection, AreDirections}
-use Rattle.formula_build.proofs.AllLemmas.{all_first, all_second}
+use Rattle.plan_relations.proofs.AllLemmas.{all_first, all_second}
 use Rattle.formula_build.proofs.HasLemmas.{has_cases, has_either}
 use Rattle.formula_build.proofs.PartLemmas.{all_closed}
 use Rattle.formula_build.proofs.OverLemmas.{each_among, with_own, over_depends, Only, only_projected, OnlyOf, Faces}

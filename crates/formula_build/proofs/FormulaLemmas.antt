@@ -13,12 +13,12 @@ use Rattle.formula_plan.proofs.FormulaLemmas.{formula_says}
 use Rattle.formula_plan.proofs.TrackLemmas.{same_is, first_is, later_is}
 use Rattle.number_relations.specs.Relations.{RelationValue}
 use Rattle.number_relations.proofs.RelationLemmas.{relations_decided}
-use Rattle.formula_build.specs.TrackNames.{track_name, numbers_by, AreNamed}
-use Rattle.formula_build.specs.Libraries.{LibraryValue, IsLibrary, meanings_of}
-use Rattle.formula_build.specs.Makings.{Makes, IsReady}
+use Rattle.plan_relations.specs.TrackNames.{track_name, numbers_by, AreNamed}
+use Rattle.plan_relations.specs.Libraries.{LibraryValue, IsLibrary, meanings_of}
+use Rattle.plan_relations.specs.Makings.{Makes, IsReady}
 use Rattle.formula_build.specs.Laws.{FormulasHold}
-use Rattle.formula_build.proofs.TrackNameLemmas.{named_track, names_determine}
-use Rattle.formula_build.proofs.HoldLemmas.{plan_says}
+use Rattle.plan_relations.proofs.TrackNameLemmas.{named_track, names_determine}
+use Rattle.plan_relations.proofs.HoldLemmas.{plan_says}
 
 -- the first of some tracks that has a name
 abbrev track_under : List Track → List ℕ → Track

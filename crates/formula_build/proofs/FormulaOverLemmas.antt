@@ -26,7 +26,7 @@ use Rattle.formula_build.specs.TrackSystems.{TrackSystems, with_system, HaveOneD
 use Rattle.formula_build.specs.Resolved.{plan_headers, ShareDirection, AreDirections, or_none, system_under, systems_of}
 use Rattle.formula_plan.proofs.TrackLemmas.{same_self, first_is}
 use Rattle.formula_plan.proofs.AgreementLemmas.{has_first, has_second}
-use Rattle.formula_build.proofs.AllLemmas.{all_first, all_second, all_two, all_filter, all_of}
+use Rattle.plan_relations.proofs.AllLemmas.{all_first, all_second, all_two, all_filter, all_of}
 use Rattle.formula_build.proofs.HasLemmas.{has_cases, has_either, stays_apart, other_track_stays}
 use Rattle.formula_build.proofs.VariableSystemLemmas.{IsOutside, outside, member_found, found_member, free_system_is, among_up}
 use Rattle.formula_build.proofs.DirectionLemmas.{tracks_share}

@@ -5,7 +5,7 @@ use Rattle.std.proofs.lemmas.Bool.{false≢true}
 use Rattle.digit_tuple.proofs.MemberLemmas.{Contains-cases, Contains-head, Contains-none, Contains-tail}
 use Rattle.formula_plan.specs.Tracks.{Track, same_track, has_track, without}
 use Rattle.formula_plan.proofs.TrackLemmas.{same_is, first_is, later_is}
-use Rattle.formula_build.specs.TrackNames.{track_name}
+use Rattle.plan_relations.specs.TrackNames.{track_name}
 
 -- a track among some is the first of them, or a later one
 pub has_cases : (u : Track) (ts : List Track) (t : Track) → has_track (u ∷ ts) t ≡ true → (u ≡ t) ⊎ (has_track ts t ≡ true)

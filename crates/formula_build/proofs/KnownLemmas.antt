@@ -19,12 +19,12 @@ use Rattle.formula_resolve.specs.declared.mention.Mention.TheVariants.{Called}
 use Rattle.num_system.specs.Sealed.{SystemValue}
 use Rattle.num_system.specs.Tracks.{absent_system}
 use Rattle.digit_tuple.specs.declared.direction.Direction.{Direction}
-use Rattle.formula_build.specs.Libraries.{LibraryValue, IsSystemIn}
+use Rattle.plan_relations.specs.Libraries.{LibraryValue, IsSystemIn}
 use Rattle.formula_build.specs.KnownNames.{HasWord, IsKnownFact, AreKnownIn, AreKnownAmong}
 use Rattle.formula_build.specs.Resolved.{plan_headers}
 use Rattle.formula_build.specs.TrackSystems.{IsKnown, Fits}
 use Rattle.formula_build.proofs.FactOverLemmas.{neither, automaton_counted, word_counted}
-use Rattle.formula_build.proofs.AllLemmas.{all_both}
+use Rattle.plan_relations.proofs.AllLemmas.{all_both}
 use Rattle.formula_build.proofs.VariableSystemLemmas.{term_all, places_all}
 use Rattle.formula_build.proofs.FormulaOverLemmas.{right_both, infinitely_has, variable_found}
 use Rattle.formula_build.proofs.PartLemmas.{all_closed}

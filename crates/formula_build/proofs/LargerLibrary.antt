@@ -8,10 +8,10 @@ use Rattle.number_relations.specs.Relations.{RelationValue}
 use Rattle.word_output.specs.Words.{WordValue}
 use Rattle.formula_plan.specs.Plans.{Plan, Made, compared, added, number, called, lettered, renamed, constant, joined, paired, complement, projected}
 use Rattle.named_systems.proofs.NamedLemmas.{named_first}
-use Rattle.formula_build.specs.Libraries.{LibraryValue, NamedRelation, NamedWord, IsLibrary, IsSystemIn, IsRelationIn, IsWordIn, relation_named, word_named}
+use Rattle.plan_relations.specs.Libraries.{LibraryValue, NamedRelation, NamedWord, IsLibrary, IsSystemIn, IsRelationIn, IsWordIn, relation_named, word_named}
 use Rattle.named_systems.specs.NamedSystems.{NamedSystem, AreSealed, system_named}
-use Rattle.formula_build.specs.Makings.{Makes}
-use Rattle.formula_build.specs.Building.{Builds, DoesLastStep, DoesSteps}
+use Rattle.plan_relations.specs.Makings.{Makes}
+use Rattle.plan_relations.specs.Building.{Builds, DoesLastStep, DoesSteps}
 use Rattle.formula_build.specs.Solutions.{BuildsFormula}
 use Rattle.formula_build.specs.OneBuilding.{Agree}
 

@@ -1,20 +1,9 @@
-pub mod AllLemmas
-pub mod LetterRelationLemmas
-pub mod PairRelationLemmas
-pub mod OneMadeLemmas
 pub mod HasLemmas
-pub mod TrackNameLemmas
-pub mod HoldLemmas
 pub mod FormulaLemmas
 pub mod UnderTracks
 pub mod SystemsAtTracks
 pub mod WordTracks
 pub mod TrackSystemLemmas
-pub mod PartReady
-pub mod NeededLemmas
-pub mod MakingLemmas
-pub mod BuiltLemmas
-pub mod BuildingLemmas
 pub mod PartLemmas
 pub mod GrowthLemmas
 pub mod NamedLemmas
@@ -35,5 +24,4 @@ pub mod OccurringLemmas
 pub mod SolutionLemmas
 pub mod VariableTrackLemmas
 pub mod LargerLibrary
-pub mod StepAnswerLemmas
 pub mod OneBuildingLemmas

@@ -10,9 +10,9 @@ use Rattle.formula_plan.specs.Plans.{Plan, compared, added, called, lettered, pa
 use Rattle.formula_plan.specs.TermPlans.{TermPlan, closed_by, closed, no_times, linked, multiple, parted, below, quotient_made, Scaling, by_numeral, by_divisor, scaling_made, scaled, scaled_all, sum_relation, with_addend, numeral_plan, begun, term_plan, factor_plans, sum_plan}
 use Rattle.formula_plan.specs.FactPlans.{Headers, Places, no_places, places, tracks_of, all_places, closed_all, count, argument_plans, Form, long, variable_left, variable_right, form_by, is_equal, as_variable, named_by, compare_by, mirrored, letter_plan, fact_plan}
 use Rattle.formula_plan.specs.FormulaPlans.{chained, kept, projected_all, for_every, for_infinitely, for_infinitely_many, quantified_made, plan_of, operand_plans}
-use Rattle.formula_build.specs.TrackNames.{begins_with_letter, IsNamed, AreNamed}
+use Rattle.plan_relations.specs.TrackNames.{begins_with_letter, IsNamed, AreNamed}
 use Rattle.formula_build.specs.VariableNames.{IsNamedTerm, AreNamedFactors, AreNamedAddends, AreNamedTerms, IsNamedFact, AreNamedIn, AreNamedAmong}
-use Rattle.formula_build.proofs.TrackNameLemmas.{named_track}
+use Rattle.plan_relations.proofs.TrackNameLemmas.{named_track}
 use Rattle.formula_build.proofs.GrowthLemmas.{multiple_up, scaled_up, term_up, arguments_up, many_up, quantified_up, plan_up}
 
 abbrev AreNamedOption : Option Plan → Type 0

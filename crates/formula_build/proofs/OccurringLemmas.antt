@@ -17,7 +17,7 @@ use Rattle.formula_resolve.specs.Mentions.{count}
 use Rattle.formula_resolve.specs.Occurrences.{Binders, unbound, is_listed, term_occurrences, factor_occurrences, addend_occurrences, track_occurrences, place_occurrences, fact_occurrences}
 use Rattle.formula_resolve.specs.FreeOccurrences.{named, free_in, free_among}
 use Rattle.formula_resolve.specs.declared.occurrence.Occurrence.{Occurrence}
-use Rattle.formula_build.proofs.AllLemmas.{all_both, all_more, all_map, all_filter}
+use Rattle.plan_relations.proofs.AllLemmas.{all_both, all_more, all_map, all_filter}
 
 abbrev HasName : List Name → Name → Type 0
 HasName ms n = has_name ms n ≡ true

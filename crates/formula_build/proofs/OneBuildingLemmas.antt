@@ -12,13 +12,13 @@ use Rattle.number_relations.specs.Relations.{RelationValue, RelationHolds}
 use Rattle.num_system.specs.Tracks.{systems_under}
 use Rattle.number_relations.specs.Placed.{IsOrdered}
 use Rattle.number_relations.proofs.RelationLemmas.{one_relation}
-use Rattle.formula_build.specs.Libraries.{LibraryValue, IsLibrary}
-use Rattle.formula_build.specs.Building.{Builds, DoesLastStep, DoesSteps}
-use Rattle.formula_build.specs.Makings.{Makes}
+use Rattle.plan_relations.specs.Libraries.{LibraryValue, IsLibrary}
+use Rattle.plan_relations.specs.Building.{Builds, DoesLastStep, DoesSteps}
+use Rattle.plan_relations.specs.Makings.{Makes}
 use Rattle.formula_build.specs.Solutions.{BuildsFormula}
 use Rattle.formula_build.specs.OneBuilding.{OneBuilding}
-use Rattle.formula_build.proofs.OneMadeLemmas.{made_once}
-use Rattle.formula_build.proofs.StepAnswerLemmas.{last_step_one}
+use Rattle.plan_relations.proofs.OneMadeLemmas.{made_once}
+use Rattle.plan_relations.proofs.StepAnswerLemmas.{last_step_one}
 use Rattle.formula_build.proofs.LargerLibrary.{both, both_library, first_within, second_within, builds_within}
 
 -- a relation has one order

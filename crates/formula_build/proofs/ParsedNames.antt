@@ -18,7 +18,7 @@ use Rattle.formula_parse.specs.Formulas.{Factor, variable, numeral, in_parens, P
 use Rattle.formula_parse.specs.FormulaTrees.{factor_tree, factors_of, before_prod, last_prod, term_tree, index_places, terms_tree, fact, marks_system, formula_system, imp_system, chain_system, before_imp, last_imp, before_chain, last_chain, before_operand, last_operand, operand_tree, core_tree, default_system}
 use Rattle.formula_parse.specs.Grammar.{Reads}
 use Rattle.formula_plan.proofs.TrackLemmas.{or_left}
-use Rattle.formula_build.specs.TrackNames.{begins_with_letter}
+use Rattle.plan_relations.specs.TrackNames.{begins_with_letter}
 use Rattle.formula_build.specs.VariableNames.{IsNamedTerm, AreNamedFactors, AreNamedAddends, AreNamedTerms, IsNamedFact, AreNamedIn, AreNamedAmong}
 
 abbrev IsNamedToken : Token → Type 0

@@ -8,7 +8,7 @@ use Rattle.formula_plan.specs.Plans.{Plan, compared, added, constant, called, le
 use Rattle.formula_plan.specs.TermPlans.{TermPlan, closed_by, closed, closing_by, closing, no_times, linked, multiple, parted, below, quotient_made, Scaling, by_numeral, by_divisor, scaling_made, scaled, scaled_all, sum_relation, with_addend, numeral_plan, begun, term_plan, factor_plans, sum_plan}
 use Rattle.formula_plan.specs.FactPlans.{Headers, Places, no_places, places, tracks_of, all_places, closed_all, closing_all, TermPlans, over_terms, count, argument_plans, Form, long, variable_left, variable_right, form_by, is_equal, as_variable, named_by, compared_values, compare_by, mirrored, letter_plan, words_plan, fact_plan}
 use Rattle.formula_plan.specs.FormulaPlans.{MadeOperands, none_made, made, chained, chaining, kept, projected_all, projecting, for_some, for_every, above_bound, for_infinitely, for_infinitely_many, quantified_made, plan_of, operand_plans}
-use Rattle.formula_build.specs.Parts.{IsPart, AreParts}
+use Rattle.plan_relations.specs.Parts.{IsPart, AreParts}
 
 pub parts_both : (ps qs : List Plan) (q : Plan) → AreParts ps q → AreParts qs q → AreParts (ps ++ qs) q
 parts_both [] qs q first second = second

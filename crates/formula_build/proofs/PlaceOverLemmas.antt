@@ -17,7 +17,7 @@ use Rattle.formula_resolve.specs.Mentions as mentions
 use Rattle.formula_resolve.specs.Occurrences.{Binders, term_occurrences, track_occurrences, place_occurrences}
 use Rattle.formula_resolve.specs.declared.occurrence.Occurrence.{Occurrence}
 use Rattle.formula_build.specs.TrackSystems.{TrackSystems, IsOver}
-use Rattle.formula_build.proofs.AllLemmas.{all_first, all_second}
+use Rattle.plan_relations.proofs.AllLemmas.{all_first, all_second}
 use Rattle.formula_build.proofs.HasLemmas.{has_cases, has_either}
 use Rattle.formula_build.proofs.GrowthLemmas.{term_up, arguments_up}
 use Rattle.formula_build.proofs.OverLemmas.{over_depends, Only, OrIs, only_more, OnlyOf, only_closed, Faces, OverOf, over_closed, faces_closed}

@@ -22,9 +22,9 @@ use Rattle.formula_resolve.specs.declared.file.File.TheVariants.{Automaton, Word
 use Rattle.formula_resolve.specs.declared.mention.Mention.{Mention}
 use Rattle.formula_resolve.specs.declared.mention.Mention.TheVariants.{Marked, Called, Indexed}
 use Rattle.formula_build.specs.KnownNames.{IsFileIn, HasSystem, IsKnownFact, AreKnownIn, AreKnownAmong}
-use Rattle.formula_build.specs.Libraries.{LibraryValue}
+use Rattle.plan_relations.specs.Libraries.{LibraryValue}
 use Rattle.formula_build.specs.Solutions.{IsFormed}
-use Rattle.formula_build.proofs.AllLemmas.{all_first, all_second}
+use Rattle.plan_relations.proofs.AllLemmas.{all_first, all_second}
 use Rattle.formula_build.proofs.ParsedNames.{parsed_named}
 
 -- a formula that is read is formed

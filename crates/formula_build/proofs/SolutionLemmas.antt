@@ -14,12 +14,12 @@ use Rattle.num_system.specs.Tracks.{systems_under}
 use Rattle.number_relations.specs.Placed.{IsOrdered}
 use Rattle.number_relations.proofs.NamedSteps.{own_named}
 use Rattle.formula_build.specs.KnownNames.{AreKnownIn}
-use Rattle.formula_build.specs.Libraries.{LibraryValue, IsLibrary}
-use Rattle.formula_build.specs.Makings.{Makes, IsReady}
-use Rattle.formula_build.specs.Parts.{AreParts}
+use Rattle.plan_relations.specs.Libraries.{LibraryValue, IsLibrary}
+use Rattle.plan_relations.specs.Makings.{Makes, IsReady}
+use Rattle.plan_relations.specs.Parts.{AreParts}
 use Rattle.formula_build.specs.Resolved.{AreDirections, plan_headers, systems_of}
 use Rattle.formula_build.specs.Solutions.{IsFormed, IsResolved, IsSolution, formula_plan, direction_named}
-use Rattle.formula_build.specs.TrackNames.{AreNamed}
+use Rattle.plan_relations.specs.TrackNames.{AreNamed}
 use Rattle.formula_build.specs.TrackSystems.{Fits, IsKnown, IsOver}
 use Rattle.formula_build.proofs.FormulaLemmas.{formulas_hold}
 use Rattle.formula_build.proofs.FormulaOverLemmas.{over_plans}

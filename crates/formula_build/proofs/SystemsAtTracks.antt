@@ -12,11 +12,11 @@ use Rattle.num_system.specs.Tracks.{absent_system, system_under, AgreeUnder}
 use Rattle.formula_parse.specs.Tokens.{Name}
 use Rattle.formula_plan.specs.Tracks.{Track, fresh, has_track}
 use Rattle.formula_plan.proofs.TrackLemmas.{first_is, later_is}
-use Rattle.formula_build.specs.TrackNames.{track_name, IsNamed}
-use Rattle.formula_build.specs.Libraries.{LibraryValue, IsSystemIn}
+use Rattle.plan_relations.specs.TrackNames.{track_name, IsNamed}
+use Rattle.plan_relations.specs.Libraries.{LibraryValue, IsSystemIn}
 use Rattle.formula_build.specs.TrackSystems.{TrackSystems}
 use Rattle.formula_build.proofs.HasLemmas.{has_contains}
-use Rattle.formula_build.proofs.TrackNameLemmas.{names_determine, named_among}
+use Rattle.plan_relations.proofs.TrackNameLemmas.{names_determine, named_among}
 
 -- each name means the system at its index
 abbrev pub AreSystemsIn : LibraryValue → List Name → List SystemValue → Type 0

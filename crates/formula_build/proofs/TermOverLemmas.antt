@@ -16,7 +16,7 @@ use Rattle.formula_plan.proofs.AgreementLemmas.{has_first, has_second}
 use Rattle.formula_resolve.specs.Occurrences.{Binders, term_occurrences, factor_occurrences, addend_occurrences}
 use Rattle.formula_resolve.specs.declared.occurrence.Occurrence.{Occurrence}
 use Rattle.formula_build.specs.TrackSystems.{TrackSystems, IsOver}
-use Rattle.formula_build.proofs.AllLemmas.{all_first, all_second}
+use Rattle.plan_relations.proofs.AllLemmas.{all_first, all_second}
 use Rattle.formula_build.proofs.HasLemmas.{other_track_stays}
 use Rattle.formula_build.proofs.GrowthLemmas.{scaled_up}
 use Rattle.formula_build.proofs.OverLemmas.{each_among, over_projected, Only, OrIs, only_more, only_linked, OnlyOf, only_closed, has_closed, Faces, one_direction, OverOf, over_joined, over_closed, faces_closed}

@@ -32,14 +32,14 @@ use Rattle.formula_plan.specs.Plans.{Plan, compared, added, number, called, lett
 use Rattle.formula_plan.specs.FactPlans.{Headers}
 use Rattle.formula_plan.proofs.TrackLemmas.{same_self, same_is, first_is}
 use Rattle.formula_plan.proofs.AgreementLemmas.{has_first, has_second}
-use Rattle.formula_build.specs.TrackNames.{track_name, IsNamed, AreNamed}
-use Rattle.formula_build.specs.Libraries.{LibraryValue, IsLibrary, IsSystemIn}
-use Rattle.formula_build.specs.Makings.{Makes, IsReady, MayJoin, comparison_of, op_of}
+use Rattle.plan_relations.specs.TrackNames.{track_name, IsNamed, AreNamed}
+use Rattle.plan_relations.specs.Libraries.{LibraryValue, IsLibrary, IsSystemIn}
+use Rattle.plan_relations.specs.Makings.{Makes, IsReady, MayJoin, comparison_of, op_of}
 use Rattle.formula_build.specs.TrackSystems.{TrackSystems, with_system, HaveOneDirection, IsOver, IsKnown, Fits}
 use Rattle.formula_build.proofs.HasLemmas.{HasTrackNamed, has_cases, has_contains, contains_has, track_named_later, has_either, exchanged, stays_apart, other_track_stays}
-use Rattle.formula_build.proofs.HoldLemmas.{plan_says}
+use Rattle.plan_relations.proofs.HoldLemmas.{plan_says}
 use Rattle.formula_build.proofs.SystemsAtTracks.{systems_agree, systems_count, systems_over}
-use Rattle.formula_build.proofs.TrackNameLemmas.{names_determine, named_track}
+use Rattle.plan_relations.proofs.TrackNameLemmas.{names_determine, named_track}
 use Rattle.formula_build.proofs.UnderTracks.{HasTracks, each_of, found_again, placed_tracks, tracks_over_one}
 use Rattle.formula_build.proofs.WordTracks.{pair_may, pair_tracks, word_count}
 

@@ -12,8 +12,8 @@ use Rattle.number_relations.specs.Placed.{each_once}
 use Rattle.number_relations.proofs.OnceLemmas.{once_contains, once_others}
 use Rattle.formula_parse.specs.Tokens.{Name}
 use Rattle.formula_plan.specs.Tracks.{Track, has_track}
-use Rattle.formula_build.specs.TrackNames.{track_name}
-use Rattle.formula_build.specs.Libraries.{LibraryValue, IsSystemIn}
+use Rattle.plan_relations.specs.TrackNames.{track_name}
+use Rattle.plan_relations.specs.Libraries.{LibraryValue, IsSystemIn}
 use Rattle.formula_build.specs.TrackSystems.{TrackSystems}
 use Rattle.formula_build.proofs.HasLemmas.{HasTrackNamed}
 

@@ -15,7 +15,7 @@ use Rattle.formula_resolve.specs.Occurrences.{Binders, is_listed, bound_by, term
 use Rattle.formula_resolve.specs.FreeOccurrences.{named, system_among, free_in, free_system}
 use Rattle.formula_resolve.specs.declared.occurrence.Occurrence.{Occurrence}
 use Rattle.formula_resolve.proofs.FreeLemmas.{free_is_unbound}
-use Rattle.formula_build.proofs.AllLemmas.{all_both, all_more, all_of}
+use Rattle.plan_relations.proofs.AllLemmas.{all_both, all_more, all_of}
 
 -- what is so of each variable over a system is so of all occurrences in a term
 module _ (Q : Occurrence → Type 0) (b : Binders) (s : Name) (each : (n : Name) → Q (record { name = n; binder = b n; system = s })) where

@@ -28,14 +28,14 @@ use Rattle.num_system.specs.Tracks.{systems_under}
 use Rattle.number_relations.specs.Placed.{IsOrdered}
 use Rattle.number_relations.specs.Relations.{RelationValue, system_named}
 use Rattle.formula_build.specs.KnownNames.{AreKnownIn}
-use Rattle.formula_build.specs.Libraries.{LibraryValue, IsLibrary, IsSystemIn}
-use Rattle.formula_build.specs.Makings.{Makes}
+use Rattle.plan_relations.specs.Libraries.{LibraryValue, IsLibrary, IsSystemIn}
+use Rattle.plan_relations.specs.Makings.{Makes}
 use Rattle.formula_build.specs.Resolved.{AreDirections, plan_headers, system_under, systems_of}
 use Rattle.formula_build.specs.Solutions.{IsFormed, IsResolved, formula_plan, direction_named}
-use Rattle.formula_build.specs.TrackNames.{track_name}
+use Rattle.plan_relations.specs.TrackNames.{track_name}
 use Rattle.formula_build.specs.TrackSystems.{Fits}
 use Rattle.formula_build.specs.VariableTracks.{AreSystemsOf, IsOverVariables}
-use Rattle.formula_build.proofs.AllLemmas.{all_contains, all_filter, all_map, all_more, all_of, all_two}
+use Rattle.plan_relations.proofs.AllLemmas.{all_contains, all_filter, all_map, all_more, all_of, all_two}
 use Rattle.formula_build.proofs.FormulaOverLemmas.{plan_only}
 use Rattle.formula_build.proofs.NameOrderLemmas.{entries_all, entries_have, names_ordered, same_names}
 use Rattle.formula_build.proofs.OccurringLemmas.{free_own}

@@ -15,14 +15,14 @@ use Rattle.word_output.specs.Words.{WordValue}
 use Rattle.formula_parse.specs.Tokens.{Name}
 use Rattle.formula_plan.specs.Tracks.{Track, fresh, has_track}
 use Rattle.formula_plan.specs.FactPlans.{Headers}
-use Rattle.formula_build.specs.TrackNames.{track_name, IsNamed}
-use Rattle.formula_build.specs.Libraries.{LibraryValue, IsLibrary, IsSystemIn, IsWordIn}
-use Rattle.formula_build.specs.PairRelations.{MayPairWords, IsRelationPair}
-use Rattle.formula_build.specs.Makings.{placed_on}
+use Rattle.plan_relations.specs.TrackNames.{track_name, IsNamed}
+use Rattle.plan_relations.specs.Libraries.{LibraryValue, IsLibrary, IsSystemIn, IsWordIn}
+use Rattle.plan_relations.specs.PairRelations.{MayPairWords, IsRelationPair}
+use Rattle.plan_relations.specs.Makings.{placed_on}
 use Rattle.formula_build.specs.TrackSystems.{TrackSystems, TracksHaveOneDirection, IsWordOverSystems, Fits}
-use Rattle.formula_build.proofs.AllLemmas.{all_both}
+use Rattle.plan_relations.proofs.AllLemmas.{all_both}
 use Rattle.formula_build.proofs.HasLemmas.{HasTrackNamed, contains_has, has_contains}
-use Rattle.formula_build.proofs.OneMadeLemmas.{word_is}
+use Rattle.plan_relations.proofs.OneMadeLemmas.{word_is}
 use Rattle.formula_build.proofs.SystemsAtTracks.{AreSystemsIn, has_at, systems_agree, systems_count, systems_over, system_at_track, systems_both}
 use Rattle.formula_build.proofs.UnderTracks.{HasTracks, each_of, tracks_under}
 

@@ -7,7 +7,7 @@ use Rattle.formula_resolve.specs.declared.file.File.TheVariants.{Automaton, Word
 use Rattle.num_system.specs.Sealed.{SystemValue}
 use Rattle.number_relations.specs.Relations.{RelationValue}
 use Rattle.word_output.specs.Words.{WordValue}
-use Rattle.formula_build.specs.Libraries.{LibraryValue, IsRelationIn, IsWordIn, IsSystemIn}
+use Rattle.plan_relations.specs.Libraries.{LibraryValue, IsRelationIn, IsWordIn, IsSystemIn}
 
 -- the name means a word
 abbrev pub HasWord : LibraryValue → Name → Type 0

@@ -8,7 +8,7 @@ use Rattle.formula_parse.specs.Tokens.{Name}
 use Rattle.formula_plan.specs.Plans.{Made}
 use Rattle.num_system.specs.Sealed.{SystemValue}
 use Rattle.number_relations.specs.Relations.{RelationValue}
-use Rattle.formula_build.specs.Libraries.{LibraryValue, IsLibrary, IsSystemIn}
+use Rattle.plan_relations.specs.Libraries.{LibraryValue, IsLibrary, IsSystemIn}
 use Rattle.formula_build.specs.Solutions.{BuildsFormula}
 
 -- names that mean something in both libraries mean the same, and both have the same relations and words

@@ -6,7 +6,7 @@ use Rattle.formula_plan.specs.PlanLists.{IsPlanOf}
 use Rattle.formula_resolve.specs.Headers.{Headers}
 use Rattle.formula_resolve.specs.Occurrences.{all_occurrences}
 use Rattle.formula_resolve.specs.FreeVariables.{free_variables}
-use Rattle.formula_build.specs.Libraries.{LibraryValue, ReadValue}
+use Rattle.plan_relations.specs.Libraries.{LibraryValue, ReadValue}
 use Rattle.formula_build.specs.Solutions.{IsFormed, IsResolved, formula_plan, direction_named}
 use Rattle.formula_build.specs.Resolved.{AreDirections}
 use Rattle.formula_build.specs.declared.resolving.Resolved.{Resolved}

@@ -22,8 +22,8 @@ use Rattle.formula_plan.specs.FormulaPlans.{plan_of}
 use Rattle.formula_plan.specs.Linear.{IsLinearFormula}
 use Rattle.number_relations.specs.Relations.{RelationValue, IsRelation, RelationHolds}
 use Rattle.number_relations.specs.Placed.{IsOrdered}
-use Rattle.formula_build.specs.Libraries.{LibraryValue, meanings_of}
-use Rattle.formula_build.specs.Building.{Builds}
+use Rattle.plan_relations.specs.Libraries.{LibraryValue, meanings_of}
+use Rattle.plan_relations.specs.Building.{Builds}
 use Rattle.formula_build.specs.Resolved.{plan_headers}
 use Rattle.formula_build.specs.VariableNames.{AreNamedIn}
 

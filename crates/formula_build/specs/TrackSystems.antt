@@ -9,7 +9,7 @@ use Rattle.formula_plan.specs.Tracks.{Track, same_track, has_track}
 use Rattle.formula_plan.specs.Plans.{Plan, compared, added, number, called, lettered, renamed, constant, joined, paired, complement, projected, tracks}
 use Rattle.formula_plan.specs.FactPlans.{Headers}
 use Rattle.word_output.specs.Words.{WordValue}
-use Rattle.formula_build.specs.Libraries.{LibraryValue, IsRelationIn, IsWordIn, IsSystemIn}
+use Rattle.plan_relations.specs.Libraries.{LibraryValue, IsRelationIn, IsWordIn, IsSystemIn}
 
 -- the system of each track, by its name
 abbrev pub TrackSystems : Type 0

@@ -1,7 +1,7 @@
 -- Formulas in which the name of each variable begins with a letter.
 use Rattle.std.specs.Prelude.{◌≡◌, true, ⊤}
 use Rattle.formula_parse.specs.Trees.{Term, variable, numeral, product, sum, Factors, no_factors, factors, times, divided, Terms, no_terms, terms, Addends, no_addends, addends, Fact, compare, words, word_letter, letter_word, call, Formula, atom, negated, chain, quantified, marked, Operands, no_operands, operands}
-use Rattle.formula_build.specs.TrackNames.{begins_with_letter}
+use Rattle.plan_relations.specs.TrackNames.{begins_with_letter}
 
 abbrev mutual
   pub IsNamedTerm : Term → Type 0

@@ -3,7 +3,7 @@ use Rattle.std.specs.Prelude.{◌≡◌, List, [], ◌∷◌, map, ⊤}
 use Rattle.formula_resolve.specs.declared.variable.Variable.{Variable}
 use Rattle.num_system.specs.Sealed.{SystemValue}
 use Rattle.number_relations.specs.Relations.{RelationValue}
-use Rattle.formula_build.specs.Libraries.{LibraryValue, IsSystemIn}
+use Rattle.plan_relations.specs.Libraries.{LibraryValue, IsSystemIn}
 
 -- the systems are those of the variables, in their order
 abbrev pub AreSystemsOf : LibraryValue → List Variable → List SystemValue → Type 0

@@ -8,14 +8,12 @@ ghost use Rattle.formula_build.specs.Solutions.{BuildsFormula, IsSolution, formu
 ghost use Rattle.formula_build.specs.TrackSystems.{Fits};
 ghost use Rattle.formula_build.specs.VariableTracks.{IsOverVariables};
 
-use crate::known::Known;
-use crate::library::Library;
 use crate::ordering::in_order;
-use crate::plan_making::make_plans;
 use crate::resolving::Resolved;
 use digit_tuple::step_fault::StepFault;
 use digit_tuple::steps::Steps;
 use number_relations::relation::Relation;
+use plan_relations::{Known, Library, make_plans};
 use std::alloc::Global;
 
 /// The relation that holds of the numbers for which a resolved formula is true. Its tracks are the free variables, in

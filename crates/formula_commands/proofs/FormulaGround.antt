@@ -16,7 +16,7 @@ use Rattle.formula_resolve.specs.Resolving.{fault_of}
 use Rattle.formula_resolve.proofs.FirstLemmas.{first_once}
 use Rattle.formula_build.proofs.ReadFormulas.{read_known}
 use Rattle.formula_build.specs.KnownNames.{AreKnownIn}
-use Rattle.formula_build.specs.Libraries.{meanings_of}
+use Rattle.plan_relations.specs.Libraries.{meanings_of}
 use Rattle.named_systems.specs.NamedSystems.{NamedSystem, AreSealed}
 use Rattle.formula_build.specs.Resolved.{AreDirections, plan_headers}
 use Rattle.formula_build.specs.Solutions.{direction_named}

@@ -12,7 +12,7 @@ use Rattle.formula_resolve.specs.Occurrences.{all_occurrences}
 use Rattle.formula_resolve.specs.Headers.{Headers}
 use Rattle.formula_resolve.specs.Resolving.{fault_of}
 use Rattle.formula_build.specs.KnownNames.{AreKnownIn}
-use Rattle.formula_build.specs.Libraries.{ReadValue, LibraryValue}
+use Rattle.plan_relations.specs.Libraries.{ReadValue, LibraryValue}
 use Rattle.named_systems.specs.NamedSystems.{NamedSystem, AreSealed}
 use Rattle.formula_build.specs.Resolved.{plan_headers}
 use Rattle.formula_build.specs.ResolvedViews.{IsPlanned, formula_of, headers_in}

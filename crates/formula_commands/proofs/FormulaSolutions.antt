@@ -18,7 +18,7 @@ use Rattle.formula_parse.specs.Trees as trees
 use Rattle.formula_resolve.specs.declared.variable.Variable as resolved
 use Rattle.formula_truth.specs.Truth.{Holds}
 use Rattle.formula_truth.proofs.MeaningLemmas.{MeanTheSame, meanings_matter}
-use Rattle.formula_build.specs.Libraries.{LibraryValue, meanings_of}
+use Rattle.plan_relations.specs.Libraries.{LibraryValue, meanings_of}
 use Rattle.formula_build.specs.Solutions.{IsSolution}
 use Rattle.formula_build.specs.VariableTracks.{AreSystemsOf, IsOverVariables}
 use Rattle.dfa_text.specs.RelationText.{relation_text}

@@ -5,7 +5,7 @@ use Rattle.wal_outside.specs.Places.{Place}
 use Rattle.digit_tuple.specs.declared.steps.StepLine.{StepLine}
 use Rattle.formula_parse.specs.Trees as trees
 use Rattle.formula_resolve.specs.declared.variable.Variable as resolved
-use Rattle.formula_build.specs.Libraries.{LibraryValue, meanings_of}
+use Rattle.plan_relations.specs.Libraries.{LibraryValue, meanings_of}
 use Rattle.formula_truth.proofs.MeaningLemmas.{MeanTheSame}
 use Rattle.formula_build.specs.Solutions.{IsSolution}
 use Rattle.formula_build.specs.VariableTracks.{IsOverVariables}

@@ -12,7 +12,7 @@ use Rattle.dfa_loading.specs.declared.loaded.Loaded.{Loaded}
 use Rattle.formula_parse.specs.Trees as trees
 use Rattle.formula_resolve.specs.FirstMentions.{first_files}
 use Rattle.formula_resolve.specs.Mentions.{mentions}
-use Rattle.formula_build.specs.Libraries.{IsLibrary}
+use Rattle.plan_relations.specs.Libraries.{IsLibrary}
 use Rattle.formula_build.specs.OneBuilding.{Agree}
 use Rattle.formula_build.specs.Solutions.{BuildsFormula, formula_plan}
 use Rattle.formula_build.proofs.OneBuildingLemmas.{one_building}

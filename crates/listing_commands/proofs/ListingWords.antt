@@ -16,7 +16,7 @@ use Rattle.dfa_loading.specs.declared.loaded.Loaded.{Loaded}
 use Rattle.dfa_reading.specs.Headers.{Header, Truth, Systems, Sets}
 use Rattle.dfa_text.specs.Meaning.{FileAccepts}
 use Rattle.formula_resolve.specs.declared.file.File.TheVariants.{Automaton}
-use Rattle.formula_build.specs.Libraries.{NamedRelation}
+use Rattle.plan_relations.specs.Libraries.{NamedRelation}
 use Rattle.named_systems.specs.NamedSystems.{NamedSystem, AreSealed}
 use Rattle.num_system.specs.Sealed.{SystemValue}
 use Rattle.num_system.specs.Tracks as relations

@@ -18,7 +18,7 @@ use Rattle.dfa_loading.specs.Headers.{headers_of}
 use Rattle.dfa_loading.specs.Loading.{AreListedBy}
 use Rattle.dfa_loading.specs.declared.loaded.Loaded.{Loaded}
 use Rattle.dfa_text.specs.RelationText.{word_text}
-use Rattle.formula_build.specs.Libraries.{NamedRelation, relation_named}
+use Rattle.plan_relations.specs.Libraries.{NamedRelation, relation_named}
 use Rattle.named_systems.specs.NamedSystems.{NamedSystem}
 use Rattle.formula_resolve.specs.Headers.{Headers, automaton_tracks}
 use Rattle.num_system.specs.Sealed.{SystemValue, system_of}

@@ -30,7 +30,7 @@ use Rattle.word_output.proofs.OptionLemmas.{same_option}
 use Rattle.word_output.proofs.PlaceLaws.{letter_of_place, place_of_letter}
 use Rattle.number_relations.specs.Relations.{RelationValue}
 use Rattle.formula_parse.specs.Tokens.{Name}
-use Rattle.formula_build.specs.Libraries.{AreWords, IsLibrary, LibraryValue, NamedWord, with_word as with_named}
+use Rattle.plan_relations.specs.Libraries.{AreWords, IsLibrary, LibraryValue, NamedWord, with_word as with_named}
 use Rattle.named_systems.specs.NamedSystems.{AreSealed}
 use Rattle.formula_build.specs.OneBuilding.{Agree}
 use Rattle.formula_build.specs.Solutions.{BuildsFormula}

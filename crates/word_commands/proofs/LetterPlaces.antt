@@ -11,7 +11,7 @@ use Rattle.word_output.specs.Words.{HasLetter, IsWordValue, WordValue}
 use Rattle.number_relations.specs.Relations.{RelationHolds, RelationValue}
 use Rattle.number_relations.proofs.RelationLemmas.{relations_decided}
 use Rattle.formula_parse.specs.Tokens.{Name}
-use Rattle.formula_build.specs.Libraries.{meanings_of, word_named}
+use Rattle.plan_relations.specs.Libraries.{meanings_of, word_named}
 use Rattle.named_systems.specs.NamedSystems.{NamedSystem}
 use Rattle.combinations.specs.Parts.{PartValue, systems_at}
 use Rattle.combinations.specs.Combined.{IsCombination, IsCombined}

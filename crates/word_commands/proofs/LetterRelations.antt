@@ -17,7 +17,7 @@ use Rattle.formula_resolve.specs.declared.fault.ResolveFault.{ResolveFault}
 use Rattle.formula_resolve.specs.declared.fault.ResolveFault.TheVariants as resolve_faults
 use Rattle.formula_resolve.specs.declared.variable.Variable.{Variable}
 use Rattle.formula_build.specs.KnownNames.{AreKnownIn}
-use Rattle.formula_build.specs.Libraries.{IsSystemIn, LibraryValue, meanings_of}
+use Rattle.plan_relations.specs.Libraries.{IsSystemIn, LibraryValue, meanings_of}
 use Rattle.formula_build.specs.Resolved.{plan_headers}
 use Rattle.formula_build.specs.ResolvedViews.{IsPlanned, formula_of, headers_in, library_of}
 use Rattle.formula_build.specs.Solutions.{BuildsFormula, IsSolution, direction_named, formula_plan}

@@ -4,7 +4,7 @@ use Rattle.std.specs.List.{AllByRecursion}
 use Rattle.combinations.specs.Parts.{PartValue}
 use Rattle.command_head.specs.Values.{value_at}
 use Rattle.command_head.specs.declared.head.ValuedName as valued
-use Rattle.formula_build.specs.Libraries.{NamedRelation, relation_named}
+use Rattle.plan_relations.specs.Libraries.{NamedRelation, relation_named}
 use Rattle.formula_resolve.specs.Headers.{Headers, automaton_tracks, is_plain}
 use Rattle.word_commands.specs.CombineMakes.{HasRelations, automata_in}
 use Rattle.word_commands.specs.CombineOutcomes.{first_plain, listed_names, IsFirstOver}

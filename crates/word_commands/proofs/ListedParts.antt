@@ -6,7 +6,7 @@ use Rattle.combinations.specs.Shapes as shapes
 use Rattle.combinations.specs.Shapes.{HaveSameTracks}
 use Rattle.command_head.specs.Heads.{ValuedName}
 use Rattle.command_head.specs.declared.head.ValuedName as valued
-use Rattle.formula_build.specs.Libraries.{NamedRelation, relation_named}
+use Rattle.plan_relations.specs.Libraries.{NamedRelation, relation_named}
 use Rattle.named_systems.specs.NamedSystems.{NamedSystem}
 use Rattle.formula_resolve.specs.Headers.{Headers, automaton_tracks}
 use Rattle.num_system.specs.Sealed.{SystemValue}

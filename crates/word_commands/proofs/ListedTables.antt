@@ -14,7 +14,7 @@ use Rattle.formula_resolve.specs.FirstMentions.{is_same_file, mentioned_files}
 use Rattle.formula_resolve.specs.Headers.{Headers, automaton_tracks, is_plain}
 use Rattle.formula_resolve.proofs.FirstLemmas.{first_once}
 use Rattle.formula_build.specs.KnownNames.{IsFileIn}
-use Rattle.formula_build.specs.Libraries.{NamedRelation, AreRelations, relation_named}
+use Rattle.plan_relations.specs.Libraries.{NamedRelation, AreRelations, relation_named}
 use Rattle.named_systems.specs.NamedSystems.{NamedSystem, AreSealed, system_named}
 use Rattle.formula_build.specs.Resolved.{plan_headers}
 use Rattle.formula_build.specs.Solutions.{direction_named}

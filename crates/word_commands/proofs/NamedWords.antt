@@ -20,7 +20,7 @@ use Rattle.word_output.specs.Words.{WordValue}
 use Rattle.formula_parse.specs.Tokens.{Name}
 use Rattle.formula_resolve.specs.Headers.{Headers, automaton_tracks, known, known_systems, with_word, word_tracks}
 use Rattle.formula_build.specs.KnownNames.{AreKnownIn, AreKnownAmong}
-use Rattle.formula_build.specs.Libraries.{IsSystemIn, LibraryValue, NamedRelation, NamedWord, relation_named, with_word as with_named, word_named}
+use Rattle.plan_relations.specs.Libraries.{IsSystemIn, LibraryValue, NamedRelation, NamedWord, relation_named, with_word as with_named, word_named}
 use Rattle.named_systems.specs.NamedSystems.{NamedSystem, system_named}
 use Rattle.formula_build.specs.Resolved.{AreDirections, ShareDirection, plan_headers}
 use Rattle.formula_build.specs.Solutions.{direction_named}

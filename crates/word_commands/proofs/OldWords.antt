@@ -11,7 +11,7 @@ use Rattle.formula_resolve.specs.FirstMentions.{first_files, first_systems}
 use Rattle.formula_resolve.specs.Headers.{word_tracks}
 use Rattle.formula_resolve.specs.declared.file.File.TheVariants.{Automaton, Word}
 use Rattle.formula_resolve.proofs.FirstLemmas.{first_once}
-use Rattle.formula_build.specs.Libraries.{word_named}
+use Rattle.plan_relations.specs.Libraries.{word_named}
 use Rattle.named_systems.specs.NamedSystems.{NamedSystem, AreSealed}
 use Rattle.formula_build.specs.Resolved.{plan_headers}
 use Rattle.formula_build.specs.Solutions.{direction_named}

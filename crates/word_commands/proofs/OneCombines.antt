@@ -20,7 +20,7 @@ use Rattle.digit_tuple.specs.declared.steps.StepLine.{StepLine}
 use Rattle.dfa_loading.specs.Headers.{headers_of}
 use Rattle.dfa_loading.specs.Loading.{AreListedBy}
 use Rattle.dfa_loading.specs.declared.loaded.Loaded.{Loaded}
-use Rattle.formula_build.specs.Libraries.{NamedRelation}
+use Rattle.plan_relations.specs.Libraries.{NamedRelation}
 use Rattle.formula_resolve.specs.Headers.{Headers, automaton_tracks}
 use Rattle.formula_resolve.specs.declared.file.File.{File}
 use Rattle.num_system.specs.Sealed.{SystemValue}

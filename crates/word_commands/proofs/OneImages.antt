@@ -12,7 +12,7 @@ use Rattle.digit_tuple.specs.declared.steps.StepLine.{StepLine}
 use Rattle.dfa_loading.specs.Headers.{headers_of}
 use Rattle.dfa_loading.specs.Loading.{AreListedBy}
 use Rattle.dfa_loading.specs.declared.loaded.Loaded.{Loaded}
-use Rattle.formula_build.specs.Libraries.{NamedWord, AreWords, word_named}
+use Rattle.plan_relations.specs.Libraries.{NamedWord, AreWords, word_named}
 use Rattle.formula_resolve.specs.Arity.{kept_count}
 use Rattle.formula_resolve.specs.FirstMentions.{first_files, first_systems}
 use Rattle.formula_resolve.specs.Headers.{Headers, word_tracks}

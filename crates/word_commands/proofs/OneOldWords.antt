@@ -9,7 +9,7 @@ use Rattle.automaton_steps.proofs.AnswerCases.{one_result}
 use Rattle.automaton_steps.specs.OneAnswers.{HasOneAnswer}
 use Rattle.dfa_loading.specs.Loading.{AreListedBy}
 use Rattle.dfa_loading.specs.declared.loaded.Loaded.{Loaded}
-use Rattle.formula_build.specs.Libraries.{word_named}
+use Rattle.plan_relations.specs.Libraries.{word_named}
 use Rattle.formula_resolve.specs.declared.file.File.{File}
 use Rattle.word_output.specs.Words.{WordValue}
 use Rattle.definitions.specs.Trees.{Ledger, Tree, custom_of}

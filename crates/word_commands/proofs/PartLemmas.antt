@@ -6,7 +6,7 @@ use Rattle.digit_tuple.specs.declared.step_fault.StepFault.{StepFault}
 use Rattle.digit_tuple.proofs.AllLemmas.{all_append}
 use Rattle.number_relations.specs.Relations.{RelationValue}
 use Rattle.formula_parse.specs.Tokens.{Name}
-use Rattle.formula_build.specs.Libraries.{LibraryValue}
+use Rattle.plan_relations.specs.Libraries.{LibraryValue}
 use Rattle.formula_build.specs.Solutions.{BuildsFormula}
 use Rattle.combinations.specs.Parts.{PartValue}
 use Rattle.word_commands.specs.ImageSteps.{DoesLetters, letter_plan}

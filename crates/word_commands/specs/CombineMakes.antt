@@ -8,7 +8,7 @@ use Rattle.digit_tuple.specs.Steps.{StepLog}
 use Rattle.dfa_loading.specs.Headers.{headers_of}
 use Rattle.dfa_loading.specs.Loading.{AreListedBy}
 use Rattle.digit_tuple.specs.declared.steps.StepLine.{StepLine}
-use Rattle.formula_build.specs.Libraries.{NamedRelation, relation_named}
+use Rattle.plan_relations.specs.Libraries.{NamedRelation, relation_named}
 use Rattle.named_systems.specs.NamedSystems.{NamedSystem}
 use Rattle.formula_build.specs.declared.names.Names.{Names}
 use Rattle.formula_resolve.specs.Headers.{Headers, automaton_tracks}

@@ -11,7 +11,7 @@ use Rattle.combinations.specs.Parts.{PartValue}
 use Rattle.command_head.specs.Heads.{ValuedName}
 use Rattle.command_head.specs.Values.{value_at}
 use Rattle.dfa_loading.specs.declared.loaded.Loaded.{Loaded}
-use Rattle.formula_build.specs.Libraries.{NamedRelation, relation_named}
+use Rattle.plan_relations.specs.Libraries.{NamedRelation, relation_named}
 use Rattle.named_systems.specs.NamedSystems.{NamedSystem, AreSealed}
 use Rattle.num_system.specs.Sealed.{SystemValue}
 use Rattle.word_output.specs.Words.{WordValue}

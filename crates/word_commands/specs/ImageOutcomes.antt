@@ -9,7 +9,7 @@ use Rattle.command_head.specs.Grammar.{DerivesImage}
 use Rattle.command_head.specs.Heads.{ImageHead}
 use Rattle.dfa_loading.specs.Headers.{headers_of}
 use Rattle.dfa_loading.specs.declared.loaded.Loaded.{Loaded}
-use Rattle.formula_build.specs.Libraries.{word_named}
+use Rattle.plan_relations.specs.Libraries.{word_named}
 use Rattle.named_systems.specs.NamedSystems.{NamedSystem, AreSealed}
 use Rattle.formula_resolve.specs.Arity.{kept_count}
 use Rattle.formula_resolve.specs.FirstMentions.{first_files, first_systems}

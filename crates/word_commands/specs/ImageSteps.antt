@@ -9,7 +9,7 @@ use Rattle.morph_words.specs.Rules.{Rules}
 use Rattle.morph_words.specs.Uniform.{IsImageLength, IsLeast, IsLengthRefused, HasLength}
 use Rattle.word_output.specs.Words.{WordValue}
 use Rattle.formula_parse.specs.Tokens.{Name}
-use Rattle.formula_build.specs.Libraries.{LibraryValue}
+use Rattle.plan_relations.specs.Libraries.{LibraryValue}
 use Rattle.formula_build.specs.Solutions.{BuildsFormula, formula_plan}
 use Rattle.formula_plan.specs.Plans.{Made}
 use Rattle.combinations.specs.Parts.{PartValue}

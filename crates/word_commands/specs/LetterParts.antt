@@ -5,7 +5,7 @@ use Rattle.digit_tuple.specs.Steps.{StepLog}
 use Rattle.digit_tuple.specs.declared.step_fault.StepFault.{StepFault}
 use Rattle.formula_parse.specs.Tokens.{Name}
 use Rattle.formula_truth.specs.Truth.{Holds}
-use Rattle.formula_build.specs.Libraries.{LibraryValue, meanings_of}
+use Rattle.plan_relations.specs.Libraries.{LibraryValue, meanings_of}
 use Rattle.formula_build.specs.Solutions.{BuildsFormula, direction_named}
 use Rattle.number_relations.specs.Relations.{RelationValue, IsRelation, RelationHolds}
 use Rattle.num_system.specs.Sealed.{SystemValue}

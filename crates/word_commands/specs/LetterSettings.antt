@@ -3,7 +3,7 @@ use Rattle.std.specs.Prelude.{◌≡◌, ℕ}
 use Rattle.morph_words.specs.Rules.{Rules}
 use Rattle.word_output.specs.Words.{WordValue}
 use Rattle.formula_parse.specs.Tokens.{Name}
-use Rattle.formula_build.specs.Libraries.{LibraryValue}
+use Rattle.plan_relations.specs.Libraries.{LibraryValue}
 use Rattle.word_commands.specs.RecodedWords.{IsImageLibrary, image_headers}
 use Rattle.word_commands.specs.declared.setting.Setting.{Setting}
 

@@ -5,7 +5,7 @@ use Rattle.digit_tuple.specs.declared.step_fault.StepFault.{StepFault}
 use Rattle.digit_tuple.specs.declared.steps.StepLine.{StepLine}
 use Rattle.dfa_loading.specs.Headers.{headers_of}
 use Rattle.dfa_loading.specs.Loading.{AreListedBy}
-use Rattle.formula_build.specs.Libraries.{word_named}
+use Rattle.plan_relations.specs.Libraries.{word_named}
 use Rattle.formula_build.specs.declared.names.Names.{Names}
 use Rattle.formula_resolve.specs.FirstMentions.{first_files, first_systems}
 use Rattle.named_systems.specs.NamedSystems.{NamedSystem, AreSealed}

@@ -5,7 +5,7 @@ use Rattle.num_system.specs.Tracks.{absent_system}
 use Rattle.word_output.specs.Words.{WordValue}
 use Rattle.formula_parse.specs.Tokens.{Name}
 use Rattle.formula_resolve.specs.Headers.{Headers, no_headers, with_word}
-use Rattle.formula_build.specs.Libraries.{LibraryValue, NamedWord, with_word as with_named}
+use Rattle.plan_relations.specs.Libraries.{LibraryValue, NamedWord, with_word as with_named}
 use Rattle.word_images.specs.ImageFormula.{word_name}
 use Rattle.word_images.specs.Recoded.{IsRecoded}
 

@@ -6,10 +6,11 @@ ghost use Rattle.word_commands.specs.LetterSettings.{IsSetting};
 
 use digit_tuple::faults::OutOfMemory;
 use digit_tuple::name::Name;
-use formula_build::{Library, Names};
+use formula_build::Names;
 use formula_resolve::Headers;
 use morph_words::Morphism;
 use named_systems::NamedSystems;
+use plan_relations::Library;
 use std::alloc::Global;
 use std::rc::Rc;
 use word_images::image_formula::word_name;

@@ -1,13 +1,13 @@
 use Rattle.std.proofs.Common.{List, sym, subst, arith}
-use Rattle.formula_build.specs.Libraries.{IsLibrary}
+use Rattle.plan_relations.specs.Libraries.{IsLibrary}
 use Rattle.formula_plan.specs.Plans.{Plan}
-use Rattle.formula_build.specs.Makings.{IsReady, Makes}
+use Rattle.plan_relations.specs.Makings.{IsReady, Makes}
 use Rattle.formula_build.specs.VariableTracks.{IsOverVariables}
 use Rattle.formula_resolve.specs.declared.variable.Variable.{Variable}
 use Rattle.formula_build.specs.ResolvedViews.{formula_of, headers_in, library_of}
 use Rattle.formula_build.proofs.SolutionLemmas.{listed_parts, made_solution, plan_ready}
 use Rattle.formula_build.proofs.VariableTrackLemmas.{made_tracks}
-use Rattle.formula_build.proofs.BuiltLemmas.{built_makes}
+use Rattle.plan_relations.proofs.BuiltLemmas.{built_makes}
 use Rattle.formula_build.proofs.building.build.Goals as goal
 
 pub make_plans-requires-clause-parts : goal.make_plans-requires-clause-parts

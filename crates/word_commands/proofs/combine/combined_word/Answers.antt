@@ -6,7 +6,7 @@ use Rattle.combinations.specs.Shapes.{HaveOneShape as HaveOneTracks}
 use Rattle.combinations.specs.declared.combine_fault.CombineFault.TheVariants.{Step}
 use Rattle.dfa_loading.specs.Headers.{headers_of}
 use Rattle.dfa_loading.specs.declared.loaded.Loaded.{Loaded}
-use Rattle.formula_build.specs.Libraries.{ReadValue}
+use Rattle.plan_relations.specs.Libraries.{ReadValue}
 use Rattle.word_commands.specs.CombineMakes.{HasRelations, automata_in, automata_of}
 use Rattle.word_commands.specs.CombineSteps.{ArePartsFrom}
 use Rattle.command_parts.specs.TableReads.{relations_in}

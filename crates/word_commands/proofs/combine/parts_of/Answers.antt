@@ -5,7 +5,7 @@ use mir.Syntax.{w32}
 use Rattle.combinations.specs.Parts.{PartValue}
 use Rattle.command_head.specs.Values.{value_at}
 use Rattle.command_head.specs.declared.head.ValuedName.{ValuedName}
-use Rattle.formula_build.specs.Libraries.{relation_named}
+use Rattle.plan_relations.specs.Libraries.{relation_named}
 use Rattle.word_commands.specs.CombineMakes.{automata_in}
 use Rattle.word_commands.specs.CombineSteps.{ArePartsFrom}
 use Rattle.word_commands.proofs.ListedChecks.{parts_more, relation_at}

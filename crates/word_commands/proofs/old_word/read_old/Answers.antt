@@ -1,7 +1,7 @@
 use Rattle.std.proofs.Common.{◌≡◌, List, None, Some, inl, refl, sym, ap, ◌∙◌, subst}
 use Rattle.std.proofs.lemmas.Result.{err_from_is_err_and}
 use Rattle.dfa_loading.specs.declared.loaded.Loaded.{Loaded}
-use Rattle.formula_build.specs.Libraries.{ReadValue, word_named}
+use Rattle.plan_relations.specs.Libraries.{ReadValue, word_named}
 use Rattle.command_parts.specs.TableReading.{AreReadable}
 use Rattle.command_parts.proofs.StoppedReadings.{stopped_here}
 use Rattle.word_commands.proofs.OldWords.{old_readable, old_there}

@@ -1,7 +1,0 @@
-use Rattle.std.proofs.Common.{◌≡◌, map, take}
-use Rattle.formula_build.specs.MadeOf.{name_of}
-use Rattle.formula_build.proofs.track_names.track_names.Given as goal
-
--- the tracks so far are named
-abbrev pub invariant-loop-track : goal.invariant-loop-track
-invariant-loop-track l = l.names.items ≡ map name_of (take l.track-index l.tracks)

@@ -1,0 +1,12 @@
+pub mod AllLemmas
+pub mod LetterRelationLemmas
+pub mod PairRelationLemmas
+pub mod OneMadeLemmas
+pub mod TrackNameLemmas
+pub mod HoldLemmas
+pub mod PartReady
+pub mod NeededLemmas
+pub mod MakingLemmas
+pub mod BuiltLemmas
+pub mod BuildingLemmas
+pub mod StepAnswerLemmas

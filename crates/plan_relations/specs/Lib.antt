@@ -1,0 +1,12 @@
+pub mod TrackNames
+pub mod Libraries
+pub mod LibraryViews
+pub mod KnownViews
+pub mod PlacedWords
+pub mod LetterRelations
+pub mod PairRelations
+pub mod Makings
+pub mod Parts
+pub mod Building
+pub mod MadeOf
+pub mod Laws
