@@ -1,12 +1,12 @@
 -- The tracks of a plan that is over systems have one direction.
-use Rattle.std.proofs.Common.{◌≡◌, ℕ, zero, suc, ◌<◌, Bool, true, false, if◌then◌else◌, List, [], ◌∷◌, map, length, slice_index_or, inl, inr, ◌⊎◌, refl, sym, ap, ◌∙◌, subst, arith}
+use Rattle.std.proofs.Common.{◌≡◌, ℕ, suc, ◌<◌, Bool, true, false, if◌then◌else◌, List, [], ◌∷◌, map, length, slice_index_or, inl, inr, ◌⊎◌, sym, ap, ◌∙◌, subst, arith}
 use Rattle.std.proofs.lemmas.Bool.{false≢true}
 use Rattle.digit_tuple.specs.declared.direction.Direction.{Direction}
 use Rattle.formula_parse.specs.Tokens.{Name}
-use Rattle.formula_plan.specs.Tracks.{Track, same_track, has_track, without}
-use Rattle.formula_plan.specs.Plans.{Plan, compared, added, number, called, lettered, renamed, constant, joined, paired, complement, projected, tracks}
+use Rattle.term_plans.specs.Tracks.{Track, same_track, has_track, without}
+use Rattle.term_plans.specs.Plans.{Plan, compared, added, number, called, lettered, renamed, constant, joined, paired, complement, projected, tracks}
 use Rattle.formula_plan.specs.FactPlans.{Headers}
-use Rattle.formula_plan.proofs.TrackLemmas.{same_self}
+use Rattle.term_plans.proofs.TrackLemmas.{same_self}
 use Rattle.formula_build.specs.TrackSystems.{TrackSystems, TracksHaveOneDirection, HaveOneDirection, with_system, IsOver}
 use Rattle.formula_build.specs.Resolved.{ShareDirection}
 use Rattle.formula_build.proofs.HasLemmas.{has_cases, has_either, stays_apart}

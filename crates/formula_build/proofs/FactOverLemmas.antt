@@ -10,10 +10,11 @@ use Rattle.std.proofs.Common.{◌≡◌, ℕ, ℤ, ◌==◌, Bool, true, false, 
 use Rattle.digit_tuple.specs.declared.direction.Direction.{Direction}
 use Rattle.formula_parse.specs.Tokens.{Name, Relation}
 use Rattle.formula_parse.specs.Trees.{Term, variable, numeral, product, sum, Terms, Index, Fact, compare, words, word_letter, letter_word, call}
-use Rattle.formula_plan.specs.Tracks.{Track, own, fresh, has_track}
-use Rattle.formula_plan.specs.Plans.{Plan, compared, called, lettered, paired, projected, tracks}
-use Rattle.formula_plan.specs.TermPlans.{term_plan}
-use Rattle.formula_plan.specs.FactPlans.{Places, no_places, places, tracks_of, all_places, closed_all, count, argument_plans, Form, long, variable_left, variable_right, form_by, is_equal, as_variable, named_by, compared_values, compare_by, mirrored, letter_plan, words_plan, fact_plan}
+use Rattle.term_plans.specs.Tracks.{Track, own, fresh, has_track}
+use Rattle.term_plans.specs.Plans.{Plan, compared, called, lettered, paired, projected, tracks}
+use Rattle.term_plans.specs.TermPlans.{term_plan}
+use Rattle.term_plans.specs.ArgumentPlans.{Places, no_places, places, tracks_of, closed_all, count, argument_plans}
+use Rattle.formula_plan.specs.FactPlans.{Form, long, variable_left, variable_right, form_by, is_equal, as_variable, named_by, compare_by, mirrored, letter_plan, words_plan, fact_plan}
 use Rattle.formula_plan.specs.FactPlans as plans
 use Rattle.formula_resolve.specs.Headers.{Headers, automaton_tracks, word_tracks, is_plain}
 use Rattle.formula_resolve.specs.Mentions.{fact_mentions}

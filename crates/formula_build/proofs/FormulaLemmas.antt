@@ -4,13 +4,13 @@ use Rattle.std.specs.Str.{bytes_eq}
 use Rattle.std.proofs.lemmas.Bool.{false≢true}
 use Rattle.std.proofs.lemmas.Slice.Eq.{bytes_eq-Decides}
 use Rattle.formula_truth.specs.Truth.{Meanings}
-use Rattle.formula_plan.specs.Tracks.{Track, own, same_track, has_track}
-use Rattle.formula_plan.specs.Plans.{Plan, compared, added, number, called, lettered, renamed, constant, joined, paired, complement, projected, tracks}
+use Rattle.term_plans.specs.Tracks.{Track, own, same_track, has_track}
+use Rattle.term_plans.specs.Plans.{Plan, compared, added, number, called, lettered, renamed, constant, joined, paired, complement, projected, tracks}
 use Rattle.formula_plan.specs.FormulaPlans.{plan_of}
-use Rattle.formula_plan.specs.Means.{IsDecided, AreDecided}
-use Rattle.formula_plan.proofs.AgreementLemmas.{Agree, agrees, agree_back}
+use Rattle.term_plans.specs.Means.{IsDecided, AreDecided}
+use Rattle.term_plans.proofs.AgreementLemmas.{Agree, agrees, agree_back}
 use Rattle.formula_plan.proofs.FormulaLemmas.{formula_says}
-use Rattle.formula_plan.proofs.TrackLemmas.{same_is, first_is, later_is}
+use Rattle.term_plans.proofs.TrackLemmas.{same_is, first_is, later_is}
 use Rattle.number_relations.specs.Relations.{RelationValue}
 use Rattle.number_relations.proofs.RelationLemmas.{relations_decided}
 use Rattle.plan_relations.specs.TrackNames.{track_name, numbers_by, AreNamed}

@@ -5,12 +5,12 @@ use Rattle.std.specs.Option.{option_or}
 use Rattle.std.specs.Str.{bytes_eq}
 use Rattle.std.proofs.lemmas.Bool.{lt-ltb, false≢true}
 use Rattle.std.proofs.lemmas.Slice.Eq.{bytes_eq-Decides}
-use Rattle.std.proofs.Common.{◌≡◌, ℕ, ◌+◌, ◌<◌, ◌≤◌, Bool, true, false, ◌||◌, if◌then◌else◌, List, [], ◌∷◌, ◌++◌, map, None, Some, inl, inr, refl, sym, ap, ◌∙◌, subst, arith}
+use Rattle.std.proofs.Common.{◌≡◌, ℕ, ◌+◌, ◌<◌, Bool, true, false, ◌||◌, if◌then◌else◌, List, [], ◌∷◌, ◌++◌, map, None, Some, inl, inr, refl, sym, ap, ◌∙◌, subst, arith}
 use Rattle.digit_tuple.specs.declared.direction.Direction.{Direction}
 use Rattle.formula_parse.specs.Tokens.{Name, Quantifier, some, every, infinite, less}
 use Rattle.formula_parse.specs.Trees.{Names, no_names, names, and, Formula, atom, negated, chain, quantified, marked, Operands, no_operands, operands}
-use Rattle.formula_plan.specs.Tracks.{Track, own, fresh, same_track, has_track, without}
-use Rattle.formula_plan.specs.Plans.{Plan, compared, joined, complement, projected, tracks, Made}
+use Rattle.term_plans.specs.Tracks.{Track, own, fresh, same_track, has_track, without}
+use Rattle.term_plans.specs.Plans.{Plan, compared, joined, complement, projected, tracks, Made}
 use Rattle.formula_plan.specs.FactPlans as plans
 use Rattle.formula_plan.specs.FormulaPlans.{chained, kept, projected_all, for_every, for_infinitely, for_infinitely_many, quantified_made, plan_of, operand_plans}
 use Rattle.formula_resolve.specs.Headers.{Headers}
@@ -24,8 +24,8 @@ use Rattle.formula_resolve.specs.declared.mention.Mention.{Mention}
 use Rattle.formula_resolve.specs.declared.occurrence.Occurrence.{Occurrence}
 use Rattle.formula_build.specs.TrackSystems.{TrackSystems, with_system, HaveOneDirection, IsOver}
 use Rattle.formula_build.specs.Resolved.{plan_headers, ShareDirection, AreDirections, or_none, system_under, systems_of}
-use Rattle.formula_plan.proofs.TrackLemmas.{same_self, first_is}
-use Rattle.formula_plan.proofs.AgreementLemmas.{has_first, has_second}
+use Rattle.term_plans.proofs.TrackLemmas.{same_self, first_is}
+use Rattle.term_plans.proofs.AgreementLemmas.{has_first, has_second}
 use Rattle.plan_relations.proofs.AllLemmas.{all_first, all_second, all_two, all_filter, all_of}
 use Rattle.formula_build.proofs.HasLemmas.{has_cases, has_either, stays_apart, other_track_stays}
 use Rattle.formula_build.proofs.VariableSystemLemmas.{IsOutside, outside, member_found, found_member, free_system_is, among_up}

@@ -3,10 +3,11 @@ use Rattle.std.specs.Prelude.{⊤}
 use Rattle.std.proofs.Common.{◌≡◌, ℕ, zero, suc, ◌+◌, ◌-◌, ◌/◌, ◌%◌, ◌==◌, ◌≤◌, Bool, true, false, if◌then◌else◌, List, [], ◌∷◌, ◌++◌, slice_index_or, Option, None, Some, refl, arith}
 use Rattle.formula_parse.specs.Tokens.{Name, Relation, equal, Quantifier, some, every, infinite}
 use Rattle.formula_parse.specs.Trees.{Names, no_names, names, Term, variable, numeral, product, sum, Factors, no_factors, factors, times, divided, Terms, no_terms, terms, Addends, no_addends, addends, Fact, compare, words, word_letter, letter_word, call, Formula, atom, negated, chain, quantified, marked, Operands, no_operands, operands}
-use Rattle.formula_plan.specs.Tracks.{Track, own, fresh, has_track}
-use Rattle.formula_plan.specs.Plans.{compared, added, tracks, Made}
-use Rattle.formula_plan.specs.TermPlans.{TermPlan, no_times, linked, multiple, parted, below, quotient_made, Scaling, by_numeral, by_divisor, scaling_made, scaled, scaled_all, numeral_plan, begun, term_plan, factor_plans, sum_plan}
-use Rattle.formula_plan.specs.FactPlans.{Headers, count, argument_plans, Form, long, variable_left, variable_right, form_by, is_equal, as_variable, compare_by, fact_plan}
+use Rattle.term_plans.specs.Tracks.{Track, own, fresh, has_track}
+use Rattle.term_plans.specs.Plans.{compared, added, tracks, Made}
+use Rattle.term_plans.specs.TermPlans.{TermPlan, no_times, linked, multiple, parted, below, quotient_made, Scaling, by_numeral, by_divisor, scaling_made, scaled, scaled_all, numeral_plan, begun, term_plan, factor_plans, sum_plan}
+use Rattle.term_plans.specs.ArgumentPlans.{count, argument_plans}
+use Rattle.formula_plan.specs.FactPlans.{Headers, Form, long, variable_left, variable_right, form_by, is_equal, as_variable, compare_by, fact_plan}
 use Rattle.formula_plan.specs.FormulaPlans.{kept, for_every, for_infinitely, for_infinitely_many, quantified_made, plan_of, operand_plans}
 
 if_up : (b : Bool) (m n : Made) (k : ℕ) → k ≤ m.next → k ≤ n.next → k ≤ (if b then m else n).next

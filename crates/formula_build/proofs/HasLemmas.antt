@@ -3,8 +3,8 @@ use Rattle.std.proofs.Common.{◌≡◌, ℕ, Bool, true, false, ◌||◌, cond,
 use Rattle.std.specs.List.{Contains}
 use Rattle.std.proofs.lemmas.Bool.{false≢true}
 use Rattle.digit_tuple.proofs.MemberLemmas.{Contains-cases, Contains-head, Contains-none, Contains-tail}
-use Rattle.formula_plan.specs.Tracks.{Track, same_track, has_track, without}
-use Rattle.formula_plan.proofs.TrackLemmas.{same_is, first_is, later_is}
+use Rattle.term_plans.specs.Tracks.{Track, same_track, has_track, without}
+use Rattle.term_plans.proofs.TrackLemmas.{same_is, first_is, later_is}
 use Rattle.plan_relations.specs.TrackNames.{track_name}
 
 -- a track among some is the first of them, or a later one

@@ -4,10 +4,11 @@ use Rattle.std.specs.List.{AllByRecursion}
 use Rattle.std.proofs.Common.{◌≡◌, ℕ, ℤ, zero, suc, ◌+◌, ◌-◌, ◌/◌, ◌%◌, ◌<◌, ◌==◌, Bool, true, false, if◌then◌else◌, List, [], ◌∷◌, ◌++◌, slice_index_or, Option, None, Some, refl, arith, subst, sym}
 use Rattle.formula_parse.specs.Tokens.{Name, Sign, plus, minus, Relation, equal, Quantifier, some, every, infinite}
 use Rattle.formula_parse.specs.Trees.{Names, no_names, names, Term, variable, numeral, product, sum, Factors, no_factors, factors, times, divided, Terms, no_terms, terms, Addends, no_addends, addends, Index, Fact, compare, words, word_letter, letter_word, call, Formula, atom, negated, chain, quantified, marked, Operands, no_operands, operands}
-use Rattle.formula_plan.specs.Tracks.{Track, own, fresh, has_track}
-use Rattle.formula_plan.specs.Plans.{Plan, compared, added, called, lettered, paired, complement, projected, tracks, Made}
-use Rattle.formula_plan.specs.TermPlans.{TermPlan, closed_by, closed, no_times, linked, multiple, parted, below, quotient_made, Scaling, by_numeral, by_divisor, scaling_made, scaled, scaled_all, sum_relation, with_addend, numeral_plan, begun, term_plan, factor_plans, sum_plan}
-use Rattle.formula_plan.specs.FactPlans.{Places, no_places, places, tracks_of, closed_all, count, argument_plans, letter_plan, words_plan, mirrored, Form, long, variable_left, variable_right, form_by, is_equal, as_variable, named_by, compare_by, fact_plan}
+use Rattle.term_plans.specs.Tracks.{Track, own, fresh, has_track}
+use Rattle.term_plans.specs.Plans.{Plan, compared, added, called, lettered, paired, complement, projected, tracks, Made}
+use Rattle.term_plans.specs.TermPlans.{TermPlan, closed_by, closed, no_times, linked, multiple, parted, below, quotient_made, Scaling, by_numeral, by_divisor, scaling_made, scaled, scaled_all, sum_relation, with_addend, numeral_plan, begun, term_plan, factor_plans, sum_plan}
+use Rattle.term_plans.specs.ArgumentPlans.{Places, no_places, places, tracks_of, closed_all, count, argument_plans}
+use Rattle.formula_plan.specs.FactPlans.{letter_plan, words_plan, mirrored, Form, long, variable_left, variable_right, form_by, is_equal, as_variable, named_by, compare_by, fact_plan}
 use Rattle.formula_plan.specs.FormulaPlans.{chained, kept, projected_all, for_every, for_infinitely, for_infinitely_many, quantified_made, plan_of, operand_plans}
 use Rattle.formula_resolve.specs.Headers.{Headers, automaton_tracks, word_tracks}
 use Rattle.formula_resolve.specs.Mentions.{marks, mentions, mentions_among, fact_mentions}

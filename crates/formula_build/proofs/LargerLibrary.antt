@@ -6,7 +6,7 @@ use Rattle.digit_tuple.specs.declared.step_fault.StepFault.{StepFault}
 use Rattle.num_system.specs.Sealed.{SystemValue}
 use Rattle.number_relations.specs.Relations.{RelationValue}
 use Rattle.word_output.specs.Words.{WordValue}
-use Rattle.formula_plan.specs.Plans.{Plan, Made, compared, added, number, called, lettered, renamed, constant, joined, paired, complement, projected}
+use Rattle.term_plans.specs.Plans.{Plan, Made, compared, added, number, called, lettered, renamed, constant, joined, paired, complement, projected}
 use Rattle.named_systems.proofs.NamedLemmas.{named_first}
 use Rattle.plan_relations.specs.Libraries.{LibraryValue, NamedRelation, NamedWord, IsLibrary, IsSystemIn, IsRelationIn, IsWordIn, relation_named, word_named}
 use Rattle.named_systems.specs.NamedSystems.{NamedSystem, AreSealed, system_named}

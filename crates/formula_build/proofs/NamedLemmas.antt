@@ -5,10 +5,11 @@ use Rattle.std.proofs.Common.{◌≡◌, ℕ, ℤ, zero, suc, ◌+◌, ◌-◌, 
 use Rattle.std.specs.List.{AllByRecursion}
 use Rattle.formula_parse.specs.Tokens.{Name, Sign, plus, minus, Relation, equal, Quantifier, some, every, infinite}
 use Rattle.formula_parse.specs.Trees.{Term, variable, numeral, product, sum, Factors, no_factors, factors, times, divided, Terms, no_terms, terms, Addends, no_addends, addends, Names, no_names, names, Index, Fact, compare, words, word_letter, letter_word, call, Formula, atom, negated, chain, quantified, marked, Operands, no_operands, operands}
-use Rattle.formula_plan.specs.Tracks.{Track, own, fresh, has_track, without}
-use Rattle.formula_plan.specs.Plans.{Plan, compared, added, called, lettered, paired, complement, projected, tracks, Made}
-use Rattle.formula_plan.specs.TermPlans.{TermPlan, closed_by, closed, no_times, linked, multiple, parted, below, quotient_made, Scaling, by_numeral, by_divisor, scaling_made, scaled, scaled_all, sum_relation, with_addend, numeral_plan, begun, term_plan, factor_plans, sum_plan}
-use Rattle.formula_plan.specs.FactPlans.{Headers, Places, no_places, places, tracks_of, all_places, closed_all, count, argument_plans, Form, long, variable_left, variable_right, form_by, is_equal, as_variable, named_by, compare_by, mirrored, letter_plan, fact_plan}
+use Rattle.term_plans.specs.Tracks.{Track, own, fresh, has_track, without}
+use Rattle.term_plans.specs.Plans.{Plan, compared, added, called, lettered, paired, complement, projected, tracks, Made}
+use Rattle.term_plans.specs.TermPlans.{TermPlan, closed_by, closed, no_times, linked, multiple, parted, below, quotient_made, Scaling, by_numeral, by_divisor, scaling_made, scaled, scaled_all, sum_relation, with_addend, numeral_plan, begun, term_plan, factor_plans, sum_plan}
+use Rattle.term_plans.specs.ArgumentPlans.{Places, no_places, places, tracks_of, all_places, closed_all, count, argument_plans}
+use Rattle.formula_plan.specs.FactPlans.{Headers, Form, long, variable_left, variable_right, form_by, is_equal, as_variable, named_by, compare_by, mirrored, letter_plan, fact_plan}
 use Rattle.formula_plan.specs.FormulaPlans.{chained, kept, projected_all, for_every, for_infinitely, for_infinitely_many, quantified_made, plan_of, operand_plans}
 use Rattle.plan_relations.specs.TrackNames.{begins_with_letter, IsNamed, AreNamed}
 use Rattle.formula_build.specs.VariableNames.{IsNamedTerm, AreNamedFactors, AreNamedAddends, AreNamedTerms, IsNamedFact, AreNamedIn, AreNamedAmong}

@@ -8,10 +8,10 @@ use Rattle.std.proofs.lemmas.Cmp.{nat_list_eq_equiv}
 use Rattle.std.proofs.lemmas.Slice.Eq.{bytes_eq-Decides}
 use Rattle.formula_parse.specs.Tokens.{Name}
 use Rattle.formula_parse.specs.Trees.{Names, no_names, names, Term, variable, numeral, product, sum, Factors, no_factors, factors, times, divided, Terms, no_terms, terms, Addends, no_addends, addends, Fact, compare, words, word_letter, letter_word, call, Formula, atom, negated, chain, quantified, marked, Operands, no_operands, operands}
-use Rattle.formula_plan.specs.Linear.{others, IsLinear, AreLinearFactors, AreLinearAddends, AreLinear, IsLinearFact, IsLinearFormula, AreLinearOperands}
+use Rattle.term_plans.specs.Linear.{others, IsLinear, AreLinearFactors, AreLinearAddends, AreLinear, IsLinearFact, IsLinearFormula, AreLinearOperands}
 use Rattle.formula_plan.specs.OwnNames.{own_names, own_multiplied, own_before, own_among, own_there, without_name, without_all, has_name, own_of, own_operands}
 use Rattle.formula_plan.proofs.OwnTracks.{named_both, without_named, first_no, second_no}
-use Rattle.formula_plan.proofs.TrackLemmas.{or_left, or_right}
+use Rattle.term_plans.proofs.TrackLemmas.{or_left, or_right}
 use Rattle.formula_resolve.specs.Headers.{Headers, automaton_tracks, word_tracks}
 use Rattle.formula_resolve.specs.Mentions.{count}
 use Rattle.formula_resolve.specs.Occurrences.{Binders, unbound, is_listed, term_occurrences, factor_occurrences, addend_occurrences, track_occurrences, place_occurrences, fact_occurrences}

@@ -1,13 +1,11 @@
 -- A formula is built in one way.
-use Rattle.std.proofs.Common.{◌≡◌, ◌⊎◌, inl, inr, ℕ, List, [], ◌∷◌, map, Result, Err, subst}
+use Rattle.std.proofs.Common.{◌≡◌, ℕ, List, [], ◌∷◌, map}
 use Rattle.digit_tuple.specs.Names.{joint_names}
-use Rattle.digit_tuple.specs.Steps.{StepLog}
-use Rattle.digit_tuple.specs.declared.step_fault.StepFault.{StepFault}
 use Rattle.digit_tuple.specs.declared.step_fault.StepFault.TheVariants.{Memory}
 use Rattle.automaton_steps.specs.Makings.{Gives, WithSome}
 use Rattle.automaton_steps.specs.OneAnswers.{HasOneAnswer}
 use Rattle.automaton_steps.proofs.ThenAnswers.{gives_one, or_memory_one, some_one, then_one}
-use Rattle.formula_plan.specs.Plans.{Plan, Made}
+use Rattle.term_plans.specs.Plans.{Plan, Made}
 use Rattle.number_relations.specs.Relations.{RelationValue, RelationHolds}
 use Rattle.num_system.specs.Tracks.{systems_under}
 use Rattle.number_relations.specs.Placed.{IsOrdered}

@@ -6,12 +6,12 @@ use Rattle.std.proofs.lemmas.Bool.{false≢true}
 use Rattle.digit_tuple.specs.declared.direction.Direction.{Direction}
 use Rattle.formula_parse.specs.Tokens.{Name}
 use Rattle.formula_parse.specs.Trees.{Joint, and}
-use Rattle.formula_plan.specs.Tracks.{Track, same_track, has_track, without}
-use Rattle.formula_plan.specs.Plans.{Plan, compared, added, number, called, lettered, renamed, constant, joined, paired, complement, projected, tracks, Made}
-use Rattle.formula_plan.specs.TermPlans.{closed_by, linked}
+use Rattle.term_plans.specs.Tracks.{Track, same_track, has_track, without}
+use Rattle.term_plans.specs.Plans.{Plan, compared, added, number, called, lettered, renamed, constant, joined, paired, complement, projected, tracks, Made}
+use Rattle.term_plans.specs.TermPlans.{closed_by, linked}
 use Rattle.formula_plan.specs.FactPlans.{Headers}
-use Rattle.formula_plan.proofs.TrackLemmas.{same_self, same_is, first_is, later_is}
-use Rattle.formula_plan.proofs.AgreementLemmas.{has_first, has_second}
+use Rattle.term_plans.proofs.TrackLemmas.{same_self, same_is, first_is, later_is}
+use Rattle.term_plans.proofs.AgreementLemmas.{has_first, has_second}
 use Rattle.formula_build.specs.TrackSystems.{TrackSystems, with_system, HaveOneDirection, IsOver}
 use Rattle.formula_build.proofs.HasLemmas.{has_cases, has_either, stays_apart, other_track_stays}
 

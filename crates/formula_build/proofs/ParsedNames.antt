@@ -9,7 +9,7 @@ use Rattle.text_grammar.specs.declared.class.Class.TheVariants.{NameByte}
 use Rattle.formula_parse.specs.Tokens as tokens
 use Rattle.formula_parse.specs.Tokens.{Name, Token, Placed, token_of, Letter}
 use Rattle.text_grammar.specs.Spots.{Lexeme, Spot, spot_of, spots_from}
-use Rattle.formula_parse.specs.Spots.{Mode, plain, after_mark, after_call, mode_after, no_lexeme, name_lexeme, number_lexeme, letter_lexeme, sign_token, sign_lexeme, plain_lexeme, system_len, system_lexeme, lexeme, lexing, spots}
+use Rattle.formula_parse.specs.Spots.{Mode, plain, after_mark, after_call, mode_after, letter_lexeme, sign_token, sign_lexeme, plain_lexeme, system_len, lexeme, lexing, spots}
 use Rattle.text_grammar.specs.Spots as cut
 use Rattle.formula_parse.specs.Trees as trees
 use Rattle.formula_parse.specs.Trees.{Names, no_names, names}
@@ -17,7 +17,7 @@ use Rattle.formula_parse.specs.Building.{multiplied, summed, chained, under_mark
 use Rattle.formula_parse.specs.Formulas.{Factor, variable, numeral, in_parens, Prod, factor, times, divided, Term, prod, signed, Index, word, further, Terms, term, comma, Atom, compare, words, word_letter, letter_word, call_none, call, Variables, variable_one, variable_more, Binder, some, every, infinite, WrittenFormula, imp, iff, Imp, chain, implies, Chain, operand, joined, Operand, marked, Core, negated, quantified, grouped, atom, factor_then, prod_then, term_then, index_then, terms_then, minus_then, letter_then, atom_then, variables_then, binder_then, marks_then, formula_then, imp_then, chain_then, operand_then, core_then, derived_tokens}
 use Rattle.formula_parse.specs.FormulaTrees.{factor_tree, factors_of, before_prod, last_prod, term_tree, index_places, terms_tree, fact, marks_system, formula_system, imp_system, chain_system, before_imp, last_imp, before_chain, last_chain, before_operand, last_operand, operand_tree, core_tree, default_system}
 use Rattle.formula_parse.specs.Grammar.{Reads}
-use Rattle.formula_plan.proofs.TrackLemmas.{or_left}
+use Rattle.term_plans.proofs.TrackLemmas.{or_left}
 use Rattle.plan_relations.specs.TrackNames.{begins_with_letter}
 use Rattle.formula_build.specs.VariableNames.{IsNamedTerm, AreNamedFactors, AreNamedAddends, AreNamedTerms, IsNamedFact, AreNamedIn, AreNamedAmong}
 

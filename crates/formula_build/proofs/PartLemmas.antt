@@ -3,10 +3,11 @@ use Rattle.std.specs.Prelude.{⊤}
 use Rattle.std.proofs.Common.{◌≡◌, ℕ, ℤ, zero, suc, ◌+◌, ◌-◌, ◌/◌, ◌%◌, ◌==◌, Bool, true, false, if◌then◌else◌, List, [], ◌∷◌, ◌++◌, slice_index_or, Option, None, Some, inl, inr, refl, sym, ap, subst}
 use Rattle.formula_parse.specs.Tokens.{Name, Sign, Relation, equal, less, some, every, infinite, Quantifier}
 use Rattle.formula_parse.specs.Trees.{Names, no_names, names, Term, variable, numeral, product, sum, Factors, no_factors, factors, times, divided, Terms, no_terms, terms, Addends, no_addends, addends, Index, Fact, compare, words, word_letter, letter_word, call, and, Formula, atom, negated, chain, quantified, marked, Operands, no_operands, operands}
-use Rattle.formula_plan.specs.Tracks.{Track, own, fresh, has_track}
-use Rattle.formula_plan.specs.Plans.{Plan, compared, added, constant, called, lettered, renamed, joined, paired, complement, projected, tracks, Made}
-use Rattle.formula_plan.specs.TermPlans.{TermPlan, closed_by, closed, closing_by, closing, no_times, linked, multiple, parted, below, quotient_made, Scaling, by_numeral, by_divisor, scaling_made, scaled, scaled_all, sum_relation, with_addend, numeral_plan, begun, term_plan, factor_plans, sum_plan}
-use Rattle.formula_plan.specs.FactPlans.{Headers, Places, no_places, places, tracks_of, all_places, closed_all, closing_all, TermPlans, over_terms, count, argument_plans, Form, long, variable_left, variable_right, form_by, is_equal, as_variable, named_by, compared_values, compare_by, mirrored, letter_plan, words_plan, fact_plan}
+use Rattle.term_plans.specs.Tracks.{Track, own, fresh, has_track}
+use Rattle.term_plans.specs.Plans.{Plan, compared, added, constant, called, lettered, renamed, joined, paired, complement, projected, tracks, Made}
+use Rattle.term_plans.specs.TermPlans.{TermPlan, closed_by, closed, closing_by, closing, no_times, linked, multiple, parted, below, quotient_made, Scaling, by_numeral, by_divisor, scaling_made, scaled, scaled_all, sum_relation, with_addend, numeral_plan, begun, term_plan, factor_plans, sum_plan}
+use Rattle.term_plans.specs.ArgumentPlans.{Places, no_places, places, tracks_of, all_places, closed_all, closing_all, TermPlans, count, argument_plans}
+use Rattle.formula_plan.specs.FactPlans.{Headers, over_terms, Form, long, variable_left, variable_right, form_by, is_equal, as_variable, named_by, compared_values, compare_by, mirrored, letter_plan, words_plan, fact_plan}
 use Rattle.formula_plan.specs.FormulaPlans.{MadeOperands, none_made, made, chained, chaining, kept, projected_all, projecting, for_some, for_every, above_bound, for_infinitely, for_infinitely_many, quantified_made, plan_of, operand_plans}
 use Rattle.plan_relations.specs.Parts.{IsPart, AreParts}
 

@@ -9,10 +9,11 @@ use Rattle.digit_tuple.specs.declared.direction.Direction.{Direction}
 use Rattle.digit_tuple.specs.declared.direction.Direction.TheVariants.{Msd}
 use Rattle.formula_parse.specs.Tokens.{Name}
 use Rattle.formula_parse.specs.Trees.{Term, Terms, no_terms, terms}
-use Rattle.formula_plan.specs.Tracks.{Track, own, fresh, has_track}
-use Rattle.formula_plan.specs.Plans.{Plan}
-use Rattle.formula_plan.specs.TermPlans.{term_plan}
-use Rattle.formula_plan.specs.FactPlans.{Headers, Places, no_places, places, tracks_of, closed_all, count, argument_plans}
+use Rattle.term_plans.specs.Tracks.{Track, own, fresh, has_track}
+use Rattle.term_plans.specs.Plans.{Plan}
+use Rattle.term_plans.specs.TermPlans.{term_plan}
+use Rattle.term_plans.specs.ArgumentPlans.{Places, no_places, places, tracks_of, closed_all, count, argument_plans}
+use Rattle.formula_plan.specs.FactPlans.{Headers}
 use Rattle.formula_resolve.specs.Mentions as mentions
 use Rattle.formula_resolve.specs.Occurrences.{Binders, term_occurrences, track_occurrences, place_occurrences}
 use Rattle.formula_resolve.specs.declared.occurrence.Occurrence.{Occurrence}

@@ -6,9 +6,9 @@ use Rattle.digit_tuple.proofs.JointNames.{AreJoint-joint_names}
 use Rattle.formula_parse.specs.Trees.{Formula}
 use Rattle.formula_resolve.specs.Headers.{Headers}
 use Rattle.formula_resolve.specs.Occurrences.{all_occurrences}
-use Rattle.formula_plan.specs.Plans.{Plan, is_step}
-use Rattle.formula_plan.specs.Makings.{plan_at}
-use Rattle.formula_plan.specs.PlanLists.{IsPlanOf}
+use Rattle.term_plans.specs.Plans.{Plan, is_step}
+use Rattle.term_plans.specs.Makings.{plan_at}
+use Rattle.term_plans.specs.PlanLists.{IsPlanOf}
 use Rattle.number_relations.specs.Relations.{RelationValue, RelationHolds}
 use Rattle.num_system.specs.Tracks.{systems_under}
 use Rattle.number_relations.specs.Placed.{IsOrdered}

@@ -10,8 +10,8 @@ use Rattle.digit_tuple.proofs.NameLemmas.{place_of-contained}
 use Rattle.num_system.specs.Sealed.{SystemValue}
 use Rattle.num_system.specs.Tracks.{absent_system, system_under, AgreeUnder}
 use Rattle.formula_parse.specs.Tokens.{Name}
-use Rattle.formula_plan.specs.Tracks.{Track, fresh, has_track}
-use Rattle.formula_plan.proofs.TrackLemmas.{first_is, later_is}
+use Rattle.term_plans.specs.Tracks.{Track, fresh, has_track}
+use Rattle.term_plans.proofs.TrackLemmas.{first_is, later_is}
 use Rattle.plan_relations.specs.TrackNames.{track_name, IsNamed}
 use Rattle.plan_relations.specs.Libraries.{LibraryValue, IsSystemIn}
 use Rattle.formula_build.specs.TrackSystems.{TrackSystems}

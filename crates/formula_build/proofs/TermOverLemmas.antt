@@ -6,13 +6,13 @@ use Rattle.digit_tuple.specs.declared.direction.Direction.{Direction}
 use Rattle.formula_parse.specs.Tokens.{Name, Sign, plus, minus, equal}
 use Rattle.formula_parse.specs.Tokens as tokens
 use Rattle.formula_parse.specs.Trees.{Term, variable, numeral, product, sum, Factors, no_factors, factors, times, divided, Addends, no_addends, addends, and}
-use Rattle.formula_plan.specs.Tracks.{Track, own, fresh, same_track, has_track}
-use Rattle.formula_plan.specs.Plans.{Plan, compared, added, number, constant, joined, tracks, Made}
-use Rattle.formula_plan.specs.TermPlans.{TermPlan, closed, no_times, linked, multiple, parted, below, quotient_made, Scaling, by_numeral, by_divisor, scaling_made, scaled, scaled_all, sum_relation, with_addend, numeral_plan, begun, term_plan, factor_plans, sum_plan}
+use Rattle.term_plans.specs.Tracks.{Track, own, fresh, same_track, has_track}
+use Rattle.term_plans.specs.Plans.{Plan, compared, added, number, constant, joined, tracks, Made}
+use Rattle.term_plans.specs.TermPlans.{TermPlan, closed, no_times, linked, multiple, parted, below, quotient_made, Scaling, by_numeral, by_divisor, scaling_made, scaled, scaled_all, sum_relation, with_addend, numeral_plan, begun, term_plan, factor_plans, sum_plan}
 use Rattle.formula_plan.specs.FactPlans.{Headers}
-use Rattle.formula_plan.proofs.MultipleLemmas.{IsBelow, below_more}
-use Rattle.formula_plan.proofs.TrackLemmas.{fresh_apart, first_is, later_is}
-use Rattle.formula_plan.proofs.AgreementLemmas.{has_first, has_second}
+use Rattle.term_plans.proofs.MultipleLemmas.{IsBelow, below_more}
+use Rattle.term_plans.proofs.TrackLemmas.{fresh_apart, first_is, later_is}
+use Rattle.term_plans.proofs.AgreementLemmas.{has_first, has_second}
 use Rattle.formula_resolve.specs.Occurrences.{Binders, term_occurrences, factor_occurrences, addend_occurrences}
 use Rattle.formula_resolve.specs.declared.occurrence.Occurrence.{Occurrence}
 use Rattle.formula_build.specs.TrackSystems.{TrackSystems, IsOver}

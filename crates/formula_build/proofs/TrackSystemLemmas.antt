@@ -27,11 +27,11 @@ use Rattle.number_relations.specs.Projections.{IsRelationProjection}
 use Rattle.number_relations.proofs.JointSystems.{joint_first, joint_second}
 use Rattle.number_relations.proofs.NamedSteps.{other_stays, stays_other}
 use Rattle.formula_parse.specs.Tokens.{Name, Relation, equal, unequal, less, greater, at_most, at_least}
-use Rattle.formula_plan.specs.Tracks.{Track, same_track, has_track, without}
-use Rattle.formula_plan.specs.Plans.{Plan, compared, added, number, called, lettered, renamed, constant, joined, paired, complement, projected, tracks}
+use Rattle.term_plans.specs.Tracks.{Track, same_track, has_track, without}
+use Rattle.term_plans.specs.Plans.{Plan, compared, added, number, called, lettered, renamed, constant, joined, paired, complement, projected, tracks}
 use Rattle.formula_plan.specs.FactPlans.{Headers}
-use Rattle.formula_plan.proofs.TrackLemmas.{same_self, same_is, first_is}
-use Rattle.formula_plan.proofs.AgreementLemmas.{has_first, has_second}
+use Rattle.term_plans.proofs.TrackLemmas.{same_self, same_is, first_is}
+use Rattle.term_plans.proofs.AgreementLemmas.{has_first, has_second}
 use Rattle.plan_relations.specs.TrackNames.{track_name, IsNamed, AreNamed}
 use Rattle.plan_relations.specs.Libraries.{LibraryValue, IsLibrary, IsSystemIn}
 use Rattle.plan_relations.specs.Makings.{Makes, IsReady, MayJoin, comparison_of, op_of}

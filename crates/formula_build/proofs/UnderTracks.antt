@@ -11,7 +11,7 @@ use Rattle.number_relations.specs.Relations as relations
 use Rattle.number_relations.specs.Placed.{each_once}
 use Rattle.number_relations.proofs.OnceLemmas.{once_contains, once_others}
 use Rattle.formula_parse.specs.Tokens.{Name}
-use Rattle.formula_plan.specs.Tracks.{Track, has_track}
+use Rattle.term_plans.specs.Tracks.{Track, has_track}
 use Rattle.plan_relations.specs.TrackNames.{track_name}
 use Rattle.plan_relations.specs.Libraries.{LibraryValue, IsSystemIn}
 use Rattle.formula_build.specs.TrackSystems.{TrackSystems}

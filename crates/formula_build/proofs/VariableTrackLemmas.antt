@@ -11,8 +11,8 @@ use Rattle.digit_tuple.proofs.MemberLemmas.{Contains-from_map, Contains-map, Con
 use Rattle.formula_parse.specs.Tokens.{Name}
 use Rattle.formula_parse.specs.Trees.{Formula}
 use Rattle.formula_plan.specs.OwnNames.{has_name, own_of}
-use Rattle.formula_plan.specs.Plans.{Plan, tracks}
-use Rattle.formula_plan.specs.Tracks.{Track, own, fresh, has_track}
+use Rattle.term_plans.specs.Plans.{Plan, tracks}
+use Rattle.term_plans.specs.Tracks.{Track, own, fresh, has_track}
 use Rattle.formula_plan.proofs.OwnFormulas.{formula_own}
 use Rattle.formula_resolve.specs.Clashes.{first_system}
 use Rattle.formula_resolve.specs.FreeOccurrences.{named}

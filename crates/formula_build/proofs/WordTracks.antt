@@ -13,7 +13,7 @@ use Rattle.number_relations.specs.Relations.{RelationValue}
 use Rattle.number_relations.proofs.JointSystems.{first_directions, second_directions}
 use Rattle.word_output.specs.Words.{WordValue}
 use Rattle.formula_parse.specs.Tokens.{Name}
-use Rattle.formula_plan.specs.Tracks.{Track, fresh, has_track}
+use Rattle.term_plans.specs.Tracks.{Track, fresh, has_track}
 use Rattle.formula_plan.specs.FactPlans.{Headers}
 use Rattle.plan_relations.specs.TrackNames.{track_name, IsNamed}
 use Rattle.plan_relations.specs.Libraries.{LibraryValue, IsLibrary, IsSystemIn, IsWordIn}

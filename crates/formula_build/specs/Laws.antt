@@ -4,7 +4,7 @@ use Rattle.formula_parse.specs.Trees.{Formula}
 use Rattle.formula_truth.specs.Truth.{Holds}
 use Rattle.formula_plan.specs.FactPlans.{Headers}
 use Rattle.formula_plan.specs.FormulaPlans.{plan_of}
-use Rattle.formula_plan.specs.Linear.{IsLinearFormula}
+use Rattle.term_plans.specs.Linear.{IsLinearFormula}
 use Rattle.number_relations.specs.Relations.{RelationValue, RelationHolds}
 use Rattle.plan_relations.specs.TrackNames.{AreNamed}
 use Rattle.plan_relations.specs.Libraries.{LibraryValue, IsLibrary, meanings_of}

@@ -5,7 +5,7 @@ use Rattle.digit_tuple.specs.declared.step_fault.StepFault.{StepFault}
 use Rattle.digit_tuple.specs.declared.step_fault.StepFault.TheVariants.{Memory}
 use Rattle.automaton_steps.specs.OneAnswers.{AreOneAnswer}
 use Rattle.formula_parse.specs.Tokens.{Name}
-use Rattle.formula_plan.specs.Plans.{Made}
+use Rattle.term_plans.specs.Plans.{Made}
 use Rattle.num_system.specs.Sealed.{SystemValue}
 use Rattle.number_relations.specs.Relations.{RelationValue}
 use Rattle.plan_relations.specs.Libraries.{LibraryValue, IsLibrary, IsSystemIn}

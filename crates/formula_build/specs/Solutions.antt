@@ -17,9 +17,9 @@ use Rattle.formula_resolve.specs.Arity.{first_misuse}
 use Rattle.formula_resolve.specs.Occurrences.{all_occurrences}
 use Rattle.formula_resolve.specs.Clashes.{first_clash}
 use Rattle.formula_resolve.specs.Directions.{is_lsd, first_conflict}
-use Rattle.formula_plan.specs.Plans.{Made}
+use Rattle.term_plans.specs.Plans.{Made}
 use Rattle.formula_plan.specs.FormulaPlans.{plan_of}
-use Rattle.formula_plan.specs.Linear.{IsLinearFormula}
+use Rattle.term_plans.specs.Linear.{IsLinearFormula}
 use Rattle.number_relations.specs.Relations.{RelationValue, IsRelation, RelationHolds}
 use Rattle.number_relations.specs.Placed.{IsOrdered}
 use Rattle.plan_relations.specs.Libraries.{LibraryValue, meanings_of}

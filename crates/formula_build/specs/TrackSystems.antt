@@ -5,8 +5,8 @@ use Rattle.num_system.specs.Sealed.{SystemValue}
 use Rattle.num_system.specs.Tracks.{absent_system}
 use Rattle.number_relations.specs.Relations.{RelationValue}
 use Rattle.formula_parse.specs.Tokens.{Name}
-use Rattle.formula_plan.specs.Tracks.{Track, same_track, has_track}
-use Rattle.formula_plan.specs.Plans.{Plan, compared, added, number, called, lettered, renamed, constant, joined, paired, complement, projected, tracks}
+use Rattle.term_plans.specs.Tracks.{Track, same_track, has_track}
+use Rattle.term_plans.specs.Plans.{Plan, compared, added, number, called, lettered, renamed, constant, joined, paired, complement, projected, tracks}
 use Rattle.formula_plan.specs.FactPlans.{Headers}
 use Rattle.word_output.specs.Words.{WordValue}
 use Rattle.plan_relations.specs.Libraries.{LibraryValue, IsRelationIn, IsWordIn, IsSystemIn}

@@ -8,15 +8,16 @@ use Rattle.formula_parse.specs.Tokens.{Name, Relation, equal, unequal, less, gre
 use Rattle.formula_parse.specs.Trees.{Term, variable, numeral, product, sum, Terms, Index, Fact, compare, words, word_letter, letter_word, call}
 use Rattle.formula_truth.specs.Values.{value, values}
 use Rattle.formula_truth.specs.Truth.{Meanings, Compares, ComparesLetters, HasLetterAt, FactHolds}
-use Rattle.formula_plan.specs.Tracks.{Track, own, fresh, Numbers, with_number, of_variables}
-use Rattle.formula_plan.specs.Plans.{Plan, compared, called, lettered, paired}
-use Rattle.formula_plan.specs.TermPlans.{TermPlan, term_plan}
-use Rattle.formula_plan.specs.FactPlans.{Headers, Places, no_places, places, tracks_of, all_places, closed_all, argument_plans, as_variable, is_equal, Form, long, variable_left, variable_right, form_by, named_by, compared_values, compare_by, mirrored, letter_plan, words_plan, fact_plan}
-use Rattle.formula_plan.specs.Linear.{IsLinear, AreLinear, IsLinearFact}
-use Rattle.formula_plan.specs.Means.{Means}
-use Rattle.formula_plan.proofs.TrackLemmas.{with_number_here}
-use Rattle.formula_plan.proofs.PlacedValues.{Value, IsPlaced, IsValueAt, IsValuePlaced, Values, no_values, listed, read_all, AreValuesPlaced, values_placed_up, Reads, set_on, all_there, all_back, reads_at, reads_variables, reads_values, reads_exist, list_there, list_back}
-use Rattle.formula_plan.proofs.TermLemmas.{two_read, read_two, term_is_placed, values_of, values_are, arguments_are_placed}
+use Rattle.term_plans.specs.Tracks.{Track, own, fresh, Numbers, with_number, of_variables}
+use Rattle.term_plans.specs.Plans.{Plan, compared, called, lettered, paired}
+use Rattle.term_plans.specs.TermPlans.{TermPlan, term_plan}
+use Rattle.term_plans.specs.ArgumentPlans.{Places, no_places, places, tracks_of, all_places, closed_all, argument_plans}
+use Rattle.formula_plan.specs.FactPlans.{Headers, as_variable, is_equal, Form, long, variable_left, variable_right, form_by, named_by, compared_values, compare_by, mirrored, letter_plan, words_plan, fact_plan}
+use Rattle.term_plans.specs.Linear.{IsLinear, AreLinear, IsLinearFact}
+use Rattle.term_plans.specs.Means.{Means}
+use Rattle.term_plans.proofs.TrackLemmas.{with_number_here}
+use Rattle.term_plans.proofs.PlacedValues.{Value, IsPlaced, IsValueAt, IsValuePlaced, Values, no_values, listed, read_all, AreValuesPlaced, values_placed_up, Reads, set_on, all_there, all_back, reads_at, reads_variables, reads_values, reads_exist, list_there, list_back}
+use Rattle.term_plans.proofs.TermLemmas.{two_read, read_two, term_is_placed, values_of, values_are, arguments_are_placed}
 
 -- A base over the values of some terms, closed: it says of the values what it says of the numbers at the tracks.
 over_there : (m : Meanings) (ss : List Name) (ts : Terms) → AreLinear ts → (k : ℕ) (base : Plan) (P : List ℕ → Type 0)

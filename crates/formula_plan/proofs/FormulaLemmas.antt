@@ -6,12 +6,12 @@ use Rattle.formula_truth.specs.Assignments.{Assignment}
 use Rattle.formula_truth.specs.Truth.{Meanings, Holds, ChainHolds}
 use Rattle.formula_truth.specs.Tests.{tested}
 use Rattle.formula_truth.proofs.MeaningLemmas.{joined_same}
-use Rattle.formula_plan.specs.Tracks.{of_variables}
-use Rattle.formula_plan.specs.Plans.{Plan, tracks}
+use Rattle.term_plans.specs.Tracks.{of_variables}
+use Rattle.term_plans.specs.Plans.{Plan, tracks}
 use Rattle.formula_plan.specs.FactPlans.{Headers}
 use Rattle.formula_plan.specs.FormulaPlans.{chained, kept, plan_of, operand_plans}
-use Rattle.formula_plan.specs.Means.{Means, AreDecided}
-use Rattle.formula_plan.specs.Linear.{IsLinearFormula, AreLinearOperands}
+use Rattle.term_plans.specs.Means.{Means, AreDecided}
+use Rattle.term_plans.specs.Linear.{IsLinearFormula, AreLinearOperands}
 use Rattle.formula_plan.specs.Laws.{PlansMean}
 use Rattle.formula_plan.proofs.FactLemmas.{fact_is}
 use Rattle.formula_plan.proofs.QuantifierLemmas.{Says, some_says, every_says, infinitely_says, inner}

@@ -10,17 +10,17 @@ use Rattle.formula_parse.specs.Trees.{Names, no_names, names, no_operands, Joint
 use Rattle.formula_parse.specs.Views.{formula_view, operand_view, operands_view, with_operand, names_view, connective_view}
 use Rattle.formula_parse.specs.declared.tree.Operand.{Operand}
 use Rattle.formula_truth.proofs.ViewLemmas.{operands_more}
-use Rattle.formula_plan.specs.Tracks.{own, fresh, has_track, without}
-use Rattle.formula_plan.specs.Plans.{Plan, compared, joined, complement, projected, tracks, Made}
+use Rattle.term_plans.specs.Tracks.{own, fresh, has_track, without}
+use Rattle.term_plans.specs.Plans.{Plan, compared, joined, complement, projected, tracks, Made}
 use Rattle.formula_plan.specs.FactPlans.{Headers}
 use Rattle.formula_plan.specs.FormulaPlans.{MadeOperands, none_made, made, chained, chaining, OperandPlans, kept, projected_all, projecting, for_some, for_every, for_infinitely, for_infinitely_many, quantified_made, plan_of, operand_plans}
 use Rattle.formula_plan.specs.OwnNames.{has_name, has_any, without_name, without_all, own_of, own_operands, HaveSame}
-use Rattle.formula_plan.specs.Makings.{plan_at}
-use Rattle.formula_plan.specs.Planning.{Adds, Does, linked_at, base_made, step_made}
+use Rattle.term_plans.specs.Makings.{plan_at}
+use Rattle.term_plans.specs.Planning.{Adds, Does, linked_at, base_made, step_made}
 use Rattle.formula_plan.specs.FormulaPlanning.{with_made, operand_at, operands_at, AreOperandsWithin, IsPrefixWithin, joined_prefix, chained_made, IsPrefixOf, DoesOperands, AgreeOn, projected_where, infinitely_if}
-use Rattle.formula_plan.specs.declared.planner.Planner.{Planner}
+use Rattle.term_plans.specs.declared.planner.Planner.{Planner}
 use Rattle.formula_plan.specs.declared.chains.Prefix.{Prefix}
-use Rattle.formula_plan.proofs.PlanningLemmas.{adds_none, adds_then, adds_more, at_later, does_none, does_then}
+use Rattle.term_plans.proofs.PlanningLemmas.{adds_none, adds_then, adds_more, at_later, does_none, does_then}
 use Rattle.formula_plan.proofs.OwnTracks.{without_none}
 use Rattle.formula_plan.proofs.SameNames.{same_after, same_without_all, added_then, agrees_same}
 use Rattle.formula_plan.proofs.OwnFormulas.{projected_agrees, infinitely_agrees, kept_none, kept_some, formula_own}

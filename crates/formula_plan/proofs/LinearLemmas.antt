@@ -9,7 +9,7 @@ use Rattle.formula_parse.specs.Building.{multiplied, summed, chained, under_mark
 use Rattle.formula_parse.specs.FormulaTrees.{factor_tree, factors_of, before_prod, last_prod, index_places, terms_tree, fact, marks_system, formula_system, imp_system, chain_system, before_imp, last_imp, before_chain, last_chain, before_operand, last_operand, operand_tree, core_tree, default_system}
 use Rattle.formula_parse.specs.Flaws.{Flaw, mixed_chain, not_linear, earlier, byte_of, noted, noted_if, mixes}
 use Rattle.formula_parse.specs.FormulaFlaws.{is_numeral, has_unknown, factor_flaw, prod_flaw, term_flaw, index_flaw, terms_flaw, atom_flaw, came_in, is_implied, formula_flaw, imp_flaw, chain_flaw, operand_flaw, core_flaw}
-use Rattle.formula_plan.specs.Linear.{one_more_unless, others, IsLinear, AreLinearFactors, AreLinearAddends, AreLinear, IsLinearFact, IsLinearFormula, AreLinearOperands}
+use Rattle.term_plans.specs.Linear.{one_more_unless, others, IsLinear, AreLinearFactors, AreLinearAddends, AreLinear, IsLinearFact, IsLinearFormula, AreLinearOperands}
 use Rattle.formula_plan.specs.Laws.{TreesAreLinear}
 
 -- a flaw that is noted is there

@@ -9,9 +9,9 @@ use Rattle.formula_parse.specs.Views.{names_view, term_view, terms_view, addend_
 use Rattle.formula_parse.specs.declared.tree.Addend as parsed_addend
 use Rattle.formula_parse.specs.declared.tree.Term as parsed
 use Rattle.formula_truth.proofs.ViewLemmas.{addends_more}
-use Rattle.formula_plan.specs.TermPlanning.{other_of, term_of}
+use Rattle.term_plans.specs.TermPlanning.{other_of, term_of}
 use Rattle.formula_plan.specs.OwnNames.{own_names, own_multiplied, own_before, own_among, has_name, has_any, HaveSame}
-use Rattle.formula_plan.proofs.FactsMade.{terms_more}
+use Rattle.term_plans.proofs.ArgumentsMade.{terms_more}
 use Rattle.formula_plan.proofs.SameNames.{added_none, added_then}
 
 names_more : (vs : List Name) (i : ℕ) (d : Name) → i < length vs → names_view (take (i + 1) vs) ≡ names (names_view (take i vs)) (get_or vs i d)

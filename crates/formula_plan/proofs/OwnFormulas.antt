@@ -5,10 +5,11 @@ use Rattle.std.proofs.lemmas.Option.{none-some, same_Some}
 use Rattle.std.proofs.lemmas.Bool.{false≢true}
 use Rattle.formula_parse.specs.Tokens.{Name, Relation, Quantifier, some, every, infinite}
 use Rattle.formula_parse.specs.Trees.{Names, no_names, names, Term, variable, numeral, product, sum, Terms, no_terms, terms, Fact, compare, words, word_letter, letter_word, call, Formula, atom, negated, chain, quantified, marked, Operands, no_operands, operands}
-use Rattle.formula_plan.specs.Tracks.{Track, own, fresh, same_track, has_track, without}
-use Rattle.formula_plan.specs.Plans.{Plan, compared, called, paired, complement, projected, tracks, Made}
-use Rattle.formula_plan.specs.TermPlans.{Placed, TermPlan, closed, term_plan}
-use Rattle.formula_plan.specs.FactPlans.{Headers, Places, no_places, places, tracks_of, all_places, closed_all, TermPlans, argument_plans, as_variable, is_equal, form_by, named_by, compare_by, fact_plan}
+use Rattle.term_plans.specs.Tracks.{Track, own, fresh, same_track, has_track, without}
+use Rattle.term_plans.specs.Plans.{Plan, compared, called, paired, complement, projected, tracks, Made}
+use Rattle.term_plans.specs.TermPlans.{Placed, TermPlan, closed, term_plan}
+use Rattle.term_plans.specs.ArgumentPlans.{Places, no_places, places, tracks_of, all_places, closed_all, TermPlans, argument_plans}
+use Rattle.formula_plan.specs.FactPlans.{Headers, as_variable, is_equal, form_by, named_by, compare_by, fact_plan}
 use Rattle.formula_plan.specs.FormulaPlans.{chained, kept, projected_all, for_every, for_infinitely, for_infinitely_many, quantified_made, plan_of, operand_plans}
 use Rattle.formula_plan.specs.OwnNames.{own_names, own_among, own_there, without_name, without_all, has_name, has_any, own_of, own_operands}
 use Rattle.formula_plan.specs.FormulaPlanning.{AgreeOn}

@@ -6,9 +6,9 @@ use Rattle.std.proofs.lemmas.Slice.Eq.{bytes_eq-Decides}
 use Rattle.std.proofs.lemmas.Bool.{false≢true, false_from_ne_true}
 use Rattle.formula_parse.specs.Tokens.{Name, Sign, plus, minus, equal}
 use Rattle.formula_parse.specs.Trees.{Term, variable, numeral, product, sum, Factors, no_factors, factors, times, divided, Addends, no_addends, addends}
-use Rattle.formula_plan.specs.Tracks.{Track, own, fresh, same_track, has_track, without}
-use Rattle.formula_plan.specs.Plans.{Plan, compared, added, tracks, Made}
-use Rattle.formula_plan.specs.TermPlans.{Placed, TermPlan, closed_by, closed, no_times, linked, multiple, parted, below, quotient_made, Scaling, by_numeral, by_divisor, scaling_made, scaled, scaled_all, with_addend, numeral_plan, begun, term_plan, factor_plans, sum_plan}
+use Rattle.term_plans.specs.Tracks.{Track, own, fresh, same_track, has_track, without}
+use Rattle.term_plans.specs.Plans.{Plan, compared, added, tracks, Made}
+use Rattle.term_plans.specs.TermPlans.{Placed, TermPlan, closed_by, closed, no_times, linked, multiple, parted, below, quotient_made, Scaling, by_numeral, by_divisor, scaling_made, scaled, scaled_all, with_addend, numeral_plan, begun, term_plan, factor_plans, sum_plan}
 use Rattle.formula_plan.specs.OwnNames.{own_names, own_multiplied, own_before, without_name, has_name}
 
 pub or_assoc : (a b c : Bool) → ((a || b) || c) ≡ (a || (b || c))

@@ -4,12 +4,12 @@ use Rattle.formula_parse.specs.Tokens.{Name}
 use Rattle.formula_parse.specs.Trees.{Names, no_names, names}
 use Rattle.formula_truth.specs.Assignments.{Assignment, with_value}
 use Rattle.formula_truth.specs.Truth.{Meanings, ForSome, ForEvery, ForInfinitely}
-use Rattle.formula_plan.specs.Tracks.{own, fresh, Numbers, with_number, of_variables, has_track, without}
-use Rattle.formula_plan.specs.Plans.{Plan, compared, added, number, called, lettered, renamed, constant, joined, paired, complement, projected, tracks, Made}
+use Rattle.term_plans.specs.Tracks.{own, fresh, Numbers, with_number, of_variables, has_track, without}
+use Rattle.term_plans.specs.Plans.{Plan, compared, added, number, called, lettered, renamed, constant, joined, paired, complement, projected, tracks, Made}
 use Rattle.formula_plan.specs.FormulaPlans.{kept, projected_all, for_every, above_bound, for_infinitely, for_infinitely_many}
-use Rattle.formula_plan.specs.Means.{Means, IsDecided, AreDecided}
-use Rattle.formula_plan.proofs.TrackLemmas.{with_number_here}
-use Rattle.formula_plan.proofs.AgreementLemmas.{unused}
+use Rattle.term_plans.specs.Means.{Means, IsDecided, AreDecided}
+use Rattle.term_plans.proofs.TrackLemmas.{with_number_here}
+use Rattle.term_plans.proofs.AgreementLemmas.{unused}
 
 -- the plan means what is said of the variables, or what is denied of them
 abbrev pub Says : Meanings → Plan → (Assignment → Type 0) → Type 0

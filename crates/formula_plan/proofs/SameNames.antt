@@ -3,7 +3,7 @@ use Rattle.std.specs.Str.{bytes_eq}
 use Rattle.std.proofs.Common.{◌||◌, ◌&&◌, not, List, [], ◌++◌, sym, ◌∙◌, ap, append-nil, append_assoc}
 use Rattle.formula_parse.specs.Tokens.{Name}
 use Rattle.formula_parse.specs.Trees.{Names, no_names, names}
-use Rattle.formula_plan.specs.Plans.{Plan}
+use Rattle.term_plans.specs.Plans.{Plan}
 use Rattle.formula_plan.specs.OwnNames.{without_name, without_all, has_name, HaveSame}
 use Rattle.formula_plan.specs.FormulaPlanning.{AgreeOn}
 use Rattle.formula_plan.proofs.OwnTracks.{named_both, without_named}

@@ -5,8 +5,9 @@ use Rattle.std.specs.Option.{unwrap_or}
 use Rattle.formula_parse.specs.Tokens.{Name}
 use Rattle.formula_parse.specs.Trees.{Terms, Index}
 use Rattle.formula_parse.specs.declared.tree.Term as parsed
-use Rattle.formula_plan.specs.Plans.{called, Made}
-use Rattle.formula_plan.specs.FactPlans.{Form, long, variable_left, variable_right, tracks_of, TermPlans, over_terms, argument_plans}
+use Rattle.term_plans.specs.Plans.{called, Made}
+use Rattle.term_plans.specs.ArgumentPlans.{tracks_of, TermPlans, argument_plans}
+use Rattle.formula_plan.specs.FactPlans.{Form, long, variable_left, variable_right, over_terms}
 use Rattle.formula_plan.specs.declared.comparisons.Short.{Short}
 use Rattle.formula_resolve.specs.Headers as resolved
 use Rattle.formula_resolve.specs.FreeOccurrences.{free_system}

@@ -1,47 +1,17 @@
 -- The plans of what atoms say.
-use Rattle.std.specs.Prelude.{ℕ, ℤ, suc, Bool, true, false, List, [], ◌∷◌, ◌++◌, Option, None, Some, slice_index_or}
+use Rattle.std.specs.Prelude.{ℕ, ℤ, Bool, true, false, List, [], ◌∷◌, ◌++◌, Option, None, Some}
 use Rattle.formula_parse.specs.Tokens.{Name, Relation, equal, unequal, less, greater, at_most, at_least}
-use Rattle.formula_parse.specs.Trees.{Term, variable, numeral, product, sum, Terms, no_terms, terms, Index, Fact, compare, words, word_letter, letter_word, call, Formula}
-use Rattle.formula_plan.specs.Tracks.{Track, own}
-use Rattle.formula_plan.specs.Plans.{Plan, compared, called, lettered, renamed, paired, Made}
-use Rattle.formula_plan.specs.TermPlans.{Placed, TermPlan, closed, closing, term_plan}
+use Rattle.formula_parse.specs.Trees.{Term, variable, numeral, product, sum, Index, Fact, compare, words, word_letter, letter_word, call, Formula}
+use Rattle.term_plans.specs.Tracks.{Track, own}
+use Rattle.term_plans.specs.Plans.{Plan, compared, called, lettered, renamed, paired, Made}
+use Rattle.term_plans.specs.TermPlans.{TermPlan, term_plan}
+use Rattle.term_plans.specs.ArgumentPlans.{no_places, places, tracks_of, all_places, closed_all, closing_all, TermPlans, argument_plans}
 
 -- the systems of the tracks of each automaton and of each word, and that of a variable where it occurs first in a formula, free
 pub record Headers : Type 0 where
   pub of_automaton : Name → List Name
   pub of_word : Name → List Name
   pub of_variable : Formula → Name → Name
-
--- where the values of some terms are placed, in their order
-pub data Places : Type 0 where
-  no_places : Places
-  places : Places → Placed → Places
-
-abbrev pub tracks_of : Places → List Track
-tracks_of no_places = []
-tracks_of (places ps p) = tracks_of ps ++ p.track ∷ []
-
-abbrev pub all_places : Places → Places → Places
-all_places ps no_places = ps
-all_places ps (places qs q) = places (all_places ps qs) q
-
--- a base with all their tracks closed, the first first
-abbrev pub closed_all : Places → Plan → Plan
-closed_all no_places base = base
-closed_all (places ps p) base = closed p (closed_all ps base)
-
-abbrev pub closing_all : Places → Plan → List Plan
-closing_all no_places base = []
-closing_all (places ps p) base = closing_all ps base ++ closing p (closed_all ps base)
-
--- the plans of some terms, one after another
-pub record TermPlans : Type 0 where
-  pub steps : List Plan
-  pub placed : Places
-  pub next : ℕ
-
-abbrev pub and_term : TermPlans → TermPlan → TermPlans
-and_term ps p = record { steps = ps.steps ++ p.steps; placed = places ps.placed p.placed; next = p.next }
 
 -- a base over the values of these terms, and after its own steps their tracks closed
 abbrev pub over_terms : TermPlans → List Plan → Plan → Made
@@ -50,17 +20,6 @@ over_terms ps own_steps base = record {
   last = closed_all ps.placed base;
   next = ps.next;
 }
-
-abbrev pub count : Terms → ℕ
-count no_terms = 0
-count (terms ts t) = suc (count ts)
-
--- the arguments of an automaton or the indices of a word, whose tracks have these systems
-abbrev pub argument_plans : List Name → Terms → ℕ → TermPlans
-argument_plans ss no_terms k = record { steps = []; placed = no_places; next = k }
-argument_plans ss (terms ts t) k =
-    let prefix = argument_plans ss ts k in
-    and_term prefix (term_plan (slice_index_or ss (count ts) []) t prefix.next)
 
 abbrev pub as_variable : Term → Option Name
 as_variable (variable n) = Some n

@@ -4,13 +4,13 @@ use Rattle.std.specs.List.{fold}
 use Rattle.formula_parse.specs.Tokens.{Name}
 use Rattle.formula_parse.specs.Trees.{Joint}
 use Rattle.formula_parse.specs.Views.{connective_view}
-use Rattle.formula_plan.specs.Tracks.{own, has_track}
-use Rattle.formula_plan.specs.Plans.{Plan, joined, projected, tracks, Made}
+use Rattle.term_plans.specs.Tracks.{own, has_track}
+use Rattle.term_plans.specs.Plans.{Plan, joined, projected, tracks, Made}
 use Rattle.formula_plan.specs.FormulaPlans.{MadeOperands, none_made, made, chained, chaining, OperandPlans, for_infinitely}
-use Rattle.formula_plan.specs.Makings.{plan_at}
+use Rattle.term_plans.specs.Makings.{plan_at}
 use Rattle.formula_plan.specs.OwnNames.{has_name}
-use Rattle.formula_plan.specs.Planning.{Adds, Does}
-use Rattle.formula_plan.specs.declared.planner.Planner.{Planner}
+use Rattle.term_plans.specs.Planning.{Adds, Does}
+use Rattle.term_plans.specs.declared.planner.Planner.{Planner}
 use Rattle.formula_plan.specs.declared.chains.Prefix.{Prefix}
 
 -- what is at the places of operands

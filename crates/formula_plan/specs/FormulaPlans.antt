@@ -2,9 +2,9 @@
 use Rattle.std.specs.Prelude.{ℕ, ◌+◌, List, [], ◌∷◌, ◌++◌, if◌then◌else◌}
 use Rattle.formula_parse.specs.Tokens.{Name, Quantifier, some, every, infinite, less}
 use Rattle.formula_parse.specs.Trees.{Names, no_names, names, Joint, Formula, atom, negated, chain, quantified, marked, Operands, no_operands, operands}
-use Rattle.formula_plan.specs.Tracks.{Track, own, fresh, has_track, without}
-use Rattle.formula_plan.specs.Plans.{Plan, compared, joined, complement, projected, tracks, Made}
-use Rattle.formula_plan.specs.TermPlans.{linked}
+use Rattle.term_plans.specs.Tracks.{Track, own, fresh, has_track, without}
+use Rattle.term_plans.specs.Plans.{Plan, compared, joined, complement, projected, tracks, Made}
+use Rattle.term_plans.specs.TermPlans.{linked}
 use Rattle.formula_plan.specs.FactPlans.{Headers, fact_plan}
 
 -- a step after others, which makes this

@@ -5,11 +5,11 @@ use Rattle.formula_parse.specs.Trees.{Formula}
 use Rattle.formula_parse.specs.Grammar.{Reads}
 use Rattle.formula_truth.specs.Truth.{Holds}
 use Rattle.formula_truth.specs.Tests.{Tests, tested}
-use Rattle.formula_plan.specs.Tracks.{Numbers, of_variables}
+use Rattle.term_plans.specs.Tracks.{Numbers, of_variables}
 use Rattle.formula_plan.specs.FactPlans.{Headers}
 use Rattle.formula_plan.specs.FormulaPlans.{plan_of}
-use Rattle.formula_plan.specs.Means.{Means, AreDecided}
-use Rattle.formula_plan.specs.Linear.{IsLinearFormula}
+use Rattle.term_plans.specs.Means.{Means, AreDecided}
+use Rattle.term_plans.specs.Linear.{IsLinearFormula}
 
 -- of each linear formula; that the parts are decided is what automata give
 abbrev pub PlansMean : Type 0

@@ -1,14 +1,13 @@
 //! Products of a chain, from the left.
 
 ghost use Rattle.std.specs.Prelude.{◌<◌, length, IfOk};
-ghost use Rattle.formula_plan.specs.Makings.{plan_at};
-ghost use Rattle.formula_plan.specs.Planning.{Does};
+ghost use Rattle.term_plans.specs.Makings.{plan_at};
+ghost use Rattle.term_plans.specs.Planning.{Does};
 ghost use Rattle.formula_plan.specs.FormulaPlanning.{AreOperandsWithin, IsPrefixWithin, operands_at, joined_prefix, chained_made};
 
-use crate::making::Making;
-use crate::planner::Planner;
 use digit_tuple::faults::OutOfMemory;
 use formula_parse::tree::Connective;
+use term_plans::{Making, Planner};
 
 /// What an operand makes, or what a chain makes so far, and the connective after it.
 #[derive(Clone, Copy)]

@@ -2,19 +2,16 @@
 
 ghost use Rattle.std.specs.Prelude.{◌≡◌, ℕ, IfOk};
 ghost use Rattle.formula_parse.specs.Views.{term_view, relation_view};
-ghost use Rattle.formula_plan.specs.TermPlans.{term_plan};
+ghost use Rattle.term_plans.specs.TermPlans.{term_plan};
 ghost use Rattle.formula_plan.specs.FactPlans.{as_variable, is_equal, form_by, named as named_plan, named_by, compare_by, long};
-ghost use Rattle.formula_plan.specs.Makings.{track_view};
-ghost use Rattle.formula_plan.specs.Planning.{Does, IsWithin, base_made, placed_at};
+ghost use Rattle.term_plans.specs.Makings.{track_view};
+ghost use Rattle.term_plans.specs.Planning.{Does, IsWithin, base_made, placed_at};
 ghost use Rattle.formula_plan.specs.FactPlanning.{IsForm, IsNameOf};
 
-use crate::making::Making;
-use crate::planner::{Placed, Planner};
-use crate::terms::term;
-use crate::track::Track;
 use digit_tuple::faults::OutOfMemory;
 use digit_tuple::name::Name;
 use formula_parse::tree::{Relation, Term};
+use term_plans::{Making, Placed, Planner, Track, term};
 
 /// The sides of an equation of a variable and a term that is none.
 #[derive(Clone, Copy)]

@@ -3,17 +3,16 @@
 ghost use Rattle.std.specs.Prelude.{◌≡◌, IfOk};
 ghost use Rattle.formula_parse.specs.Views.{terms_view, index_view, relation_view, fact_view};
 ghost use Rattle.formula_plan.specs.FactPlans.{letter_plan, mirrored as mirrored_relation, words_plan, fact_plan};
-ghost use Rattle.formula_plan.specs.Planning.{Does, DoesTerms};
+ghost use Rattle.term_plans.specs.Planning.{Does, DoesTerms};
 ghost use Rattle.formula_plan.specs.FactPlanning.{headers_of, call_plan, index_plans};
 
-use crate::arguments::arguments;
-use crate::bases::Reading;
 use crate::comparisons::terms_compared;
-use crate::planner::{Placed, Planner};
 use digit_tuple::faults::OutOfMemory;
 use digit_tuple::name::Name;
 use formula_parse::tree::{Fact, Index, Relation, Term};
 use formula_resolve::Headers;
+use term_plans::arguments::arguments;
+use term_plans::{Placed, Planner, Reading};
 
 /// The values of a word's indices.
 fn indices(

@@ -4,18 +4,18 @@ ghost use Rattle.std.specs.Prelude.{◌++◌, IfOk};
 ghost use Rattle.formula_parse.specs.Views.{formula_view};
 ghost use Rattle.formula_plan.specs.FormulaPlans.{plan_of};
 ghost use Rattle.formula_plan.specs.OwnNames.{own_of, HaveSame};
-ghost use Rattle.formula_plan.specs.Planning.{Does};
+ghost use Rattle.term_plans.specs.Planning.{Does};
 ghost use Rattle.formula_plan.specs.FactPlanning.{headers_of};
 
 use crate::chains::{Prefix, chained};
 use crate::facts::stated;
 use crate::free_names::FreeNames;
 use crate::names::add_fact;
-use crate::planner::Planner;
 use crate::quantifiers::{Binding, complement, quantified};
 use digit_tuple::faults::OutOfMemory;
 use formula_parse::tree::Formula;
 use formula_resolve::Headers;
+use term_plans::Planner;
 
 /// The plan of a formula; its free variables are added to the set. Calls go no deeper than the nesting
 /// of the formula.

@@ -3,12 +3,12 @@
 ghost use Rattle.std.specs.Prelude.{◌++◌, IfOk};
 ghost use Rattle.formula_parse.specs.Views.{term_view, terms_view, factor_view, fact_view};
 ghost use Rattle.formula_plan.specs.OwnNames.{own_names, own_among, own_there, HaveSame};
-ghost use Rattle.formula_plan.specs.TermPlanning.{term_of};
+ghost use Rattle.term_plans.specs.TermPlanning.{term_of};
 
 use crate::free_names::FreeNames;
-use crate::terms::other_factor;
 use digit_tuple::faults::OutOfMemory;
 use formula_parse::tree::{Fact, Factor, Term};
+use term_plans::other_factor;
 
 /// Adds the variables of the term that a factor multiplies by.
 #[tactic(auto, using(formula_parse::proofs::ViewSteps::view_times, formula_parse::proofs::ViewSteps::view_divided))]

@@ -4,16 +4,15 @@ ghost use Rattle.std.specs.Prelude.{◌<◌, ◌^◌, IfOk};
 ghost use Rattle.formula_parse.specs.Views.{formula_view};
 ghost use Rattle.formula_plan.specs.FormulaPlans.{plan_of};
 ghost use Rattle.formula_plan.specs.FactPlanning.{headers_of};
-ghost use Rattle.formula_plan.specs.PlanLists.{IsPlanOf};
+ghost use Rattle.term_plans.specs.PlanLists.{IsPlanOf};
 
 use crate::formulas::planned;
 use crate::free_names::FreeNames;
-use crate::list::PlanList;
-use crate::planner::Planner;
 use digit_tuple::faults::OutOfMemory;
 use formula_parse::tree::Formula;
 use formula_resolve::Headers;
 use std::alloc::Global;
+use term_plans::{PlanList, Planner};
 
 /// The plan of a formula: a list of plans, and the place of that which the formula has.
 #[derive(Drop)]

@@ -2,23 +2,21 @@
 
 ghost use Rattle.std.specs.Prelude.{◌≡◌, ◌<◌, length, IfOk};
 ghost use Rattle.formula_parse.specs.Views.{formula_view, names_view, quantifier_view};
-ghost use Rattle.formula_plan.specs.Plans.{complement as complement_of, tracks};
+ghost use Rattle.term_plans.specs.Plans.{complement as complement_of, tracks};
 ghost use Rattle.formula_plan.specs.FormulaPlans.{kept, for_some, for_every, for_infinitely as infinitely, for_infinitely_many as infinitely_many, quantified_made};
 ghost use Rattle.formula_plan.specs.FactPlanning.{headers_of};
-ghost use Rattle.formula_plan.specs.Makings.{plan_at};
+ghost use Rattle.term_plans.specs.Makings.{plan_at};
 ghost use Rattle.formula_plan.specs.OwnNames.{has_name, without_name, without_all, HaveSame};
-ghost use Rattle.formula_plan.specs.Planning.{Does, base_made, step_made};
+ghost use Rattle.term_plans.specs.Planning.{Does, base_made, step_made};
 ghost use Rattle.formula_plan.specs.FormulaPlanning.{AgreeOn, projected_where, infinitely_if};
 
 use crate::free_names::FreeNames;
-use crate::making::Making;
-use crate::planner::Planner;
-use crate::track::Track;
 use digit_tuple::faults::OutOfMemory;
 use digit_tuple::name::Name;
 use formula_parse::tree::{Formula, Quantifier, Relation};
 use formula_resolve::{Headers, free_system};
 use std::alloc::Global;
+use term_plans::{Making, Planner, Track};
 
 /// By the step `complement`.
 pub(crate) fn complement(planner: &mut Planner, place: usize) -> Result<usize, OutOfMemory>

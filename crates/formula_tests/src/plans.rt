@@ -5,9 +5,10 @@ use crate::answers::{Asked, Repeated, expect_answers, expect_repeated};
 use crate::no_answer::NoAnswer;
 use crate::written::Written;
 use formula_parse::tree::Formula;
-use formula_plan::{FormulaPlan, Making, Track, plan};
+use formula_plan::{FormulaPlan, plan};
 use formula_resolve::Headers;
 use std::alloc::Global;
+use term_plans::{Making, Track};
 
 // Terms and comparisons.
 static TERMS: [(&str, &str); 26] = [

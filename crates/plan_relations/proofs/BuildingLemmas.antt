@@ -1,17 +1,16 @@
 -- Plans made one after another: what is done from here on is done from the start.
 use Rattle.plan_relations.specs.Parts.{IsPart, AreParts}
 use Rattle.std.specs.List.{AllByRecursion}
-use Rattle.std.proofs.Common.{◌≡◌, ℕ, suc, ◌<◌, Bool, true, false, List, [], ◌∷◌, ◌++◌, length, get_or, drop, filter, cond, Result, Ok, Err, inl, inr, ◌⊎◌, refl, sym, ap, ◌∙◌, subst, arith, zero}
+use Rattle.std.proofs.Common.{◌≡◌, ℕ, suc, ◌<◌, Bool, true, false, List, [], ◌∷◌, ◌++◌, length, get_or, drop, filter, cond, Result, Ok, Err, inl, inr, refl, sym, ap, ◌∙◌, subst, arith, zero}
 use Rattle.std.proofs.Math.Seq.{drop-cons, drop-length, get_or-append_seam}
 use Rattle.std.proofs.lemmas.Bool.{cases_lt, false≢true}
 use Rattle.std.proofs.lemmas.List.{get_or_append_left, length-append, get_or_default}
 use Rattle.digit_tuple.specs.Steps.{StepLog}
 use Rattle.digit_tuple.specs.declared.step_fault.StepFault.{StepFault}
-use Rattle.digit_tuple.specs.declared.step_fault.StepFault.TheVariants.{Memory}
-use Rattle.formula_plan.specs.Tracks.{fresh}
-use Rattle.formula_plan.specs.Plans.{Plan, is_step, number}
-use Rattle.formula_plan.specs.Makings.{plan_at, plan_by, IsMakingAt, AreMakingsOf}
-use Rattle.formula_plan.specs.declared.making.Making.{Making}
+use Rattle.term_plans.specs.Tracks.{fresh}
+use Rattle.term_plans.specs.Plans.{Plan, is_step, number}
+use Rattle.term_plans.specs.Makings.{plan_at, plan_by, IsMakingAt, AreMakingsOf}
+use Rattle.term_plans.specs.declared.making.Making.{Making}
 use Rattle.num_system.specs.Tracks.{no_automaton}
 use Rattle.number_relations.specs.Relations.{RelationValue}
 use Rattle.plan_relations.specs.Libraries.{LibraryValue}

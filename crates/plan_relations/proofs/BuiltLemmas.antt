@@ -1,10 +1,9 @@
 -- What is built is what the last plan makes.
-use Rattle.std.proofs.Common.{◌≡◌, inl, inr, List, [], ◌∷◌, Ok, Err, sym, subst}
+use Rattle.std.proofs.Common.{inl, inr, List, [], ◌∷◌, Ok, sym, subst}
 use Rattle.digit_tuple.specs.Steps.{StepLog}
-use Rattle.digit_tuple.specs.declared.step_fault.StepFault.{StepFault}
 use Rattle.digit_tuple.specs.declared.step_fault.StepFault.TheVariants.{Memory}
 use Rattle.automaton_steps.proofs.ThenAnswers.{equal_value, no_fault}
-use Rattle.formula_plan.specs.Plans.{Plan}
+use Rattle.term_plans.specs.Plans.{Plan}
 use Rattle.number_relations.specs.Relations.{RelationValue}
 use Rattle.plan_relations.specs.Libraries.{LibraryValue}
 use Rattle.plan_relations.specs.Makings.{Makes}

@@ -10,10 +10,10 @@ use Rattle.formula_parse.specs.Trees.{Joint, and, or, xor, implies, iff}
 use Rattle.formula_truth.specs.Truth.{Meanings, Joins}
 use Rattle.formula_truth.specs.Truth as truth
 use Rattle.formula_truth.proofs.MeaningLemmas.{joined_same}
-use Rattle.formula_plan.specs.Tracks.{Track, Numbers, with_number}
-use Rattle.formula_plan.specs.Plans.{Plan, compared, added, number, called, lettered, renamed, constant, joined, paired, complement, projected, tracks}
-use Rattle.formula_plan.specs.Means.{Means}
-use Rattle.formula_plan.proofs.AgreementLemmas.{Agree, agrees, agree_back}
+use Rattle.term_plans.specs.Tracks.{Track, Numbers, with_number}
+use Rattle.term_plans.specs.Plans.{Plan, compared, added, number, called, lettered, renamed, constant, joined, paired, complement, projected, tracks}
+use Rattle.term_plans.specs.Means.{Means}
+use Rattle.term_plans.proofs.AgreementLemmas.{Agree, agrees, agree_back}
 use Rattle.num_system.specs.Joined.{Joined, IsBound}
 use Rattle.num_system.specs.Sealed.{SystemValue, IsSealed}
 use Rattle.number_relations.specs.Relations.{RelationValue, IsRelation, RelationHolds, HoldsOver}

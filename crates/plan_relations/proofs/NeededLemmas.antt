@@ -2,10 +2,10 @@
 use Rattle.std.proofs.Common.{◌≡◌, ℕ, suc, ◌<◌, ◌≤◌, Bool, true, false, List, length, get_or, set, inl, inr, ◌⊎◌, refl, sym, ap, ◌∙◌, subst, arith}
 use Rattle.std.proofs.lemmas.Bool.{cases_lt, cases_order, false≢true}
 use Rattle.std.proofs.lemmas.List.{get_or_default, get_or-set_same, get_or-set_other, length-set}
-use Rattle.formula_plan.specs.Plans.{Plan, is_step}
-use Rattle.formula_plan.specs.Makings.{plan_at, plan_by, IsOf, IsMakingAt, AreMakingsOf}
-use Rattle.formula_plan.specs.declared.making.Making.{Making}
-use Rattle.formula_plan.specs.declared.making.Making.TheVariants.{Compared, Added, Number, Called, Lettered, Renamed, Constant, Joined, Paired, Complement, Projected}
+use Rattle.term_plans.specs.Plans.{Plan, is_step}
+use Rattle.term_plans.specs.Makings.{plan_at, plan_by, IsOf, IsMakingAt, AreMakingsOf}
+use Rattle.term_plans.specs.declared.making.Making.{Making}
+use Rattle.term_plans.specs.declared.making.Making.TheVariants.{Compared, Added, Number, Called, Lettered, Renamed, Constant, Joined, Paired, Complement, Projected}
 use Rattle.plan_relations.specs.Parts.{IsPart}
 use Rattle.plan_relations.specs.MadeOf.{is_step_making, marked, is_marked, AreMarked, IsRooted, AreNeeded}
 use Rattle.plan_relations.proofs.PartReady.{whole_part, part_of_part}

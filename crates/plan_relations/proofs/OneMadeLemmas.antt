@@ -21,7 +21,7 @@ use Rattle.number_relations.proofs.RelationLemmas.{tuples_determine}
 use Rattle.number_relations.proofs.StepOutcomes.{same_relation}
 use Rattle.word_output.specs.LetterSets.{IsLetterSet}
 use Rattle.word_output.specs.Words.{WordValue, IsWordValue}
-use Rattle.formula_plan.specs.Plans.{Plan, compared, added, number, called, lettered, renamed, constant, joined, paired, complement, projected}
+use Rattle.term_plans.specs.Plans.{Plan, compared, added, number, called, lettered, renamed, constant, joined, paired, complement, projected}
 use Rattle.plan_relations.specs.TrackNames.{track_name}
 use Rattle.plan_relations.specs.Libraries.{LibraryValue, NamedWord, IsLibrary, IsSystemIn, IsWordIn, word_named}
 use Rattle.named_systems.specs.NamedSystems.{NamedSystem, system_named}

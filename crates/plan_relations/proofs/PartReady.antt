@@ -1,6 +1,6 @@
 -- What can be made can be made in each part.
 use Rattle.std.proofs.Common.{inl, inr, refl, sym, subst}
-use Rattle.formula_plan.specs.Plans.{Plan, compared, added, number, called, lettered, renamed, constant, joined, paired, complement, projected}
+use Rattle.term_plans.specs.Plans.{Plan, compared, added, number, called, lettered, renamed, constant, joined, paired, complement, projected}
 use Rattle.plan_relations.specs.Libraries.{LibraryValue}
 use Rattle.plan_relations.specs.Makings.{IsReady}
 use Rattle.plan_relations.specs.Parts.{IsPart}

@@ -1,7 +1,5 @@
 -- The last step of a plan has one answer.
-use Rattle.std.proofs.Common.{◌≡◌, Result, subst}
-use Rattle.digit_tuple.specs.Steps.{StepLog}
-use Rattle.digit_tuple.specs.declared.step_fault.StepFault.{StepFault}
+use Rattle.std.proofs.Common.{◌≡◌, subst}
 use Rattle.digit_tuple.specs.declared.step_fault.StepFault.TheVariants.{Memory}
 use Rattle.automaton_steps.specs.Makings.{Making, DoesStep}
 use Rattle.automaton_steps.specs.OneAnswers.{HasOneAnswer}
@@ -12,7 +10,7 @@ use Rattle.number_relations.specs.Joins.{relation_join_step}
 use Rattle.number_relations.specs.Projections.{relation_project_step}
 use Rattle.number_relations.specs.Relations.{RelationValue}
 use Rattle.number_relations.proofs.StepOutcomes.{complement_one, constant_one, join_one, project_one}
-use Rattle.formula_plan.specs.Plans.{Plan, constant, joined, paired, complement, projected}
+use Rattle.term_plans.specs.Plans.{Plan, constant, joined, paired, complement, projected}
 use Rattle.plan_relations.specs.TrackNames.{track_name}
 use Rattle.word_output.specs.Words.{WordValue}
 use Rattle.plan_relations.specs.Libraries.{LibraryValue, IsLibrary, IsWordIn, IsSystemIn}

@@ -7,9 +7,9 @@ use Rattle.std.proofs.lemmas.Bool.Decides.{nat_tests}
 use Rattle.std.proofs.lemmas.Fmt.{decimal_by_steps, decimal_injective}
 use Rattle.std.proofs.lemmas.Slice.Eq.{bytes_eq-Decides}
 use Rattle.text_grammar.specs.Bytes.{is_digit, is_letter}
-use Rattle.formula_plan.specs.Tracks.{Track, own, fresh, same_track, with_number, has_track, without}
-use Rattle.formula_plan.specs.Plans.{Plan, compared, added, number, called, lettered, renamed, constant, joined, paired, complement, projected, tracks}
-use Rattle.formula_plan.proofs.TrackLemmas.{same_self, same_is}
+use Rattle.term_plans.specs.Tracks.{Track, own, fresh, same_track, with_number, has_track, without}
+use Rattle.term_plans.specs.Plans.{Plan, compared, added, number, called, lettered, renamed, constant, joined, paired, complement, projected, tracks}
+use Rattle.term_plans.proofs.TrackLemmas.{same_self, same_is}
 use Rattle.plan_relations.specs.TrackNames.{track_name, numbers_by, begins_with_letter, IsNamed, AreNamed}
 use Rattle.plan_relations.proofs.AllLemmas.{all_both}
 

@@ -11,7 +11,7 @@ use Rattle.number_relations.specs.Constants.{relation_constant_step}
 use Rattle.number_relations.specs.Joins.{relation_join_step}
 use Rattle.number_relations.specs.Complements.{relation_complement_step}
 use Rattle.number_relations.specs.Projections.{relation_project_step}
-use Rattle.formula_plan.specs.Plans.{Plan, compared, added, number, called, lettered, renamed, constant, joined, paired, complement, projected}
+use Rattle.term_plans.specs.Plans.{Plan, compared, added, number, called, lettered, renamed, constant, joined, paired, complement, projected}
 use Rattle.plan_relations.specs.TrackNames.{track_name}
 use Rattle.word_output.specs.Words.{WordValue}
 use Rattle.plan_relations.specs.Libraries.{LibraryValue, IsWordIn, IsSystemIn}

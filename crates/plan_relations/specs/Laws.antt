@@ -1,7 +1,7 @@
 -- Laws of what plans make.
 use Rattle.std.specs.Prelude.{◌≡◌, ◌↔◌, ℕ, List, map}
-use Rattle.formula_plan.specs.Plans.{Plan}
-use Rattle.formula_plan.specs.Means.{Means}
+use Rattle.term_plans.specs.Plans.{Plan}
+use Rattle.term_plans.specs.Means.{Means}
 use Rattle.number_relations.specs.Relations.{RelationValue, IsRelation, RelationHolds}
 use Rattle.plan_relations.specs.TrackNames.{numbers_by, AreNamed}
 use Rattle.plan_relations.specs.Libraries.{LibraryValue, IsLibrary, meanings_of}

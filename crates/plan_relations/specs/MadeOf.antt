@@ -6,11 +6,11 @@ use Rattle.digit_tuple.specs.declared.step_fault.StepFault.{StepFault}
 use Rattle.digit_tuple.specs.declared.step_fault.StepFault.TheVariants as faults
 use Rattle.automaton_steps.specs.Makings.{DoesStep}
 use Rattle.formula_parse.specs.Views.{relation_view, connective_view}
-use Rattle.formula_plan.specs.Makings.{track_view, plan_at}
-use Rattle.formula_plan.specs.Plans.{Plan, is_step}
-use Rattle.formula_plan.specs.declared.track.Track.{Track}
-use Rattle.formula_plan.specs.declared.making.Making.{Making}
-use Rattle.formula_plan.specs.declared.making.Making.TheVariants.{Compared, Added, Number, Called, Lettered, Renamed, Constant, Joined, Paired, Complement, Projected}
+use Rattle.term_plans.specs.Makings.{track_view, plan_at}
+use Rattle.term_plans.specs.Plans.{Plan, is_step}
+use Rattle.term_plans.specs.declared.track.Track.{Track}
+use Rattle.term_plans.specs.declared.making.Making.{Making}
+use Rattle.term_plans.specs.declared.making.Making.TheVariants.{Compared, Added, Number, Called, Lettered, Renamed, Constant, Joined, Paired, Complement, Projected}
 use Rattle.num_system.specs.Sealed.{SystemValue}
 use Rattle.num_system.specs.Tracks.{no_automaton, AgreeUnder}
 use Rattle.number_relations.specs.Relations.{RelationValue, system_named}

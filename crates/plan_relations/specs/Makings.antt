@@ -3,8 +3,8 @@ use Rattle.std.specs.Prelude.{List, map, length, ◌≡◌}
 use Rattle.std.specs.List.{Contains}
 use Rattle.formula_parse.specs.Tokens.{Relation, equal, unequal, less, greater, at_most, at_least}
 use Rattle.formula_parse.specs.Trees.{Joint, and, or, xor, implies, iff}
-use Rattle.formula_plan.specs.Tracks.{Track}
-use Rattle.formula_plan.specs.Plans.{Plan, compared, added, number, called, lettered, renamed, constant, joined, paired, complement, projected}
+use Rattle.term_plans.specs.Tracks.{Track}
+use Rattle.term_plans.specs.Plans.{Plan, compared, added, number, called, lettered, renamed, constant, joined, paired, complement, projected}
 use Rattle.product_op.specs.declared.op.Op.{Op}
 use Rattle.product_op.specs.declared.op.Op.TheVariants as ops
 use Rattle.num_system.specs.Sealed.{SystemValue}

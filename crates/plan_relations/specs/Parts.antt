@@ -1,7 +1,7 @@
 -- What a plan is made of: itself, and the parts of the plans in it.
 use Rattle.std.specs.Prelude.{◌≡◌, List, ◌⊎◌}
 use Rattle.std.specs.List.{AllByRecursion}
-use Rattle.formula_plan.specs.Plans.{Plan, compared, added, number, called, lettered, renamed, constant, joined, paired, complement, projected}
+use Rattle.term_plans.specs.Plans.{Plan, compared, added, number, called, lettered, renamed, constant, joined, paired, complement, projected}
 
 -- the first plan is a part of the second
 abbrev pub IsPart : Plan → Plan → Type 0

@@ -2,8 +2,8 @@
 use Rattle.std.specs.Prelude.{◌≡◌, ℕ, ◌^◌, ◌<◌, Bool, true, false, List, [], ◌∷◌, decimal}
 use Rattle.std.specs.List.{AllByRecursion}
 use Rattle.text_grammar.specs.Bytes.{is_letter}
-use Rattle.formula_plan.specs.Tracks.{Track, own, fresh, Numbers}
-use Rattle.formula_plan.specs.Plans.{Plan, compared, added, number, called, lettered, renamed, constant, joined, paired, complement, projected}
+use Rattle.term_plans.specs.Tracks.{Track, own, fresh, Numbers}
+use Rattle.term_plans.specs.Plans.{Plan, compared, added, number, called, lettered, renamed, constant, joined, paired, complement, projected}
 
 abbrev pub track_name : Track → List ℕ
 track_name (own n) = n

@@ -1,6 +1,6 @@
 //! The relations of plans: each is made of relations, words and systems under their names, or of relations made before it.
 //!
-//! `make_plans` makes the relations of a list of plans (`formula_plan::PlanList`) over `number_relations`, one after
+//! `make_plans` makes the relations of a list of plans (`term_plans::PlanList`) over `number_relations`, one after
 //! another (`Builds` in `specs/Building.antt`), of sealed systems and of the relations and words that a `Library` has
 //! under their names. `Letters` and `States` come exactly at the first step that passes a limit. `plans_hold` says of
 //! which numbers the relation of a plan holds, and `one_made` that it is determined.

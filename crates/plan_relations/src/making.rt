@@ -26,7 +26,6 @@ use digit_tuple::name::Name;
 use digit_tuple::step_fault::StepFault;
 use digit_tuple::steps::Steps;
 use formula_parse::tree::{Connective, Relation as Comparing};
-use formula_plan::{Making, Track};
 use num_system::comparison::Comparison;
 use num_system::system::System;
 use number_relations::complement::complement_step;
@@ -37,6 +36,7 @@ use number_relations::relation::Relation;
 use product_op::op::Op;
 use std::alloc::Global;
 use std::rc::Rc;
+use term_plans::{Making, Track};
 
 /// The relation that is made so, of those at its places, by the next step where it has one.
 pub(crate) fn make(

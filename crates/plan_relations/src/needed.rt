@@ -2,13 +2,13 @@
 
 ghost use Rattle.std.specs.Prelude.{◌≡◌, ◌<◌, ℕ, List, true, length, IfOk, OnOk};
 ghost use Rattle.std.specs.List.{Contains};
-ghost use Rattle.formula_plan.specs.Plans.{Plan};
-ghost use Rattle.formula_plan.specs.Makings.{AreMakingsOf, IsOf};
+ghost use Rattle.term_plans.specs.Plans.{Plan};
+ghost use Rattle.term_plans.specs.Makings.{AreMakingsOf, IsOf};
 ghost use Rattle.plan_relations.specs.MadeOf.{AreNeeded, is_step_making, marked};
 
 use digit_tuple::faults::OutOfMemory;
-use formula_plan::Making;
 use std::alloc::Global;
+use term_plans::Making;
 
 /// For each plan of a list, made so, whether it is a step, the last one or a part of these.
 pub(crate) fn needed_plans(

@@ -1,8 +1,8 @@
 //! Plans made, one after another.
 
 ghost use Rattle.std.specs.Prelude.{◌≡◌, ◌<◌, length, filter};
-ghost use Rattle.formula_plan.specs.Plans.{is_step};
-ghost use Rattle.formula_plan.specs.Makings.{plan_at};
+ghost use Rattle.term_plans.specs.Plans.{is_step};
+ghost use Rattle.term_plans.specs.Makings.{plan_at};
 ghost use Rattle.plan_relations.specs.Building.{Builds};
 ghost use Rattle.plan_relations.specs.KnownViews.{known_value};
 ghost use Rattle.plan_relations.specs.Makings.{IsReady};
@@ -13,9 +13,9 @@ use crate::making::make;
 use crate::needed::needed_plans;
 use digit_tuple::step_fault::StepFault;
 use digit_tuple::steps::Steps;
-use formula_plan::PlanList;
 use number_relations::relation::Relation;
 use std::alloc::Global;
+use term_plans::PlanList;
 
 /// The relation that the plan at a place makes, by those plans of the list that are steps, in their order.
 /// All of them are parts of it. The names that it has mean something: the plan is ready (`IsReady`).

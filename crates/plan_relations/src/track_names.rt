@@ -5,9 +5,9 @@ ghost use Rattle.plan_relations.specs.MadeOf.{name_of};
 
 use digit_tuple::faults::OutOfMemory;
 use digit_tuple::name::Name;
-use formula_plan::Track;
 use itoa::Buffer;
 use std::alloc::Global;
+use term_plans::Track;
 
 /// The name of a track: a variable's own, or a fresh track's number in decimal.
 pub(crate) fn track_name(alloc: Global, track: &Track) -> Result<Name, OutOfMemory>

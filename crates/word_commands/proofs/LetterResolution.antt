@@ -13,7 +13,7 @@ use Rattle.std.proofs.lemmas.Option.{none-some}
 use Rattle.digit_tuple.proofs.AllLemmas.{all_append}
 use Rattle.formula_parse.specs.Tokens.{Name}
 use Rattle.formula_parse.specs.Trees.{no_names, names, no_terms, terms, variable}
-use Rattle.formula_plan.specs.Linear.{AreLinearOperands, IsLinearFormula}
+use Rattle.term_plans.specs.Linear.{AreLinearOperands, IsLinearFormula}
 use Rattle.formula_resolve.specs.Arity.{first_misuse, miscount, misuse}
 use Rattle.formula_resolve.specs.Clashes.{clash_after, clash_with, first_clash, first_system, is_same_binding}
 use Rattle.formula_resolve.specs.Directions.{first_met, is_lsd, is_other_direction, least, lesser, other_met, part_of, parts_among, conflict_among_parts, conflict_between, conflict_in, conflict_in_operands, opposed}

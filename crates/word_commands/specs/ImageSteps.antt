@@ -11,7 +11,7 @@ use Rattle.word_output.specs.Words.{WordValue}
 use Rattle.formula_parse.specs.Tokens.{Name}
 use Rattle.plan_relations.specs.Libraries.{LibraryValue}
 use Rattle.formula_build.specs.Solutions.{BuildsFormula, formula_plan}
-use Rattle.formula_plan.specs.Plans.{Made}
+use Rattle.term_plans.specs.Plans.{Made}
 use Rattle.combinations.specs.Parts.{PartValue}
 use Rattle.combinations.specs.CombineSteps.{combine_step}
 use Rattle.word_images.specs.ImageFormula.{image_formula}

@@ -1,6 +1,6 @@
 use Rattle.std.proofs.Common.{List, sym, subst, arith}
 use Rattle.plan_relations.specs.Libraries.{IsLibrary}
-use Rattle.formula_plan.specs.Plans.{Plan}
+use Rattle.term_plans.specs.Plans.{Plan}
 use Rattle.plan_relations.specs.Makings.{IsReady, Makes}
 use Rattle.formula_build.specs.VariableTracks.{IsOverVariables}
 use Rattle.formula_resolve.specs.declared.variable.Variable.{Variable}

@@ -1,5 +1,5 @@
 use Rattle.formula_parse.specs.Views.{term_view}
-use Rattle.formula_plan.specs.TermPlans.{term_plan}
+use Rattle.term_plans.specs.TermPlans.{term_plan}
 use Rattle.formula_plan.proofs.FactsMade.{named_does}
 use Rattle.formula_plan.proofs.comparisons.named.Goals as goal
 

@@ -1,5 +1,5 @@
 use Rattle.formula_parse.specs.Views.{term_view, relation_view}
-use Rattle.formula_plan.proofs.PlanningLemmas.{within_later}
+use Rattle.term_plans.proofs.PlanningLemmas.{within_later}
 use Rattle.formula_plan.proofs.FactsMade.{compared_does}
 use Rattle.formula_plan.proofs.comparisons.values_compared.Goals as goal
 

@@ -1,8 +1,8 @@
 use Rattle.std.proofs.Common.{subst}
 use Rattle.formula_parse.specs.Views.{terms_view}
-use Rattle.formula_plan.specs.Plans.{called}
-use Rattle.formula_plan.specs.FactPlans.{argument_plans}
-use Rattle.formula_plan.specs.Planning.{DoesTerms}
+use Rattle.term_plans.specs.Plans.{called}
+use Rattle.term_plans.specs.ArgumentPlans.{argument_plans}
+use Rattle.term_plans.specs.Planning.{DoesTerms}
 use Rattle.formula_plan.specs.FactPlanning.{headers_of}
 use Rattle.formula_plan.proofs.FactsMade.{still_there, base_does}
 use Rattle.formula_plan.proofs.facts.called.Goals as goal

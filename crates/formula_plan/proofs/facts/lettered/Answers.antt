@@ -1,8 +1,8 @@
 use Rattle.std.proofs.Common.{subst, w32}
 use Rattle.std.proofs.lemmas.Int.{to_z-of_z}
 use Rattle.formula_parse.specs.Views.{index_view, relation_view}
-use Rattle.formula_plan.specs.Plans.{lettered}
-use Rattle.formula_plan.specs.Planning.{Does, base_made, tracks_in}
+use Rattle.term_plans.specs.Plans.{lettered}
+use Rattle.term_plans.specs.Planning.{Does, base_made, tracks_in}
 use Rattle.formula_plan.specs.FactPlanning.{headers_of, index_plans}
 use Rattle.formula_plan.proofs.FactsMade.{still_there, base_does}
 use Rattle.formula_plan.proofs.facts.lettered.Goals as goal

@@ -1,9 +1,10 @@
 use Rattle.std.proofs.Common.{subst}
 use Rattle.formula_parse.specs.Views.{index_view, relation_view}
-use Rattle.formula_plan.specs.Plans.{paired}
-use Rattle.formula_plan.specs.Planning.{DoesTerms}
+use Rattle.term_plans.specs.Plans.{paired}
+use Rattle.term_plans.specs.Planning.{DoesTerms}
 use Rattle.formula_plan.specs.FactPlanning.{headers_of, index_plans}
-use Rattle.formula_plan.proofs.FactsMade.{are_within_later, still_there, pair_does}
+use Rattle.term_plans.proofs.ArgumentsMade.{are_within_later}
+use Rattle.formula_plan.proofs.FactsMade.{still_there, pair_does}
 use Rattle.formula_plan.proofs.facts.paired.Goals as goal
 
 pub returns : goal.returns

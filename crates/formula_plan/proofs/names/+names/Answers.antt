@@ -2,7 +2,7 @@ use Rattle.std.proofs.Common.{arith, Some, get_or, refl, sym, ◌∙◌, ap}
 use Rattle.formula_parse.specs.Trees as trees
 use Rattle.formula_parse.specs.Views.{term_view, factor_view, factors_view, addends_view}
 use Rattle.formula_parse.proofs.ViewSteps.{view_variable, view_numeral, view_product, view_sum, view_divided}
-use Rattle.formula_plan.specs.TermPlanning.{other_of, term_of}
+use Rattle.term_plans.specs.TermPlanning.{other_of, term_of}
 use Rattle.formula_plan.proofs.NamesAdded.{divisor_none_added, seen_added, addend_added, term_none_added, other_none, product_added, sum_added}
 use Rattle.formula_plan.proofs.names.+names.Goals as goal
 

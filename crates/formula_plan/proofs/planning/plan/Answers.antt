@@ -2,7 +2,7 @@ use Rattle.std.proofs.Common.{ℕ, ◌<◌, ◌^◌, ◌∙◌, subst}
 use Rattle.formula_parse.specs.Views.{formula_view}
 use Rattle.formula_plan.specs.FormulaPlans.{plan_of}
 use Rattle.formula_plan.specs.FactPlanning.{headers_of}
-use Rattle.formula_plan.proofs.PlanningLemmas.{plan_there}
+use Rattle.term_plans.proofs.PlanningLemmas.{plan_there}
 use Rattle.formula_plan.proofs.planning.plan.Goals as goal
 
 pub returns : goal.returns

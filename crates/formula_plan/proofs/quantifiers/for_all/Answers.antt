@@ -1,6 +1,6 @@
 use Rattle.std.proofs.Common.{sym}
 use Rattle.formula_parse.specs.Views.{names_view}
-use Rattle.formula_plan.specs.Makings.{plan_at}
+use Rattle.term_plans.specs.Makings.{plan_at}
 use Rattle.formula_plan.proofs.FormulasMade.{bare_answers, every_does}
 use Rattle.formula_plan.proofs.quantifiers.for_all.Goals as goal
 

@@ -1,10 +1,10 @@
 use Rattle.std.proofs.Common.{subst}
 use Rattle.formula_parse.specs.Tokens.{less}
-use Rattle.formula_plan.specs.Tracks.{own, fresh}
-use Rattle.formula_plan.specs.Plans.{compared}
+use Rattle.term_plans.specs.Tracks.{own, fresh}
+use Rattle.term_plans.specs.Plans.{compared}
 use Rattle.formula_plan.specs.FormulaPlans.{for_infinitely}
-use Rattle.formula_plan.specs.Makings.{plan_at}
-use Rattle.formula_plan.specs.Planning.{Does, base_made}
+use Rattle.term_plans.specs.Makings.{plan_at}
+use Rattle.term_plans.specs.Planning.{Does, base_made}
 use Rattle.formula_plan.proofs.FormulasMade.{infinitely_does, still_within}
 use Rattle.formula_plan.proofs.quantifiers.for_infinitely.Goals as goal
 

@@ -1,5 +1,5 @@
 use Rattle.formula_parse.specs.Views.{formula_view, names_view}
-use Rattle.formula_plan.specs.Makings.{plan_at}
+use Rattle.term_plans.specs.Makings.{plan_at}
 use Rattle.formula_plan.specs.FactPlanning.{headers_of}
 use Rattle.formula_plan.proofs.FormulasMade.{infinite_none, infinite_more}
 use Rattle.formula_plan.proofs.quantifiers.for_infinitely_many.Goals as goal

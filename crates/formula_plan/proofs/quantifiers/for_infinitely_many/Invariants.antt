@@ -1,6 +1,6 @@
 use Rattle.std.proofs.Common.{length}
 use Rattle.formula_parse.specs.Views.{formula_view, names_view}
-use Rattle.formula_plan.specs.Makings.{plan_at}
+use Rattle.term_plans.specs.Makings.{plan_at}
 use Rattle.formula_plan.specs.FactPlanning.{headers_of}
 use Rattle.formula_plan.proofs.FormulasMade.{IsInfiniteSoFar}
 use Rattle.formula_plan.proofs.quantifiers.for_infinitely_many.Given as goal

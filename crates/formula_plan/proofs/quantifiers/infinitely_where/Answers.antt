@@ -1,11 +1,11 @@
 use Rattle.std.proofs.Common.{true, sym, ap, subst}
 use Rattle.formula_parse.specs.Views.{formula_view}
-use Rattle.formula_plan.specs.Makings.{plan_at}
-use Rattle.formula_plan.specs.Planning.{Does}
+use Rattle.term_plans.specs.Makings.{plan_at}
+use Rattle.term_plans.specs.Planning.{Does}
 use Rattle.formula_plan.specs.FactPlanning.{headers_of}
 use Rattle.formula_plan.specs.FormulaPlanning.{infinitely_if}
 use Rattle.formula_plan.specs.OwnNames.{has_name}
-use Rattle.formula_plan.proofs.PlanningLemmas.{does_none}
+use Rattle.term_plans.proofs.PlanningLemmas.{does_none}
 use Rattle.formula_plan.proofs.OwnTracks.{without_none}
 use Rattle.formula_plan.proofs.quantifiers.infinitely_where.Goals as goal
 

@@ -1,5 +1,5 @@
 use Rattle.formula_parse.specs.Views.{names_view}
-use Rattle.formula_plan.specs.Makings.{plan_at}
+use Rattle.term_plans.specs.Makings.{plan_at}
 use Rattle.formula_plan.proofs.FormulasMade.{projected_none, projected_more}
 use Rattle.formula_plan.proofs.quantifiers.project_all.Goals as goal
 

@@ -4,8 +4,8 @@ use Rattle.std.proofs.lemmas.List.{get_or_default, length-append}
 use Rattle.digit_tuple.specs.Steps.{StepLog}
 use Rattle.number_relations.specs.Relations.{RelationValue}
 use Rattle.num_system.proofs.LineLemmas.{handed_on}
-use Rattle.formula_plan.specs.Plans.{is_step}
-use Rattle.formula_plan.specs.Makings.{plan_at}
+use Rattle.term_plans.specs.Plans.{is_step}
+use Rattle.term_plans.specs.Makings.{plan_at}
 use Rattle.plan_relations.specs.Building.{Builds, DoesSteps}
 use Rattle.plan_relations.specs.MadeOf.{MayMake, DoesMaking, is_marked}
 use Rattle.plan_relations.proofs.BuildingLemmas.{IsUnderWay, ends, mark_read, none, turn_made, turn_passed, turn_ready, turn_stopped}

@@ -1,6 +1,6 @@
 use Rattle.plan_relations.specs.KnownViews.{known_value}
 use Rattle.std.proofs.Common.{◌≡◌, length}
-use Rattle.formula_plan.specs.Makings.{AreMakingsOf, plan_at}
+use Rattle.term_plans.specs.Makings.{AreMakingsOf, plan_at}
 use Rattle.plan_relations.specs.MadeOf.{AreNeeded}
 use Rattle.plan_relations.proofs.BuildingLemmas.{IsUnderWay}
 use Rattle.plan_relations.proofs.plan_making.make_plans.Given as goal

@@ -1,4 +1,0 @@
-use Rattle.formula_plan.proofs.multiples.+multiple.Given as goal
-
-abbrev pub decreases-multiple : goal.decreases-multiple
-decreases-multiple l = l.times

@@ -1,0 +1,12 @@
+pub mod OptionLemmas
+pub mod TrackLemmas
+pub mod PlacedValues
+pub mod MultipleLemmas
+pub mod QuotientLemmas
+pub mod TermLemmas
+pub mod AgreementLemmas
+pub mod MakingLemmas
+pub mod PlanningLemmas
+pub mod MultiplesMade
+pub mod TermsMade
+pub mod ArgumentsMade
