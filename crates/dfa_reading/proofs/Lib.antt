@@ -1,3 +1,4 @@
+pub mod Appended
 pub mod Splits
 pub mod ReadLines
 pub mod SystemNames
