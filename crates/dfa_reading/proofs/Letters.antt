@@ -2,7 +2,7 @@
 use Rattle.std.proofs.Common.{◌≡◌, ℕ, zero, suc, ◌+◌, ◌*◌, ◌<◌, ◌≤◌, inl, inr, Bool, true, false, cond, ltb, List, [], ◌∷◌, ◌++◌, length, drop, get_or, Option, None, Some, refl, sym, ap, ◌∙◌, subst, arith}
 use Rattle.std.specs.List.{All, Contains, flat_map, range_with_len}
 use Rattle.std.proofs.lemmas.Bool.Decides.{nat_tests}
-use Rattle.std.proofs.lemmas.List.{flat_map_more}
+use Rattle.std.proofs.lemmas.List.{drop_more, flat_map_more}
 use Rattle.std.proofs.lemmas.List.Elements.{Contains-get_or, All-contains}
 use Rattle.std.proofs.lemmas.List.FromFn.{length-range_with_len, get_or-range_with_len}
 use Rattle.digit_tuple.specs.Letters.{product, code_of, AreDigits}
@@ -106,3 +106,11 @@ with_track-weight sizes i weight lt heavy =
 pub digits_more : (out next : List ℕ) (before : List ℕ) (f : ℕ → List ℕ) (digit : ℕ) → out ≡ before ++ flat_map f (range_with_len 0 digit) → next ≡ out ++ f digit → next ≡ before ++ flat_map f (range_with_len 0 (digit + 1))
 digits_more out next before f digit h step =
     step ∙ ap (λ o. o ++ f digit) h ∙ flat_map_more f before (range_with_len 0 digit) digit ∙ ap (λ r. before ++ flat_map f r) (sym (range_more digit))
+
+-- one track more before the others
+pub letters_more : (sizes : List ℕ) (digits : List (Option ℕ)) (i weight : ℕ) (letters next : List ℕ) → i < length sizes → i < length digits → weight ≡ product (drop (i + 1) sizes) → letters ≡ letters_taken (drop (i + 1) sizes) (drop (i + 1) digits)
+    → next ≡ flat_map (λ digit. shifted (digit * weight) letters) (digits_taken (get_or sizes i 0) (get_or digits i None)) → next ≡ letters_taken (drop i sizes) (drop i digits)
+letters_more sizes digits i weight letters next within inside heavy is made =
+    let taken = digits_taken (get_or sizes i 0) (get_or digits i None) in
+    made ∙ ap (λ (w : ℕ). flat_map (λ digit. shifted (digit * w) letters) taken) heavy ∙ ap (λ (ls : List ℕ). flat_map (λ digit. shifted (digit * product (drop (i + 1) sizes)) ls) taken) is
+    ∙ sym (ap (λ (ss : List ℕ). letters_taken ss (drop i digits)) (drop_more sizes i 0 within) ∙ ap (letters_taken (get_or sizes i 0 ∷ drop (i + 1) sizes)) (drop_more digits i None inside))
