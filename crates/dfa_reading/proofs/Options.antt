@@ -1,5 +1,5 @@
 -- What is there, step after step.
-use Rattle.std.proofs.Common.{◌≡◌, ℕ, ◌+◌, ◌<◌, Bool, true, false, cond, List, [], ◌∷◌, ◌++◌, length, drop, get_or, Option, None, Some, refl, subst, sym, ap, ◌∙◌}
+use Rattle.std.proofs.Common.{◌≡◌, ℕ, ◌+◌, ◌<◌, Bool, true, false, cond, List, [], ◌∷◌, ◌++◌, length, drop, get_or, Option, None, Some, refl, subst, sym, ap, ◌∙◌, append-nil}
 use Rattle.std.proofs.lemmas.List.{drop_more}
 use Rattle.std.specs.List.{AllByRecursion}
 use Rattle.std.specs.Prelude.{option_map}
@@ -39,6 +39,19 @@ each_more f xs i d y done total lt is h =
 pub each_fails : {A B : Type 0} (f : A → Option B) (xs : List A) (i : ℕ) (d : A) (done : List B) (total : Option (List B)) → i < length xs → f (get_or xs i d) ≡ None → with_prefix done (each_of f (drop i xs)) ≡ total → None ≡ total
 each_fails f xs i d done total lt is h =
     sym (ap (λ l. with_prefix done (each_of f l)) (drop_more xs i d lt) ∙ ap (λ o. with_prefix done (o >>= (λ z. each_of f (drop (i + 1) xs) >>= (λ zs. Some (z ∷ zs))))) is) ∙ h
+
+-- and where they are read from the front of a list
+pub each_next : {A B : Type 0} (f : A → Option B) (all rest : List A) (x : A) (y : B) (done next : List B) (total : Option (List B)) → all ≡ x ∷ rest → f x ≡ Some y → next ≡ done ++ y ∷ [] → with_prefix done (each_of f all) ≡ total → with_prefix next (each_of f rest) ≡ total
+each_next f all rest x y done next total first is more h =
+    ap (λ ys. with_prefix ys (each_of f rest)) more ∙ sym (with_prefix-more done y (each_of f rest))
+    ∙ sym (ap (λ l. with_prefix done (each_of f l)) first ∙ ap (with_prefix done) (each_of-first f x rest y is)) ∙ h
+
+pub each_missing : {A B : Type 0} (f : A → Option B) (all rest : List A) (x : A) (done : List B) (total : Option (List B)) → all ≡ x ∷ rest → f x ≡ None → with_prefix done (each_of f all) ≡ total → None ≡ total
+each_missing f all rest x done total first is h =
+    sym (ap (λ l. with_prefix done (each_of f l)) first ∙ ap (λ o. with_prefix done (o >>= (λ z. each_of f rest >>= (λ zs. Some (z ∷ zs))))) is) ∙ h
+
+pub each_all : {A B : Type 0} (f : A → Option B) (rest : List A) (done : List B) (total : Option (List B)) → rest ≡ [] → with_prefix done (each_of f rest) ≡ total → Some done ≡ total
+each_all f rest done total none h = ap Some (sym (append-nil done)) ∙ sym (ap (λ r. with_prefix done (each_of f r)) none) ∙ h
 
 -- what holds of each that a function gives
 pub each_holds : {A B : Type 0} (f : A → Option B) (P : B → Type 0) → ((x : A) (y : B) → f x ≡ Some y → P y) → (xs : List A) (ys : List B) → each_of f xs ≡ Some ys → AllByRecursion P ys

@@ -1,12 +1,13 @@
 -- Lines, as loops read them.
-use Rattle.std.proofs.Common.{◌≡◌, ℕ, zero, suc, ◌+◌, ◌<◌, ◌≤◌, Bool, true, false, not, cond, eqb, List, [], ◌∷◌, ◌++◌, length, take, drop, get_or, Option, None, Some, refl, sym, ap, ◌∙◌, subst, arith}
+use Rattle.std.proofs.Common.{◌≡◌, ℕ, zero, suc, ◌+◌, ◌<◌, ◌≤◌, Bool, true, false, not, cond, eqb, ◌&&◌, List, [], ◌∷◌, ◌++◌, length, take, drop, get_or, Option, None, Some, refl, sym, ap, ◌∙◌, subst, arith, append_assoc}
 use Rattle.std.specs.List.{slice_split, onto_first, filter, prefix_len}
-use Rattle.std.proofs.lemmas.Bool.{eq-eqb, ne_eqb}
+use Rattle.std.proofs.lemmas.Bool.{eq-eqb, eqb-true, ne_eqb}
+use Rattle.std.proofs.lemmas.List.{drop_more, get_or-drop, take_more}
 use Rattle.std.proofs.Math.Bool.{and-false}
 use Rattle.text_grammar.specs.Bytes.{is_blank}
 use Rattle.text_grammar.specs.Prefixes.{prefix_len as len_of_prefix}
 use Rattle.text_grammar.specs.declared.class.Class.TheVariants.{Blank}
-use Rattle.dfa_reading.specs.Lines.{has_bytes, parts_of, arrow_at}
+use Rattle.dfa_reading.specs.Lines.{has_bytes, parts_of, arrow_at, before_both}
 use Rattle.dfa_reading.proofs.Splits.{parts_of-append}
 
 -- a text before the first of two
@@ -21,6 +22,27 @@ short_no_arrow (b ∷ c ∷ bytes) h = absurd (omega arith)
 
 pub arrow_nowhere : (line prefix rest : List ℕ) → length rest ≤ 1 → suffix prefix (arrow_at rest) ≡ arrow_at line → None ≡ arrow_at line
 arrow_nowhere line prefix rest h found = ap (suffix prefix) (sym (short_no_arrow rest h)) ∙ found
+
+-- a byte more without an arrow
+pub arrow_later : (line : List ℕ) (i : ℕ) → i < length line → (get_or line i 0 ≡ 45 → get_or line (i + 1) 0 ≡ 62 → ⊥) → suffix (take i line) (arrow_at (drop i line)) ≡ arrow_at line → suffix (take (i + 1) line) (arrow_at (drop (i + 1) line)) ≡ arrow_at line
+arrow_later line i within other found =
+    let rest = drop (i + 1) line in
+    let b = get_or line i 0 in
+    let first : get_or rest 0 0 ≡ get_or line (i + 1) 0 = let zero_more : i + 1 + 0 ≡ i + 1 = omega arith in get_or-drop (i + 1) line 0 0 ∙ ap (λ k. get_or line k 0) zero_more in
+    sym (ap (λ bs. suffix (take i line) (arrow_at bs)) (drop_more line i 0 within) ∙ ap (λ t. suffix (take i line) (cond t (Some ([], drop 1 rest)) (before_both b (arrow_at rest)))) (no_arrow b (get_or rest 0 0) (λ one two. other one (sym first ∙ two)))
+    ∙ moved (take i line) b (arrow_at rest) ∙ ap (λ t. suffix t (arrow_at rest)) (sym (take_more line i 0 within))) ∙ found
+  where
+    no_arrow : (b c : ℕ) → (b ≡ 45 → c ≡ 62 → ⊥) → (eqb b 45 && eqb c 62) ≡ false
+    no_arrow b c apart = by (eqb b 45) (eqb c 62) refl refl
+      where
+        by : (p q : Bool) → eqb b 45 ≡ p → eqb c 62 ≡ q → (p && q) ≡ false
+        by true true one two = absurd (apart (eqb-true b 45 one) (eqb-true c 62 two))
+        by true false one two = refl
+        by false q one two = refl
+
+    moved : (xs : List ℕ) (b : ℕ) (o : Option (List ℕ × List ℕ)) → suffix xs (before_both b o) ≡ suffix (xs ++ b ∷ []) o
+    moved xs b None = refl
+    moved xs b (Some p) = ap (λ ys. Some (ys, p.1)) (sym (append_assoc xs (b ∷ []) p.0))
 
 -- a text is split at the first mark
 pub split_first : (mark i : ℕ) (bytes : List ℕ) → i < length bytes → ((k : ℕ) → k < i → get_or bytes k 0 ≡ mark → ⊥) → get_or bytes i 0 ≡ mark → slice_split (λ b. eqb b mark) bytes ≡ take i bytes ∷ slice_split (λ b. eqb b mark) (drop (i + 1) bytes)

@@ -13,9 +13,17 @@ use Rattle.digit_tuple.specs.Reversed.{SameBranch, branch_at}
 use Rattle.digit_tuple.proofs.MemberLemmas.{Contains-head, Contains-tail, Contains-cases, Contains-none, Contains-map, Contains-from_map, Contains-flat_map, Contains-from_flat_map}
 use Rattle.dfa_reading.specs.Listed.{ListedLine, Listed, IsListedLine, Moves, output_of}
 use Rattle.dfa_reading.specs.LineLetters.{letters_taken, transition_to, transitions_of_line}
-use Rattle.dfa_reading.specs.Branching.{IsBranching}
+use Rattle.dfa_reading.specs.Headers.{Header, Truth, Systems, Sets, Members, Below, digits_in}
+use Rattle.dfa_reading.specs.Systems.{digit_limit}
+use Rattle.dfa_reading.specs.Branching.{AreGiven, IsBranching, sizes_in}
 use Rattle.dfa_reading.specs.BranchRows.{is_accepting_output, bare_row, with_transitions, with_line, rows_after, AreInOrder, AreRowsOf}
 use Rattle.dfa_reading.proofs.Letters.{tuple_of_letter, letter_of_tuple, letter_below}
+
+-- a size for each track
+pub digits-sizes : (header : Header) (digits sizes : List ℕ) → AreGiven header digits → sizes ≡ sizes_in header digits → length (digits_in header) ≡ length sizes
+digits-sizes (Truth value) digits sizes given is = sym (ap length is)
+digits-sizes (Systems names) digits sizes given is = length-map names (λ name. Below (digit_limit name)) ∙ sym given ∙ sym (ap length is)
+digits-sizes (Sets sets) digits sizes given is = length-map sets Members ∙ sym (length-map sets length) ∙ sym (ap length is)
 
 -- one more row in order
 pub AreInOrder-next : (old rows : List Branch) (place : ℕ) (row : Branch) → place < length rows → AreInOrder old rows place → SameBranch (branch_at rows place) row → AllPairs IsBefore row.transitions → AreInOrder old (set rows place row) (place + 1)

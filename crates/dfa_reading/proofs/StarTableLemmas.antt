@@ -1,5 +1,5 @@
 -- Tables of targets: what they have after a transition more, and what loops over digits read.
-use Rattle.std.proofs.Common.{◌≡◌, ℕ, zero, suc, ◌+◌, ◌<◌, Bool, true, false, cond, List, [], ◌∷◌, ◌++◌, length, drop, get_or, Option, None, Some, refl, sym, ap, ◌∙◌, true≢false, arith, append_assoc, Vec, Global, nat_eq}
+use Rattle.std.proofs.Common.{◌≡◌, ℕ, zero, suc, ◌+◌, ◌<◌, Bool, true, false, cond, ◌&&◌, List, [], ◌∷◌, ◌++◌, length, drop, get_or, Option, None, Some, refl, sym, ap, ◌∙◌, true≢false, arith, append_assoc, Vec, Global, nat_eq}
 use Rattle.std.specs.Bool.{Decides}
 use Rattle.std.specs.Map.{lookup}
 use Rattle.std.specs.Option.{option_eq}
@@ -9,7 +9,7 @@ use Rattle.std.proofs.lemmas.List.{drop_more}
 use Rattle.std.proofs.lemmas.Slice.Eq.{slice_eq-Decides}
 use Rattle.indexmap.specs.IndexMap.{insert_entry}
 use Rattle.dfa_reading.specs.declared.star_table.Targets.{Targets}
-use Rattle.dfa_reading.specs.StarTables.{kept_digit, masked, same_digits, entry_in, entries_in, targets_at}
+use Rattle.dfa_reading.specs.StarTables.{alike, kept_digit, masked, same_digits, same_stars, entry_in, entries_in, targets_at}
 
 one_more : (n : ℕ) → suc n + 1 ≡ suc (n + 1)
 one_more n = omega arith
@@ -30,6 +30,10 @@ masked_more digits pattern done next i d kept total within is pushed h =
     ap (λ (ds : List (Option ℕ)). ds ++ masked (drop (i + 1) digits) (drop (i + 1) pattern)) (pushed ∙ ap (λ (k : Option ℕ). done ++ k ∷ []) is)
     ∙ append_assoc done (kept_digit (get_or digits i d) (get_or pattern i None) ∷ []) (masked (drop (i + 1) digits) (drop (i + 1) pattern))
     ∙ ap (λ ds. done ++ ds) (sym (masked-next digits pattern i d within)) ∙ h
+
+-- and where `*` is on it
+pub same_stars-next : (digits pattern : List (Option ℕ)) (i : ℕ) → i < length digits → i < length pattern → same_stars (drop i digits) (drop i pattern) ≡ (alike (get_or digits i None) (get_or pattern i None) && same_stars (drop (i + 1) digits) (drop (i + 1) pattern))
+same_stars-next digits pattern i less within = ap (λ ds. same_stars ds (drop i pattern)) (drop_more digits i None less) ∙ ap (same_stars (get_or digits i None ∷ drop (i + 1) digits)) (drop_more pattern i None within)
 
 -- same digits are equal
 option_eq-Decides : (x y : Option ℕ) → Decides (option_eq nat_eq x y) (x ≡ y)

@@ -1,5 +1,6 @@
-use Rattle.std.proofs.Common.{◌≡◌, ◌+◌, ◌-◌, ◌<◌, drop, length, sym, ap, ◌∙◌, subst, arith, List, ℕ}
+use Rattle.std.proofs.Common.{◌≡◌, ◌+◌, ◌-◌, ◌<◌, [], ◌∷◌, ◌++◌, drop, length, sym, ap, ◌∙◌, subst, arith, List, ℕ}
 use Rattle.std.specs.List.{All}
+use Rattle.std.proofs.lemmas.List.{drop_all}
 use Rattle.digit_tuple.specs.Letters.{product}
 use Rattle.dfa_reading.specs.LineLetters.{letters_taken}
 use Rattle.dfa_reading.proofs.Letters.{last_product, letters_below, letters_more, with_track-weight}
@@ -37,6 +38,19 @@ bounds-sizes-track c = omega (arith, c.tracks.invariant.within, c.tracks-test.tr
 
 pub bounds-digits-track : goal.bounds-digits-track
 bounds-digits-track c = omega (arith, c.tracks.invariant.within, c.tracks-test.true, c.requires.tracks)
+
+pub tracks-init : goal.tracks-init
+tracks-init c =
+    let sizes = c.args.sizes.now in
+    let digits = c.args.digits.now in
+    let none : drop (length sizes) sizes ≡ [] = drop_all (length sizes) sizes (omega arith) in
+    let no_digits : drop (length sizes) digits ≡ [] = drop_all (length sizes) digits (omega (arith, c.requires.tracks)) in
+    record {
+      within = omega arith;
+      letters = c.in_ok-push.ensures.items ∙ ap (λ (ns : List ℕ). ns ++ 0 ∷ []) c.new-letters.ensures.items
+          ∙ sym (ap (λ (ss : List ℕ). letters_taken ss (drop (length sizes) digits)) none ∙ ap (letters_taken []) no_digits);
+      weight = sym (ap product none);
+    }
 
 pub tracks-preserved : goal.tracks-preserved
 tracks-preserved c =

@@ -31,3 +31,12 @@ lines-preserved g c =
       is = c.in_ok-add_line.ensures.prefix c.if-not-branch.false;
       room = omega (arith, c.lines.invariant.room);
     }
+
+pub lines-smaller : goal.lines-smaller
+lines-smaller g c = rw c.in-Some.is at c.cut_at.ensures.shorter
+
+pub overflow_add-at : goal.overflow_add-at
+overflow_add-at g c = omega (arith, c.lines.invariant.room, c.requires.length)
+
+pub overflow_add-after : goal.overflow_add-after
+overflow_add-after g c = omega (arith, c.lines.invariant.room, c.requires.length)
