@@ -9,3 +9,4 @@ pub mod FoundItems
 pub mod LongerTexts
 pub mod ReportedItem
 pub mod ReadingSteps
+pub mod CallEnds
