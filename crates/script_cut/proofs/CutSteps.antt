@@ -1,5 +1,5 @@
 -- What a call of a cutter gives, from the bytes that were passed.
-use Rattle.std.proofs.Common.{◌≡◌, ◌≢◌, ◌⊎◌, ℕ, ◌+◌, ◌<◌, ◌≤◌, Bool, true, false, IsTrue, List, [], ◌∷◌, ◌++◌, length, Option, None, Some, Ok, Err, refl, sym, ◌∙◌, ap, subst, inl, inr, arith, append_assoc, append-nil, length-append}
+use Rattle.std.proofs.Common.{◌≡◌, ◌≢◌, ◌⊎◌, ℕ, ◌+◌, ◌<◌, ◌≤◌, Bool, true, false, IsTrue, List, [], ◌∷◌, ◌++◌, length, Option, None, Some, Result, Ok, Err, refl, sym, ◌∙◌, ap, subst, inl, inr, arith, append_assoc, append-nil, length-append}
 use Rattle.std.specs.List.{concat}
 use Rattle.std.specs.Io.KnownBytes.{IsAtEnd as HasGivenAll}
 use Rattle.wal_outside.specs.Views.{SourceView}
@@ -7,18 +7,19 @@ use Rattle.script_cut.specs.Asking.{Gives, AreAsked}
 use Rattle.std.specs.declared.vec.Vec.{Vec}
 use Rattle.std.specs.declared.alloc.Global.{Global}
 use Rattle.script_cut.specs.Texts.{is_gap, AreGaps, quoted, unbroken, Starts, IsOpen, terminator_of, line_ends}
-use Rattle.script_cut.specs.Cuts.{Ended, Terminated, Unterminated, Next, HasNoCommand}
+use Rattle.script_cut.specs.Cuts.{Ended, Terminated, Unterminated, Next, HasNoCommand, IsAtEnd}
 use Rattle.script_cut.specs.Kept.{Kept}
 use Rattle.script_cut.specs.Cutting.{place_of, MayCome, HasCut}
 use Rattle.script_cut.specs.Passing.{Passes, IsBounded, AllGave, IsOver, Stops, IsAtText, PassesGaps, PassesText, HasScanned, IsAfterText, IsAfterAll}
 use Rattle.script_cut.specs.Reading.{IsStillInGaps}
+use Rattle.script_cut.specs.declared.cut.Cut.{Cut}
 use Rattle.script_cut.specs.declared.cut.Cut.TheVariants as cuts
 use Rattle.script_cut.specs.declared.cut.CutFault.{CutFault}
 use Rattle.script_cut.specs.declared.cut.CutFault.TheVariants as faults
 use Rattle.script_cut.specs.declared.cutter.Scanned.{Scanned}
 use Rattle.script_cut.proofs.Gaps.{line_ends-append}
 use Rattle.script_cut.proofs.PassingSteps.{passes-then, bounded-then, is_text}
-use Rattle.script_cut.proofs.AskingSteps.{asked_then, asked_so}
+use Rattle.script_cut.proofs.AskingSteps.{asked_then, asked_so, gives-none}
 
 not_both : (b : Bool) → b ≡ false → b ≡ true → ⊥
 not_both b p q = cc
@@ -368,3 +369,30 @@ still_both same more then old mid join (inl here) starts (inr whole) = inr (inr 
   begun = record { starts = starts; unbroken = whole };
   split = here.1.split;
 }))
+
+-- the text that was read before does not count
+pub cut_anew : (old : Kept) (text : List ℕ) (was : SourceView) (result : Result Cut CutFault) (new : Kept) (now : SourceView) → HasCut (record old { text = text }) was result new now → HasCut old was result new now
+cut_anew old text was result new now p = record {
+  pieces = p.pieces;
+  given = p.given;
+  asked = p.asked;
+  within = p.within;
+  room = p.room;
+  ended = p.ended;
+  item = p.item;
+  failed = λ is. let failed = p.failed is in record { none = failed.none; within = failed.within };
+}
+
+-- once a script has ended nothing comes
+pub cut_over : (old : Kept) (text : List ℕ) (was : SourceView) → old.over ≡ true → HasCut old was (Ok cuts.End) (record old { text = text }) was
+cut_over old text was over = record {
+  pieces = [];
+  given = gives-none was;
+  asked = tt;
+  within = λ some. absurd (some refl);
+  room = rw (append-nil old.held) refl;
+  ended = λ begun ended. absurd (not_both old.over begun over);
+  item = λ more may. let P : Bool → Type 0 = λ is_over. IsAtEnd (place_of (record old { over = is_over }) more) in
+      subst P (sym over) (record { gaps = refl; within = omega arith });
+  failed = λ is. cc;
+}
