@@ -250,3 +250,10 @@ load_sent {F} l line reply deed text held is deed_is = subst (λ (r : Result Don
 
 pub end_sent : {F : Type 0} (l : CommandLanguage F) (line : ℕ) (reply : Result Done F) (deed : Done) (held : SinkView) → reply ≡ Ok deed → deed ≡ deeds.Ends → HasSent held (reply_text l line reply) held
 end_sent {F} l line reply deed held is deed_is = subst (λ (r : Result Done F). HasSent held (reply_text l line r) held) (sym is) (subst (λ (d : Done). HasSent held (reply_text l line (Ok d)) held) (sym deed_is) (none_sent held))
+
+-- a run that ended, or that the sink stopped, does not go on
+pub ended_stays : flows.Ends ≢ flows.GoesOn
+ended_stays = λ on. cc
+
+pub stopped_stays : (fault : WriteFault) → flows.Stopped fault ≢ flows.GoesOn
+stopped_stays fault = λ on. cc

@@ -1,5 +1,5 @@
 -- One item and its reply.
-use Rattle.std.proofs.Common.{◌≡◌, ℕ, ◌<◌, ◌≤◌, Bool, List, length, Vec, Global, Option, None, Some, IfSome, IsTrue, Result, Ok, Err, refl, sym, ap, subst, inl, inr, arith}
+use Rattle.std.proofs.Common.{◌≡◌, ℕ, ◌<◌, ◌≤◌, Bool, List, length, Vec, Global, Option, None, Some, IfSome, IsTrue, Result, Ok, Err, refl, sym, ap, ◌∙◌, subst, inl, inr, arith}
 use Rattle.std.specs.Option.{is_some}
 use Rattle.wal_outside.specs.Files.{Files}
 use Rattle.wal_outside.specs.Places.{Place}
@@ -7,6 +7,7 @@ use Rattle.wal_outside.specs.Views.{StoreView}
 use Rattle.script_cut.specs.Cuts.{Ended, Terminated, Unterminated, PastLimit, Item}
 use Rattle.script_runs.specs.declared.deed.Deed.{Deed as Done}
 use Rattle.script_runs.specs.declared.deed.Deed.TheVariants as deeds
+use Rattle.script_runs.specs.declared.coming.ItemText.{ItemText}
 use Rattle.script_runs.specs.declared.coming.ItemText.TheVariants as texts
 use Rattle.script_runs.specs.declared.script_fault.ScriptFault.{ScriptFault}
 use Rattle.script_runs.specs.declared.script_fault.ScriptFault.TheVariants as script
@@ -166,3 +167,11 @@ may_pay {F} l depth room left (deeds.Enters printed) result (is, left_is) may = 
 may_pay {F} l depth room left (deeds.Loads text) result (inl (fits, is, left_is)) may = subst (λ (r : Result Done F). MayLoad depth r) (sym is) may
 may_pay {F} l depth room left (deeds.Loads text) result (inr (over, is, left_is)) may = subst (λ (r : Result Done F). MayLoad depth r) (sym is) tt
 may_pay {F} l depth room left deeds.Ends result (is, left_is) may = subst (λ (r : Result Done F). MayLoad depth r) (sym is) tt
+
+-- a command is within the limit
+pub no_command : (item : ItemText) (text : Vec ℕ Global) (shown : Bool) → item ≡ texts.Command text shown → item ≡ texts.Broken script.PastLimit → ⊥
+no_command item text shown is past = cc
+
+-- a text past the limit is refused for that
+pub refused_past : {F : Type 0} (l : CommandLanguage F) (item : ItemText) (fault : ScriptFault) (refusal : F) → item ≡ texts.Broken fault → item ≡ texts.Broken script.PastLimit → refusal ≡ l.of_script fault → (let r : Result Done F = Err refusal in r) ≡ Err (l.of_script script.PastLimit)
+refused_past {F} l item fault refusal is past refused = let same : fault ≡ script.PastLimit = cc in ap (λ (f : F). let r : Result Done F = Err f in r) (refused ∙ ap l.of_script same)

@@ -5,7 +5,7 @@ use Rattle.script_cut.specs.Cutting.{place_of}
 use Rattle.script_runs.proofs.Cutting.{end_of, spends_then}
 use Rattle.script_runs.proofs.Between.{between_falls}
 use Rattle.script_runs.proofs.TextSteps.{text_first, text_ends, text_next, text_cut, text_memory, TakesAll, TakesOne, under}
-use Rattle.script_runs.proofs.ItemSteps.{result_enters, result_ends, result_refused, result_stopped, result_loads, not_both, limit_ends}
+use Rattle.script_runs.proofs.ItemSteps.{result_enters, result_ends, result_refused, result_stopped, result_loads, not_both, limit_ends, ended_stays, stopped_stays}
 use Rattle.script_runs.specs.Handing.{MayLoad}
 use Rattle.script_runs.proofs.running.+loads.Goals as goal
 
@@ -91,3 +91,55 @@ answer_text-returns-in-End-clause-takes g t c =
 pub answer_text-returns-in-Failed-clause-takes : goal.answer_text-returns-in-Failed-clause-takes
 answer_text-returns-in-Failed-clause-takes g t c =
     rw c.new-source.ensures at (text_memory _ (sure_left c.new-source.result) (g.T.Store.view c.args.store.now) c.args.progress.now.script.room (g.K.Sink.view c.args.out.now) c.args.progress.now.tally c.args.depth (place_of c.items.cutter (sure_left c.items.source)) (g.T.Store.view c.items.store) c.items.progress.script.room (g.K.Sink.view c.items.out) c.items.progress.tally c.items.invariant.reached)
+
+pub answer_item-returns-in-Err-clause-kept : goal.answer_item-returns-in-Err-clause-kept
+answer_item-returns-in-Err-clause-kept g t c = c.reply_to-reply.ensures.kept
+
+pub answer_item-returns-in-Err-clause-spent : goal.answer_item-returns-in-Err-clause-spent
+answer_item-returns-in-Err-clause-spent g t c = c.reply_to-reply.ensures.spent
+
+pub answer_item-returns-in-Ok-Enters-clause-kept : goal.answer_item-returns-in-Ok-Enters-clause-kept
+answer_item-returns-in-Ok-Enters-clause-kept g t c = c.reply_to-reply.ensures.kept
+
+pub answer_item-returns-in-Ok-Enters-clause-spent : goal.answer_item-returns-in-Ok-Enters-clause-spent
+answer_item-returns-in-Ok-Enters-clause-spent g t c = c.reply_to-reply.ensures.spent
+
+pub answer_item-returns-in-Ok-Ends-clause-kept : goal.answer_item-returns-in-Ok-Ends-clause-kept
+answer_item-returns-in-Ok-Ends-clause-kept g t c = c.reply_to-reply.ensures.kept
+
+pub answer_item-returns-in-Ok-Ends-clause-spent : goal.answer_item-returns-in-Ok-Ends-clause-spent
+answer_item-returns-in-Ok-Ends-clause-spent g t c = c.reply_to-reply.ensures.spent
+
+pub answer_item-returns-in-Err-reply-clause-kept : goal.answer_item-returns-in-Err-reply-clause-kept
+answer_item-returns-in-Err-reply-clause-kept g t c = c.reply_to-reply.ensures.kept
+
+pub answer_item-returns-in-Err-reply-clause-spent : goal.answer_item-returns-in-Err-reply-clause-spent
+answer_item-returns-in-Err-reply-clause-spent g t c = c.reply_to-reply.ensures.spent
+
+pub answer_item-returns-in-Err-clause-limit : goal.answer_item-returns-in-Err-clause-limit
+answer_item-returns-in-Err-clause-limit g t c = λ past. stopped_stays c.in-Err.fault
+
+pub answer_item-returns-in-Ok-Ends-clause-limit : goal.answer_item-returns-in-Ok-Ends-clause-limit
+answer_item-returns-in-Ok-Ends-clause-limit g t c = λ past. ended_stays
+
+pub answer_item-returns-in-Ok-Loads-clause-kept : goal.answer_item-returns-in-Ok-Loads-clause-kept
+answer_item-returns-in-Ok-Loads-clause-kept g t c = c.answer_text.ensures.kept ∙ c.reply_to-reply.ensures.kept
+
+pub answer_item-returns-in-Ok-Loads-clause-spent : goal.answer_item-returns-in-Ok-Loads-clause-spent
+answer_item-returns-in-Ok-Loads-clause-spent g t c =
+    spends_then c.args.progress.now.script c.reply_to-reply.new.self.script c.answer_text.new.progress.script c.reply_to-reply.ensures.spent c.answer_text.ensures.spent
+
+pub answer_item-overflow_add-depth : goal.answer_item-overflow_add-depth
+answer_item-overflow_add-depth g t c = omega (arith, c.requires)
+
+pub answer_text-returns-in-End-clause-kept : goal.answer_text-returns-in-End-clause-kept
+answer_text-returns-in-End-clause-kept g t c = c.items.invariant.answering
+
+pub answer_text-returns-in-End-clause-spent : goal.answer_text-returns-in-End-clause-spent
+answer_text-returns-in-End-clause-spent g t c = c.items.invariant.spent
+
+pub answer_text-returns-in-Failed-clause-kept : goal.answer_text-returns-in-Failed-clause-kept
+answer_text-returns-in-Failed-clause-kept g t c = c.items.invariant.answering
+
+pub answer_text-returns-in-Failed-clause-spent : goal.answer_text-returns-in-Failed-clause-spent
+answer_text-returns-in-Failed-clause-spent g t c = c.items.invariant.spent
