@@ -14,3 +14,4 @@ pub mod FileUsers
 pub mod OneAnswers
 pub mod OneSteps
 pub mod OneAdmission
+pub mod HandedOn

@@ -1,4 +1,4 @@
-use Rattle.std.proofs.Common.{inl, inr, rules, map, subst}
+use Rattle.std.proofs.Common.{inl, inr, map, subst}
 use Rattle.std.specs.Rc.{rc_value}
 use Rattle.std.proofs.lemmas.Result.{IfOk-weaker}
 use Rattle.minimise.specs.Tracked.{NamedAutomaton}
@@ -6,6 +6,7 @@ use Rattle.automaton_steps.specs.Makings.{DoesStep}
 use Rattle.automaton_steps.specs.ValiditySteps.{valid_step}
 use Rattle.adder_check.specs.AdderRelation.{adder_names}
 use Rattle.adder_check.proofs.AdderLemmas.{adder_done, adder_holds, runs_out, valid_made}
+use Rattle.adder_check.proofs.HandedOn.{handed_on}
 use Rattle.adder_check.proofs.adder_steps.adder_steps.Goals as goal
 
 pub returns-in_err-closed-clause-steps : goal.returns-in_err-closed-clause-steps
@@ -14,7 +15,7 @@ returns-in_err-closed-clause-steps c =
       c.in_ok-read.read,
       c.file_steps.new.steps,
       c.in_ok-read.ensures.steps,
-      inr (c.in_err-closed.field-0.0, c.in_err-closed.ensures, (let e = c.from_residual-in_err-closed.ensures in search rules)),
+      inr (c.in_err-closed.field-0.0, c.in_err-closed.ensures, (handed_on _ c.from_residual-in_err-closed.result c.from_residual-in_err-closed.ensures.1)),
     )
 
 pub returns-in_err-adder-clause-steps : goal.returns-in_err-adder-clause-steps
@@ -22,7 +23,7 @@ returns-in_err-adder-clause-steps c =
     adder_done c.args.direction c.args.file.listed.now c.args.file.reversed (map rc_value c.args.languages.now) c.args.steps.now c.file_steps.new.steps c.pad_step.new.steps c.pad_step.new.steps c.in_ok-read.read
     c.in_ok-closed.closed c.from_residual-in_err-adder.result c.in_ok-read.ensures.steps c.in_ok-closed.ensures
     (runs_out (valid_step (map rc_value c.args.languages.now) (record { names = adder_names; automaton = c.in_ok-closed.closed })) c.pad_step.new.steps c.from_residual-in_err-adder.result
-    (let e = c.from_residual-in_err-adder.ensures in search rules))
+    (handed_on _ c.from_residual-in_err-adder.result c.from_residual-in_err-adder.ensures.1))
 
 pub returns-clause-steps : goal.returns-clause-steps
 returns-clause-steps c =

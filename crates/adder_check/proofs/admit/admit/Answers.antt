@@ -1,17 +1,18 @@
-use Rattle.std.proofs.Common.{inl, inr, rules, refl}
+use Rattle.std.proofs.Common.{inl, inr, refl}
 use Rattle.adder_check.specs.Admission.{IsFirstFaultOfFiles}
 use Rattle.adder_check.specs.Faults.{fault_of}
 use Rattle.endless.specs.LanguageLaws.{system_of}
 use Rattle.adder_check.proofs.FileSystems.{own_language, refused_by, sizes_of_one}
 use Rattle.adder_check.proofs.FileUsers.{AreParts, adder_fault, are_parts, letters_are}
+use Rattle.adder_check.proofs.HandedOn.{handed_on}
 use Rattle.adder_check.proofs.admit.admit.Goals as goal
 
 pub returns-in_err-language-clause-steps : goal.returns-in_err-language-clause-steps
-returns-in_err-language-clause-steps c = inr (c.in_err-language.field-0.0, c.in_err-language.ensures.steps, (let e = c.from_residual.ensures in search rules))
+returns-in_err-language-clause-steps c = inr (c.in_err-language.field-0.0, c.in_err-language.ensures.steps, (handed_on _ c.from_residual.result c.from_residual.ensures.1))
 
 pub returns-in_err-language-clause-refused : goal.returns-in_err-language-clause-refused
 returns-in_err-language-clause-refused c =
-    refused_by (IsFirstFaultOfFiles c.args.direction c.args.files.language.now c.args.files.adder.now c.args.files.reversed) c.from_residual.result c.in_err-language.field-0.0 (let e = c.from_residual.ensures in search rules)
+    refused_by (IsFirstFaultOfFiles c.args.direction c.args.files.language.now c.args.files.adder.now c.args.files.reversed) c.from_residual.result c.in_err-language.field-0.0 (handed_on _ c.from_residual.result c.from_residual.ensures.1)
     (c.in_err-language.ensures.refused c.args.files.adder.now)
 
 pub returns-in_err-next-clause-steps : goal.returns-in_err-next-clause-steps
@@ -20,7 +21,7 @@ returns-in_err-next-clause-steps c =
       c.in_ok-language.language,
       c.language_of.new.steps,
       c.in_ok-language.ensures.steps,
-      inr (fault_of c.in_err-next.field-0.0, (c.in_err-next.field-0.0, c.in_err-next.ensures.steps, refl), (let e = c.from_residual-in_err-next.ensures in search rules)),
+      inr (fault_of c.in_err-next.field-0.0, (c.in_err-next.field-0.0, c.in_err-next.ensures.steps, refl), (handed_on _ c.from_residual-in_err-next.result c.from_residual-in_err-next.ensures.1)),
     )
 
 pub returns-in_err-adder-clause-steps : goal.returns-in_err-adder-clause-steps
@@ -33,7 +34,7 @@ returns-in_err-adder-clause-steps c =
         c.in_ok-next.next,
         c.successor_steps.new.steps,
         c.in_ok-next.ensures.steps,
-        inr (fault_of c.in_err-adder.field-0.0, (c.in_err-adder.field-0.0, c.in_err-adder.ensures.steps, refl), (let e = c.from_residual-in_err-adder.ensures in search rules)),
+        inr (fault_of c.in_err-adder.field-0.0, (c.in_err-adder.field-0.0, c.in_err-adder.ensures.steps, refl), (handed_on _ c.from_residual-in_err-adder.result c.from_residual-in_err-adder.ensures.1)),
       ),
     )
 
@@ -57,7 +58,7 @@ returns-in_err-check_adder-clause-steps c =
           c.in_ok-adder.adder,
           c.adder_of.new.steps,
           c.in_ok-adder.ensures.steps,
-          inr (c.in_err-check_adder.field-0.0, c.in_err-check_adder.ensures.steps, (let e = c.from_residual-in_err-check_adder.ensures in search rules)),
+          inr (c.in_err-check_adder.field-0.0, c.in_err-check_adder.ensures.steps, (handed_on _ c.from_residual-in_err-check_adder.result c.from_residual-in_err-check_adder.ensures.1)),
         ),
       ),
     )
@@ -65,7 +66,7 @@ returns-in_err-check_adder-clause-steps c =
 pub returns-in_err-check_adder-clause-refused : goal.returns-in_err-check_adder-clause-refused
 returns-in_err-check_adder-clause-refused c =
     refused_by (IsFirstFaultOfFiles c.args.direction c.args.files.language.now c.args.files.adder.now c.args.files.reversed) c.from_residual-in_err-check_adder.result c.in_err-check_adder.field-0.0
-    (let e = c.from_residual-in_err-check_adder.ensures in search rules)
+    (handed_on _ c.from_residual-in_err-check_adder.result c.from_residual-in_err-check_adder.ensures.1)
     (adder_fault c.args.direction c.args.files.language.now c.args.files.adder.now c.args.files.reversed c.in_ok-language.language c.in_ok-adder.adder.automaton c.in_ok-language.ensures.file c.requires.0 c.requires.1
     c.in_ok-language.ensures.system (c.in_ok-adder.ensures.relation c.in_ok-language.ensures.system) c.in_err-check_adder.field-0.0 c.in_err-check_adder.ensures.laws)
 

@@ -1,4 +1,4 @@
-use Rattle.std.proofs.Common.{inl, inr, rules, refl, sym, ◌∙◌, subst, Ok, Err}
+use Rattle.std.proofs.Common.{inl, inr, refl, sym, ◌∙◌, subst, Ok, Err}
 use Rattle.std.proofs.lemmas.Bool.{false≢true}
 use Rattle.digit_tuple.specs.Deterministic.{Automaton}
 use Rattle.numeration.specs.Relations.{HoldsOf}
@@ -9,11 +9,12 @@ use Rattle.adder_check.specs.Faults.{fault_of}
 use Rattle.endless.specs.LanguageLaws.{system_of}
 use Rattle.adder_check.specs.NextSums.{DoesNextSums}
 use Rattle.adder_check.proofs.FileUsers.{where_holds, where_fails}
+use Rattle.adder_check.proofs.HandedOn.{handed_on}
 use Rattle.adder_check.proofs.admit.check_adder.Goals as goal
 
 pub returns-in_err-zero_law-clause-steps : goal.returns-in_err-zero_law-clause-steps
 returns-in_err-zero_law-clause-steps c =
-    inr (fault_of c.in_err-zero_law.field-0.0, (c.in_err-zero_law.field-0.0, c.in_err-zero_law.ensures.steps, refl), (let e = c.from_residual.ensures in search rules))
+    inr (fault_of c.in_err-zero_law.field-0.0, (c.in_err-zero_law.field-0.0, c.in_err-zero_law.ensures.steps, refl), (handed_on _ c.from_residual.result c.from_residual.ensures.1))
 
 pub returns-then-not-branch-clause-steps : goal.returns-then-not-branch-clause-steps
 returns-then-not-branch-clause-steps c =
@@ -30,7 +31,7 @@ returns-in_err-next_sums-clause-steps c =
       c.zero_law.new.steps,
       c.in_ok-zero_law.ensures.steps,
       where_holds c.in_ok-zero_law.field-0 laws.ZeroLaw _ c.zero_law.new.steps c.next_sums.new.steps _ c.if-not-branch.false
-          (inr (fault_of c.in_err-next_sums.field-0.0, (c.in_err-next_sums.field-0.0, does, refl), (let e = c.from_residual-in_err-next_sums.ensures in search rules))),
+          (inr (fault_of c.in_err-next_sums.field-0.0, (c.in_err-next_sums.field-0.0, does, refl), (handed_on _ c.from_residual-in_err-next_sums.result c.from_residual-in_err-next_sums.ensures.1))),
     )
 
 pub returns-then-not-branch-2-clause-steps : goal.returns-then-not-branch-2-clause-steps

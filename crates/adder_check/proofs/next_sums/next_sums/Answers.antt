@@ -1,5 +1,6 @@
-use Rattle.std.proofs.Common.{inl, inr, rules, refl}
+use Rattle.std.proofs.Common.{inl, inr, refl}
 use Rattle.adder_check.proofs.NextSumLemmas.{compared, successor_law_decided}
+use Rattle.adder_check.proofs.HandedOn.{handed_on}
 use Rattle.adder_check.proofs.next_sums.next_sums.Goals as goal
 
 pub returns-in_err-of_sums-clause-steps : goal.returns-in_err-of_sums-clause-steps
@@ -8,7 +9,7 @@ returns-in_err-of_sums-clause-steps c =
       c.in_ok-with_next.with_next,
       c.sums_with_next.new.steps,
       c.in_ok-with_next.ensures.steps,
-      inr (c.in_err-of_sums.field-0.0, c.in_err-of_sums.ensures.steps, (let e = c.from_residual-in_err-of_sums.ensures in search rules)),
+      inr (c.in_err-of_sums.field-0.0, c.in_err-of_sums.ensures.steps, (handed_on _ c.from_residual-in_err-of_sums.result c.from_residual-in_err-of_sums.ensures.1)),
     )
 
 pub returns-clause-steps : goal.returns-clause-steps

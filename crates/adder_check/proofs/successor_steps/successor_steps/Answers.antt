@@ -1,7 +1,8 @@
-use Rattle.std.proofs.Common.{inl, inr, rules}
+use Rattle.std.proofs.Common.{inl, inr}
 use Rattle.std.proofs.lemmas.Result.{IfOk-weaker}
 use Rattle.adder_check.proofs.PlanLemmas.{two_of, between_names, between_sizes, next_canonical}
 use Rattle.num_system.proofs.SuccessorLemmas.{between_holds}
+use Rattle.adder_check.proofs.HandedOn.{handed_on}
 use Rattle.adder_check.proofs.successor_steps.successor_steps.Goals as goal
 
 pub chain_step-requires-clause-tracks : goal.chain_step-requires-clause-tracks
@@ -30,7 +31,7 @@ returns-in_err-between-clause-steps c =
         c.in_ok-chain.chain,
         c.chain_step.new.steps,
         c.in_ok-chain.ensures.steps,
-        inr (c.in_err-between.field-0.0, c.in_err-between.ensures.steps, (let e = c.from_residual-in_err-between.ensures in search rules)),
+        inr (c.in_err-between.field-0.0, c.in_err-between.ensures.steps, (handed_on _ c.from_residual-in_err-between.result c.from_residual-in_err-between.ensures.1)),
       ),
     )
 

@@ -1,6 +1,7 @@
-use Rattle.std.proofs.Common.{inl, inr, rules, refl}
+use Rattle.std.proofs.Common.{inl, inr, refl}
 use Rattle.endless.specs.LanguageLaws.{system_of}
 use Rattle.adder_check.proofs.FileSystems.{zero_and_equality}
+use Rattle.adder_check.proofs.HandedOn.{handed_on}
 use Rattle.adder_check.proofs.zero_law.zero_law.Goals as goal
 
 pub returns-in_err-sums-clause-steps : goal.returns-in_err-sums-clause-steps
@@ -10,7 +11,7 @@ returns-in_err-sums-clause-steps c =
       c.in_ok-equal.equal,
       zero_and_equality c.args.direction c.args.language.now c.in_ok-zero.zero c.in_ok-equal.equal c.requires.tracks.0 c.requires.tracks.2 c.requires.system c.in_ok-zero.ensures.zero c.in_ok-zero.ensures.canonical c.in_ok-equal.ensures.equality
           c.in_ok-equal.ensures.canonical,
-      inr (c.in_err-sums.field-0.0, c.in_err-sums.ensures.steps, (let e = c.from_residual-in_err-sums.ensures in search rules)),
+      inr (c.in_err-sums.field-0.0, c.in_err-sums.ensures.steps, (handed_on _ c.from_residual-in_err-sums.result c.from_residual-in_err-sums.ensures.1)),
     )
 
 pub returns-clause-steps : goal.returns-clause-steps
