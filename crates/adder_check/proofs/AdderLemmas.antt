@@ -1,5 +1,5 @@
 -- The valid part of the closure of a file's automaton holds of the file's relation.
-use Rattle.std.proofs.Common.{◌≡◌, ℕ, Bool, List, reverse, Result, Ok, Err, IfOk, inl, refl, sym, ap, ◌∙◌, subst}
+use Rattle.std.proofs.Common.{◌≡◌, ℕ, Bool, List, reverse, Result, Ok, Err, IfOk, inl, inr, refl, sym, ap, ◌∙◌, subst}
 use Rattle.std.proofs.lemmas.List.{reverse-reverse}
 use Rattle.digit_tuple.specs.Automaton.{Branching}
 use Rattle.digit_tuple.specs.Automaton as branching
@@ -106,3 +106,7 @@ pub adder_done : (direction : Direction) (listed : Branching) (reversed : Bool) 
     → DoesFile listed reversed old (Ok read) mid → DoesStep (pad_step direction read) mid (Ok closed) last → DoesStep (valid_step languages (record { names = adder_names; automaton = closed })) last r new
     → DoesAdder direction listed reversed languages old r new
 adder_done direction listed reversed languages old mid last new read closed r first second third = inl (read, mid, first, inl (closed, last, second, third))
+
+-- memory runs out before the first of them
+pub adder_out : (direction : Direction) (listed : Branching) (reversed : Bool) (languages : List Automaton) (old : StepLog) (r : Result NamedAutomaton StepFault) → r ≡ Err Memory → DoesAdder direction listed reversed languages old r old
+adder_out direction listed reversed languages old r is = inr (Memory, inr (Memory, (tt, refl), refl), is)
