@@ -1,15 +1,17 @@
-//! What texts give, as texts, and rows of texts with what they are to give.
+//! What texts give, as texts, and tables of texts with what they are to give.
 
+use crate::given::{given, no_answer};
 use crate::long_texts::{parts_in, repeated};
 use crate::macros::{expansion, expansion_length};
-use crate::no_answer::NoAnswer;
-use crate::parsed::formula_of;
 use crate::plans::{relations, steps};
 use crate::resolution::{files_in, resolution_of, systems_in};
 use crate::rules::rules_of;
+use crate::text_rows::{ROW_END, fields_of};
 use crate::trees_written_out::tree_of;
 use crate::truth::true_of;
+use formula_parse::parse;
 use formula_parse::tree::Formula;
+use morph_words::Morphism;
 use std::alloc::Global;
 use std::fmt::Debug;
 use std::process::Abort;
@@ -17,6 +19,7 @@ use std::process::Abort;
 /// What is asked of a text.
 #[derive(Clone, Copy)]
 pub(crate) enum Asked {
+    Fault,
     Tree,
     Parts,
     Resolution,
@@ -29,86 +32,85 @@ pub(crate) enum Asked {
     Expansion,
     ExpansionLength,
     Rules,
+    RulesFault,
 }
 
 // What a text gives.
-fn answer(alloc: Global, asked: Asked, text: &str) -> Result<String, NoAnswer> {
+fn answer(rt: &impl Abort, alloc: Global, asked: Asked, text: &str) -> String {
     match asked {
-        Asked::Expansion => expansion(alloc, text),
-        Asked::ExpansionLength => expansion_length(alloc, text),
-        Asked::Rules => rules_of(alloc, text),
-        _ => formula_answer(alloc, asked, text),
+        Asked::Fault => fault_text(rt, alloc, parse(alloc, text.as_bytes()).err()),
+        Asked::Expansion => expansion(rt, alloc, text),
+        Asked::ExpansionLength => expansion_length(rt, alloc, text),
+        Asked::Rules => rules_of(rt, alloc, text),
+        Asked::RulesFault => fault_text(rt, alloc, Morphism::parse(alloc, text.as_bytes()).err()),
+        _ => formula_answer(rt, alloc, asked, text),
     }
 }
 
-// What the formula that a text is gives.
-fn formula_answer(alloc: Global, asked: Asked, text: &str) -> Result<String, NoAnswer> {
-    let formula = formula_of(alloc, text)?;
-    answer_of(alloc, asked, &formula)
+/// The name of a fault with what it keeps, or `none`.
+pub(crate) fn fault_text<F: Debug + Drop>(
+    rt: &impl Abort,
+    alloc: Global,
+    fault: Option<F>,
+) -> String {
+    let text = match fault {
+        Some(fault) => format!(in alloc; "{fault:?}"),
+        None => String::from_str(alloc, "none"),
+    };
+    given(rt, text)
+}
+
+// What the formula that a text is gives. The call of `drop` is there for the proof, which goes over the parts of a formula once then.
+fn formula_answer(rt: &impl Abort, alloc: Global, asked: Asked, text: &str) -> String {
+    let formula = given(rt, parse(alloc, text.as_bytes()));
+    let found = answer_of(rt, alloc, asked, &formula);
+    drop(formula);
+    found
 }
 
 // What a formula gives.
-fn answer_of(alloc: Global, asked: Asked, formula: &Formula) -> Result<String, NoAnswer> {
+fn answer_of(rt: &impl Abort, alloc: Global, asked: Asked, formula: &Formula) -> String {
     match asked {
-        Asked::Tree => tree_of(alloc, formula),
-        Asked::Parts => number_text(alloc, parts_in(formula)),
-        Asked::Resolution => resolution_of(alloc, formula),
-        Asked::Files => files_in(alloc, formula),
-        Asked::Systems => systems_in(alloc, formula),
-        Asked::Steps => steps(alloc, formula),
-        Asked::Relations => number_text(alloc, relations(alloc, formula)?),
-        Asked::Numbers(variables) => true_of(alloc, formula, variables),
-        _ => Err(NoAnswer),
+        Asked::Tree => tree_of(rt, alloc, formula),
+        Asked::Parts => given(rt, parts_in(formula).to_string(alloc)),
+        Asked::Resolution => resolution_of(rt, alloc, formula),
+        Asked::Files => files_in(rt, alloc, formula),
+        Asked::Systems => systems_in(rt, alloc, formula),
+        Asked::Steps => steps(rt, alloc, formula),
+        Asked::Relations => relations(rt, alloc, formula),
+        Asked::Numbers(variables) => true_of(rt, alloc, formula, variables),
+        _ => no_answer(rt),
     }
 }
 
-// A number as a text.
-fn number_text(alloc: Global, number: usize) -> Result<String, NoAnswer> {
-    Ok(number.to_string(alloc)?)
-}
-
-/// What a long text gives, after its length.
-pub(crate) fn long_answer(alloc: Global, asked: Asked, text: &str) -> Result<String, NoAnswer> {
-    let found = answer(alloc, asked, text)?;
-    Ok(format!(in alloc; "{} bytes: {found}", text.len())?)
-}
-
-// Asserts that a row has what is wanted.
-fn expect_text(rt: &impl Abort, row: &str, found: &str, wanted: &str) {
+/// Asserts that a row has what is wanted.
+pub(crate) fn expect(rt: &impl Abort, row: &str, found: &str, wanted: &str) {
     assert_eq!(rt; found, wanted, "of {row}");
 }
 
-/// Asserts that a row's bytes give what is wanted.
-pub(crate) fn expect<T: Debug + PartialEq>(rt: &impl Abort, row: &[u8], found: &T, wanted: &T) {
-    assert!(rt; found == wanted, "of {row:?}: {found:?}, not {wanted:?}");
-}
-
-/// Asserts that a row has an answer, and this one.
-pub(crate) fn expect_answer(
-    rt: &impl Abort,
-    row: &str,
-    found: &Result<String, NoAnswer>,
-    wanted: &str,
-) {
-    match found {
-        Ok(text) => expect_text(rt, row, text, wanted),
-        Err(_) => expect_text(rt, row, "no answer", wanted),
+/// Asserts that each text of a table gives its answer.
+pub(crate) fn expect_answers(rt: &impl Abort, alloc: Global, asked: Asked, rows: &str) {
+    for row in rows.split_terminator(ROW_END) {
+        let (text, wanted) = fields_of(row);
+        expect(rt, text, &answer(rt, alloc, asked, text), wanted);
     }
 }
 
-/// Asserts that each text, with the variables that it has, is true of these numbers alone.
-pub(crate) fn expect_true(rt: &impl Abort, alloc: Global, rows: &[(&str, &'static str, &str)]) {
-    for (text, variables, wanted) in rows {
+/// Asserts that each text of a table, with the variables that it has, is true of these numbers alone.
+pub(crate) fn expect_true(rt: &impl Abort, alloc: Global, rows: &'static str) {
+    for row in rows.split_terminator(ROW_END) {
+        let (text, fields) = fields_of(row);
+        let (variables, wanted) = fields_of(fields);
         let asked = Asked::Numbers(variables);
-        expect_answer(rt, text, &answer(alloc, asked, text), wanted);
+        expect(rt, text, &answer(rt, alloc, asked, text), wanted);
     }
 }
 
-/// Asserts that each text gives its answer.
-pub(crate) fn expect_answers(rt: &impl Abort, alloc: Global, asked: Asked, rows: &[(&str, &str)]) {
-    for (text, wanted) in rows {
-        expect_answer(rt, text, &answer(alloc, asked, text), wanted);
-    }
+/// Asserts that a long text has this length and gives this answer.
+pub(crate) fn expect_long(rt: &impl Abort, alloc: Global, asked: Asked, text: &str, wanted: &str) {
+    let found = answer(rt, alloc, asked, text);
+    let found = given(rt, format!(in alloc; "{} bytes: {found}", text.len()));
+    expect(rt, wanted, &found, wanted);
 }
 
 /// A part, how often it is, what follows once and what then follows as often; and what this text gives, after its length.
@@ -120,16 +122,10 @@ pub(crate) type Repeated = (
     &'static str,
 );
 
-// What the text of a row gives, after its length.
-fn repeated_answer(alloc: Global, asked: Asked, row: &Repeated) -> Result<String, NoAnswer> {
-    let (part, times, middle, closing, _) = row;
-    let text = repeated(alloc, part, *times, middle, closing)?;
-    long_answer(alloc, asked, &text)
-}
-
 /// Asserts that each row's text gives its answer.
 pub(crate) fn expect_repeated(rt: &impl Abort, alloc: Global, asked: Asked, rows: &[Repeated]) {
-    for row in rows {
-        expect_answer(rt, row.0, &repeated_answer(alloc, asked, row), row.4);
+    for (part, times, middle, closing, wanted) in rows {
+        let text = repeated(rt, alloc, (part, *times, middle, closing));
+        expect_long(rt, alloc, asked, &text, wanted);
     }
 }

@@ -1,157 +1,137 @@
 //! Texts and their first faults.
 
-use crate::answers::expect;
-use crate::long_texts::repeated;
-use formula_parse::{ParseFault, parse};
-use std::alloc::Global;
+use crate::answers::{Asked, Repeated, expect, expect_answers, expect_repeated, fault_text};
+use crate::text_rows::table;
+use formula_parse::parse;
 
-/// The fault of a text, or none where it has a tree.
-fn fault(alloc: Global, text: &[u8]) -> Option<ParseFault> {
-    match parse(alloc, text) {
-        Ok(_) => None,
-        Err(fault) => Some(fault),
-    }
-}
-
-static FAULTS: [(&[u8], ParseFault); 94] = [
-    (b"x=1 | y=2 & z=3", ParseFault::MixedChain(10)),
-    (b"x*y=2", ParseFault::NotLinear(1)),
-    (b"18446744073709551616=x", ParseFault::Number(0)),
-    (b"x+=1", ParseFault::Syntax(2)),
-    (b"\xff", ParseFault::Syntax(0)),
-    (b"", ParseFault::Syntax(0)),
-    (b"T[x]=y", ParseFault::Syntax(6)),
-    (b"1+T[x]=@1", ParseFault::Syntax(3)),
-    (b"x=1 => y=2 => z=3", ParseFault::MixedChain(11)),
-    (b"(2*3)*x=2", ParseFault::NotLinear(5)),
-    (b"T[0]=@2147483648", ParseFault::Number(5)),
-    (b"?msd_2_3 x=1", ParseFault::Syntax(6)),
-    (b"T[0]=@-2147483649", ParseFault::Number(5)),
-    (b"T[0]= @ - 99999999999999999999", ParseFault::Number(6)),
-    (b"@2147483648=T[0]", ParseFault::Number(0)),
-    (b"x=18446744073709551616", ParseFault::Number(2)),
-    (b"x=1+18446744073709551616*", ParseFault::Number(4)),
-    (b"x 18446744073709551616", ParseFault::Syntax(2)),
-    (b"=", ParseFault::Syntax(0)),
-    (b"x", ParseFault::Syntax(1)),
-    (b"x=", ParseFault::Syntax(2)),
-    (b"x=1 &", ParseFault::Syntax(5)),
-    (b"x=1 & ", ParseFault::Syntax(6)),
-    (b"x=1 y=2", ParseFault::Syntax(4)),
-    (b"x=1)", ParseFault::Syntax(3)),
-    (b"(x=1", ParseFault::Syntax(4)),
-    (b"()", ParseFault::Syntax(1)),
-    (b"(x)", ParseFault::Syntax(3)),
-    (b"(x=1)+2=3", ParseFault::Syntax(5)),
-    (b"(x=1)=2", ParseFault::Syntax(5)),
-    (b"E", ParseFault::Syntax(1)),
-    (b"Ex", ParseFault::Syntax(2)),
-    (b"Ex,", ParseFault::Syntax(3)),
-    (b"Ex,y", ParseFault::Syntax(4)),
-    (b"E1 x=1", ParseFault::Syntax(1)),
-    (b"Ex (y),z=1", ParseFault::Syntax(6)),
-    (b"I", ParseFault::Syntax(1)),
-    (b"Ix", ParseFault::Syntax(2)),
-    (b"I1 x=1", ParseFault::Syntax(1)),
-    (b"Ix,y x=y", ParseFault::Syntax(2)),
-    (b"Ex,Iy x=y", ParseFault::Syntax(3)),
-    (b"Ix (y),z=1", ParseFault::Syntax(6)),
-    (b"Ix[0]=@1", ParseFault::Syntax(2)),
-    (b"~", ParseFault::Syntax(1)),
-    (b"x=~1", ParseFault::Syntax(2)),
-    (b"x==1", ParseFault::Syntax(2)),
-    (b"x=!1", ParseFault::Syntax(2)),
-    (b"x!1", ParseFault::Syntax(1)),
-    (b"x<=>1", ParseFault::Syntax(1)),
-    (b"x=1 <= > y=2", ParseFault::Syntax(4)),
-    (b"?x=1", ParseFault::Syntax(1)),
-    (b"?msd_ x=1", ParseFault::Syntax(1)),
-    (b"x=?msd_2 1", ParseFault::Syntax(2)),
-    (b"x=1 ?msd_2 & y=2", ParseFault::Syntax(4)),
-    (b"$", ParseFault::Syntax(1)),
-    (b"$f", ParseFault::Syntax(2)),
-    (b"$f(", ParseFault::Syntax(3)),
-    (b"$f(,x)", ParseFault::Syntax(3)),
-    (b"$f(x,)", ParseFault::Syntax(5)),
-    (b"$f(x=1)", ParseFault::Syntax(4)),
-    (b"$1()", ParseFault::Syntax(1)),
-    (b"@1=@1", ParseFault::Syntax(3)),
-    (b"T[]=@1", ParseFault::Syntax(2)),
-    (b"T[0]", ParseFault::Syntax(4)),
-    (b"T[0]=@x", ParseFault::Syntax(6)),
-    (b"x=1 | y=2 ^ z*w=3", ParseFault::MixedChain(10)),
-    (b"z*w=3 & x=1 | y=2 ^ z=1", ParseFault::NotLinear(1)),
-    (b"x*(y*z)=1", ParseFault::NotLinear(1)),
+// Texts, and the fault of each.
+const FAULTS: &str = table![
+    ("x=1 | y=2 & z=3", "MixedChain(10)"),
+    ("x*y=2", "NotLinear(1)"),
+    ("18446744073709551616=x", "Number(0)"),
+    ("x+=1", "Syntax(2)"),
+    ("", "Syntax(0)"),
+    ("T[x]=y", "Syntax(6)"),
+    ("1+T[x]=@1", "Syntax(3)"),
+    ("x=1 => y=2 => z=3", "MixedChain(11)"),
+    ("(2*3)*x=2", "NotLinear(5)"),
+    ("T[0]=@2147483648", "Number(5)"),
+    ("?msd_2_3 x=1", "Syntax(6)"),
+    ("T[0]=@-2147483649", "Number(5)"),
+    ("T[0]= @ - 99999999999999999999", "Number(6)"),
+    ("@2147483648=T[0]", "Number(0)"),
+    ("x=18446744073709551616", "Number(2)"),
+    ("x=1+18446744073709551616*", "Number(4)"),
+    ("x 18446744073709551616", "Syntax(2)"),
+    ("=", "Syntax(0)"),
+    ("x", "Syntax(1)"),
+    ("x=", "Syntax(2)"),
+    ("x=1 &", "Syntax(5)"),
+    ("x=1 & ", "Syntax(6)"),
+    ("x=1 y=2", "Syntax(4)"),
+    ("x=1)", "Syntax(3)"),
+    ("(x=1", "Syntax(4)"),
+    ("()", "Syntax(1)"),
+    ("(x)", "Syntax(3)"),
+    ("(x=1)+2=3", "Syntax(5)"),
+    ("(x=1)=2", "Syntax(5)"),
+    ("E", "Syntax(1)"),
+    ("Ex", "Syntax(2)"),
+    ("Ex,", "Syntax(3)"),
+    ("Ex,y", "Syntax(4)"),
+    ("E1 x=1", "Syntax(1)"),
+    ("Ex (y),z=1", "Syntax(6)"),
+    ("I", "Syntax(1)"),
+    ("Ix", "Syntax(2)"),
+    ("I1 x=1", "Syntax(1)"),
+    ("Ix,y x=y", "Syntax(2)"),
+    ("Ex,Iy x=y", "Syntax(3)"),
+    ("Ix (y),z=1", "Syntax(6)"),
+    ("Ix[0]=@1", "Syntax(2)"),
+    ("~", "Syntax(1)"),
+    ("x=~1", "Syntax(2)"),
+    ("x==1", "Syntax(2)"),
+    ("x=!1", "Syntax(2)"),
+    ("x!1", "Syntax(1)"),
+    ("x<=>1", "Syntax(1)"),
+    ("x=1 <= > y=2", "Syntax(4)"),
+    ("?x=1", "Syntax(1)"),
+    ("?msd_ x=1", "Syntax(1)"),
+    ("x=?msd_2 1", "Syntax(2)"),
+    ("x=1 ?msd_2 & y=2", "Syntax(4)"),
+    ("$", "Syntax(1)"),
+    ("$f", "Syntax(2)"),
+    ("$f(", "Syntax(3)"),
+    ("$f(,x)", "Syntax(3)"),
+    ("$f(x,)", "Syntax(5)"),
+    ("$f(x=1)", "Syntax(4)"),
+    ("$1()", "Syntax(1)"),
+    ("@1=@1", "Syntax(3)"),
+    ("T[]=@1", "Syntax(2)"),
+    ("T[0]", "Syntax(4)"),
+    ("T[0]=@x", "Syntax(6)"),
+    ("x=1 | y=2 ^ z*w=3", "MixedChain(10)"),
+    ("z*w=3 & x=1 | y=2 ^ z=1", "NotLinear(1)"),
+    ("x*(y*z)=1", "NotLinear(1)"),
     // Divisors: numerals above 0.
-    (b"x/0=1", ParseFault::Syntax(2)),
-    (b"6/0=x", ParseFault::Syntax(2)),
-    (b"6/00=x", ParseFault::Syntax(2)),
-    (b"x/ 000000000000000000000=1", ParseFault::Syntax(3)),
-    (b"x/2/0=1", ParseFault::Syntax(4)),
-    (b"x*y/0=1", ParseFault::Syntax(4)),
-    (b"T[x/0]=@1", ParseFault::Syntax(4)),
-    (b"$f(y,x/0)", ParseFault::Syntax(7)),
-    (b"x/", ParseFault::Syntax(2)),
-    (b"x/y=1", ParseFault::Syntax(2)),
-    (b"x/(2)=1", ParseFault::Syntax(2)),
-    (b"x/@2=1", ParseFault::Syntax(2)),
-    (b"x//2=1", ParseFault::Syntax(2)),
-    (b"x/2 3=1", ParseFault::Syntax(4)),
-    (b"x/2^y=1", ParseFault::Syntax(3)),
-    (b"/2=x", ParseFault::Syntax(0)),
-    (b"(x=1)/2=1", ParseFault::Syntax(5)),
-    (b"T[0]/2=1", ParseFault::Syntax(4)),
-    (b"x/18446744073709551616=1", ParseFault::Number(2)),
-    (b"x/2/99999999999999999999*y=1", ParseFault::Number(4)),
+    ("x/0=1", "Syntax(2)"),
+    ("6/0=x", "Syntax(2)"),
+    ("6/00=x", "Syntax(2)"),
+    ("x/ 000000000000000000000=1", "Syntax(3)"),
+    ("x/2/0=1", "Syntax(4)"),
+    ("x*y/0=1", "Syntax(4)"),
+    ("T[x/0]=@1", "Syntax(4)"),
+    ("$f(y,x/0)", "Syntax(7)"),
+    ("x/", "Syntax(2)"),
+    ("x/y=1", "Syntax(2)"),
+    ("x/(2)=1", "Syntax(2)"),
+    ("x/@2=1", "Syntax(2)"),
+    ("x//2=1", "Syntax(2)"),
+    ("x/2 3=1", "Syntax(4)"),
+    ("x/2^y=1", "Syntax(3)"),
+    ("/2=x", "Syntax(0)"),
+    ("(x=1)/2=1", "Syntax(5)"),
+    ("T[0]/2=1", "Syntax(4)"),
+    ("x/18446744073709551616=1", "Number(2)"),
+    ("x/2/99999999999999999999*y=1", "Number(4)"),
     // A quotient is a factor that is no numeral.
-    (b"6/2*x=3", ParseFault::NotLinear(3)),
-    (b"(6/2)*x=3", ParseFault::NotLinear(5)),
-    (b"x*(6/2)=3", ParseFault::NotLinear(1)),
-    (b"2*x/3*y=1", ParseFault::NotLinear(5)),
-    (b"x*y/2=1", ParseFault::NotLinear(1)),
-    (b"x/2*3/4*y/5=1", ParseFault::NotLinear(7)),
+    ("6/2*x=3", "NotLinear(3)"),
+    ("(6/2)*x=3", "NotLinear(5)"),
+    ("x*(6/2)=3", "NotLinear(1)"),
+    ("2*x/3*y=1", "NotLinear(5)"),
+    ("x*y/2=1", "NotLinear(1)"),
+    ("x/2*3/4*y/5=1", "NotLinear(7)"),
 ];
+
+// A byte that begins no text.
+const NO_TEXT: &[u8] = b"\xff";
 
 #[test]
 fn texts_have_these_faults(rt: HostRuntime) {
-    for (text, wanted) in &FAULTS {
-        expect(&rt, text, &fault(rt.alloc(), text), &Some(*wanted));
-    }
+    expect_answers(&rt, rt.alloc(), Asked::Fault, FAULTS);
+    let fault = parse(rt.alloc(), NO_TEXT).err();
+    let found = fault_text(&rt, rt.alloc(), fault);
+    expect(&rt, "no text", &found, "Syntax(0)");
 }
 
-// The fault of an equation within so many openings, each closed by a part, if it has one.
-fn fault_within(alloc: Global, opening: &str, depth: usize, closing: &str) -> Option<ParseFault> {
-    match repeated(alloc, opening, depth, "x=1", closing) {
-        Ok(text) => fault(alloc, text.as_bytes()),
-        Err(_) => Some(ParseFault::Memory),
-    }
-}
+// An equation in parentheses, which nest 128 deep.
+static PARENTHESES: [Repeated; 2] = [
+    ("(", 128, "x=1", ")", "259 bytes: none"),
+    ("(", 129, "x=1", ")", "261 bytes: Depth(128)"),
+];
 
 #[test]
 fn parentheses_nest_128_deep(rt: HostRuntime) {
-    let deepest = Some(ParseFault::Depth(128));
-    expect(&rt, b"128", &fault_within(rt.alloc(), "(", 128, ")"), &None);
-    expect(
-        &rt,
-        b"129",
-        &fault_within(rt.alloc(), "(", 129, ")"),
-        &deepest,
-    );
+    expect_repeated(&rt, rt.alloc(), Asked::Fault, &PARENTHESES);
 }
+
+// An equation under quantifiers, which nest 128 deep.
+static QUANTIFIERS: [Repeated; 2] = [
+    ("Ix ", 128, "x=1", "", "387 bytes: none"),
+    ("Ix ", 129, "x=1", "", "390 bytes: Depth(384)"),
+];
 
 #[test]
 fn quantifiers_nest_128_deep(rt: HostRuntime) {
-    let deepest = Some(ParseFault::Depth(384));
-    expect(
-        &rt,
-        b"128",
-        &fault_within(rt.alloc(), "Ix ", 128, ""),
-        &None,
-    );
-    expect(
-        &rt,
-        b"129",
-        &fault_within(rt.alloc(), "Ix ", 129, ""),
-        &deepest,
-    );
+    expect_repeated(&rt, rt.alloc(), Asked::Fault, &QUANTIFIERS);
 }

@@ -1,75 +1,50 @@
 //! Headers of the names in the rows of formulas.
 
-use crate::no_answer::NoAnswer;
+use crate::given::given;
+use crate::text_rows::{ROW_END, fields_of, table};
 use digit_tuple::name::Name;
 use formula_resolve::Headers;
 use std::alloc::Global;
+use std::process::Abort;
 
-// The automata over systems, each with the systems of its tracks.
-static AUTOMATA: [(&str, &[&str]); 5] = [
-    ("f", &["msd_2", "msd_2"]),
-    ("g", &["lsd_2"]),
-    ("q", &["msd_3"]),
-    ("s", &[]),
-    ("ab", &["msd_2"]),
+// What is under each name, with the systems of its tracks: an automaton over systems, one over sets, or a word. The last header
+// added of a name is: `ab` is over sets.
+const HEADERS: &str = table![
+    ("automaton", "f", "msd_2 msd_2"),
+    ("automaton", "g", "lsd_2"),
+    ("automaton", "q", "msd_3"),
+    ("automaton", "s", ""),
+    ("automaton", "ab", "msd_2"),
+    ("plain", "ab", ""),
+    ("word", "T", "msd_2"),
+    ("word", "U", "msd_2 msd_2"),
+    ("word", "L", "lsd_2"),
+    ("word", "W", "msd_3"),
 ];
 
-// The words, each with the systems of its tracks.
-static WORDS: [(&str, &[&str]); 4] = [
-    ("T", &["msd_2"]),
-    ("U", &["msd_2", "msd_2"]),
-    ("L", &["lsd_2"]),
-    ("W", &["msd_3"]),
-];
-
-// The systems of these names.
-fn systems(alloc: Global, names: &[&str]) -> Result<Vec<Name>, NoAnswer> {
+// The systems of these names, with a blank between them.
+fn systems(rt: &impl Abort, alloc: Global, names: &str) -> Vec<Name> {
     let mut systems = Vec::new(alloc);
-    for name in names {
-        systems.push(Name::new(alloc, name)?)?;
+    for name in names.split_terminator(' ') {
+        given(rt, systems.push(given(rt, Name::new(alloc, name))));
     }
-    Ok(systems)
+    systems
 }
 
-// Adds an automaton over systems of these names.
-fn add_automaton(
-    alloc: Global,
-    headers: &mut Headers,
-    name: &str,
-    tracks: &[&str],
-) -> Result<(), NoAnswer> {
-    let systems = systems(alloc, tracks)?;
-    let name = Name::new(alloc, name)?;
-    Ok(headers.add_automaton(&name, &systems)?)
-}
-
-// Adds an automaton over sets.
-fn add_plain(alloc: Global, headers: &mut Headers, name: &str) -> Result<(), NoAnswer> {
-    let name = Name::new(alloc, name)?;
-    Ok(headers.add_plain(&name)?)
-}
-
-// Adds a word over systems of these names.
-fn add_word(
-    alloc: Global,
-    headers: &mut Headers,
-    name: &str,
-    tracks: &[&str],
-) -> Result<(), NoAnswer> {
-    let systems = systems(alloc, tracks)?;
-    let name = Name::new(alloc, name)?;
-    Ok(headers.add_word(&name, &systems)?)
-}
-
-// The headers of the names in the rows. The last header added of a name is: `ab` is over sets.
-pub(crate) fn headers(alloc: Global) -> Result<Headers, NoAnswer> {
+// The headers of the names in the rows.
+pub(crate) fn headers(rt: &impl Abort, alloc: Global) -> Headers {
     let mut headers = Headers::new(alloc);
-    for (name, tracks) in AUTOMATA {
-        add_automaton(alloc, &mut headers, name, tracks)?;
+    for row in HEADERS.split_terminator(ROW_END) {
+        let (kind, header) = fields_of(row);
+        let (name, tracks) = fields_of(header);
+        let name = given(rt, Name::new(alloc, name));
+        let systems = systems(rt, alloc, tracks);
+        let added = match kind {
+            "automaton" => headers.add_automaton(&name, &systems),
+            "word" => headers.add_word(&name, &systems),
+            _ => headers.add_plain(&name),
+        };
+        given(rt, added);
     }
-    add_plain(alloc, &mut headers, "ab")?;
-    for (name, tracks) in WORDS {
-        add_word(alloc, &mut headers, name, tracks)?;
-    }
-    Ok(headers)
+    headers
 }

@@ -3,9 +3,13 @@
 //! variables, texts as long as a command's, and the limits of expansions.
 #![tactic(auto)]
 
-// texts without an answer
+// what calls give
 #[cfg(test)]
-mod no_answer;
+mod given;
+
+// tables as texts
+#[cfg(test)]
+mod text_rows;
 
 // texts that are written part by part
 #[cfg(test)]
@@ -38,10 +42,6 @@ mod macros;
 // formulas with the numbers for which they are true
 #[cfg(test)]
 mod truth;
-
-// formulas read
-#[cfg(test)]
-mod parsed;
 
 // formulas with their steps
 #[cfg(test)]

@@ -1,13 +1,15 @@
 //! Texts with calls of macros, and their expansions or first faults.
 
-use crate::answers::{Asked, Repeated, expect_answer, expect_answers, expect_repeated};
+use crate::answers::{Asked, Repeated, expect, expect_answers, expect_repeated};
+use crate::given::given;
 use crate::long_texts::string_of;
-use crate::no_answer::NoAnswer;
+use crate::text_rows::{ROW_END, fields_of, table};
 use macro_expand::{MacroFault, Macros, expand};
 use std::alloc::{AllocError, Global};
+use std::process::Abort;
 
 // The macros of the rows, each with its text.
-static MACROS: [(&str, &str); 20] = [
+const MACROS: &str = table![
     ("dbl", "%0=2*%1"),
     ("two", "%0 & %0"),
     ("s", "#s()"),
@@ -31,7 +33,7 @@ static MACROS: [(&str, &str); 20] = [
 ];
 
 // Texts and what they expand to.
-static EXPANSIONS: [(&str, &str); 38] = [
+const EXPANSIONS: &str = table![
     ("#dbl(6,x)", "6=2*x"),
     ("", ""),
     ("x=1", "x=1"),
@@ -73,7 +75,7 @@ static EXPANSIONS: [(&str, &str); 38] = [
 ];
 
 // Texts and their first faults, with what these keep.
-static FAULTS: [(&str, &str); 35] = [
+const FAULTS: &str = table![
     ("#dbl(6)", "! MacroArgs dbl 1 1"),
     ("#tri(6)", "! Unknown tri"),
     ("#s()", "! MacroDepth s"),
@@ -111,21 +113,14 @@ static FAULTS: [(&str, &str); 35] = [
     ("#One(x)", "! Unknown One"),
 ];
 
-// Adds a macro.
-fn add(macros: &mut Macros, name: &str, text: &str) -> Result<(), NoAnswer> {
-    match macros.add(name.as_bytes(), text.as_bytes()) {
-        Ok(()) => Ok(()),
-        Err(_) => Err(NoAnswer),
-    }
-}
-
 // The macros with these texts.
-fn added(alloc: Global, texts: &[(&str, &str)]) -> Result<Macros, NoAnswer> {
+fn added(rt: &impl Abort, alloc: Global, texts: &str) -> Macros {
     let mut macros = Macros::new(alloc);
-    for (name, text) in texts {
-        add(&mut macros, name, text)?;
+    for row in texts.split_terminator(ROW_END) {
+        let (name, text) = fields_of(row);
+        given(rt, macros.add(name.as_bytes(), text.as_bytes()));
     }
-    Ok(macros)
+    macros
 }
 
 // A fault with what it keeps.
@@ -143,45 +138,40 @@ fn line_of(alloc: Global, fault: &MacroFault) -> Result<String, AllocError> {
 }
 
 // The expansion, or after `! ` the first fault with what it keeps.
-fn shown(alloc: Global, text: &str, macros: &Macros) -> Result<String, AllocError> {
+fn shown(rt: &impl Abort, alloc: Global, text: &str, macros: &Macros) -> String {
     match expand(alloc, text.as_bytes(), macros) {
-        Ok(bytes) => string_of(alloc, &bytes),
-        Err(fault) => line_of(alloc, &fault),
+        Ok(bytes) => string_of(rt, alloc, &bytes),
+        Err(fault) => given(rt, line_of(alloc, &fault)),
     }
 }
 
 // The expansion by the macros of the rows, or the first fault.
-pub(crate) fn expansion(alloc: Global, text: &str) -> Result<String, NoAnswer> {
-    let macros = added(alloc, &MACROS)?;
-    Ok(shown(alloc, text, &macros)?)
+pub(crate) fn expansion(rt: &impl Abort, alloc: Global, text: &str) -> String {
+    shown(rt, alloc, text, &added(rt, alloc, MACROS))
 }
 
 #[test]
 fn texts_expand_so(rt: HostRuntime) {
-    expect_answers(&rt, rt.alloc(), Asked::Expansion, &EXPANSIONS);
+    expect_answers(&rt, rt.alloc(), Asked::Expansion, EXPANSIONS);
 }
 
 #[test]
 fn texts_have_these_faults(rt: HostRuntime) {
-    expect_answers(&rt, rt.alloc(), Asked::Expansion, &FAULTS);
+    expect_answers(&rt, rt.alloc(), Asked::Expansion, FAULTS);
 }
 
-// The macros of the rows and `m`, which is 16,383 calls of an empty macro.
-fn with_calls(alloc: Global) -> Result<Macros, NoAnswer> {
-    let mut macros = added(alloc, &MACROS)?;
-    let calls = "#e()".repeat(alloc, 16383)?;
-    add(&mut macros, "m", &calls)?;
-    Ok(macros)
-}
-
-// How many bytes the expansion by these macros has, or the first fault.
-pub(crate) fn expansion_length(alloc: Global, text: &str) -> Result<String, NoAnswer> {
-    let found = shown(alloc, text, &with_calls(alloc)?)?;
-    Ok(if found.starts_with('!') {
+// How many bytes the expansion has by the macros of the rows and `m`, which is 16,383 calls of an empty macro; or the first
+// fault.
+pub(crate) fn expansion_length(rt: &impl Abort, alloc: Global, text: &str) -> String {
+    let mut macros = added(rt, alloc, MACROS);
+    let calls = given(rt, "#e()".repeat(alloc, 16383));
+    given(rt, macros.add(b"m", calls.as_bytes()));
+    let found = shown(rt, alloc, text, &macros);
+    if found.starts_with('!') {
         found
     } else {
-        found.len().to_string(alloc)?
-    })
+        given(rt, found.len().to_string(alloc))
+    }
 }
 
 // Some calls within one another: what they open with, how many they are, what is inside and what closes them; and how
@@ -231,44 +221,40 @@ static NAMES: [(&str, usize, &str); 3] = [
 ];
 
 // The expansion of a call of a macro whose name has so many bytes.
-fn named_call(alloc: Global, length: usize) -> Result<String, NoAnswer> {
-    let name = "a".repeat(alloc, length)?;
-    let macros = added(alloc, &[(&name, "text")])?;
-    let call = format!(in alloc; "#{name}()")?;
-    Ok(shown(alloc, &call, &macros)?)
+fn named_call(rt: &impl Abort, alloc: Global, length: usize) -> String {
+    let name = given(rt, "a".repeat(alloc, length));
+    let mut macros = Macros::new(alloc);
+    given(rt, macros.add(name.as_bytes(), b"text"));
+    let call = given(rt, format!(in alloc; "#{name}()"));
+    shown(rt, alloc, &call, &macros)
 }
 
 #[test]
 fn names_have_64_bytes(rt: HostRuntime) {
     for (row, length, wanted) in &NAMES {
-        expect_answer(&rt, row, &named_call(rt.alloc(), *length), wanted);
+        expect(&rt, row, &named_call(&rt, rt.alloc(), *length), wanted);
     }
 }
 
 // Macros of which one is added twice.
-static TWICE: [(&str, &str); 3] = [("f", "x=1"), ("g", "x=2"), ("f", "x=3")];
-
-// The text that is under a name, or none.
-fn kept(alloc: Global, name: &str) -> Result<String, NoAnswer> {
-    match added(alloc, &TWICE)?.text_of(name.as_bytes()) {
-        Some(text) => Ok(string_of(alloc, text)?),
-        None => Ok(String::from_str(alloc, "none")?),
-    }
-}
+const TWICE: &str = table![("f", "x=1"), ("g", "x=2"), ("f", "x=3")];
 
 // Their names, and what is under each.
-static KEPT: [(&str, &str); 3] = [("f", "x=3"), ("g", "x=2"), ("h", "none")];
-
-// The expansion by them.
-fn expansion_by_last(alloc: Global) -> Result<String, NoAnswer> {
-    Ok(shown(alloc, "#f() & #g()", &added(alloc, &TWICE)?)?)
-}
+const KEPT: &str = table![("f", "x=3"), ("g", "x=2"), ("h", "none")];
 
 #[test]
 fn the_last_text_added_is_kept(rt: HostRuntime) {
-    for (name, wanted) in &KEPT {
-        expect_answer(&rt, name, &kept(rt.alloc(), name), wanted);
+    let macros = added(&rt, rt.alloc(), TWICE);
+    for row in KEPT.split_terminator(ROW_END) {
+        let (name, wanted) = fields_of(row);
+        let text = macros.text_of(name.as_bytes()).unwrap_or(b"none");
+        expect(&rt, name, &string_of(&rt, rt.alloc(), text), wanted);
     }
-    let found = expansion_by_last(rt.alloc());
-    expect_answer(&rt, "#f() & #g()", &found, "x=3 & x=2");
+    let text = "#f() & #g()";
+    expect(
+        &rt,
+        text,
+        &shown(&rt, rt.alloc(), text, &macros),
+        "x=3 & x=2",
+    );
 }

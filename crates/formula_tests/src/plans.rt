@@ -2,16 +2,18 @@
 //! with its track. A fresh track is written by its number after `#`.
 
 use crate::answers::{Asked, Repeated, expect_answers, expect_repeated};
-use crate::no_answer::NoAnswer;
+use crate::given::given;
+use crate::text_rows::table;
 use crate::written::Written;
 use formula_parse::tree::Formula;
-use formula_plan::{FormulaPlan, plan};
+use formula_plan::plan;
 use formula_resolve::Headers;
 use std::alloc::Global;
+use std::process::Abort;
 use term_plans::{Making, Track};
 
 // Terms and comparisons.
-static TERMS: [(&str, &str); 26] = [
+const TERMS: &str = table![
     ("x=x", ""),
     ("x!=y", ""),
     ("x-1=y", "const 1 #0, product, project #0"),
@@ -77,7 +79,7 @@ static TERMS: [(&str, &str); 26] = [
 ];
 
 // Chains, negations and quantifiers.
-static FORMULAS: [(&str, &str); 23] = [
+const FORMULAS: &str = table![
     (
         "Ex x+x=0",
         "const 0 #1, product, project #0, product, project #1, project x",
@@ -125,7 +127,7 @@ static FORMULAS: [(&str, &str); 23] = [
 ];
 
 // Calls and words.
-static NAMES: [(&str, &str); 8] = [
+const NAMES: &str = table![
     ("$f(x,y)", ""),
     (
         "$f(x,x+1)",
@@ -148,11 +150,7 @@ static NAMES: [(&str, &str); 8] = [
 fn write_track(alloc: Global, track: &Track, out: &mut Written) {
     match track {
         Track::Own(name) => out.put(name.as_str()),
-        Track::Fresh(number) => {
-            let digits = number.to_string(alloc);
-            out.put("#");
-            out.put_digits(digits);
-        }
+        Track::Fresh(number) => out.put_made("#", number.to_string(alloc)),
     }
 }
 
@@ -161,63 +159,45 @@ fn write_step(alloc: Global, making: &Making, out: &mut Written) {
     let Some(kind) = making.kind() else {
         return;
     };
-    if !out.is_empty() {
-        out.put(", ");
+    out.put_next(", ", kind.name());
+    if let Making::Constant(_, number, _) = making {
+        out.put_made(" ", number.to_string(alloc));
     }
-    out.put(kind.name());
-    match making {
-        Making::Constant(_, number, track) => {
-            let digits = number.to_string(alloc);
-            out.put(" ");
-            out.put_digits(digits);
-            out.put(" ");
-            write_track(alloc, track, out);
-        }
-        Making::Projected(track, _) => {
-            out.put(" ");
-            write_track(alloc, track, out);
-        }
-        _ => {}
+    if let Making::Constant(_, _, track) | Making::Projected(track, _) = making {
+        out.put(" ");
+        write_track(alloc, track, out);
     }
 }
 
-// The plan of a formula over names without headers.
-fn planned(alloc: Global, formula: &Formula) -> Result<FormulaPlan, NoAnswer> {
-    Ok(plan(alloc, formula, &Headers::new(alloc))?)
-}
-
-// The steps of a plan.
-fn written(alloc: Global, planned: &FormulaPlan) -> Result<String, NoAnswer> {
+// The steps of a formula over names without headers.
+pub(crate) fn steps(rt: &impl Abort, alloc: Global, formula: &Formula) -> String {
+    let planned = given(rt, plan(alloc, formula, &Headers::new(alloc)));
     let mut out = Written::new(alloc);
     for making in planned.plans.makings() {
         write_step(alloc, making, &mut out);
     }
-    out.whole()
-}
-
-// The steps of a formula.
-pub(crate) fn steps(alloc: Global, formula: &Formula) -> Result<String, NoAnswer> {
-    written(alloc, &planned(alloc, formula)?)
+    out.whole(rt)
 }
 
 #[test]
 fn terms_have_these_steps(rt: HostRuntime) {
-    expect_answers(&rt, rt.alloc(), Asked::Steps, &TERMS);
+    expect_answers(&rt, rt.alloc(), Asked::Steps, TERMS);
 }
 
 #[test]
 fn formulas_have_these_steps(rt: HostRuntime) {
-    expect_answers(&rt, rt.alloc(), Asked::Steps, &FORMULAS);
+    expect_answers(&rt, rt.alloc(), Asked::Steps, FORMULAS);
 }
 
 #[test]
 fn calls_and_words_have_these_steps(rt: HostRuntime) {
-    expect_answers(&rt, rt.alloc(), Asked::Steps, &NAMES);
+    expect_answers(&rt, rt.alloc(), Asked::Steps, NAMES);
 }
 
 // How many relations are made for a formula, by steps or without.
-pub(crate) fn relations(alloc: Global, formula: &Formula) -> Result<usize, NoAnswer> {
-    Ok(planned(alloc, formula)?.plans.makings().len())
+pub(crate) fn relations(rt: &impl Abort, alloc: Global, formula: &Formula) -> String {
+    let planned = given(rt, plan(alloc, formula, &Headers::new(alloc)));
+    given(rt, planned.plans.makings().len().to_string(alloc))
 }
 
 // A chain and a sum of 65,536 bytes, and quantifiers 128 deep, each with how many relations are made for it.

@@ -1,22 +1,21 @@
 //! Formulas and their resolution: the free variables with their systems, `-` where there is none, or the fault with what it
 //! keeps; and the files and systems that formulas mention.
 
-use crate::answers::{
-    Asked, Repeated, expect_answer, expect_answers, expect_repeated, long_answer,
-};
+use crate::answers::{Asked, Repeated, expect_answers, expect_long, expect_repeated};
+use crate::given::given;
 use crate::headers::headers;
 use crate::long_texts::repeated;
-use crate::no_answer::NoAnswer;
+use crate::text_rows::table;
 use crate::written::Written;
-use digit_tuple::name::Name;
 use formula_parse::tree::Formula;
 use formula_resolve::{
-    File, Headers, Mention, ResolveFault, Variable, first_files, first_systems, mentions, resolve,
+    File, ResolveFault, Variable, first_files, first_systems, mentions, resolve,
 };
 use std::alloc::{AllocError, Global};
+use std::process::Abort;
 
-// Texts and their resolution.
-static VARIABLES: [(&str, &str); 16] = [
+// Texts, and the resolution of each.
+const RESOLUTIONS: &str = table![
     // Free variables.
     ("x=1", "x msd_2"),
     ("0=0", "-"),
@@ -38,10 +37,7 @@ static VARIABLES: [(&str, &str); 16] = [
     ),
     ("Ey (x=1 & (?msd_3 y=1 & x=2))", "Clash x msd_2 msd_3"),
     ("?msd_2 x=1 & (?lsd_2 x=1)", "Clash x msd_2 lsd_2"),
-];
-
-// One direction in each chain.
-static CHAINS: [(&str, &str); 20] = [
+    // One direction in each chain.
     ("?msd_2 x=1 & (?lsd_2 y=1)", "Direction msd_2 lsd_2"),
     ("?lsd_2 x=1 & (?msd_2 y=1)", "Direction lsd_2 msd_2"),
     ("x=1 & y=1 & (?lsd_3 z=1)", "Direction msd_2 lsd_3"),
@@ -74,10 +70,7 @@ static CHAINS: [(&str, &str); 20] = [
     ),
     ("0=0 & ~?lsd_77 1=1", "-"),
     ("?msd_3 ?lsd_2 x=1", "x lsd_2"),
-];
-
-// Calls.
-static CALLS: [(&str, &str); 21] = [
+    // Calls.
     ("$f(x,y)", "x msd_2, y msd_2"),
     ("$f(y,x+1)", "x msd_2, y msd_2"),
     ("$f(x,x)", "x msd_2"),
@@ -99,10 +92,7 @@ static CALLS: [(&str, &str); 21] = [
     ("$q(x) & (?msd_3 x=1)", "x msd_3"),
     ("x=1 & $q(x)", "Clash x msd_2 msd_3"),
     ("$f(x,y) & (?lsd_2 z=1)", "Direction msd_2 lsd_2"),
-];
-
-// Words.
-static INDEXED: [(&str, &str); 15] = [
+    // Words.
     ("T[x]=@1", "x msd_2"),
     ("@1<T[x+y]", "x msd_2, y msd_2"),
     ("T[x][y]=@1", "Arity T 1 2"),
@@ -123,35 +113,42 @@ static INDEXED: [(&str, &str); 15] = [
     ("Ex T[x]=L[0]", "Direction msd_2 lsd_2"),
 ];
 
-// Texts with names and systems.
-const MARKED: &str = "$g(1) & T[0]=@0 & (?msd_3 $f(1,2)) & $g(0) & ~?lsd_77 1=1";
+// Texts with names and systems, and the files that they mention.
+const FILES: &str = table![
+    (
+        "$g(1) & T[0]=@0 & (?msd_3 $f(1,2)) & $g(0) & ~?lsd_77 1=1",
+        "$g T $f"
+    ),
+    (
+        "$T(0) & T[0]=@0 & ?msd_41 $f(1,2) & U[0][0]=W[1]",
+        "$T T $f U W"
+    ),
+];
 
-const WORDS: &str = "$T(0) & T[0]=@0 & ?msd_41 $f(1,2) & U[0][0]=W[1]";
-
-// The files that they mention.
-static FILES: [(&str, &str); 2] = [(MARKED, "$g T $f"), (WORDS, "$T T $f U W")];
-
-// The systems that they mention.
-static SYSTEMS: [(&str, &str); 2] = [
-    (MARKED, "lsd_2 msd_2 msd_3 lsd_77"),
-    (WORDS, "msd_2 msd_41 msd_3"),
+// The same texts, and the systems that they mention.
+const SYSTEMS: &str = table![
+    (
+        "$g(1) & T[0]=@0 & (?msd_3 $f(1,2)) & $g(0) & ~?lsd_77 1=1",
+        "lsd_2 msd_2 msd_3 lsd_77"
+    ),
+    (
+        "$T(0) & T[0]=@0 & ?msd_41 $f(1,2) & U[0][0]=W[1]",
+        "msd_2 msd_41 msd_3"
+    ),
 ];
 
 // Variables with their systems, or `-`.
-fn written(alloc: Global, variables: &[Variable]) -> Result<String, NoAnswer> {
+fn written(rt: &impl Abort, alloc: Global, variables: &[Variable]) -> String {
     let mut out = Written::new(alloc);
     for variable in variables {
-        if !out.is_empty() {
-            out.put(", ");
-        }
-        out.put(variable.name.as_str());
+        out.put_next(", ", variable.name.as_str());
         out.put(" ");
         out.put(variable.system.as_str());
     }
-    if out.is_empty() {
+    if variables.is_empty() {
         out.put("-");
     }
-    out.whole()
+    out.whole(rt)
 }
 
 // A fault with what it keeps.
@@ -180,26 +177,18 @@ fn line_of(alloc: Global, fault: &ResolveFault) -> Result<String, AllocError> {
     }
 }
 
-// The resolution of a formula, or its fault.
-fn resolution(alloc: Global, formula: &Formula, headers: &Headers) -> Result<String, NoAnswer> {
-    match resolve(alloc, formula, headers) {
-        Ok(resolved) => written(alloc, &resolved.variables),
-        Err(fault) => Ok(line_of(alloc, &fault)?),
-    }
-}
-
 // The resolution of a formula over the names in the rows, or its fault.
-pub(crate) fn resolution_of(alloc: Global, formula: &Formula) -> Result<String, NoAnswer> {
-    let headers = headers(alloc)?;
-    resolution(alloc, formula, &headers)
+pub(crate) fn resolution_of(rt: &impl Abort, alloc: Global, formula: &Formula) -> String {
+    let headers = headers(rt, alloc);
+    match resolve(alloc, formula, &headers) {
+        Ok(resolved) => written(rt, alloc, &resolved.variables),
+        Err(fault) => given(rt, line_of(alloc, &fault)),
+    }
 }
 
 #[test]
 fn texts_have_this_resolution(rt: HostRuntime) {
-    expect_answers(&rt, rt.alloc(), Asked::Resolution, &VARIABLES);
-    expect_answers(&rt, rt.alloc(), Asked::Resolution, &CHAINS);
-    expect_answers(&rt, rt.alloc(), Asked::Resolution, &CALLS);
-    expect_answers(&rt, rt.alloc(), Asked::Resolution, &INDEXED);
+    expect_answers(&rt, rt.alloc(), Asked::Resolution, RESOLUTIONS);
 }
 
 // A chain, with its resolution.
@@ -211,82 +200,47 @@ fn a_chain_of_65536_bytes_is_resolved(rt: HostRuntime) {
 }
 
 // Parentheses 128 deep, which a chain follows.
-fn nested_text(alloc: Global) -> Result<String, AllocError> {
-    let mut text = repeated(alloc, "(", 128, "x=1", "&x=1)")?;
-    text.push_str(&repeated(alloc, "&x=1", 16190, "&x=12", "")?)?;
-    Ok(text)
-}
-
-// Their resolution, after their length.
-fn nested_answer(alloc: Global) -> Result<String, NoAnswer> {
-    long_answer(alloc, Asked::Resolution, &nested_text(alloc)?)
-}
-
 #[test]
 fn a_nested_text_of_65536_bytes_is_resolved(rt: HostRuntime) {
-    let found = nested_answer(rt.alloc());
-    expect_answer(&rt, "a nested text", &found, "65536 bytes: x msd_2");
+    let alloc = rt.alloc();
+    let mut text = repeated(&rt, alloc, ("(", 128, "x=1", "&x=1)"));
+    let chain = repeated(&rt, alloc, ("&x=1", 16190, "&x=12", ""));
+    given(&rt, text.push_str(&chain));
+    expect_long(&rt, alloc, Asked::Resolution, &text, "65536 bytes: x msd_2");
 }
 
-// A name after those before it.
-fn add_name(out: &mut Written, mark: &str, name: &Name) {
-    if !out.is_empty() {
-        out.put(" ");
-    }
-    out.put(mark);
-    out.put(name.as_str());
-}
-
-// Files in their order, an automaton with `$` before its name.
-fn listed(alloc: Global, files: &[File]) -> Result<String, NoAnswer> {
+// The files that a formula mentions, each once, an automaton with `$` before its name.
+pub(crate) fn files_in(rt: &impl Abort, alloc: Global, formula: &Formula) -> String {
+    let mentioned = given(rt, mentions(alloc, formula));
     let mut out = Written::new(alloc);
-    for file in files {
+    for file in &given(rt, first_files(alloc, &mentioned)) {
         match file {
-            File::Automaton(name) => add_name(&mut out, "$", name),
-            File::Word(name) => add_name(&mut out, "", name),
+            File::Automaton(name) => {
+                out.put_next(" ", "$");
+                out.put(name.as_str());
+            }
+            File::Word(name) => out.put_next(" ", name.as_str()),
         }
     }
-    out.whole()
-}
-
-// Names in their order.
-fn named(alloc: Global, names: &[Name]) -> Result<String, NoAnswer> {
-    let mut out = Written::new(alloc);
-    for name in names {
-        add_name(&mut out, "", name);
-    }
-    out.whole()
-}
-
-// What a formula mentions.
-fn mentions_in(alloc: Global, formula: &Formula) -> Result<Vec<Mention>, NoAnswer> {
-    Ok(mentions(alloc, formula)?)
-}
-
-// The files that a formula mentions, each once.
-pub(crate) fn files_in(alloc: Global, formula: &Formula) -> Result<String, NoAnswer> {
-    let files = first_files(alloc, &mentions_in(alloc, formula)?)?;
-    listed(alloc, &files)
+    out.whole(rt)
 }
 
 // The systems that a formula mentions, each once.
-pub(crate) fn systems_in(alloc: Global, formula: &Formula) -> Result<String, NoAnswer> {
-    let headers = headers(alloc)?;
-    systems_of(alloc, &mentions_in(alloc, formula)?, &headers)
-}
-
-// The systems among what is mentioned, each once.
-fn systems_of(alloc: Global, mentioned: &[Mention], headers: &Headers) -> Result<String, NoAnswer> {
-    let systems = first_systems(alloc, mentioned, headers)?;
-    named(alloc, &systems)
+pub(crate) fn systems_in(rt: &impl Abort, alloc: Global, formula: &Formula) -> String {
+    let mentioned = given(rt, mentions(alloc, formula));
+    let mut out = Written::new(alloc);
+    for system in &given(rt, first_systems(alloc, &mentioned, &headers(rt, alloc))) {
+        out.put_next(" ", system.as_str());
+    }
+    out.whole(rt)
 }
 
 #[test]
 fn texts_mention_these_files(rt: HostRuntime) {
-    expect_answers(&rt, rt.alloc(), Asked::Files, &FILES);
+    expect_answers(&rt, rt.alloc(), Asked::Files, FILES);
 }
 
 #[test]
 fn texts_mention_these_systems(rt: HostRuntime) {
-    expect_answers(&rt, rt.alloc(), Asked::Systems, &SYSTEMS);
+    expect_answers(&rt, rt.alloc(), Asked::Systems, SYSTEMS);
 }

@@ -1,36 +1,21 @@
 //! Rules of morphisms: how they are printed, and their first faults.
 
-use crate::answers::{Asked, expect, expect_answers};
+use crate::answers::{Asked, expect_answers};
+use crate::given::given;
 use crate::long_texts::string_of;
-use crate::no_answer::NoAnswer;
-use morph_words::{Morphism, RulesFault};
+use crate::text_rows::table;
+use morph_words::Morphism;
 use std::alloc::Global;
+use std::process::Abort;
 
 /// The rules of a text as they are printed.
-pub(crate) fn rules_of(alloc: Global, text: &str) -> Result<String, NoAnswer> {
-    match Morphism::parse(alloc, text.as_bytes()) {
-        Ok(morphism) => printed(alloc, &morphism),
-        Err(_) => Err(NoAnswer),
-    }
+pub(crate) fn rules_of(rt: &impl Abort, alloc: Global, text: &str) -> String {
+    let morphism = given(rt, Morphism::parse(alloc, text.as_bytes()));
+    string_of(rt, alloc, &given(rt, morphism.print(alloc)))
 }
 
-/// Rules as they are printed.
-fn printed(alloc: Global, morphism: &Morphism) -> Result<String, NoAnswer> {
-    match morphism.print(alloc) {
-        Ok(bytes) => Ok(string_of(alloc, &bytes)?),
-        Err(_) => Err(NoAnswer),
-    }
-}
-
-/// The fault of a text, or none where it has rules.
-fn fault(alloc: Global, text: &[u8]) -> Option<RulesFault> {
-    match Morphism::parse(alloc, text) {
-        Ok(_) => None,
-        Err(fault) => Some(fault),
-    }
-}
-
-static PRINTED: [(&str, &str); 19] = [
+// Texts, and their rules as they are printed.
+const PRINTED: &str = table![
     ("0->01 1->10", "0->01 1->10\n"),
     ("0->01,1->10", "0->01 1->10\n"),
     ("0->01 , , 1->10", "0->01 1->10\n"),
@@ -63,71 +48,70 @@ static PRINTED: [(&str, &str); 19] = [
 
 #[test]
 fn rules_are_printed(rt: HostRuntime) {
-    expect_answers(&rt, rt.alloc(), Asked::Rules, &PRINTED);
+    expect_answers(&rt, rt.alloc(), Asked::Rules, PRINTED);
 }
 
-static FAULTS: [(&[u8], RulesFault); 56] = [
-    (b"", RulesFault::Syntax(0)),
-    (b"   ", RulesFault::Syntax(3)),
-    (b",", RulesFault::Syntax(0)),
-    (b"0", RulesFault::Syntax(1)),
-    (b"0 ", RulesFault::Syntax(2)),
-    (b"0-", RulesFault::Syntax(1)),
-    (b"0->", RulesFault::Syntax(3)),
-    (b"0-> ", RulesFault::Syntax(4)),
-    (b"0->,1->0", RulesFault::Syntax(3)),
-    (b"0-> 1->0", RulesFault::Syntax(5)),
-    (b"0->1 1->", RulesFault::Syntax(8)),
-    (b"->0", RulesFault::Syntax(0)),
-    (b",0->1", RulesFault::Syntax(0)),
-    (b" ,0->1", RulesFault::Syntax(1)),
-    (b"0->1,", RulesFault::Syntax(5)),
-    (b"0->1 , ", RulesFault::Syntax(7)),
-    (b"0->1 0->2", RulesFault::Syntax(5)),
-    (b"0->1 [0]->2", RulesFault::Syntax(5)),
-    (b"0->1 [-0]->2", RulesFault::Syntax(5)),
-    (b"[12]->1 2->1 [012]->2", RulesFault::Syntax(13)),
-    (b"0->1 0-x", RulesFault::Syntax(5)),
-    (b"0->1 0->[99999999999]", RulesFault::Syntax(5)),
-    (b"0->01 1->10 [1]->0", RulesFault::Syntax(12)),
-    (b"0->1 1->0 0", RulesFault::Syntax(10)),
-    (b"0->1 1", RulesFault::Syntax(6)),
-    (b"0->1 - 1->0", RulesFault::Syntax(5)),
-    (b"01->1", RulesFault::Syntax(1)),
-    (b"0 1->1", RulesFault::Syntax(2)),
-    (b"0,->1", RulesFault::Syntax(1)),
-    (b"0--> 1", RulesFault::Syntax(1)),
-    (b"0- >1", RulesFault::Syntax(1)),
-    (b"0->1->2", RulesFault::Syntax(4)),
-    (b"a->0", RulesFault::Syntax(0)),
-    (b"0->a", RulesFault::Syntax(3)),
-    (b"0->1;1->0", RulesFault::Syntax(4)),
-    (b"[2147483648]->0", RulesFault::Number(1)),
-    (b"[-2147483649]->0", RulesFault::Number(1)),
-    (b"0->[99999999999999999999]", RulesFault::Number(4)),
-    (b"0->1[4294967296", RulesFault::Number(5)),
-    (b"[2147483648 ]->0", RulesFault::Number(1)),
-    (b"0->1 [18446744073709551616]->0", RulesFault::Number(6)),
-    (b"0[2147483648]->0", RulesFault::Syntax(1)),
-    (b"[ 1]->0", RulesFault::Syntax(1)),
-    (b"[1 ]->0", RulesFault::Syntax(2)),
-    (b"[- 1]->0", RulesFault::Syntax(1)),
-    (b"[-]->0", RulesFault::Syntax(1)),
-    (b"[+1]->0", RulesFault::Syntax(1)),
-    (b"[]->0", RulesFault::Syntax(1)),
-    (b"[", RulesFault::Syntax(1)),
-    (b"[12", RulesFault::Syntax(3)),
-    (b"[1,2]->0", RulesFault::Syntax(2)),
-    (b"[1]]->0", RulesFault::Syntax(3)),
-    (b"0->1[", RulesFault::Syntax(5)),
-    (b"0->1[-", RulesFault::Syntax(5)),
-    (b"0->1 [x]->1", RulesFault::Syntax(6)),
-    (b"0[x]->1", RulesFault::Syntax(1)),
+// Texts, and the fault of each.
+const FAULTS: &str = table![
+    ("", "Syntax(0)"),
+    ("   ", "Syntax(3)"),
+    (",", "Syntax(0)"),
+    ("0", "Syntax(1)"),
+    ("0 ", "Syntax(2)"),
+    ("0-", "Syntax(1)"),
+    ("0->", "Syntax(3)"),
+    ("0-> ", "Syntax(4)"),
+    ("0->,1->0", "Syntax(3)"),
+    ("0-> 1->0", "Syntax(5)"),
+    ("0->1 1->", "Syntax(8)"),
+    ("->0", "Syntax(0)"),
+    (",0->1", "Syntax(0)"),
+    (" ,0->1", "Syntax(1)"),
+    ("0->1,", "Syntax(5)"),
+    ("0->1 , ", "Syntax(7)"),
+    ("0->1 0->2", "Syntax(5)"),
+    ("0->1 [0]->2", "Syntax(5)"),
+    ("0->1 [-0]->2", "Syntax(5)"),
+    ("[12]->1 2->1 [012]->2", "Syntax(13)"),
+    ("0->1 0-x", "Syntax(5)"),
+    ("0->1 0->[99999999999]", "Syntax(5)"),
+    ("0->01 1->10 [1]->0", "Syntax(12)"),
+    ("0->1 1->0 0", "Syntax(10)"),
+    ("0->1 1", "Syntax(6)"),
+    ("0->1 - 1->0", "Syntax(5)"),
+    ("01->1", "Syntax(1)"),
+    ("0 1->1", "Syntax(2)"),
+    ("0,->1", "Syntax(1)"),
+    ("0--> 1", "Syntax(1)"),
+    ("0- >1", "Syntax(1)"),
+    ("0->1->2", "Syntax(4)"),
+    ("a->0", "Syntax(0)"),
+    ("0->a", "Syntax(3)"),
+    ("0->1;1->0", "Syntax(4)"),
+    ("[2147483648]->0", "Number(1)"),
+    ("[-2147483649]->0", "Number(1)"),
+    ("0->[99999999999999999999]", "Number(4)"),
+    ("0->1[4294967296", "Number(5)"),
+    ("[2147483648 ]->0", "Number(1)"),
+    ("0->1 [18446744073709551616]->0", "Number(6)"),
+    ("0[2147483648]->0", "Syntax(1)"),
+    ("[ 1]->0", "Syntax(1)"),
+    ("[1 ]->0", "Syntax(2)"),
+    ("[- 1]->0", "Syntax(1)"),
+    ("[-]->0", "Syntax(1)"),
+    ("[+1]->0", "Syntax(1)"),
+    ("[]->0", "Syntax(1)"),
+    ("[", "Syntax(1)"),
+    ("[12", "Syntax(3)"),
+    ("[1,2]->0", "Syntax(2)"),
+    ("[1]]->0", "Syntax(3)"),
+    ("0->1[", "Syntax(5)"),
+    ("0->1[-", "Syntax(5)"),
+    ("0->1 [x]->1", "Syntax(6)"),
+    ("0[x]->1", "Syntax(1)"),
 ];
 
 #[test]
 fn rules_have_these_faults(rt: HostRuntime) {
-    for (text, wanted) in &FAULTS {
-        expect(&rt, text, &fault(rt.alloc(), text), &Some(*wanted));
-    }
+    expect_answers(&rt, rt.alloc(), Asked::RulesFault, FAULTS);
 }

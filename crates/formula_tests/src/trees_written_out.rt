@@ -1,13 +1,14 @@
 //! Texts and their trees. A tree is written with each part in parentheses, and each atom in braces after its system.
 
 use crate::answers::{Asked, expect_answers};
-use crate::no_answer::NoAnswer;
+use crate::text_rows::table;
 use crate::written::Written;
 use digit_tuple::name::Name;
 use formula_parse::tree::{
     Connective, Fact, Factor, Formula, Index, Quantifier, Relation, Sign, Term,
 };
 use std::alloc::Global;
+use std::process::Abort;
 
 fn write_names(names: &[Name], between: &str, out: &mut Written) {
     let mut first = true;
@@ -56,40 +57,26 @@ fn sign_text(sign: Sign) -> &'static str {
     }
 }
 
-// What is before a factor.
-fn factor_mark(first: bool) -> &'static str {
-    if first { "(" } else { "*" }
-}
-
-fn write_opening(times: usize, out: &mut Written) {
-    for _ in 0..times {
-        out.put("(");
-    }
-}
-
 fn write_term(alloc: Global, term: &Term, out: &mut Written) {
     match term {
         Term::Variable(name) => out.put(name.as_str()),
-        Term::Numeral(value) => {
-            let digits = value.to_string(alloc);
-            out.put_digits(digits);
-        }
+        Term::Numeral(value) => out.put_made("", value.to_string(alloc)),
         Term::Product(factors) => {
             let mut first = true;
             for factor in factors {
                 match factor {
                     Factor::Times(term) => {
-                        out.put(factor_mark(first));
+                        out.put(if first { "(" } else { "*" });
                         write_term(alloc, term, out);
                     }
-                    Factor::Divided(divisor) => write_divisor(alloc, *divisor, out),
+                    Factor::Divided(divisor) => out.put_made("/", divisor.to_string(alloc)),
                 }
                 first = false;
             }
             out.put(")");
         }
         Term::Sum(addends, last) => {
-            write_opening(addends.len(), out);
+            out.put_made("", "(".repeat(alloc, addends.len()));
             let mut first = true;
             for addend in addends {
                 write_term(alloc, &addend.term, out);
@@ -105,12 +92,6 @@ fn write_term(alloc: Global, term: &Term, out: &mut Written) {
     }
 }
 
-fn write_divisor(alloc: Global, divisor: u64, out: &mut Written) {
-    let digits = divisor.to_string(alloc);
-    out.put("/");
-    out.put_digits(digits);
-}
-
 fn write_index(alloc: Global, index: &Index, out: &mut Written) {
     out.put(index.word.as_str());
     for place in &index.places {
@@ -118,12 +99,6 @@ fn write_index(alloc: Global, index: &Index, out: &mut Written) {
         write_term(alloc, place, out);
         out.put("]");
     }
-}
-
-fn write_letter(alloc: Global, letter: i32, out: &mut Written) {
-    let digits = letter.to_string(alloc);
-    out.put("@");
-    out.put_digits(digits);
 }
 
 fn write_fact(alloc: Global, fact: &Fact, out: &mut Written) {
@@ -141,10 +116,10 @@ fn write_fact(alloc: Global, fact: &Fact, out: &mut Written) {
         Fact::WordLetter(word, relation, letter) => {
             write_index(alloc, word, out);
             out.put(relation_text(*relation));
-            write_letter(alloc, *letter, out);
+            out.put_made("@", letter.to_string(alloc));
         }
         Fact::LetterWord(letter, relation, word) => {
-            write_letter(alloc, *letter, out);
+            out.put_made("@", letter.to_string(alloc));
             out.put(relation_text(*relation));
             write_index(alloc, word, out);
         }
@@ -180,7 +155,7 @@ fn write_formula(alloc: Global, formula: &Formula, out: &mut Written) {
             out.put(")");
         }
         Formula::Chain(operands, last) => {
-            write_opening(operands.len(), out);
+            out.put_made("", "(".repeat(alloc, operands.len()));
             let mut first = true;
             for operand in operands {
                 write_formula(alloc, &operand.formula, out);
@@ -211,13 +186,14 @@ fn write_formula(alloc: Global, formula: &Formula, out: &mut Written) {
 }
 
 // A tree as a text.
-pub(crate) fn tree_of(alloc: Global, tree: &Formula) -> Result<String, NoAnswer> {
+pub(crate) fn tree_of(rt: &impl Abort, alloc: Global, tree: &Formula) -> String {
     let mut written = Written::new(alloc);
     write_formula(alloc, tree, &mut written);
-    written.whole()
+    written.whole(rt)
 }
 
-static BINDING: [(&str, &str); 13] = [
+// Texts, and the tree of each.
+const TREES: &str = table![
     // A quantifier takes all that follows.
     ("Ax Ey x=y+y", "(Ax (Ey {msd_2 x=(y+y)}))"),
     (
@@ -254,10 +230,7 @@ static BINDING: [(&str, &str); 13] = [
         "(x=1 | y=2) & z=3",
         "(({msd_2 x=1} | {msd_2 y=2}) & {msd_2 z=3})",
     ),
-];
-
-// From the left.
-static FROM_THE_LEFT: [(&str, &str); 8] = [
+    // From the left.
     ("x-1+y-2=z", "{msd_2 (((x-1)+y)-2)=z}"),
     ("x-(1+y)=z", "{msd_2 (x-(1+y))=z}"),
     (
@@ -284,10 +257,7 @@ static FROM_THE_LEFT: [(&str, &str); 8] = [
         "(x=1 => y=2) => z=3",
         "(({msd_2 x=1} => {msd_2 y=2}) => {msd_2 z=3})",
     ),
-];
-
-// How far a system holds, and parentheses of a term and of a formula.
-static SYSTEMS: [(&str, &str); 15] = [
+    // How far a system holds.
     ("(?lsd_2 x=1) & y=2", "((?lsd_2 {lsd_2 x=1}) & {msd_2 y=2})"),
     ("?lsd_2 x=1 & y=2", "((?lsd_2 {lsd_2 x=1}) & {lsd_2 y=2})"),
     (
@@ -310,10 +280,7 @@ static SYSTEMS: [(&str, &str); 15] = [
     ("2*(x+y)=z", "{msd_2 (2*(x+y))=z}"),
     ("(x+y)*2=z", "{msd_2 ((x+y)*2)=z}"),
     ("2*x*3=z", "{msd_2 (2*x*3)=z}"),
-];
-
-// Divisors, from the left.
-static DIVISORS: [(&str, &str); 14] = [
+    // Divisors, from the left.
     ("x/3=y", "{msd_2 (x/3)=y}"),
     ("x/1=y", "{msd_2 (x/1)=y}"),
     ("2*x/3*4=y", "{msd_2 (2*x/3*4)=y}"),
@@ -331,10 +298,7 @@ static DIVISORS: [(&str, &str); 14] = [
         "x/18446744073709551615=0",
         "{msd_2 (x/18446744073709551615)=0}",
     ),
-];
-
-// For infinitely many.
-static QUANTIFIED: [(&str, &str); 5] = [
+    // For infinitely many.
     ("Ix x=1", "(Ix {msd_2 x=1})"),
     ("Ix Ey x=2*y", "(Ix (Ey {msd_2 x=(2*y)}))"),
     (
@@ -343,10 +307,7 @@ static QUANTIFIED: [(&str, &str); 5] = [
     ),
     ("~?lsd_2 ~Ix x=1", "(~(?lsd_2 (~(Ix {lsd_2 x=1}))))"),
     ("IaI aI=1", "(IaI {msd_2 aI=1})"),
-];
-
-// Letters, words and calls, and relations, names and numerals.
-static NAMED: [(&str, &str); 14] = [
+    // Letters, words and calls.
     ("@-1!=T[0][1]", "{msd_2 @-1!=T[0][1]}"),
     ("@ - 1 != T[0][1]", "{msd_2 @-1!=T[0][1]}"),
     ("T[0]=@2147483647", "{msd_2 T[0]=@2147483647}"),
@@ -366,10 +327,5 @@ static NAMED: [(&str, &str); 14] = [
 
 #[test]
 fn texts_have_these_trees(rt: HostRuntime) {
-    expect_answers(&rt, rt.alloc(), Asked::Tree, &BINDING);
-    expect_answers(&rt, rt.alloc(), Asked::Tree, &FROM_THE_LEFT);
-    expect_answers(&rt, rt.alloc(), Asked::Tree, &SYSTEMS);
-    expect_answers(&rt, rt.alloc(), Asked::Tree, &DIVISORS);
-    expect_answers(&rt, rt.alloc(), Asked::Tree, &QUANTIFIED);
-    expect_answers(&rt, rt.alloc(), Asked::Tree, &NAMED);
+    expect_answers(&rt, rt.alloc(), Asked::Tree, TREES);
 }

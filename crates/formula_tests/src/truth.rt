@@ -1,14 +1,17 @@
 //! Formulas, and the numbers for which they are true, worked by arithmetic.
 
 use crate::answers::expect_true;
-use crate::no_answer::NoAnswer;
+use crate::given::given;
+use crate::text_rows::table;
+use crate::written::Written;
 use digit_tuple::name::Name;
 use formula_parse::tree::Formula;
 use formula_truth::{Given, holds_below};
 use std::alloc::Global;
+use std::process::Abort;
 
 // Texts, their free variables, and the numbers below 6 for these for which they are true, a digit for each variable: comparisons of terms.
-static TERMS: [(&str, &str, &str); 28] = [
+const TERMS: &str = table![
     ("x=3", "x", "3"),
     ("x!=3", "x", "0 1 2 4 5"),
     ("x<3", "x", "0 1 2"),
@@ -60,7 +63,7 @@ static TERMS: [(&str, &str, &str); 28] = [
 ];
 
 // Chains and negations.
-static CONNECTIVES: [(&str, &str, &str); 14] = [
+const CONNECTIVES: &str = table![
     ("x=1 & y=2", "xy", "12"),
     ("x=1 | y=2", "xy", "02 10 11 12 13 14 15 22 32 42 52"),
     ("x=1 ^ y=2", "xy", "02 10 11 13 14 15 22 32 42 52"),
@@ -102,7 +105,7 @@ static CONNECTIVES: [(&str, &str, &str); 14] = [
 ];
 
 // Quantifiers.
-static QUANTIFIERS: [(&str, &str, &str); 14] = [
+const QUANTIFIERS: &str = table![
     ("Ey y+y=x", "x", "0 2 4"),
     ("Ey x=2*y+1", "x", "1 3 5"),
     ("Ey,z x=2*y+3*z & y>0 & z>0", "x", "5"),
@@ -132,7 +135,7 @@ static QUANTIFIERS: [(&str, &str, &str); 14] = [
 ];
 
 // Calls and words, which mean nothing here.
-static NAMES: [(&str, &str, &str); 4] = [
+const NAMES: &str = table![
     ("$f(x)", "x", ""),
     (
         "~$f(x,y)",
@@ -143,101 +146,67 @@ static NAMES: [(&str, &str, &str); 4] = [
     ("T[x]!=U[y]", "xy", ""),
 ];
 
-// The name of one byte.
-fn name_of(alloc: Global, byte: u8) -> Result<Name, NoAnswer> {
-    let mut text = String::new(alloc);
-    text.push(char::from(byte))?;
-    match Name::new(alloc, text.as_str()) {
-        Ok(name) => Ok(name),
-        Err(_) => Err(NoAnswer),
-    }
-}
-
 // Numbers below 6 for some variables, by their digits.
-fn given(alloc: Global, variables: &str, mut digits: u64) -> Result<Vec<Given>, NoAnswer> {
-    let mut given = Vec::new(alloc);
-    for variable in variables.bytes().rev() {
-        given.push(Given {
-            name: name_of(alloc, variable)?,
+fn numbers_of(rt: &impl Abort, alloc: Global, variables: &str, mut digits: u64) -> Vec<Given> {
+    let mut numbers = Vec::new(alloc);
+    for variable in variables.chars().rev() {
+        let name = given(rt, variable.to_string(alloc));
+        let one = Given {
+            name: given(rt, Name::new(alloc, &name)),
             number: digits % 6,
-        })?;
+        };
+        given(rt, numbers.push(one));
         digits /= 6;
     }
-    Ok(given)
+    numbers
 }
 
-// How many lists of numbers below 6 there are for some variables.
-fn lists(variables: &str) -> u64 {
-    match variables.len() {
+// Adds the digits of numbers below 6, one for each variable.
+fn show(alloc: Global, numbers: &[Given], out: &mut Written) {
+    out.put_next(" ", "");
+    for one in numbers.iter().rev() {
+        out.put_made("", one.number.to_string(alloc));
+    }
+}
+
+// The numbers below 6 for some variables for which a formula is true.
+pub(crate) fn true_of(
+    rt: &impl Abort,
+    alloc: Global,
+    formula: &Formula,
+    variables: &str,
+) -> String {
+    let lists = match variables.len() {
         1 => 6,
         2 => 36,
         _ => 216,
+    };
+    let mut out = Written::new(alloc);
+    for digits in 0..lists {
+        let numbers = numbers_of(rt, alloc, variables, digits);
+        if given(rt, holds_below(alloc, formula, &numbers, 40)) {
+            show(alloc, &numbers, &mut out);
+        }
     }
-}
-
-// The digits of numbers below 6, one for each variable.
-fn shown(given: &[Given], out: &mut String) -> Result<(), NoAnswer> {
-    if !out.is_empty() {
-        out.push(' ')?;
-    }
-    for one in given.iter().rev() {
-        out.push(char::from(b'0' + (one.number % 6) as u8))?;
-    }
-    Ok(())
-}
-
-// Whether a formula is true of these numbers.
-fn is_true(alloc: Global, formula: &Formula, numbers: &[Given]) -> Result<bool, NoAnswer> {
-    match holds_below(alloc, formula, numbers, 40) {
-        Ok(truth) => Ok(truth),
-        Err(_) => Err(NoAnswer),
-    }
-}
-
-// Shows the numbers of these digits if a formula is true of them.
-fn show_true(
-    alloc: Global,
-    formula: &Formula,
-    variables: &str,
-    digits: u64,
-    out: &mut String,
-) -> Result<(), NoAnswer> {
-    let numbers = given(alloc, variables, digits)?;
-    if is_true(alloc, formula, &numbers)? {
-        shown(&numbers, out)?;
-    }
-    Ok(())
-}
-
-// The numbers below 6 for which a formula is true.
-pub(crate) fn true_of(
-    alloc: Global,
-    formula: &Formula,
-    variables: &str,
-) -> Result<String, NoAnswer> {
-    let mut out = String::new(alloc);
-    for digits in 0..lists(variables) {
-        show_true(alloc, formula, variables, digits, &mut out)?;
-    }
-    Ok(out)
+    out.whole(rt)
 }
 
 #[test]
 fn comparisons_of_terms_are_true_of_these_numbers(rt: HostRuntime) {
-    expect_true(&rt, rt.alloc(), &TERMS);
+    expect_true(&rt, rt.alloc(), TERMS);
 }
 
 #[test]
 fn chains_are_true_of_these_numbers(rt: HostRuntime) {
-    expect_true(&rt, rt.alloc(), &CONNECTIVES);
+    expect_true(&rt, rt.alloc(), CONNECTIVES);
 }
 
 #[test]
 fn quantified_formulas_are_true_of_these_numbers(rt: HostRuntime) {
-    expect_true(&rt, rt.alloc(), &QUANTIFIERS);
+    expect_true(&rt, rt.alloc(), QUANTIFIERS);
 }
 
 #[test]
 fn names_without_meaning_are_true_of_these_numbers(rt: HostRuntime) {
-    expect_true(&rt, rt.alloc(), &NAMES);
+    expect_true(&rt, rt.alloc(), NAMES);
 }

@@ -1,7 +1,8 @@
 //! Texts that are written part by part.
 
-use crate::no_answer::NoAnswer;
+use crate::given::no_answer;
 use std::alloc::{AllocError, Global};
+use std::process::Abort;
 
 /// A text that is written part by part. A part for which there is no memory is left out, and then the text is no answer.
 #[derive(Drop)]
@@ -26,22 +27,26 @@ impl Written {
         }
     }
 
-    /// Adds the digits of a number.
-    pub(crate) fn put_digits(&mut self, digits: Result<String, AllocError>) {
-        match digits {
-            Ok(digits) => self.put(&digits),
+    /// Adds a mark and a text that is made for it, as the digits of a number.
+    pub(crate) fn put_made(&mut self, mark: &str, made: Result<String, AllocError>) {
+        self.put(mark);
+        match made {
+            Ok(made) => self.put(&made),
             Err(_) => self.is_whole = false,
         }
     }
 
-    /// Whether no part is written.
-    pub(crate) fn is_empty(&self) -> bool {
-        self.text.is_empty()
+    /// Adds a part, and before it, if it is not the first one, what is between two parts.
+    pub(crate) fn put_next(&mut self, between: &str, part: &str) {
+        if !self.text.is_empty() {
+            self.put(between);
+        }
+        self.put(part);
     }
 
     /// The text, if each part is in it.
-    pub(crate) fn whole(self) -> Result<String, NoAnswer> {
+    pub(crate) fn whole(self, rt: &impl Abort) -> String {
         let Written { text, is_whole } = self;
-        if is_whole { Ok(text) } else { Err(NoAnswer) }
+        if is_whole { text } else { no_answer(rt) }
     }
 }
