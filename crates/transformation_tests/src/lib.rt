@@ -3,9 +3,13 @@
 //! that are powers of one integer, and words over another base.
 #![tactic(auto)]
 
-// rows without an answer
+// what calls give
 #[cfg(test)]
-mod no_answer;
+mod given;
+
+// tables as texts
+#[cfg(test)]
+mod text_rows;
 
 // what calls give, as texts
 #[cfg(test)]

@@ -1,9 +1,9 @@
 //! Bases that are powers of one integer, and the letters of a word over such bases.
 
-ghost use Rattle.std.specs.Prelude.{◌≡◌, ◌∷◌, [], IsTrue};
+ghost use Rattle.std.specs.Prelude.{◌≡◌, ◌≤◌, ◌^◌, ◌∷◌, [], IsTrue};
 
 use crate::fixed_words::{THUE_MORSE, fixed_word};
-use crate::no_answer::NoAnswer;
+use crate::given::{given, no_answer};
 use crate::outcomes::{after_lines, expect, fault_text, table_of};
 use base_change::join::join_letters;
 use base_change::related::related;
@@ -12,19 +12,21 @@ use base_k::base_k::{GREATEST_BASE, LEAST_BASE};
 use digit_tuple::step_fault::StepFault;
 use digit_tuple::steps::Steps;
 use std::alloc::Global;
+use std::process::Abort;
 use word_output::letter_function::LetterFunction;
 
 // The least root of two bases with the exponents, or a dash where there is none.
-fn root_of(alloc: Global, old: u32, new: u32) -> Result<String, NoAnswer> {
+fn root_of(rt: &impl Abort, alloc: Global, old: u32, new: u32) -> String {
     if old < LEAST_BASE || GREATEST_BASE < old || new < LEAST_BASE || GREATEST_BASE < new {
-        return Err(NoAnswer);
+        no_answer(rt);
     }
-    match related(old, new) {
+    let text = match related(old, new) {
         Some(common) => {
-            Ok(format!(in alloc; "{} {} {}", common.root, common.old_power, common.new_power)?)
+            format!(in alloc; "{} {} {}", common.root, common.old_power, common.new_power)
         }
-        None => Ok(String::from_str(alloc, "-")?),
-    }
+        None => String::from_str(alloc, "-"),
+    };
+    given(rt, text)
 }
 
 // An old base, a new one, and the least root with the exponents.
@@ -49,7 +51,8 @@ static ROOTS: [(u32, u32, &str); 14] = [
 #[test]
 fn roots_are_those_worked_out(rt: HostRuntime) {
     for (old, new, wanted) in &ROOTS {
-        expect(&rt, wanted, &root_of(rt.alloc(), *old, *new), wanted);
+        let found = root_of(&rt, rt.alloc(), *old, *new);
+        expect(&rt, wanted, &found, wanted);
     }
 }
 
@@ -63,65 +66,55 @@ fn is_over(function: &LetterFunction, digits: u32) -> bool
     }
 }
 
-// The letters of words over 2 digits as those over 4, and these again as those over 2.
-fn by_pairs(
+// The letters of words over 2 digits as those over a power of 2, and these again as those over 2.
+fn there_and_back(
+    rt: &impl Abort,
     alloc: Global,
     function: &LetterFunction,
+    power: u32,
     steps: &mut Steps,
-) -> Result<LetterFunction, StepFault> {
+) -> Result<LetterFunction, StepFault>
+    requires some { 1 ≤ power }
+    requires few { 2 ^ power ≤ 65536 }
+{
     if !is_over(function, 2) {
-        return Err(StepFault::Memory);
+        no_answer(rt);
     }
-    let joined = join_letters(alloc, function, 2, 2, steps)?;
-    if !is_over(&joined, 4) {
-        return Err(StepFault::Memory);
+    let joined = join_letters(alloc, function, 2, power, steps)?;
+    if !is_over(&joined, 2u32.pow(power)) {
+        no_answer(rt);
     }
-    split_letters(alloc, &joined, 2, 2, steps)
-}
-
-// The same over 8 digits.
-fn by_threes(
-    alloc: Global,
-    function: &LetterFunction,
-    steps: &mut Steps,
-) -> Result<LetterFunction, StepFault> {
-    if !is_over(function, 2) {
-        return Err(StepFault::Memory);
-    }
-    let joined = join_letters(alloc, function, 2, 3, steps)?;
-    if !is_over(&joined, 8) {
-        return Err(StepFault::Memory);
-    }
-    split_letters(alloc, &joined, 2, 3, steps)
+    split_letters(alloc, &joined, 2, power, steps)
 }
 
 // Whether the automaton that is made is that of a function, or the fault.
 fn sameness(
+    rt: &impl Abort,
     alloc: Global,
     made: &Result<LetterFunction, StepFault>,
     function: &LetterFunction,
-) -> Result<String, NoAnswer> {
+) -> String {
     match made {
         Ok(made) => {
-            let same = table_of(alloc, made.dfa())? == table_of(alloc, function.dfa())?;
-            Ok(same.to_string(alloc)?)
+            let same = table_of(rt, alloc, made.dfa()) == table_of(rt, alloc, function.dfa());
+            given(rt, same.to_string(alloc))
         }
-        Err(fault) => fault_text(alloc, *fault),
+        Err(fault) => fault_text(rt, alloc, *fault),
     }
 }
 
 // The lines of the steps there and back, and whether the automaton is the same then; or the lines and the fault.
-fn changed(alloc: Global, threes: bool, limit: u32) -> Result<String, NoAnswer> {
-    let word = fixed_word(alloc, THUE_MORSE)?;
+fn changed(rt: &impl Abort, alloc: Global, threes: bool, limit: u32) -> String {
+    let word = fixed_word(rt, alloc, THUE_MORSE);
     let function = word.function();
     let mut steps = Steps::new(alloc, limit);
     let back = if threes {
-        by_threes(alloc, function, &mut steps)
+        there_and_back(rt, alloc, function, 3, &mut steps)
     } else {
-        by_pairs(alloc, function, &mut steps)
+        there_and_back(rt, alloc, function, 2, &mut steps)
     };
-    let answer = sameness(alloc, &back, function)?;
-    after_lines(alloc, &steps, &answer)
+    let answer = sameness(rt, alloc, &back, function);
+    after_lines(rt, alloc, &steps, &answer)
 }
 
 // Whether by three digits, the limit, and what is given. The widths are those of an independent program.
@@ -138,6 +131,7 @@ static CHANGED: [(bool, u32, &str); 6] = [
 #[test]
 fn widths_of_splits_and_joins_are_those_worked_out(rt: HostRuntime) {
     for (threes, limit, wanted) in &CHANGED {
-        expect(&rt, wanted, &changed(rt.alloc(), *threes, *limit), wanted);
+        let found = changed(&rt, rt.alloc(), *threes, *limit);
+        expect(&rt, wanted, &found, wanted);
     }
 }

@@ -1,22 +1,21 @@
 //! Words read from their other end: the widths, tables and letters, worked by hand.
 
 use crate::fixed_words::{DOUBLING, THUE_MORSE, fixed_word};
-use crate::no_answer::NoAnswer;
+use crate::given::{given, no_answer};
 use crate::outcomes::{expect, made_text, table_of};
 use class_reversal::reversal::reverse_classes;
-use digit_tuple::faults::OpFault;
 use digit_tuple::limit::Limit;
 use digit_tuple::steps::Steps;
 use letter_reversal::letter_reversal::reverse_letters;
 use std::alloc::Global;
-use word_output::letter_function::LetterFunction;
+use std::process::Abort;
 
 // The lines of steps and the function that they make, or the lines and the fault.
-fn reversed(alloc: Global, rules: &str, limit: u32) -> Result<String, NoAnswer> {
-    let word = fixed_word(alloc, rules)?;
+fn reversed(rt: &impl Abort, alloc: Global, rules: &str, limit: u32) -> String {
+    let word = fixed_word(rt, alloc, rules);
     let mut steps = Steps::new(alloc, limit);
     let made = reverse_letters(alloc, word.function(), &mut steps);
-    made_text(alloc, &steps, &made)
+    made_text(rt, alloc, &steps, &made)
 }
 
 // The parity of all ones is that of the reversed word; that of the last ones needs two states until the first zero, and two after.
@@ -41,53 +40,45 @@ static REVERSED: [(&str, &str, u32, &str); 5] = [
 #[test]
 fn reversed_letters_are_those_worked_out(rt: HostRuntime) {
     for (row, rules, limit, wanted) in &REVERSED {
-        expect(&rt, row, &reversed(rt.alloc(), rules, *limit), wanted);
+        expect(&rt, row, &reversed(&rt, rt.alloc(), rules, *limit), wanted);
     }
 }
 
-// The lines of the steps there and back, and the function then.
-fn reversed_twice(alloc: Global, rules: &str) -> Result<String, NoAnswer> {
-    let word = fixed_word(alloc, rules)?;
-    let mut steps = Steps::new(alloc, 4);
-    let there = reverse_letters(alloc, word.function(), &mut steps)?;
-    let back = reverse_letters(alloc, &there, &mut steps);
-    made_text(alloc, &steps, &back)
-}
-
-// The state after a zero is the first one, and after a one the other, if it was the first.
+// There and back: the state after a zero is the first one, and after a one the other, if it was the first.
 #[test]
 fn a_function_is_the_reversal_of_its_reversal(rt: HostRuntime) {
-    let found = reversed_twice(rt.alloc(), DOUBLING);
+    let word = fixed_word(&rt, rt.alloc(), DOUBLING);
+    let mut steps = Steps::new(rt.alloc(), 4);
+    let there = given(
+        &rt,
+        reverse_letters(rt.alloc(), word.function(), &mut steps),
+    );
+    let back = reverse_letters(rt.alloc(), &there, &mut steps);
     let wanted = "reverse 4 4, reverse 2 2, /! 0>0 1>1/! 0>0 1>0 = 0 1";
-    expect(&rt, "doubling", &found, wanted);
+    expect(
+        &rt,
+        "doubling",
+        &made_text(&rt, rt.alloc(), &steps, &back),
+        wanted,
+    );
 }
 
-// The width, the table and the classes of the reversal of these classes, or the fault.
-fn reversed_classes(
-    alloc: Global,
-    function: &LetterFunction,
-    classes: &[u32],
-    limit: u32,
-) -> Result<String, NoAnswer> {
-    let dfa = function.dfa();
+// The width, the table and the classes of the reversal of these classes of a fixed point's states, or the fault.
+fn reversed_classes(rt: &impl Abort, alloc: Global, classes: &[u32], limit: u32) -> String {
+    let word = fixed_word(rt, alloc, DOUBLING);
+    let dfa = word.function().dfa();
     if classes.len() as u64 != u64::from(dfa.states()) {
-        return Err(NoAnswer);
+        no_answer(rt);
     }
-    match reverse_classes(alloc, dfa, classes, Limit::new(limit)) {
+    let text = match reverse_classes(alloc, dfa, classes, Limit::new(limit)) {
         Ok(stepped) => {
             let (table, classes) = stepped.result;
-            let text = table_of(alloc, &table)?;
-            Ok(format!(in alloc; "{} {text} {classes:?}", stepped.width)?)
+            let table = table_of(rt, alloc, &table);
+            format!(in alloc; "{} {table} {classes:?}", stepped.width)
         }
-        Err(OpFault::States) => Ok(String::from_str(alloc, "States")?),
-        Err(_) => Err(NoAnswer),
-    }
-}
-
-// The same of the automaton of a fixed point.
-fn of_fixed(alloc: Global, rules: &str, classes: &[u32], limit: u32) -> Result<String, NoAnswer> {
-    let word = fixed_word(alloc, rules)?;
-    reversed_classes(alloc, word.function(), classes, limit)
+        Err(fault) => format!(in alloc; "{fault:?}"),
+    };
+    given(rt, text)
 }
 
 // Classes of the two states of a fixed point. What has no class counts in the width, and has no state.
@@ -124,11 +115,7 @@ static CLASSES: [(&str, &[u32], u32, &str); 7] = [
 #[test]
 fn reversed_classes_are_those_worked_out(rt: HostRuntime) {
     for (row, classes, limit, wanted) in &CLASSES {
-        expect(
-            &rt,
-            row,
-            &of_fixed(rt.alloc(), DOUBLING, classes, *limit),
-            wanted,
-        );
+        let found = reversed_classes(&rt, rt.alloc(), classes, *limit);
+        expect(&rt, row, &found, wanted);
     }
 }

@@ -1,46 +1,40 @@
 //! Transducers in stores: what is found under a name, and why there is none.
 
-use crate::no_answer::NoAnswer;
+use crate::given::given;
 use crate::outcomes::{expect, expect_value};
 use dfa_loading::{FileFlaw, LoadFault};
 use digit_tuple::name::Name;
-use std::alloc::Global;
+use std::alloc::{AllocError, Global};
 use std::process::Abort;
 use transducer_loading::load_transducer;
-use transducer_reading::Transducer;
 use wal_outside::{Folder, MemStore, TEXT_LIMIT};
 
-// How many states and lines a transducer has, or why there is none.
-fn answer_text(alloc: Global, answer: &Result<Transducer, LoadFault>) -> Result<String, NoAnswer> {
-    match answer {
-        Ok(t) => Ok(format!(in alloc; "{} {}", t.states(), t.lines().len())?),
-        Err(fault) => fault_text(alloc, fault),
-    }
+// What a folder has under a name.
+fn at(alloc: Global, what: &str, folder: Folder, name: &Name) -> Result<String, AllocError> {
+    format!(in alloc; "{what} {folder:?} {}", name.as_str())
 }
 
 // A fault with its folder and its name.
-fn fault_text(alloc: Global, fault: &LoadFault) -> Result<String, NoAnswer> {
+fn fault_text(alloc: Global, fault: &LoadFault) -> Result<String, AllocError> {
     match fault {
         LoadFault::Unknown(folder, name) => at(alloc, "unknown", *folder, name),
         LoadFault::File(folder, name, FileFlaw::Line(line)) => {
-            let what = format!(in alloc; "line {line}")?;
-            at(alloc, &what, *folder, name)
+            format!(in alloc; "line {line} {folder:?} {}", name.as_str())
         }
         LoadFault::File(folder, name, FileFlaw::TooLong) => at(alloc, "too long", *folder, name),
         LoadFault::Store(folder, name) => at(alloc, "store", *folder, name),
-        LoadFault::Memory => Err(NoAnswer),
+        LoadFault::Memory => String::from_str(alloc, "memory"),
     }
 }
 
-// What a folder has under a name.
-fn at(alloc: Global, what: &str, folder: Folder, name: &Name) -> Result<String, NoAnswer> {
-    Ok(format!(in alloc; "{what} {folder:?} {}", name.as_str())?)
-}
-
-// What is loaded under a name.
-fn loaded(alloc: Global, store: &mut MemStore, name: &str) -> Result<String, NoAnswer> {
-    let name = Name::new(alloc, name)?;
-    answer_text(alloc, &load_transducer(alloc, &name, store))
+// What is loaded under a name: how many states and lines a transducer has, or why there is none.
+fn loaded(rt: &impl Abort, alloc: Global, store: &mut MemStore, name: &str) -> String {
+    let name = given(rt, Name::new(alloc, name));
+    let text = match load_transducer(alloc, &name, store) {
+        Ok(t) => format!(in alloc; "{} {}", t.states(), t.lines().len()),
+        Err(fault) => fault_text(alloc, &fault),
+    };
+    given(rt, text)
 }
 
 // What a store has in the folders of transducers and of words.
@@ -56,13 +50,13 @@ static TEXTS: [(Folder, &str, &str); 5] = [
     (Folder::Words, "word", "{0}\n7\n"),
 ];
 
-// A store of these texts, whose call of this number fails.
-fn store_of(alloc: Global, failing: u64) -> Result<MemStore, NoAnswer> {
-    let mut store = MemStore::new(alloc, vec![in alloc; failing]?);
+// A store of these texts, whose fifth call fails.
+fn store_of(rt: &impl Abort, alloc: Global) -> MemStore {
+    let mut store = MemStore::new(alloc, given(rt, vec![in alloc; 5]));
     for (folder, name, text) in &TEXTS {
-        store.put(*folder, name, text.as_bytes())?;
+        given(rt, store.put(*folder, name, text.as_bytes()));
     }
-    Ok(store)
+    store
 }
 
 // A name, and what is loaded under it: so many states and lines, or the fault. The fifth call fails.
@@ -77,41 +71,44 @@ static LOADED: [(&str, &str); 8] = [
     ("word", "unknown Transducers word"),
 ];
 
-// Asserts that the names give this, one after another, and that no text is changed.
-fn expect_loaded(rt: &impl Abort, alloc: Global, store: &mut MemStore) {
-    for (name, wanted) in &LOADED {
-        expect(rt, name, &loaded(alloc, store, name), wanted);
-    }
+// Asserts that a store has these texts, and no others.
+fn expect_texts(rt: &impl Abort, store: &MemStore) {
     for (folder, name, text) in &TEXTS {
         expect_value(rt, name, &store.text(*folder, name), &Some(text.as_bytes()));
     }
     expect_value(rt, "texts", &store.len(), &TEXTS.len());
-    expect_value(rt, "calls", &store.calls(), &8);
 }
 
 #[test]
 fn transducers_of_a_store_are_loaded_as_listed(rt: HostRuntime) {
-    match store_of(rt.alloc(), 5) {
-        Ok(mut store) => expect_loaded(&rt, rt.alloc(), &mut store),
-        Err(_) => assert!(rt; false, "no store"),
+    let mut store = store_of(&rt, rt.alloc());
+    for (name, wanted) in &LOADED {
+        expect(
+            &rt,
+            name,
+            &loaded(&rt, rt.alloc(), &mut store, name),
+            wanted,
+        );
     }
+    expect_texts(&rt, &store);
+    expect_value(&rt, "calls", &store.calls(), &8);
 }
 
 // What is loaded of a text of so many bytes, a transducer of one state and a comment.
-fn long_loaded(alloc: Global, length: usize) -> Result<String, NoAnswer> {
-    let mut text = vec![in alloc; b'#'; length]?;
+fn long_loaded(rt: &impl Abort, alloc: Global, length: usize) -> String {
+    let mut text = given(rt, vec![in alloc; b'#'; length]);
     for (place, byte) in text.iter_mut().zip(b"{0}\n7\n") {
         *place = *byte;
     }
     let mut store = MemStore::new(alloc, Vec::new(alloc));
-    store.put(Folder::Transducers, "long", &text)?;
-    loaded(alloc, &mut store, "long")
+    given(rt, store.put(Folder::Transducers, "long", &text));
+    loaded(rt, alloc, &mut store, "long")
 }
 
 #[test]
 fn a_text_that_is_loaded_has_at_most_16777216_bytes(rt: HostRuntime) {
-    let found = long_loaded(rt.alloc(), TEXT_LIMIT);
+    let found = long_loaded(&rt, rt.alloc(), TEXT_LIMIT);
     expect(&rt, "the limit", &found, "1 0");
-    let found = long_loaded(rt.alloc(), TEXT_LIMIT + 1);
+    let found = long_loaded(&rt, rt.alloc(), TEXT_LIMIT + 1);
     expect(&rt, "one more", &found, "too long Transducers long");
 }

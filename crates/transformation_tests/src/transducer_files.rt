@@ -1,9 +1,10 @@
 //! Files of transducers that are read, and those that break the format, each with the line at which it does.
 
+use crate::given::given;
 use crate::outcomes::expect_value;
+use crate::text_rows::{ROW_END, fields_of, table};
 use dfa_reading::FileFault;
 use std::alloc::Global;
-use std::process::Abort;
 use transducer_reading::{Transducer, read_transducer};
 
 // No row is longer.
@@ -27,7 +28,7 @@ fn line_of(alloc: Global, text: &str) -> Option<u64> {
 }
 
 // Files, and the line of the first fault of each, or 0.
-static FILES: [(&str, u64); 74] = [
+const FILES: &str = table![
     // files that are read
     (
         "{0,1}\n0\n0 -> 0 / 0\n1 -> 1 / 1\n1\n0 -> 1 / 1\n1 -> 0 / 0\n",
@@ -122,8 +123,10 @@ static FILES: [(&str, u64); 74] = [
 
 #[test]
 fn files_of_transducers_break_at_their_lines(rt: HostRuntime) {
-    for (text, wanted) in &FILES {
-        expect_value(&rt, text, &line_of(rt.alloc(), text), &Some(*wanted));
+    for row in FILES.split_terminator(ROW_END) {
+        let (text, wanted) = fields_of(row);
+        let found = line_of(rt.alloc(), text);
+        expect_value(&rt, text, &found, &Some(given(&rt, wanted.parse())));
     }
 }
 
@@ -143,18 +146,12 @@ static STEPS: [(&str, usize, i32, Option<(usize, i32)>); 9] = [
     ("no state", 3, 0, None),
 ];
 
-// Asserts that the letters of a transducer lead so.
-fn expect_steps(rt: &impl Abort, transducer: &Transducer) {
-    for (row, state, letter, wanted) in &STEPS {
-        expect_value(rt, row, &transducer.step(*state, *letter), wanted);
-    }
-}
-
 #[test]
-fn letters_lead_from_states_as_listed(rt: HostRuntime) -> Result<(), FileFault> {
-    let transducer = made_of(rt.alloc(), LISTED)?;
+fn letters_lead_from_states_as_listed(rt: HostRuntime) {
+    let transducer = given(&rt, made_of(rt.alloc(), LISTED));
     expect_value(&rt, "the states", &transducer.states(), &3);
     expect_value(&rt, "the lines", &transducer.lines().len(), &3);
-    expect_steps(&rt, &transducer);
-    Ok(())
+    for (row, state, letter, wanted) in &STEPS {
+        expect_value(&rt, row, &transducer.step(*state, *letter), wanted);
+    }
 }
