@@ -1,8 +1,9 @@
 //! What texts give, as texts, and tables of texts with what they are to give.
 
 use crate::given::{given, no_answer};
+use crate::headers::headers;
 use crate::long_texts::{parts_in, repeated};
-use crate::macros::{expansion, expansion_length};
+use crate::macros::{MACROS, expansion, expansion_length};
 use crate::plans::{relations, steps};
 use crate::resolution::{files_in, resolution_of, systems_in};
 use crate::rules::rules_of;
@@ -11,6 +12,7 @@ use crate::trees_written_out::tree_of;
 use crate::truth::true_of;
 use formula_parse::parse;
 use formula_parse::tree::Formula;
+use formula_resolve::Headers;
 use morph_words::Morphism;
 use std::alloc::Global;
 use std::fmt::Debug;
@@ -27,8 +29,8 @@ pub(crate) enum Asked {
     Systems,
     Steps,
     Relations,
-    /// The numbers below 6 for these variables of which it is true.
-    Numbers(&'static str),
+    /// The numbers below 6 of which it is true.
+    Numbers,
     Expansion,
     ExpansionLength,
     Rules,
@@ -39,7 +41,7 @@ pub(crate) enum Asked {
 fn answer(rt: &impl Abort, alloc: Global, asked: Asked, text: &str) -> String {
     match asked {
         Asked::Fault => fault_text(rt, alloc, parse(alloc, text.as_bytes()).err()),
-        Asked::Expansion => expansion(rt, alloc, text),
+        Asked::Expansion => expansion(rt, alloc, MACROS, text),
         Asked::ExpansionLength => expansion_length(rt, alloc, text),
         Asked::Rules => rules_of(rt, alloc, text),
         Asked::RulesFault => fault_text(rt, alloc, Morphism::parse(alloc, text.as_bytes()).err()),
@@ -60,25 +62,37 @@ pub(crate) fn fault_text<F: Debug + Drop>(
     given(rt, text)
 }
 
-// What the formula that a text is gives. The call of `drop` is there for the proof, which goes over the parts of a formula once then.
-fn formula_answer(rt: &impl Abort, alloc: Global, asked: Asked, text: &str) -> String {
+// What the formula that a text is gives; after the text there may be its variables. The proof of a function that lets a formula
+// go goes over all its parts, and that of a call of `drop` does not.
+fn formula_answer(rt: &impl Abort, alloc: Global, asked: Asked, fields: &str) -> String {
+    let (text, variables) = fields_of(fields);
     let formula = given(rt, parse(alloc, text.as_bytes()));
-    let found = answer_of(rt, alloc, asked, &formula);
+    let headers = headers(rt, alloc);
+    let found = match asked {
+        Asked::Numbers => true_of(rt, alloc, &formula, variables),
+        _ => answer_of(rt, alloc, asked, &formula, &headers),
+    };
+    drop(headers);
     drop(formula);
     found
 }
 
-// What a formula gives.
-fn answer_of(rt: &impl Abort, alloc: Global, asked: Asked, formula: &Formula) -> String {
+// What a formula over the names in the rows gives.
+fn answer_of(
+    rt: &impl Abort,
+    alloc: Global,
+    asked: Asked,
+    formula: &Formula,
+    headers: &Headers,
+) -> String {
     match asked {
         Asked::Tree => tree_of(rt, alloc, formula),
         Asked::Parts => given(rt, parts_in(formula).to_string(alloc)),
-        Asked::Resolution => resolution_of(rt, alloc, formula),
+        Asked::Resolution => resolution_of(rt, alloc, formula, headers),
         Asked::Files => files_in(rt, alloc, formula),
-        Asked::Systems => systems_in(rt, alloc, formula),
+        Asked::Systems => systems_in(rt, alloc, formula, headers),
         Asked::Steps => steps(rt, alloc, formula),
         Asked::Relations => relations(rt, alloc, formula),
-        Asked::Numbers(variables) => true_of(rt, alloc, formula, variables),
         _ => no_answer(rt),
     }
 }
@@ -88,20 +102,10 @@ pub(crate) fn expect(rt: &impl Abort, row: &str, found: &str, wanted: &str) {
     assert_eq!(rt; found, wanted, "of {row}");
 }
 
-/// Asserts that each text of a table gives its answer.
+/// Asserts that each text of a table gives its answer, which is the last field.
 pub(crate) fn expect_answers(rt: &impl Abort, alloc: Global, asked: Asked, rows: &str) {
     for row in rows.split_terminator(ROW_END) {
         let (text, wanted) = fields_of(row);
-        expect(rt, text, &answer(rt, alloc, asked, text), wanted);
-    }
-}
-
-/// Asserts that each text of a table, with the variables that it has, is true of these numbers alone.
-pub(crate) fn expect_true(rt: &impl Abort, alloc: Global, rows: &'static str) {
-    for row in rows.split_terminator(ROW_END) {
-        let (text, fields) = fields_of(row);
-        let (variables, wanted) = fields_of(fields);
-        let asked = Asked::Numbers(variables);
         expect(rt, text, &answer(rt, alloc, asked, text), wanted);
     }
 }

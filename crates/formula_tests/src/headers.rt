@@ -31,20 +31,24 @@ fn systems(rt: &impl Abort, alloc: Global, names: &str) -> Vec<Name> {
     systems
 }
 
+// Adds what is under a name, over these systems.
+fn add(rt: &impl Abort, headers: &mut Headers, kind: &str, name: &Name, systems: &[Name]) {
+    let added = match kind {
+        "automaton" => headers.add_automaton(name, systems),
+        "word" => headers.add_word(name, systems),
+        _ => headers.add_plain(name),
+    };
+    given(rt, added);
+}
+
 // The headers of the names in the rows.
 pub(crate) fn headers(rt: &impl Abort, alloc: Global) -> Headers {
     let mut headers = Headers::new(alloc);
     for row in HEADERS.split_terminator(ROW_END) {
-        let (kind, header) = fields_of(row);
-        let (name, tracks) = fields_of(header);
+        let (header, tracks) = fields_of(row);
+        let (kind, name) = fields_of(header);
         let name = given(rt, Name::new(alloc, name));
-        let systems = systems(rt, alloc, tracks);
-        let added = match kind {
-            "automaton" => headers.add_automaton(&name, &systems),
-            "word" => headers.add_word(&name, &systems),
-            _ => headers.add_plain(&name),
-        };
-        given(rt, added);
+        add(rt, &mut headers, kind, &name, &systems(rt, alloc, tracks));
     }
     headers
 }

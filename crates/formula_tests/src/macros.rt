@@ -3,13 +3,13 @@
 use crate::answers::{Asked, Repeated, expect, expect_answers, expect_repeated};
 use crate::given::given;
 use crate::long_texts::string_of;
-use crate::text_rows::{ROW_END, fields_of, table};
+use crate::text_rows::{FIELD_END, ROW_END, fields_of, table};
 use macro_expand::{MacroFault, Macros, expand};
 use std::alloc::{AllocError, Global};
 use std::process::Abort;
 
 // The macros of the rows, each with its text.
-const MACROS: &str = table![
+pub(crate) const MACROS: &str = table![
     ("dbl", "%0=2*%1"),
     ("two", "%0 & %0"),
     ("s", "#s()"),
@@ -137,17 +137,13 @@ fn line_of(alloc: Global, fault: &MacroFault) -> Result<String, AllocError> {
     }
 }
 
-// The expansion, or after `! ` the first fault with what it keeps.
-fn shown(rt: &impl Abort, alloc: Global, text: &str, macros: &Macros) -> String {
-    match expand(alloc, text.as_bytes(), macros) {
+// The expansion by macros with these texts, or after `! ` the first fault with what it keeps.
+pub(crate) fn expansion(rt: &impl Abort, alloc: Global, macros: &str, text: &str) -> String {
+    let found = expand(alloc, text.as_bytes(), &added(rt, alloc, macros));
+    match found {
         Ok(bytes) => string_of(rt, alloc, &bytes),
         Err(fault) => given(rt, line_of(alloc, &fault)),
     }
-}
-
-// The expansion by the macros of the rows, or the first fault.
-pub(crate) fn expansion(rt: &impl Abort, alloc: Global, text: &str) -> String {
-    shown(rt, alloc, text, &added(rt, alloc, MACROS))
 }
 
 #[test]
@@ -163,10 +159,12 @@ fn texts_have_these_faults(rt: HostRuntime) {
 // How many bytes the expansion has by the macros of the rows and `m`, which is 16,383 calls of an empty macro; or the first
 // fault.
 pub(crate) fn expansion_length(rt: &impl Abort, alloc: Global, text: &str) -> String {
-    let mut macros = added(rt, alloc, MACROS);
     let calls = given(rt, "#e()".repeat(alloc, 16383));
-    given(rt, macros.add(b"m", calls.as_bytes()));
-    let found = shown(rt, alloc, text, &macros);
+    let macros = given(
+        rt,
+        format!(in alloc; "{MACROS}m{FIELD_END}{calls}{ROW_END}"),
+    );
+    let found = expansion(rt, alloc, &macros, text);
     if found.starts_with('!') {
         found
     } else {
@@ -223,10 +221,9 @@ static NAMES: [(&str, usize, &str); 3] = [
 // The expansion of a call of a macro whose name has so many bytes.
 fn named_call(rt: &impl Abort, alloc: Global, length: usize) -> String {
     let name = given(rt, "a".repeat(alloc, length));
-    let mut macros = Macros::new(alloc);
-    given(rt, macros.add(name.as_bytes(), b"text"));
+    let macros = given(rt, format!(in alloc; "{name}{FIELD_END}text{ROW_END}"));
     let call = given(rt, format!(in alloc; "#{name}()"));
-    shown(rt, alloc, &call, &macros)
+    expansion(rt, alloc, &macros, &call)
 }
 
 #[test]
@@ -250,11 +247,6 @@ fn the_last_text_added_is_kept(rt: HostRuntime) {
         let text = macros.text_of(name.as_bytes()).unwrap_or(b"none");
         expect(&rt, name, &string_of(&rt, rt.alloc(), text), wanted);
     }
-    let text = "#f() & #g()";
-    expect(
-        &rt,
-        text,
-        &shown(&rt, rt.alloc(), text, &macros),
-        "x=3 & x=2",
-    );
+    let found = expansion(&rt, rt.alloc(), TWICE, "#f() & #g()");
+    expect(&rt, "#f() & #g()", &found, "x=3 & x=2");
 }

@@ -3,13 +3,12 @@
 
 use crate::answers::{Asked, Repeated, expect_answers, expect_long, expect_repeated};
 use crate::given::given;
-use crate::headers::headers;
 use crate::long_texts::repeated;
 use crate::text_rows::table;
 use crate::written::Written;
 use formula_parse::tree::Formula;
 use formula_resolve::{
-    File, ResolveFault, Variable, first_files, first_systems, mentions, resolve,
+    File, Headers, ResolveFault, Variable, first_files, first_systems, mentions, resolve,
 };
 use std::alloc::{AllocError, Global};
 use std::process::Abort;
@@ -177,10 +176,14 @@ fn line_of(alloc: Global, fault: &ResolveFault) -> Result<String, AllocError> {
     }
 }
 
-// The resolution of a formula over the names in the rows, or its fault.
-pub(crate) fn resolution_of(rt: &impl Abort, alloc: Global, formula: &Formula) -> String {
-    let headers = headers(rt, alloc);
-    match resolve(alloc, formula, &headers) {
+// The resolution of a formula, or its fault.
+pub(crate) fn resolution_of(
+    rt: &impl Abort,
+    alloc: Global,
+    formula: &Formula,
+    headers: &Headers,
+) -> String {
+    match resolve(alloc, formula, headers) {
         Ok(resolved) => written(rt, alloc, &resolved.variables),
         Err(fault) => given(rt, line_of(alloc, &fault)),
     }
@@ -212,8 +215,9 @@ fn a_nested_text_of_65536_bytes_is_resolved(rt: HostRuntime) {
 // The files that a formula mentions, each once, an automaton with `$` before its name.
 pub(crate) fn files_in(rt: &impl Abort, alloc: Global, formula: &Formula) -> String {
     let mentioned = given(rt, mentions(alloc, formula));
+    let files = given(rt, first_files(alloc, &mentioned));
     let mut out = Written::new(alloc);
-    for file in &given(rt, first_files(alloc, &mentioned)) {
+    for file in &files {
         match file {
             File::Automaton(name) => {
                 out.put_next(" ", "$");
@@ -226,10 +230,16 @@ pub(crate) fn files_in(rt: &impl Abort, alloc: Global, formula: &Formula) -> Str
 }
 
 // The systems that a formula mentions, each once.
-pub(crate) fn systems_in(rt: &impl Abort, alloc: Global, formula: &Formula) -> String {
+pub(crate) fn systems_in(
+    rt: &impl Abort,
+    alloc: Global,
+    formula: &Formula,
+    headers: &Headers,
+) -> String {
     let mentioned = given(rt, mentions(alloc, formula));
+    let systems = given(rt, first_systems(alloc, &mentioned, headers));
     let mut out = Written::new(alloc);
-    for system in &given(rt, first_systems(alloc, &mentioned, &headers(rt, alloc))) {
+    for system in &systems {
         out.put_next(" ", system.as_str());
     }
     out.whole(rt)

@@ -14,9 +14,9 @@ pub(crate) use table;
 pub const ROW_END: char = '\u{1e}';
 
 /// What stands between the fields of a row.
-const FIELD_END: char = '\u{1f}';
+pub const FIELD_END: char = '\u{1f}';
 
-/// The first field of a row, and those after it.
+/// The last field of a row, after those before it.
 pub fn fields_of(row: &str) -> (&str, &str) {
-    row.split_once(FIELD_END).unwrap_or((row, ""))
+    row.rsplit_once(FIELD_END).unwrap_or((row, ""))
 }

@@ -1,6 +1,6 @@
 //! Formulas, and the numbers for which they are true, worked by arithmetic.
 
-use crate::answers::expect_true;
+use crate::answers::{Asked, expect_answers};
 use crate::given::given;
 use crate::text_rows::table;
 use crate::written::Written;
@@ -193,20 +193,20 @@ pub(crate) fn true_of(
 
 #[test]
 fn comparisons_of_terms_are_true_of_these_numbers(rt: HostRuntime) {
-    expect_true(&rt, rt.alloc(), TERMS);
+    expect_answers(&rt, rt.alloc(), Asked::Numbers, TERMS);
 }
 
 #[test]
 fn chains_are_true_of_these_numbers(rt: HostRuntime) {
-    expect_true(&rt, rt.alloc(), CONNECTIVES);
+    expect_answers(&rt, rt.alloc(), Asked::Numbers, CONNECTIVES);
 }
 
 #[test]
 fn quantified_formulas_are_true_of_these_numbers(rt: HostRuntime) {
-    expect_true(&rt, rt.alloc(), QUANTIFIERS);
+    expect_answers(&rt, rt.alloc(), Asked::Numbers, QUANTIFIERS);
 }
 
 #[test]
 fn names_without_meaning_are_true_of_these_numbers(rt: HostRuntime) {
-    expect_true(&rt, rt.alloc(), NAMES);
+    expect_answers(&rt, rt.alloc(), Asked::Numbers, NAMES);
 }
