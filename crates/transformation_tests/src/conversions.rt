@@ -115,11 +115,12 @@ fn letters_after(
     rt: &impl Abort,
     alloc: Global,
     word: &Word,
-    (first, second): (BaseK, BaseK),
+    bases: (BaseK, BaseK),
     steps: &mut Steps,
 ) -> Result<String, StepFault>
     requires { (k : ℕ) × (systems_of word.now.systems ≡ base k ∷ []) }
 {
+    let (first, second) = bases;
     let between = converted(rt, alloc, word, first, steps)?;
     let mut letters = letters_of(rt, alloc, &between, first);
     let last = converted(rt, alloc, &between, second, steps)?;
