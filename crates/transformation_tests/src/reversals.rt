@@ -1,22 +1,12 @@
 //! Words read from their other end: the widths, tables and letters, worked by hand.
 
-use crate::fixed_words::{DOUBLING, THUE_MORSE, fixed_word};
+use crate::fixed_words::{Change, DOUBLING, THUE_MORSE, changed, fixed_word};
 use crate::given::{given, no_answer};
-use crate::outcomes::{expect, made_text, table_of};
+use crate::outcomes::{expect, table_of};
 use class_reversal::reversal::reverse_classes;
 use digit_tuple::limit::Limit;
-use digit_tuple::steps::Steps;
-use letter_reversal::letter_reversal::reverse_letters;
 use std::alloc::Global;
 use std::process::Abort;
-
-// The lines of steps and the function that they make, or the lines and the fault.
-fn reversed(rt: &impl Abort, alloc: Global, rules: &str, limit: u32) -> String {
-    let word = fixed_word(rt, alloc, rules);
-    let mut steps = Steps::new(alloc, limit);
-    let made = reverse_letters(alloc, word.function(), &mut steps);
-    made_text(rt, alloc, &steps, &made)
-}
 
 // The parity of all ones is that of the reversed word; that of the last ones needs two states until the first zero, and two after.
 static REVERSED: [(&str, &str, u32, &str); 5] = [
@@ -40,27 +30,17 @@ static REVERSED: [(&str, &str, u32, &str); 5] = [
 #[test]
 fn reversed_letters_are_those_worked_out(rt: HostRuntime) {
     for (row, rules, limit, wanted) in &REVERSED {
-        expect(&rt, row, &reversed(&rt, rt.alloc(), rules, *limit), wanted);
+        let found = changed(&rt, rt.alloc(), Change::Reversed, rules, *limit);
+        expect(&rt, row, &found, wanted);
     }
 }
 
 // There and back: the state after a zero is the first one, and after a one the other, if it was the first.
 #[test]
 fn a_function_is_the_reversal_of_its_reversal(rt: HostRuntime) {
-    let word = fixed_word(&rt, rt.alloc(), DOUBLING);
-    let mut steps = Steps::new(rt.alloc(), 4);
-    let there = given(
-        &rt,
-        reverse_letters(rt.alloc(), word.function(), &mut steps),
-    );
-    let back = reverse_letters(rt.alloc(), &there, &mut steps);
+    let found = changed(&rt, rt.alloc(), Change::ReversedTwice, DOUBLING, 4);
     let wanted = "reverse 4 4, reverse 2 2, /! 0>0 1>1/! 0>0 1>0 = 0 1";
-    expect(
-        &rt,
-        "doubling",
-        &made_text(&rt, rt.alloc(), &steps, &back),
-        wanted,
-    );
+    expect(&rt, "doubling", &found, wanted);
 }
 
 // The width, the table and the classes of the reversal of these classes of a fixed point's states, or the fault.

@@ -1,23 +1,9 @@
 //! Words that transducers make, the least digit first: the widths, tables and letters, from an independent program.
 
-use crate::fixed_words::fixed_word;
+use crate::fixed_words::{Change, changed};
 use crate::given::given;
-use crate::outcomes::{expect, made_text};
+use crate::outcomes::expect;
 use crate::text_rows::{ROW_END, fields_of, table};
-use crate::transducer_files::made_of;
-use digit_tuple::steps::Steps;
-use std::alloc::Global;
-use std::process::Abort;
-use word_transduce::transduction::transduce;
-
-// The line of the step and the function that it makes, or the fault.
-fn transduced(rt: &impl Abort, alloc: Global, text: &str, rules: &str, limit: u32) -> String {
-    let transducer = given(rt, made_of(alloc, text));
-    let word = fixed_word(rt, alloc, rules);
-    let mut steps = Steps::new(alloc, limit);
-    let made = transduce(alloc, &transducer, word.function(), &mut steps);
-    made_text(rt, alloc, &steps, &made)
-}
 
 // A row's name, a transducer, the rules of a fixed point, a limit, and what is given. Each step has its width as limit, and one
 // less.
@@ -116,7 +102,8 @@ fn transduced_letters_are_those_of_another_program(rt: HostRuntime) {
         let (rules, row) = fields_of(row);
         let (limit, wanted) = fields_of(row);
         let limit = given(&rt, limit.parse());
-        let found = transduced(&rt, rt.alloc(), text, rules, limit);
+        let change = Change::Transduced(text);
+        let found = changed(&rt, rt.alloc(), change, rules, limit);
         expect(&rt, name, &found, wanted);
     }
 }
