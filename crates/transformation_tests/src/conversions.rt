@@ -13,6 +13,7 @@ use base_change::conversion::convert;
 use base_change::related::related;
 use base_k::base_k::{BaseK, GREATEST_BASE, LEAST_BASE};
 use digit_tuple::direction::Direction;
+use digit_tuple::faults::OpFault;
 use digit_tuple::limit::Limit;
 use digit_tuple::step_fault::StepFault;
 use digit_tuple::steps::Steps;
@@ -42,11 +43,11 @@ fn base_of(rt: &impl Abort, alloc: Global, word: &Word) -> u32
 }
 
 // The system of a base, sealed.
-fn sealed(rt: &impl Abort, alloc: Global, to: BaseK) -> Rc<System>
-    ensures { system_of (rc_value result) ≡ base to.base }
+fn sealed(alloc: Global, to: BaseK) -> Result<Rc<System>, OpFault>
+    ensures { IfOk result (λ system. system_of (rc_value system) ≡ base to.base) }
 {
-    let system = given(rt, seal(alloc, &to, Limit::new(SEALING)));
-    given(rt, Rc::new(alloc, system))
+    let system = seal(alloc, &to, Limit::new(SEALING))?;
+    Ok(Rc::new(alloc, system)?)
 }
 
 // The word over another base.
@@ -61,7 +62,9 @@ fn converted(
     ensures { IfOk result (λ made. (k : ℕ) × (systems_of made.systems ≡ base k ∷ [])) }
 {
     let old = base_of(rt, alloc, word);
-    let system = sealed(rt, alloc, to);
+    let Ok(system) = sealed(alloc, to) else {
+        no_answer(rt);
+    };
     if old < LEAST_BASE || GREATEST_BASE < old {
         no_answer(rt);
     }
