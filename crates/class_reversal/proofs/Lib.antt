@@ -4,3 +4,4 @@ pub mod TargetLemmas
 pub mod BackwardLemmas
 pub mod ReversalLemmas
 pub mod SameFunctions
+pub mod FaultLemmas

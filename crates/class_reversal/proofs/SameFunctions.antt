@@ -5,7 +5,7 @@ use Rattle.digit_tuple.specs.Letters.{IsWord, product}
 use Rattle.digit_tuple.proofs.PaddingLemmas.{IsWord-reverse}
 use Rattle.digit_tuple.proofs.WordLemmas.{IsWord-append}
 use Rattle.residual_classes.specs.ClassFunctions.{SameClassFunction}
-use Rattle.class_reversal.specs.ReversedClasses.{SameReversedClassAfter}
+use Rattle.class_reversal.specs.ReversedClasses.{GivesReversedClasses, SameReversedClassAfter}
 
 module _ (d e : Automaton) (classes ones : List ℕ) (sizes : e.sizes ≡ d.sizes) (same : SameClassFunction d classes e ones) (w v : List ℕ) (over : IsWord (letters_of d) w) (there : IsWord (letters_of d) v) where
   reversed_over : (w u : List ℕ) → IsWord (letters_of d) w → IsWord (letters_of d) u → IsWord (letters_of d) (reverse (w ++ u))
@@ -24,3 +24,8 @@ module _ (d e : Automaton) (classes ones : List ℕ) (sizes : e.sizes ≡ d.size
       sym (same (reverse (w ++ u)) (reversed_over w u over here))
       ∙ alike u here
       ∙ same (reverse (v ++ u)) (reversed_over v u there here)
+
+-- what gives the reversed words of the one their classes gives them to those of the other
+pub gives_reversed : (d e f : Automaton) (classes ones others : List ℕ) → e.sizes ≡ d.sizes → SameClassFunction d classes e ones → GivesReversedClasses e ones f others → GivesReversedClasses d classes f others
+gives_reversed d e f classes ones others sizes same gives w over =
+    gives w (subst (λ (ss : List ℕ). IsWord (product ss) w) (sym sizes) over) ∙ sym (same (reverse w) (IsWord-reverse (letters_of d) w over))

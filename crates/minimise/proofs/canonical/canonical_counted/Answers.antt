@@ -1,6 +1,7 @@
 use Rattle.std.proofs.Common.{List, ℕ, length, ap, ◌∙◌, subst}
 use Rattle.residual_classes.specs.ClassFunctions.{SameClassFunction}
 use Rattle.minimise.proofs.BitLemmas.{length-bits, SameLanguage-bits, IsCanonical-bits}
+use Rattle.std.proofs.lemmas.Result.{IfOk-from_err}
 use Rattle.minimise.proofs.canonical.canonical_counted.Goals as goal
 
 pub canonical_classes_counted-requires : goal.canonical_classes_counted-requires
@@ -21,3 +22,30 @@ returns-clause-canonical g c =
     let outputs = c.in_ok-minimal.field-0-1.items in
     let same = subst (λ (os : List ℕ). SameClassFunction d os minimal outputs) (c.deref.ensures.value ∙ c.in_ok-outputs.ensures) c.in_ok-minimal.ensures.function in
     IsCanonical-bits d minimal outputs c.in_ok-minimal.ensures.sizes same c.in_ok-minimal.ensures.canonical
+
+pub returns-in_err-outputs-clause-sizes : goal.returns-in_err-outputs-clause-sizes
+returns-in_err-outputs-clause-sizes g c = IfOk-from_err c.from_residual.result _ c.from_residual.ensures.0
+
+pub returns-in_err-outputs-clause-language : goal.returns-in_err-outputs-clause-language
+returns-in_err-outputs-clause-language g c = IfOk-from_err c.from_residual.result _ c.from_residual.ensures.0
+
+pub returns-in_err-outputs-clause-canonical : goal.returns-in_err-outputs-clause-canonical
+returns-in_err-outputs-clause-canonical g c = IfOk-from_err c.from_residual.result _ c.from_residual.ensures.0
+
+pub returns-in_err-minimal-clause-sizes : goal.returns-in_err-minimal-clause-sizes
+returns-in_err-minimal-clause-sizes g c = IfOk-from_err c.from_residual-in_err-minimal.result _ c.from_residual-in_err-minimal.ensures.0
+
+pub returns-in_err-minimal-clause-language : goal.returns-in_err-minimal-clause-language
+returns-in_err-minimal-clause-language g c = IfOk-from_err c.from_residual-in_err-minimal.result _ c.from_residual-in_err-minimal.ensures.0
+
+pub returns-in_err-minimal-clause-canonical : goal.returns-in_err-minimal-clause-canonical
+returns-in_err-minimal-clause-canonical g c = IfOk-from_err c.from_residual-in_err-minimal.result _ c.from_residual-in_err-minimal.ensures.0
+
+pub returns-clause-sizes : goal.returns-clause-sizes
+returns-clause-sizes g c = c.in_ok-minimal.ensures.sizes
+
+pub returns-in_err-minimal-clause-looks : goal.returns-in_err-minimal-clause-looks
+returns-in_err-minimal-clause-looks g c = c.canonical_classes_counted.ensures.looks
+
+pub returns-clause-looks : goal.returns-clause-looks
+returns-clause-looks g c = c.canonical_classes_counted.ensures.looks

@@ -8,6 +8,7 @@ use Rattle.residual_classes.specs.CoarseClasses.{AreResidualClasses}
 use Rattle.residual_classes.specs.Leaders.{AreAlone}
 use Rattle.minimise.proofs.BitLemmas.{SameLanguage-bits, IsCanonical-bits}
 use Rattle.minimise.proofs.MinimalLemmas.{IsCanonical-alone}
+use Rattle.std.proofs.lemmas.Result.{IfOk-from_err}
 use Rattle.minimise.proofs.canonical.minimal_unless_canonical.Goals as goal
 
 pub returns-then-branch-clause-canonical : goal.returns-then-branch-clause-canonical
@@ -50,3 +51,63 @@ minimal-requires-clause-classes c = subst (AreResidualClasses c.args.d.now c.der
 
 pub returns-clause-sizes : goal.returns-clause-sizes
 returns-clause-sizes c = c.in_ok-minimal.ensures.sizes
+
+pub returns-in_err-outputs-clause-sizes : goal.returns-in_err-outputs-clause-sizes
+returns-in_err-outputs-clause-sizes c = IfOk-from_err c.from_residual.result _ c.from_residual.ensures.0
+
+pub returns-in_err-outputs-clause-language : goal.returns-in_err-outputs-clause-language
+returns-in_err-outputs-clause-language c = IfOk-from_err c.from_residual.result _ c.from_residual.ensures.0
+
+pub returns-in_err-outputs-clause-minimal : goal.returns-in_err-outputs-clause-minimal
+returns-in_err-outputs-clause-minimal c = IfOk-from_err c.from_residual.result _ c.from_residual.ensures.0
+
+pub returns-in_err-outputs-clause-canonical : goal.returns-in_err-outputs-clause-canonical
+returns-in_err-outputs-clause-canonical c = IfOk-from_err c.from_residual.result _ c.from_residual.ensures.0
+
+pub returns-in_err-classes-clause-sizes : goal.returns-in_err-classes-clause-sizes
+returns-in_err-classes-clause-sizes c = IfOk-from_err c.from_residual-in_err-classes.result _ c.from_residual-in_err-classes.ensures.0
+
+pub returns-in_err-classes-clause-language : goal.returns-in_err-classes-clause-language
+returns-in_err-classes-clause-language c = IfOk-from_err c.from_residual-in_err-classes.result _ c.from_residual-in_err-classes.ensures.0
+
+pub returns-in_err-classes-clause-minimal : goal.returns-in_err-classes-clause-minimal
+returns-in_err-classes-clause-minimal c = IfOk-from_err c.from_residual-in_err-classes.result _ c.from_residual-in_err-classes.ensures.0
+
+pub returns-in_err-classes-clause-canonical : goal.returns-in_err-classes-clause-canonical
+returns-in_err-classes-clause-canonical c = IfOk-from_err c.from_residual-in_err-classes.result _ c.from_residual-in_err-classes.ensures.0
+
+pub returns-in_err-are_alone-clause-sizes : goal.returns-in_err-are_alone-clause-sizes
+returns-in_err-are_alone-clause-sizes c = IfOk-from_err c.from_residual-in_err-are_alone.result _ c.from_residual-in_err-are_alone.ensures.0
+
+pub returns-in_err-are_alone-clause-language : goal.returns-in_err-are_alone-clause-language
+returns-in_err-are_alone-clause-language c = IfOk-from_err c.from_residual-in_err-are_alone.result _ c.from_residual-in_err-are_alone.ensures.0
+
+pub returns-in_err-are_alone-clause-minimal : goal.returns-in_err-are_alone-clause-minimal
+returns-in_err-are_alone-clause-minimal c = IfOk-from_err c.from_residual-in_err-are_alone.result _ c.from_residual-in_err-are_alone.ensures.0
+
+pub returns-in_err-are_alone-clause-canonical : goal.returns-in_err-are_alone-clause-canonical
+returns-in_err-are_alone-clause-canonical c = IfOk-from_err c.from_residual-in_err-are_alone.result _ c.from_residual-in_err-are_alone.ensures.0
+
+pub returns-in_err-minimal-clause-sizes : goal.returns-in_err-minimal-clause-sizes
+returns-in_err-minimal-clause-sizes c = IfOk-from_err c.from_residual-in_err-minimal.result _ c.from_residual-in_err-minimal.ensures.0
+
+pub returns-in_err-minimal-clause-language : goal.returns-in_err-minimal-clause-language
+returns-in_err-minimal-clause-language c = IfOk-from_err c.from_residual-in_err-minimal.result _ c.from_residual-in_err-minimal.ensures.0
+
+pub returns-in_err-minimal-clause-minimal : goal.returns-in_err-minimal-clause-minimal
+returns-in_err-minimal-clause-minimal c = IfOk-from_err c.from_residual-in_err-minimal.result _ c.from_residual-in_err-minimal.ensures.0
+
+pub returns-in_err-minimal-clause-canonical : goal.returns-in_err-minimal-clause-canonical
+returns-in_err-minimal-clause-canonical c = IfOk-from_err c.from_residual-in_err-minimal.result _ c.from_residual-in_err-minimal.ensures.0
+
+pub returns-then-branch-clause-sizes : goal.returns-then-branch-clause-sizes
+returns-then-branch-clause-sizes c = tt
+
+pub returns-then-branch-clause-language : goal.returns-then-branch-clause-language
+returns-then-branch-clause-language c = tt
+
+pub returns-then-branch-clause-minimal : goal.returns-then-branch-clause-minimal
+returns-then-branch-clause-minimal c = tt
+
+pub returns-clause-canonical : goal.returns-clause-canonical
+returns-clause-canonical c = tt

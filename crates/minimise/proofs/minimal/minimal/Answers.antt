@@ -1,7 +1,9 @@
-use Rattle.std.proofs.Common.{List, ℕ, ◌∙◌, sym, subst, arith}
+use Rattle.std.proofs.Common.{List, ℕ, ◌∙◌, sym, ap, subst, arith}
 use Rattle.residual_classes.specs.ClassFunctions.{SameClassFunction}
 use Rattle.minimise.specs.Canonical.{IsCanonicalWithClasses}
 use Rattle.minimise.proofs.QuotientLemmas.{IsQuotient-read, SameClassFunction-explored, IsCanonical-explored}
+use Rattle.std.proofs.lemmas.Result.{IfOk-from_err}
+use Rattle.digit_tuple.specs.Letters.{product}
 use Rattle.minimise.proofs.minimal.minimal.Goals as goal
 
 pub returns-in-Ok-clause-function : goal.returns-in-Ok-clause-function
@@ -42,3 +44,36 @@ outputs_of-requires-clause-graph c = IsQuotient-read c.args.machine.now.dfa.now 
 
 pub outputs_of-requires-clause-keys : goal.outputs_of-requires-clause-keys
 outputs_of-requires-clause-keys c = c.in-Ok.ensures.keys
+
+pub returns-in_err-alphabet-clause-sizes : goal.returns-in_err-alphabet-clause-sizes
+returns-in_err-alphabet-clause-sizes c = IfOk-from_err c.from_residual.result _ c.from_residual.ensures.0
+
+pub returns-in_err-alphabet-clause-function : goal.returns-in_err-alphabet-clause-function
+returns-in_err-alphabet-clause-function c = IfOk-from_err c.from_residual.result _ c.from_residual.ensures.0
+
+pub returns-in_err-alphabet-clause-canonical : goal.returns-in_err-alphabet-clause-canonical
+returns-in_err-alphabet-clause-canonical c = IfOk-from_err c.from_residual.result _ c.from_residual.ensures.0
+
+pub returns-in_err-leaders-clause-sizes : goal.returns-in_err-leaders-clause-sizes
+returns-in_err-leaders-clause-sizes c = IfOk-from_err c.from_residual-in_err-leaders.result _ c.from_residual-in_err-leaders.ensures.0
+
+pub returns-in_err-leaders-clause-function : goal.returns-in_err-leaders-clause-function
+returns-in_err-leaders-clause-function c = IfOk-from_err c.from_residual-in_err-leaders.result _ c.from_residual-in_err-leaders.ensures.0
+
+pub returns-in_err-leaders-clause-canonical : goal.returns-in_err-leaders-clause-canonical
+returns-in_err-leaders-clause-canonical c = IfOk-from_err c.from_residual-in_err-leaders.result _ c.from_residual-in_err-leaders.ensures.0
+
+pub explore_keys-requires-clause-letters : goal.explore_keys-requires-clause-letters
+explore_keys-requires-clause-letters c = sym (ap product (c.in_ok-alphabet.ensures ∙ c.alphabet.ensures.sizes))
+
+pub returns-in_err-outputs-in-Ok-clause-sizes : goal.returns-in_err-outputs-in-Ok-clause-sizes
+returns-in_err-outputs-in-Ok-clause-sizes c = IfOk-from_err c.from_residual-in_err-outputs-in-Ok.result _ c.from_residual-in_err-outputs-in-Ok.ensures.0
+
+pub returns-in_err-outputs-in-Ok-clause-function : goal.returns-in_err-outputs-in-Ok-clause-function
+returns-in_err-outputs-in-Ok-clause-function c = IfOk-from_err c.from_residual-in_err-outputs-in-Ok.result _ c.from_residual-in_err-outputs-in-Ok.ensures.0
+
+pub returns-in_err-outputs-in-Ok-clause-canonical : goal.returns-in_err-outputs-in-Ok-clause-canonical
+returns-in_err-outputs-in-Ok-clause-canonical c = IfOk-from_err c.from_residual-in_err-outputs-in-Ok.result _ c.from_residual-in_err-outputs-in-Ok.ensures.0
+
+pub returns-in-Ok-clause-sizes : goal.returns-in-Ok-clause-sizes
+returns-in-Ok-clause-sizes c = c.in-Ok.ensures.sizes ∙ c.in_ok-alphabet.ensures ∙ c.alphabet.ensures.sizes
