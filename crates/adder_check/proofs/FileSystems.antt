@@ -1,6 +1,6 @@
 -- The system of a language's file, and its first law that does not hold.
 use Rattle.std.proofs.Common.{◌≡◌, ℕ, zero, suc, ◌<◌, Bool, List, [], ◌∷◌, get_or, ◌↔◌, IsTrue, refl, sym, ap, ◌∙◌, subst, arith, Result, Err, MatchResult}
-use Rattle.std.specs.Prelude.{⊤}
+use Rattle.std.specs.Prelude.{⊤, slice_index_or}
 use Rattle.digit_tuple.specs.Automaton.{Branching, Accepts}
 use Rattle.digit_tuple.specs.Automaton as branching
 use Rattle.digit_tuple.specs.Deterministic.{Automaton, letters_of}
@@ -14,7 +14,7 @@ use Rattle.numeration.specs.Relations.{IsLanguageOf, IsZeroOf, IsEqualityOf}
 use Rattle.numeration.specs.SomeTracks.{system_at}
 use Rattle.numeration.specs.Representation.{sizes_of}
 use Rattle.num_system.specs.Joined.{AreLanguagesOf}
-use Rattle.product_op.specs.Validity.{language_at}
+use Rattle.product_op.specs.Validity.{AreLanguages, language_at}
 use Rattle.digit_tuple.proofs.PaddingLemmas.{in_order-twice}
 use Rattle.adder_check.specs.declared.admit_fault.AdmitFault.{AdmitFault}
 use Rattle.adder_check.specs.declared.admit_fault.AdmitFault.TheVariants as faults
@@ -107,6 +107,15 @@ three_languages direction d k one = record { count = refl; each = each }
     each zero within = own_language direction d k one
     each (suc zero) within = own_language direction d k one
     each (suc (suc zero)) within = own_language direction d k one
+    each (suc (suc (suc i))) within = absurd (omega (arith, within))
+
+pub three_canonical : (d : Automaton) (k : ℕ) (ns : List ℕ) → IsCanonical d → d.sizes ≡ k ∷ [] → ns ≡ k ∷ k ∷ k ∷ [] → AreLanguages ns (d ∷ d ∷ d ∷ [])
+three_canonical d k ns canonical one three = subst (λ (ms : List ℕ). AreLanguages ms (d ∷ d ∷ d ∷ [])) (sym three) (record { count = refl; each = each })
+  where
+    each : (i : ℕ) → i < 3 → IsCanonical (language_at (d ∷ d ∷ d ∷ []) i) × ((language_at (d ∷ d ∷ d ∷ []) i).sizes ≡ slice_index_or (k ∷ k ∷ k ∷ []) i 0 ∷ [])
+    each zero within = (canonical, one)
+    each (suc zero) within = (canonical, one)
+    each (suc (suc zero)) within = (canonical, one)
     each (suc (suc (suc i))) within = absurd (omega (arith, within))
 
 pub three_same : (a b c d : Automaton) → a ≡ d → b ≡ d → c ≡ d → a ∷ b ∷ c ∷ [] ≡ d ∷ d ∷ d ∷ []

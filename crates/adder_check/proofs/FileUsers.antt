@@ -1,10 +1,12 @@
 -- What the automata of two files make.
-use Rattle.std.proofs.Common.{◌≡◌, ℕ, ◌*◌, Bool, true, false, List, [], ◌∷◌, get_or, IsTrue, sym, ap, ◌∙◌, subst, arith, Result, Ok, Err}
+use Rattle.std.proofs.Common.{◌≡◌, ℕ, ◌*◌, Bool, true, false, List, [], ◌∷◌, get_or, IsTrue, sym, ap, ◌∙◌, subst, arith, Result, Ok, Err, MatchResult}
 use Rattle.digit_tuple.specs.Automaton.{Branching}
 use Rattle.digit_tuple.specs.Deterministic.{Automaton}
 use Rattle.digit_tuple.specs.Letters.{product}
 use Rattle.digit_tuple.specs.Steps.{StepLog}
 use Rattle.digit_tuple.specs.declared.direction.Direction.{Direction}
+use Rattle.digit_tuple.specs.declared.step_fault.StepFault.{StepFault}
+use Rattle.digit_tuple.specs.declared.step_fault.StepFault.TheVariants as steps
 use Rattle.numeration.specs.Systems.{System, IsSystem}
 use Rattle.numeration.specs.Relations.{HoldsOf, IsAdderOf}
 use Rattle.num_system.specs.Links.{Passes}
@@ -14,6 +16,7 @@ use Rattle.adder_check.specs.declared.admit_fault.Law.{Law}
 use Rattle.adder_check.specs.AdderLaws.{ZeroLaw, SuccessorLaw, IsAddition}
 use Rattle.adder_check.specs.AdderRelation.{HoldsInFile, adds_in_file, three_of}
 use Rattle.adder_check.specs.Admission.{Where, IsSystemOfFile, IsFirstAdderFault, IsFirstFault, IsFirstFaultOfFiles}
+use Rattle.adder_check.specs.Faults.{fault_of}
 use Rattle.endless.specs.LanguageLaws.{system_in, system_of}
 use Rattle.adder_check.specs.LanguageSteps.{IsOfFile}
 use Rattle.adder_check.proofs.AdditionLemmas.{laws_are_addition}
@@ -27,6 +30,27 @@ where_holds {B = B} b law next old new r is does = subst (λ (c : Bool). Where {
 pub where_fails : {B : Type 0} (b : Bool) (law : Law) (next : StepLog → Result B AdmitFault → StepLog → Type 0) (old new : StepLog) (r : Result B AdmitFault) → b ≡ false → r ≡ Err (faults.NotAdmitted law) → new ≡ old
     → Where b law next old r new
 where_fails {B = B} b law next old new r is answer same = subst (λ (c : Bool). Where {B = B} c law next old r new) (sym is) (answer, same)
+
+-- a fault of a step says nothing of the laws
+silent : (adds : ℕ → ℕ → ℕ → Type 0) (fault : StepFault) → IsFirstAdderFault adds (fault_of fault)
+silent adds (steps.Letters step) = tt
+silent adds (steps.States step) = tt
+silent adds steps.Memory = tt
+
+pub step_refused : {A : Type 0} (P : A → Type 0) (adds : ℕ → ℕ → ℕ → Type 0) (r : Result A AdmitFault) (fault : StepFault) → r ≡ Err (fault_of fault) → MatchResult r P (IsFirstAdderFault adds)
+step_refused {A = A} P adds r fault is = subst (λ (x : Result A AdmitFault). MatchResult x P (IsFirstAdderFault adds)) (sym is) (silent adds fault)
+
+pub silent_of_files : (direction : Direction) (listed adder : Branching) (reversed : Bool) (fault : StepFault) → IsFirstFaultOfFiles direction listed adder reversed (fault_of fault)
+silent_of_files direction listed adder reversed (steps.Letters step) = λ s of. tt
+silent_of_files direction listed adder reversed (steps.States step) = λ s of. tt
+silent_of_files direction listed adder reversed steps.Memory = λ s of. tt
+
+-- automata over two and over three tracks of the language's size
+pub two_tracks : (language next : Automaton) (k : ℕ) → language.sizes ≡ k ∷ [] → next.sizes ≡ get_or language.sizes 0 0 ∷ get_or language.sizes 0 0 ∷ [] → next.sizes ≡ k ∷ k ∷ []
+two_tracks language next k one two = two ∙ ap (λ (ns : List ℕ). get_or ns 0 0 ∷ get_or ns 0 0 ∷ []) one
+
+pub three_tracks : (language adder : Automaton) (k : ℕ) → language.sizes ≡ k ∷ [] → adder.sizes ≡ get_or language.sizes 0 0 ∷ get_or language.sizes 0 0 ∷ get_or language.sizes 0 0 ∷ [] → adder.sizes ≡ k ∷ k ∷ k ∷ []
+three_tracks language adder k one three = three ∙ ap (λ (ns : List ℕ). get_or ns 0 0 ∷ get_or ns 0 0 ∷ get_or ns 0 0 ∷ []) one
 
 -- the number of letters of one track
 pub letters_are : (d : Automaton) (k n : ℕ) (ns : List ℕ) → d.sizes ≡ k ∷ [] → ns ≡ d.sizes → n ≡ product ns → n ≡ get_or d.sizes 0 0

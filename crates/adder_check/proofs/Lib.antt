@@ -2,6 +2,7 @@ pub mod AdditionLemmas
 pub mod SystemLemmas
 pub mod FileLemmas
 pub mod PlanLemmas
+pub mod BothSteps
 pub mod AdderLemmas
 pub mod SameHolds
 pub mod ZeroSumLemmas

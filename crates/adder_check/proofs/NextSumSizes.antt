@@ -18,15 +18,19 @@ use Rattle.adder_check.specs.AdderRelation.{name_z}
 use Rattle.adder_check.specs.NextSums.{sum_on, name_v, name_w}
 
 -- on tracks of one size each name has that size
-size_is : (t : NamedAutomaton) (d : ℕ) (name : List ℕ) → ((p : ℕ) → p < length t.names → get_or t.automaton.sizes p 0 ≡ d) → Contains t.names name → size_of t name ≡ d
+pub size_is : (t : NamedAutomaton) (d : ℕ) (name : List ℕ) → ((p : ℕ) → p < length t.names → get_or t.automaton.sizes p 0 ≡ d) → Contains t.names name → size_of t name ≡ d
 size_is t d name each found = each (place_of t.names name) (place_of-contained t.names name found).0
+
+pub in_one : (d p : ℕ) → p < 1 → get_or (d ∷ []) p 0 ≡ d
+in_one d zero within = refl
+in_one d (suc p) within = absurd (omega (arith, within))
 
 in_two : (d p : ℕ) → p < 2 → get_or (d ∷ d ∷ []) p 0 ≡ d
 in_two d zero within = refl
 in_two d (suc zero) within = refl
 in_two d (suc (suc p)) within = absurd (omega (arith, within))
 
-in_three : (d p : ℕ) → p < 3 → get_or (d ∷ d ∷ d ∷ []) p 0 ≡ d
+pub in_three : (d p : ℕ) → p < 3 → get_or (d ∷ d ∷ d ∷ []) p 0 ≡ d
 in_three d zero within = refl
 in_three d (suc zero) within = refl
 in_three d (suc (suc zero)) within = refl

@@ -1,5 +1,6 @@
 -- The sums of numbers with 0, and the law of zero.
-use Rattle.std.proofs.Common.{◌≡◌, ℕ, max, Bool, List, [], ◌∷◌, ◌++◌, length, get_or, ◌↔◌, IsTrue, refl, sym, ap, ◌∙◌, subst, arith}
+use Rattle.std.proofs.Common.{◌≡◌, ℕ, max, Bool, List, [], ◌∷◌, ◌++◌, length, get_or, ◌<◌, ◌↔◌, IsTrue, refl, sym, ap, ◌∙◌, subst, arith}
+use Rattle.std.specs.List.{Contains}
 use Rattle.std.proofs.lemmas.Bool.{false≢true}
 use Rattle.digit_tuple.specs.Parts.{picked}
 use Rattle.digit_tuple.specs.Deterministic.{Automaton}
@@ -7,7 +8,7 @@ use Rattle.digit_tuple.specs.declared.direction.Direction.{Direction}
 use Rattle.minimise.specs.Residuals.{SameLanguage}
 use Rattle.minimise.specs.Tracked.{NamedAutomaton}
 use Rattle.product_op.specs.declared.op.Op.TheVariants.{And}
-use Rattle.product_op.specs.Tracks.{joint_sizes}
+use Rattle.product_op.specs.Tracks.{AgreeOnShared, joint_sizes}
 use Rattle.pad_rename.specs.StayingTracks.{staying_sizes}
 use Rattle.numeration.specs.Systems.{System, IsSystem}
 use Rattle.numeration.specs.Relations.{HoldsOf, IsZero, IsZeroOf, IsEqual, IsEqualityOf}
@@ -24,6 +25,7 @@ use Rattle.automaton_steps.specs.JoinSteps.{IsJoin}
 use Rattle.adder_check.specs.AdderLaws.{ZeroLaw}
 use Rattle.adder_check.specs.AdderRelation.{adder_names, three_of}
 use Rattle.adder_check.specs.ZeroSums.{on_y, IsZeroSum}
+use Rattle.adder_check.proofs.NextSumSizes.{in_one, in_three, size_is}
 use Rattle.adder_check.proofs.SameHolds.{same_holds}
 
 max_zero : (d : ℕ) → max d 0 ∷ max d d ∷ max d 0 ∷ [] ≡ d ∷ d ∷ d ∷ []
@@ -87,6 +89,22 @@ zero_sums_sizes direction a b c sums zero d three one names is join made =
     ∙ ap (λ (n : NamedAutomaton). staying_sizes n name_y) (under_names c adder_names here.names)
     ∙ ap (λ (ns : List ℕ). picked (0 ∷ 2 ∷ []) ns) (here.sizes ∙ zero_sizes a.automaton zero d three one)
     ∙ sym (ap (λ (ns : List ℕ). ns ++ ns) one)
+
+-- the adder and 0 on y agree on the track that they share
+pub zero_agree : (a b : NamedAutomaton) (nothing : Automaton) (d : ℕ) → a.names ≡ adder_names → a.automaton.sizes ≡ d ∷ d ∷ d ∷ [] → nothing.sizes ≡ d ∷ [] → b ≡ on_y nothing → AgreeOnShared a b
+zero_agree a b nothing d names three one is =
+    subst (λ (t : NamedAutomaton). AgreeOnShared a t) (sym is)
+    (λ name found other.
+    size_is a d name (λ p within. ap (λ (ns : List ℕ). get_or ns p 0) three ∙ in_three d p (subst (λ (ns : List (List ℕ)). p < length ns) names within)) found
+    ∙ sym (size_is (on_y nothing) d name (λ p within. ap (λ (ns : List ℕ). get_or ns p 0) one ∙ in_one d p within) other))
+
+-- and this track is one of their product
+pub zero_there : (a b c : NamedAutomaton) (zero : Automaton) → a.names ≡ adder_names → b ≡ on_y zero → IsJoin And [] a b c → Contains c.names name_y
+zero_there a b c zero names is join =
+    let here : IsJoin And [] (record { names = adder_names; automaton = a.automaton }) (on_y zero) c =
+    subst (λ (n : NamedAutomaton). IsJoin And [] n (on_y zero) c) (under_names a adder_names names) (subst (λ (n : NamedAutomaton). IsJoin And [] a n c) is join) in
+    let now : c.names ≡ adder_names = here.names in
+    subst (λ (ns : List (List ℕ)). Contains ns name_y) (sym now) (1, omega arith, refl)
 
 -- pairs determine their numbers
 pair_first : (x z y w : ℕ) → x ∷ z ∷ [] ≡ y ∷ w ∷ [] → x ≡ y

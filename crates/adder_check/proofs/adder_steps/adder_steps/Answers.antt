@@ -1,6 +1,6 @@
 use Rattle.std.proofs.Common.{inl, inr, map, subst}
 use Rattle.std.specs.Rc.{rc_value}
-use Rattle.std.proofs.lemmas.Result.{IfOk-weaker}
+use Rattle.std.proofs.lemmas.Result.{IfOk-weaker, err_from_is_err_and}
 use Rattle.minimise.specs.Tracked.{NamedAutomaton}
 use Rattle.automaton_steps.specs.Makings.{DoesStep}
 use Rattle.automaton_steps.specs.ValiditySteps.{valid_step}
@@ -37,3 +37,15 @@ returns-clause-relation c =
     (λ part valid s system sizes are. adder_holds c.args.direction s system c.args.file.listed.now c.args.file.reversed c.in_ok-read.read c.in_ok-closed.closed part (map rc_value c.args.languages.now) sizes c.in_ok-read.ensures.file
     c.in_ok-closed.ensures.step.made_is valid are)
     (valid_made c.pad_step.new.steps c.valid_step.new.steps (map rc_value c.args.languages.now) c.in_ok-adder.adder (record { names = adder_names; automaton = c.in_ok-closed.closed }) c.valid_step.result c.in_ok-adder.ensures c.valid_step.ensures)
+
+pub returns-in_err-read-clause-steps : goal.returns-in_err-read-clause-steps
+returns-in_err-read-clause-steps c = inr (c.in_err-read.field-0.0, c.in_err-read.ensures.steps, (handed_on _ c.from_residual.result c.from_residual.ensures.1))
+
+pub returns-in_err-read-clause-relation : goal.returns-in_err-read-clause-relation
+returns-in_err-read-clause-relation c = let p = err_from_is_err_and c.from_residual.result c.from_residual.ensures.1 in rw p.1 tt
+
+pub returns-in_err-closed-clause-relation : goal.returns-in_err-closed-clause-relation
+returns-in_err-closed-clause-relation c = let p = err_from_is_err_and c.from_residual-in_err-closed.result c.from_residual-in_err-closed.ensures.1 in rw p.1 tt
+
+pub returns-in_err-adder-clause-relation : goal.returns-in_err-adder-clause-relation
+returns-in_err-adder-clause-relation c = let p = err_from_is_err_and c.from_residual-in_err-adder.result c.from_residual-in_err-adder.ensures.1 in rw p.1 tt

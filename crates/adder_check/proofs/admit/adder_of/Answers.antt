@@ -3,10 +3,11 @@ use Rattle.std.proofs.lemmas.Result.{IfOk-weaker, err_from_is_err_and}
 use Rattle.std.specs.Rc.{rc_value}
 use Rattle.digit_tuple.specs.Deterministic.{Automaton}
 use Rattle.num_system.specs.Joined.{AreLanguagesOf}
+use Rattle.product_op.specs.Validity.{AreLanguages}
 use Rattle.adder_check.specs.AdderRelation.{DoesAdder, three_of}
 use Rattle.endless.specs.LanguageLaws.{system_of}
 use Rattle.adder_check.proofs.AdderLemmas.{adder_out}
-use Rattle.adder_check.proofs.FileSystems.{three_sizes, three_languages, three_same}
+use Rattle.adder_check.proofs.FileSystems.{three_canonical, three_sizes, three_languages, three_same}
 use Rattle.adder_check.proofs.HandedOn.{handed_on}
 use Rattle.adder_check.proofs.admit.adder_of.Goals as goal
 
@@ -83,3 +84,12 @@ returns-in_err-languages-clause-relation c = let p = err_from_is_err_and c.from_
 
 pub adder_steps-requires-clause-tracks : goal.adder_steps-requires-clause-tracks
 adder_steps-requires-clause-tracks c = ap length c.requires.tracks.1
+
+pub adder_steps-requires-clause-languages : goal.adder_steps-requires-clause-languages
+adder_steps-requires-clause-languages c =
+    let d = c.args.language.now in
+    let first : c.in_ok-first.first.value ≡ d = c.in_ok-first.ensures.ok ∙ c.in_ok-copy.ensures in
+    let all : map rc_value c.deref.result.now ≡ d ∷ d ∷ d ∷ [] =
+    ap (map rc_value) (c.deref.ensures.value ∙ c.in_ok-languages.ensures.items)
+    ∙ three_same c.in_ok-first.first.value c.in_ok-second.second.value c.in_ok-third.third.value d first (c.in_ok-second.ensures.cases ∙ first) (c.in_ok-third.ensures.cases ∙ first) in
+    subst (AreLanguages c.args.file.listed.now.sizes) (sym all) (three_canonical d c.requires.tracks.0 c.args.file.listed.now.sizes c.requires.canonical c.requires.tracks.2 c.requires.tracks.1)

@@ -1,9 +1,10 @@
-use Rattle.std.proofs.Common.{inl, inr, refl}
+use Rattle.std.proofs.Common.{inl, inr, refl, ap, length}
+use Rattle.std.proofs.lemmas.Result.{err_from_is_err_and}
 use Rattle.adder_check.specs.Admission.{IsFirstFaultOfFiles}
 use Rattle.adder_check.specs.Faults.{fault_of}
 use Rattle.endless.specs.LanguageLaws.{system_of}
 use Rattle.adder_check.proofs.FileSystems.{own_language, refused_by, sizes_of_one}
-use Rattle.adder_check.proofs.FileUsers.{AreParts, adder_fault, are_parts, letters_are}
+use Rattle.adder_check.proofs.FileUsers.{AreParts, adder_fault, are_parts, letters_are, silent_of_files, three_tracks}
 use Rattle.adder_check.proofs.HandedOn.{handed_on}
 use Rattle.adder_check.proofs.admit.admit.Goals as goal
 
@@ -108,3 +109,39 @@ returns-clause-admitted c =
     c.in_ok-language.ensures.system (c.in_ok-adder.ensures.relation c.in_ok-language.ensures.system) c.letters.result c.into_dfa.result
     (letters_are d c.requires.0 c.letters.result c.alphabet.result.now one c.alphabet.ensures.sizes c.letters.ensures.value) c.into_dfa.ensures.value c.in_ok-check_adder.ensures.laws in
     record { direction = refl; words = parts.words; system = parts.system; sums = parts.sums; adder_is = parts.adder_is }
+
+pub returns-in_err-language-clause-admitted : goal.returns-in_err-language-clause-admitted
+returns-in_err-language-clause-admitted c = let p = err_from_is_err_and c.from_residual.result c.from_residual.ensures.1 in rw p.1 tt
+
+pub returns-in_err-next-clause-admitted : goal.returns-in_err-next-clause-admitted
+returns-in_err-next-clause-admitted c = let p = err_from_is_err_and c.from_residual-in_err-next.result c.from_residual-in_err-next.ensures.1 in rw p.1 tt
+
+pub returns-in_err-adder-clause-admitted : goal.returns-in_err-adder-clause-admitted
+returns-in_err-adder-clause-admitted c = let p = err_from_is_err_and c.from_residual-in_err-adder.result c.from_residual-in_err-adder.ensures.1 in rw p.1 tt
+
+pub returns-in_err-check_adder-clause-admitted : goal.returns-in_err-check_adder-clause-admitted
+returns-in_err-check_adder-clause-admitted c = let p = err_from_is_err_and c.from_residual-in_err-check_adder.result c.from_residual-in_err-check_adder.ensures.1 in rw p.1 tt
+
+pub returns-in_err-next-clause-refused : goal.returns-in_err-next-clause-refused
+returns-in_err-next-clause-refused c =
+    refused_by (IsFirstFaultOfFiles c.args.direction c.args.files.language.now c.args.files.adder.now c.args.files.reversed) c.from_residual-in_err-next.result (fault_of c.in_err-next.field-0.0) (handed_on _ c.from_residual-in_err-next.result c.from_residual-in_err-next.ensures.1)
+    (silent_of_files c.args.direction c.args.files.language.now c.args.files.adder.now c.args.files.reversed c.in_err-next.field-0.0)
+
+pub returns-in_err-adder-clause-refused : goal.returns-in_err-adder-clause-refused
+returns-in_err-adder-clause-refused c =
+    refused_by (IsFirstFaultOfFiles c.args.direction c.args.files.language.now c.args.files.adder.now c.args.files.reversed) c.from_residual-in_err-adder.result (fault_of c.in_err-adder.field-0.0) (handed_on _ c.from_residual-in_err-adder.result c.from_residual-in_err-adder.ensures.1)
+    (silent_of_files c.args.direction c.args.files.language.now c.args.files.adder.now c.args.files.reversed c.in_err-adder.field-0.0)
+
+pub successor_steps-requires-clause-track : goal.successor_steps-requires-clause-track
+successor_steps-requires-clause-track c = ap length (sizes_of_one c.args.direction c.args.files.language.now c.args.files.reversed c.in_ok-language.language c.in_ok-language.ensures.file c.requires.0 c.requires.1)
+
+pub adder_of-requires-clause-tracks : goal.adder_of-requires-clause-tracks
+adder_of-requires-clause-tracks c = (c.requires.0, c.requires.2, sizes_of_one c.args.direction c.args.files.language.now c.args.files.reversed c.in_ok-language.language c.in_ok-language.ensures.file c.requires.0 c.requires.1)
+
+pub check_adder-requires-clause-tracks : goal.check_adder-requires-clause-tracks
+check_adder-requires-clause-tracks c =
+    let one = sizes_of_one c.args.direction c.args.files.language.now c.args.files.reversed c.in_ok-language.language c.in_ok-language.ensures.file c.requires.0 c.requires.1 in
+    (c.requires.0, three_tracks c.in_ok-language.language c.in_ok-adder.adder.automaton c.requires.0 one (c.in_ok-adder.ensures.relation c.in_ok-language.ensures.system).sizes, one)
+
+pub check_adder-requires-clause-system : goal.check_adder-requires-clause-system
+check_adder-requires-clause-system c = c.in_ok-language.ensures.system
