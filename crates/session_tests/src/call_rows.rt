@@ -2,7 +2,7 @@
 
 use crate::answers::given;
 use crate::tables::{ROW_END, first_field, table};
-use crate::whole::{Ran, SURE, code_of, expect, expect_printed, run_over, run_script};
+use crate::whole::{Ran, SURE, expect_names, expect_prints, run_over, run_script};
 use std::alloc::Global;
 use std::process::Abort;
 use wal_outside::{Folder, MemStore, TEXT_LIMIT};
@@ -189,7 +189,7 @@ fn calls_print_as_listed(rt: HostRuntime) {
     for row in CALLS.split_terminator(ROW_END) {
         let (script, printed) = first_field(row);
         let ran = run_script(&rt, rt.alloc(), script.as_bytes());
-        expect_printed(&rt, script, &ran, printed);
+        expect_prints(&rt, script, ran, printed);
     }
 }
 
@@ -197,7 +197,7 @@ fn calls_print_as_listed(rt: HostRuntime) {
 fn files_are_called_as_listed(rt: HostRuntime) {
     for ((name, text), script, printed) in &FILES {
         let ran = run_with(&rt, rt.alloc(), name, text.as_bytes(), script);
-        expect_printed(&rt, script, &ran, printed);
+        expect_prints(&rt, script, ran, printed);
     }
 }
 
@@ -252,8 +252,7 @@ fn run_to_call(rt: &impl Abort, alloc: Global, failing: u64) -> Ran {
 fn a_store_that_fails_at_each_call(rt: HostRuntime) {
     for (failing, printed, code) in &FAILING {
         let ran = run_to_call(&rt, rt.alloc(), *failing);
-        expect_printed(&rt, printed, &ran, printed);
-        expect(&rt, printed, &code_of(&ran), code);
+        expect_names(&rt, printed, ran, (printed, *code), &[]);
     }
 }
 
@@ -268,5 +267,5 @@ fn run_long_file(rt: &impl Abort, alloc: Global, length: usize) -> Ran {
 fn a_file_has_at_most_16777216_bytes(rt: HostRuntime) {
     let ran = run_long_file(&rt, rt.alloc(), TEXT_LIMIT + 1);
     let printed = "error 1: F12 File Automata Library/b too long\n";
-    expect_printed(&rt, "a long file", &ran, printed);
+    expect_prints(&rt, "a long file", ran, printed);
 }

@@ -1,12 +1,8 @@
 //! Automata combined to words in commands: letters in formulas, stores that fail and limits.
 
-use crate::answers::given;
 use crate::combine_files::combined;
-use crate::given::{FailingRow, expect_failing, expect_scripts, run_given};
+use crate::given::{FailingRow, LimitRow, expect_failing, expect_scripts, expect_within};
 use crate::tables::table;
-use crate::whole::{Ran, ended, expect, expect_printed};
-use std::alloc::Global;
-use std::process::Abort;
 
 /// Scripts with words that they make.
 const READ: &str = table![
@@ -183,7 +179,7 @@ static FAILING_ONCE: [FailingRow; 4] = [
 ];
 
 /// How wide a step may be, a script, what it prints, the status, and how many texts the store has then.
-static LIMITS: [(u32, &str, &str, u8, usize); 12] = [
+static LIMITS: [LimitRow; 12] = [
     (
         16,
         "def p \"x<17\"; combine C p:",
@@ -277,21 +273,11 @@ fn combined_words_are_read_in_formulas(rt: HostRuntime) {
 
 #[test]
 fn a_store_that_fails_at_automata_of_a_word(rt: HostRuntime) {
-    expect_failing(&rt, rt.alloc(), FOUR, &FAILING);
-    expect_failing(&rt, rt.alloc(), ONE, &FAILING_ONCE);
-}
-
-/// Runs a script where no step may be wider than this.
-fn run_within(rt: &impl Abort, alloc: Global, limit: u32, script: &str) -> Ran {
-    let line = given(rt, format!(in alloc; "walnut --states {limit}"));
-    run_given(rt, alloc, combined(), &line, script)
+    expect_failing(&rt, rt.alloc(), "", ("walnut", FOUR), &FAILING);
+    expect_failing(&rt, rt.alloc(), "", ("walnut", ONE), &FAILING_ONCE);
 }
 
 #[test]
 fn steps_of_words_have_the_limit_of_all(rt: HostRuntime) {
-    for (limit, script, printed, code, count) in &LIMITS {
-        let ran = run_within(&rt, rt.alloc(), *limit, script);
-        expect_printed(&rt, script, &ran, printed);
-        expect(&rt, script, &ended(&ran), &(*code, *count));
-    }
+    expect_within(&rt, rt.alloc(), combined(), &LIMITS);
 }

@@ -1,11 +1,8 @@
 //! The first faults of changes of base.
 
 use crate::convert_files::converted;
-use crate::given::{FailingRow, expect_scripts, run_failing};
+use crate::given::{FailingRow, expect_failing, expect_scripts};
 use crate::tables::table;
-use crate::whole::{ended, expect, expect_printed};
-use std::alloc::Global;
-use std::process::Abort;
 
 /// Scripts of commands that are refused.
 const REFUSED: &str = table![
@@ -498,17 +495,20 @@ static FAILING: [FailingRow; 3] = [
 /// The files of the new system are not read.
 static UNREAD: [FailingRow; 1] = [(2, "error 1: F34 NotRelated msd_2 msd_bin\n", 1, 27)];
 
-/// Asserts that a script of which a call of the store fails prints what is listed, and ends so.
-fn expect_failing_so(rt: &impl Abort, alloc: Global, script: &str, rows: &[FailingRow]) {
-    for (failing, printed, code, count) in rows {
-        let ran = run_failing(rt, alloc, converted(), script, *failing);
-        expect_printed(rt, script, &ran, printed);
-        expect(rt, script, &ended(&ran), &(*code, *count));
-    }
-}
-
 #[test]
 fn a_change_of_base_reads_the_word_alone(rt: HostRuntime) {
-    expect_failing_so(&rt, rt.alloc(), "convert New msd_4 T;", &FAILING);
-    expect_failing_so(&rt, rt.alloc(), "convert New msd_bin T;", &UNREAD);
+    expect_failing(
+        &rt,
+        rt.alloc(),
+        converted(),
+        ("walnut", "convert New msd_4 T;"),
+        &FAILING,
+    );
+    expect_failing(
+        &rt,
+        rt.alloc(),
+        converted(),
+        ("walnut", "convert New msd_bin T;"),
+        &UNREAD,
+    );
 }

@@ -3,7 +3,7 @@
 
 use crate::answers::given;
 use crate::given::run_with;
-use crate::whole::{Ran, code_of, expect, expect_stored};
+use crate::whole::{Ran, code_of, expect, expect_stored, expect_stores};
 use std::alloc::Global;
 use std::process::Abort;
 use wal_outside::Folder;
@@ -128,7 +128,7 @@ fn expect_changed(rt: &impl Abort, alloc: Global, from: &FormRow, to: &FormRow) 
     let ran = there_and_back(rt, alloc, from, to);
     expect(rt, from.0, &code_of(&ran), &0);
     expect_stored(rt, &ran, (Folder::Words, "There"), to.1);
-    expect_stored(rt, &ran, (Folder::Words, "Back"), from.1);
+    expect_stores(rt, ran, (Folder::Words, "Back"), from.1);
 }
 
 /// Asserts that a word over one system is changed to that over each of these, and back.

@@ -111,9 +111,9 @@ fn are_lines(printed: &[u8]) -> bool {
 }
 
 /// Asserts that a run has answered or refused its commands.
-fn expect_an_end(rt: &impl Abort, row: &str, ran: &Ran) {
-    expect(rt, row, &(code_of(ran) < 2), &true);
-    expect(rt, row, &are_lines(printed_in(ran)), &true);
+fn expect_an_end(rt: &impl Abort, row: &str, ran: Ran) {
+    expect(rt, row, &(code_of(&ran) < 2), &true);
+    expect(rt, row, &are_lines(printed_in(&ran)), &true);
 }
 
 /// The bytes of a file with another one at a place.
@@ -134,7 +134,7 @@ fn run_changed(rt: &impl Abort, alloc: Global, row: &DamagedRow, at: usize, byte
 /// Asserts that a command has an end over its file with each other byte at this place.
 fn expect_changed_at(rt: &impl Abort, alloc: Global, row: &DamagedRow, at: usize) {
     for byte in BYTES {
-        expect_an_end(rt, row.1, &run_changed(rt, alloc, row, at, *byte));
+        expect_an_end(rt, row.1, run_changed(rt, alloc, row, at, *byte));
     }
 }
 
@@ -143,7 +143,7 @@ fn expect_damaged(rt: &impl Abort, alloc: Global, row: &DamagedRow) {
     let text = row.0.2.as_bytes();
     for at in 0..text.len() {
         let prefix = text.get(..at).unwrap_or(b"");
-        expect_an_end(rt, row.1, &run_over_file(rt, alloc, row, prefix));
+        expect_an_end(rt, row.1, run_over_file(rt, alloc, row, prefix));
         expect_changed_at(rt, alloc, row, at);
     }
 }
@@ -229,7 +229,7 @@ const SEEDS: u64 = 500;
 #[test]
 fn random_scripts_are_answered_or_refused(rt: HostRuntime) {
     for seed in 0..SEEDS {
-        expect_an_end(&rt, "parts", &run_parts(&rt, rt.alloc(), seed));
-        expect_an_end(&rt, "bytes", &run_bytes(&rt, rt.alloc(), seed));
+        expect_an_end(&rt, "parts", run_parts(&rt, rt.alloc(), seed));
+        expect_an_end(&rt, "bytes", run_bytes(&rt, rt.alloc(), seed));
     }
 }

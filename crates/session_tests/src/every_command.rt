@@ -5,7 +5,8 @@ use crate::answers::given;
 use crate::given::{expect_end, run_failing, run_given, store_of};
 use crate::tables::{ROW_END, files, first_field, table};
 use crate::whole::{
-    Ran, code_of, ended, expect, expect_bytes, expect_printed, printed_in, run_objects, stored_in,
+    Ran, code_of, expect, expect_bytes, expect_run, expect_stores, printed_in, run_objects,
+    stored_in,
 };
 use std::alloc::Global;
 use std::process::Abort;
@@ -173,19 +174,19 @@ fn count_after(rows: &[CommandRow]) -> usize {
 }
 
 /// Asserts that a run printed what these commands print, with this status and as many texts as they leave.
-fn expect_answered(rt: &impl Abort, alloc: Global, rows: &[CommandRow], ran: &Ran, code: u8) {
-    expect_printed(rt, last_of(rows), ran, &printed_by(rt, alloc, rows));
-    expect(rt, last_of(rows), &ended(ran), &(code, count_after(rows)));
+fn expect_answered(rt: &impl Abort, alloc: Global, rows: &[CommandRow], ran: Ran, code: u8) {
+    let printed = printed_by(rt, alloc, rows);
+    expect_run(rt, last_of(rows), ran, &printed, (code, count_after(rows)));
 }
 
 /// Asserts that two runs leave the same texts.
-fn expect_same_texts(rt: &impl Abort, one: &Ran, other: &Ran) {
+fn expect_same_texts(rt: &impl Abort, one: &Ran, other: Ran) {
     for (folder, name) in &STORED {
         expect_bytes(
             rt,
             name,
             stored_in(one, *folder, name),
-            stored_in(other, *folder, name),
+            stored_in(&other, *folder, name),
         );
     }
 }
@@ -193,14 +194,14 @@ fn expect_same_texts(rt: &impl Abort, one: &Ran, other: &Ran) {
 #[test]
 fn each_command_is_answered(rt: HostRuntime) {
     let ran = run_commands(&rt, rt.alloc(), commands());
-    expect_answered(&rt, rt.alloc(), commands(), &ran, 1);
+    expect_answered(&rt, rt.alloc(), commands(), ran, 1);
 }
 
 #[test]
 fn a_script_in_single_bytes_is_answered_alike(rt: HostRuntime) {
     let ran = run_in_pieces(&rt, rt.alloc(), 1, 0);
-    expect_answered(&rt, rt.alloc(), commands(), &ran, 1);
-    expect_same_texts(&rt, &ran, &run_commands(&rt, rt.alloc(), commands()));
+    expect_same_texts(&rt, &ran, run_commands(&rt, rt.alloc(), commands()));
+    expect_answered(&rt, rt.alloc(), commands(), ran, 1);
 }
 
 /// The first of these commands whose terminators are among so many bytes. A command ends with a terminator and a line end.
@@ -231,8 +232,8 @@ fn expect_cut(rt: &impl Abort, alloc: Global, calls: u64) {
     } else {
         1
     };
-    expect_answered(rt, alloc, answered, &ran, code);
-    expect_same_texts(rt, &ran, &run_commands(rt, alloc, answered));
+    expect_same_texts(rt, &ran, run_commands(rt, alloc, answered));
+    expect_answered(rt, alloc, answered, ran, code);
 }
 
 #[test]
@@ -270,8 +271,7 @@ fn expect_cut_off(rt: &impl Abort, alloc: Global, row: &str) {
     let (failing, rest) = first_field(row);
     let (printed, end) = first_field(rest);
     let ran = run_over_sink(rt, alloc, 0, 0, number_of(failing));
-    expect_printed(rt, row, &ran, printed);
-    expect_end(rt, row, &ran, end);
+    expect_end(rt, row, ran, printed, end);
 }
 
 #[test]
@@ -283,11 +283,11 @@ fn each_call_of_the_sink_may_fail(rt: HostRuntime) {
 
 /// Asserts that a sink whose call of this number fails has a prefix of what is printed, and that the run ends so, if there is such a call. The
 /// line of a refusal is printed by several calls.
-fn expect_prefix(rt: &impl Abort, printed: &[u8], ran: &Ran) {
-    let found = printed_in(ran);
+fn expect_prefix(rt: &impl Abort, printed: &[u8], ran: Ran) {
+    let found = printed_in(&ran);
     expect(rt, "a prefix", &printed.starts_with(found), &true);
     let code = if found.len() < printed.len() { 3 } else { 1 };
-    expect(rt, "a prefix", &code_of(ran), &code);
+    expect(rt, "a prefix", &code_of(&ran), &code);
 }
 
 /// So many calls of the sink are tried, more than there are.
@@ -298,20 +298,18 @@ fn a_sink_that_fails_has_a_prefix(rt: HostRuntime) {
     let whole = run_commands(&rt, rt.alloc(), commands());
     for call in 0..WRITES {
         let ran = run_over_sink(&rt, rt.alloc(), 0, 0, call.saturating_add(1));
-        expect_prefix(&rt, printed_in(&whole), &ran);
+        expect_prefix(&rt, printed_in(&whole), ran);
     }
 }
 
 #[test]
 fn a_sink_takes_answers_in_pieces_or_ends_the_run(rt: HostRuntime) {
     let single = run_over_sink(&rt, rt.alloc(), 1, 1000, 0);
-    expect_answered(&rt, rt.alloc(), commands(), &single, 1);
+    expect_answered(&rt, rt.alloc(), commands(), single, 1);
     let nothing = run_over_sink(&rt, rt.alloc(), 0, 1, 0);
-    expect_printed(&rt, "nothing", &nothing, "");
-    expect(&rt, "nothing", &ended(&nothing), &(3, 5));
+    expect_run(&rt, "nothing", nothing, "", (3, 5));
     let two = run_over_sink(&rt, rt.alloc(), 2, 1, 2);
-    expect_printed(&rt, "two", &two, "st");
-    expect(&rt, "two", &ended(&two), &(3, 5));
+    expect_run(&rt, "two", two, "st", (3, 5));
 }
 
 /// The number of a call of the store that fails, what is printed then, the status, and how many texts the store has.
@@ -591,8 +589,7 @@ fn expect_refused(rt: &impl Abort, alloc: Global, row: &str) {
     let (failing, rest) = first_field(row);
     let (printed, end) = first_field(rest);
     let ran = run_over_store(rt, alloc, number_of(failing));
-    expect_printed(rt, row, &ran, printed);
-    expect_end(rt, row, &ran, end);
+    expect_end(rt, row, ran, printed, end);
 }
 
 /// Asserts the same of each row.
@@ -618,6 +615,6 @@ const ANEW: u64 = 43;
 #[test]
 fn a_text_that_is_not_stored_anew_stays(rt: HostRuntime) {
     let ran = run_over_store(&rt, rt.alloc(), ANEW);
-    let old = b"{0,1}\n\n0 0\n0 -> 0\n1 -> 1\n\n1 1\n";
-    expect_bytes(&rt, "ab", stored_in(&ran, Folder::Automata, "ab"), old);
+    let old = "{0,1}\n\n0 0\n0 -> 0\n1 -> 1\n\n1 1\n";
+    expect_stores(&rt, ran, (Folder::Automata, "ab"), old);
 }

@@ -6,7 +6,7 @@ use crate::rows::{expect_row, script_of};
 use crate::set_rows::SETS;
 use crate::tables::ROW_END;
 use crate::whole::{
-    Outside, Ran, SURE, code_of, count_in, ended, expect, expect_printed, is_stored, over_sink,
+    Outside, Ran, SURE, count_in, expect, expect_ended, expect_run, is_stored, over_sink,
     printed_in, run_line, run_script,
 };
 use std::alloc::Global;
@@ -42,12 +42,18 @@ fn run_in_pieces(rt: &impl Abort, alloc: Global, script: &[u8], reads: &'static 
     run_line(rt, alloc, "walnut", script, &outside)
 }
 
+/// How many texts a run stored, which is let go.
+fn count_of(ran: Ran) -> usize {
+    count_in(&ran)
+}
+
 fn expect_same_in_pieces(rt: &impl Abort, alloc: Global, row: &str, reads: &'static [usize]) {
     let script = script_of(row);
     let ran = run_in_pieces(rt, alloc, script.as_bytes(), reads);
-    expect_row(rt, row, &ran);
-    let whole = run_script(rt, alloc, script.as_bytes());
-    expect(rt, script, &count_in(&ran), &count_in(&whole));
+    let count = count_in(&ran);
+    expect_row(rt, row, ran);
+    let whole = count_of(run_script(rt, alloc, script.as_bytes()));
+    expect(rt, script, &count, &whole);
 }
 
 fn expect_all_same_in_pieces(rt: &impl Abort, alloc: Global, rows: &str) {
@@ -75,22 +81,24 @@ fn run_to_failure(rt: &impl Abort, alloc: Global, script: &[u8], reads: &'static
     run_line(rt, alloc, "walnut", script, &outside)
 }
 
+/// Asserts that a run of three commands printed this and ended so, and which of them stored their texts, and lets it go.
+fn expect_three(rt: &impl Abort, ran: Ran, printed: &str, end: (u8, usize), stored: [bool; 3]) {
+    expect(rt, "three", &are_stored(&ran), &stored);
+    expect_run(rt, "three", ran, printed, end);
+}
+
 #[test]
 fn a_source_that_fails_leaves_what_was_answered(rt: HostRuntime) {
     let answered = run_to_failure(&rt, rt.alloc(), THREE, &[15]);
-    expect(&rt, "three", &ended(&answered), &(3, 1));
-    expect_printed(&rt, "three", &answered, "");
-    expect(&rt, "three", &are_stored(&answered), &[true, false, false]);
+    expect_three(&rt, answered, "", (3, 1), [true, false, false]);
     let refused = run_to_failure(&rt, rt.alloc(), REFUSED, &[6]);
-    expect(&rt, "refused", &ended(&refused), &(3, 0));
-    expect_printed(&rt, "refused", &refused, PRINTED);
+    expect_run(&rt, "refused", refused, PRINTED, (3, 0));
 }
 
 #[test]
 fn a_command_that_did_not_come_whole_is_not_begun(rt: HostRuntime) {
     let ran = run_to_failure(&rt, rt.alloc(), THREE, &[13]);
-    expect(&rt, "three", &ended(&ran), &(3, 0));
-    expect_printed(&rt, "three", &ran, "");
+    expect_run(&rt, "three", ran, "", (3, 0));
 }
 
 /// Runs three commands over a store whose call of this number fails.
@@ -132,9 +140,7 @@ static STORES: [StoreRow; 4] = [
 fn a_store_that_fails_refuses_its_command_alone(rt: HostRuntime) {
     for (failing, printed, end, stored) in &STORES {
         let ran = run_over_failing_store(&rt, rt.alloc(), failing);
-        expect_printed(&rt, printed, &ran, printed);
-        expect(&rt, printed, &ended(&ran), end);
-        expect(&rt, printed, &are_stored(&ran), stored);
+        expect_three(&rt, ran, printed, *end, *stored);
     }
 }
 
@@ -157,20 +163,17 @@ fn run_over_sink(
 #[test]
 fn a_sink_that_fails_or_takes_nothing_ends_the_run(rt: HostRuntime) {
     let failed = run_over_sink(&rt, rt.alloc(), &[], &[1]);
-    expect(&rt, "fails", &ended(&failed), &(3, 0));
-    expect_printed(&rt, "fails", &failed, "");
+    expect_run(&rt, "fails", failed, "", (3, 0));
     let stuck = run_over_sink(&rt, rt.alloc(), &[5, 0], &[]);
-    expect(&rt, "takes nothing", &ended(&stuck), &(3, 0));
     let is_prefix = PRINTED.as_bytes().starts_with(printed_in(&stuck));
     expect(&rt, "takes nothing", &is_prefix, &true);
+    expect_ended(&rt, "takes nothing", stuck, (3, 0));
 }
 
 #[test]
 fn a_sink_that_takes_a_byte_at_a_time_gets_all(rt: HostRuntime) {
     let ran = run_over_sink(&rt, rt.alloc(), &ONES, &[]);
-    expect_printed(&rt, "a byte", &ran, PRINTED);
-    expect(&rt, "a byte", &code_of(&ran), &1);
-    expect(&rt, "a byte", &are_stored(&ran), &[true, false, false]);
+    expect_three(&rt, ran, PRINTED, (1, 1), [true, false, false]);
 }
 
 /// Runs two automata, their word and a formula with it over such objects.
@@ -194,12 +197,16 @@ fn comings() -> [(Outside, &'static str, (u8, usize)); 6] {
     ]
 }
 
+/// Asserts that such a run printed this, ended so and stored the result, and lets it go.
+fn expect_four(rt: &impl Abort, ran: Ran, printed: &str, end: (u8, usize)) {
+    expect(rt, printed, &is_stored(&ran, Folder::Results, "t"), &true);
+    expect_run(rt, printed, ran, printed, end);
+}
+
 #[test]
 fn an_answer_goes_in_pieces_or_ends_the_run(rt: HostRuntime) {
     for (outside, printed, end) in &comings() {
         let ran = run_four(&rt, rt.alloc(), outside);
-        expect_printed(&rt, printed, &ran, printed);
-        expect(&rt, printed, &ended(&ran), end);
-        expect(&rt, printed, &is_stored(&ran, Folder::Results, "t"), &true);
+        expect_four(&rt, ran, printed, *end);
     }
 }

@@ -2,7 +2,7 @@
 
 use crate::answers::given;
 use crate::tables::{ROW_END, first_field, table};
-use crate::whole::{Ran, expect, expect_printed, printed_in, run_script};
+use crate::whole::{Ran, expect, expect_prints, printed_in, run_script};
 use std::alloc::{AllocError, Global};
 use std::process::Abort;
 
@@ -35,11 +35,15 @@ TRUE\nTRUE\nTRUE\nTRUE\nTRUE\nTRUE\nTRUE\nTRUE\nTRUE\nTRUE\nTRUE\nTRUE\n\
 TRUE\nTRUE\nTRUE\nTRUE\nTRUE\nTRUE\nTRUE\nTRUE\nTRUE\nTRUE\nTRUE\nTRUE\n\
 TRUE\nTRUE\nTRUE\nTRUE\nTRUE\nTRUE\nTRUE\nTRUE\nTRUE\nTRUE\nTRUE\nTRUE\n";
 
+/// Whether a run printed sixty times TRUE. It is let go.
+fn is_true_throughout(ran: Ran) -> bool {
+    printed_in(&ran) == SIXTY_TIMES_TRUE.as_bytes()
+}
+
 /// The first number below 60 whose sums with the others are not so, or 60.
 fn first_wrong(rt: &impl Abort, alloc: Global, system: &str) -> u8 {
     for first in 0..60 {
-        let ran = run_sums(rt, alloc, system, first);
-        if printed_in(&ran) != SIXTY_TIMES_TRUE.as_bytes() {
+        if !is_true_throughout(run_sums(rt, alloc, system, first)) {
             return first;
         }
     }
@@ -129,7 +133,7 @@ fn expect_statements(rt: &impl Abort, alloc: Global, system: &str, word: &str) {
     for row in STATEMENTS.split_terminator(ROW_END) {
         let (statement, printed) = first_field(row);
         let ran = run_statement(rt, alloc, system, word, statement);
-        expect_printed(rt, statement, &ran, printed);
+        expect_prints(rt, statement, ran, printed);
     }
 }
 

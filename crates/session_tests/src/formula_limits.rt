@@ -3,8 +3,8 @@
 use crate::answers::{given, no_answer};
 use crate::tables::{ROW_END, first_field, table};
 use crate::whole::{
-    Outside, Ran, SURE, code_of, count_in, expect, expect_printed, expect_stored, is_stored,
-    over_sink, run_line, run_script,
+    Outside, Ran, SURE, expect_ended, expect_names, expect_run, expect_stores, over_sink, run_line,
+    run_script,
 };
 use std::alloc::Global;
 use std::process::Abort;
@@ -33,10 +33,9 @@ fn formulas_nest_128_deep(rt: HostRuntime) {
         let (open, rest) = first_field(row);
         let (close, fault) = first_field(rest);
         let most = run_nested(&rt, rt.alloc(), open, close, 128);
-        expect(&rt, open, &code_of(&most), &0);
+        expect_ended(&rt, open, most, (0, 1));
         let more = run_nested(&rt, rt.alloc(), open, close, 129);
-        expect_printed(&rt, open, &more, fault);
-        expect(&rt, open, &count_in(&more), &0);
+        expect_run(&rt, open, more, fault, (1, 0));
     }
 }
 
@@ -59,8 +58,7 @@ fn run_longest(rt: &impl Abort, alloc: Global) -> Ran {
 #[test]
 fn a_chain_may_fill_a_command(rt: HostRuntime) {
     let ran = run_longest(&rt, rt.alloc());
-    expect(&rt, "a chain", &code_of(&ran), &0);
-    expect_stored(&rt, &ran, (Folder::Automata, "d"), EQUAL);
+    expect_stores(&rt, ran, (Folder::Automata, "d"), EQUAL);
 }
 
 /// The pairs of equal numbers in base 2.
@@ -81,11 +79,12 @@ fn run_over_store(rt: &impl Abort, alloc: Global) -> Ran {
 fn a_store_that_fails_refuses_its_formula_alone(rt: HostRuntime) {
     let ran = run_over_store(&rt, rt.alloc());
     let printed = "error 1: F26 Store Automata Library/q\n";
-    expect_printed(&rt, "three commands", &ran, printed);
-    expect(&rt, "three commands", &code_of(&ran), &3);
-    expect(&rt, "p", &is_stored(&ran, Folder::Automata, "p"), &true);
-    expect(&rt, "q", &is_stored(&ran, Folder::Automata, "q"), &false);
-    expect(&rt, "r", &is_stored(&ran, Folder::Automata, "r"), &true);
+    let names = [
+        (Folder::Automata, "p", true),
+        (Folder::Automata, "q", false),
+        (Folder::Automata, "r", true),
+    ];
+    expect_names(&rt, "three commands", ran, (printed, 3), &names);
 }
 
 /// Runs four commands over a sink whose second call fails.
@@ -98,12 +97,13 @@ fn run_over_sink(rt: &impl Abort, alloc: Global) -> Ran {
 #[test]
 fn a_sink_that_fails_at_a_verdict_ends_the_run(rt: HostRuntime) {
     let ran = run_over_sink(&rt, rt.alloc());
-    expect_printed(&rt, "four commands", &ran, "TRUE\n");
-    expect(&rt, "four commands", &code_of(&ran), &3);
-    expect(&rt, "p", &is_stored(&ran, Folder::Automata, "p"), &true);
-    expect(&rt, "a", &is_stored(&ran, Folder::Results, "a"), &true);
-    expect(&rt, "b", &is_stored(&ran, Folder::Results, "b"), &true);
-    expect(&rt, "q", &is_stored(&ran, Folder::Automata, "q"), &false);
+    let names = [
+        (Folder::Automata, "p", true),
+        (Folder::Results, "a", true),
+        (Folder::Results, "b", true),
+        (Folder::Automata, "q", false),
+    ];
+    expect_names(&rt, "four commands", ran, ("TRUE\n", 3), &names);
 }
 
 /// Runs a command of a source whose second call fails.
@@ -119,7 +119,6 @@ fn run_over_source(rt: &impl Abort, alloc: Global) -> Ran {
 #[test]
 fn a_source_that_fails_leaves_the_formula_before(rt: HostRuntime) {
     let ran = run_over_source(&rt, rt.alloc());
-    expect_printed(&rt, "one command", &ran, "");
-    expect(&rt, "one command", &code_of(&ran), &3);
-    expect(&rt, "p", &is_stored(&ran, Folder::Automata, "p"), &true);
+    let names = [(Folder::Automata, "p", true)];
+    expect_names(&rt, "one command", ran, ("", 3), &names);
 }

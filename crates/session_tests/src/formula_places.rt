@@ -2,7 +2,7 @@
 
 use crate::answers::given;
 use crate::tables::{ROW_END, first_field, table};
-use crate::whole::{Ran, count_in, expect, expect_printed, run_script};
+use crate::whole::{Ran, count_in, expect, expect_prints, run_script};
 use std::alloc::Global;
 use std::process::Abort;
 
@@ -123,9 +123,9 @@ fn run_between(rt: &impl Abort, alloc: Global, word: &str, formula: &str) -> Ran
 }
 
 /// A formula was refused by its fault, and the commands before and after it were answered as without it.
-fn expect_refused_alone(rt: &impl Abort, formula: &str, ran: &Ran, printed: &str) {
-    expect_printed(rt, formula, ran, printed);
-    expect(rt, formula, &count_in(ran), &2);
+fn expect_refused_alone(rt: &impl Abort, formula: &str, ran: Ran, printed: &str) {
+    expect(rt, formula, &count_in(&ran), &2);
+    expect_prints(rt, formula, ran, printed);
 }
 
 #[test]
@@ -133,8 +133,8 @@ fn faults_have_their_place(rt: HostRuntime) {
     for row in PLACES.split_terminator(ROW_END) {
         let (formula, printed) = first_field(row);
         let decided = run_between(&rt, rt.alloc(), "eval", formula);
-        expect_refused_alone(&rt, formula, &decided, printed);
+        expect_refused_alone(&rt, formula, decided, printed);
         let defined = run_between(&rt, rt.alloc(), "def", formula);
-        expect_refused_alone(&rt, formula, &defined, printed);
+        expect_refused_alone(&rt, formula, defined, printed);
     }
 }

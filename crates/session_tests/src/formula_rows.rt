@@ -2,7 +2,7 @@
 
 use crate::answers::given;
 use crate::tables::{ROW_END, first_field, table};
-use crate::whole::{Ran, SURE, ended, expect, expect_printed, run_line};
+use crate::whole::{Ran, SURE, expect_run, run_line};
 use std::alloc::Global;
 use std::process::Abort;
 
@@ -220,9 +220,8 @@ fn run_under(rt: &impl Abort, alloc: Global, limit: &str, script: &str) -> Ran {
 }
 
 /// A run printed this, ended with this status, and stored something if and only if no command was refused.
-fn expect_run(rt: &impl Abort, script: &str, ran: &Ran, printed: &str, code: u8) {
-    expect_printed(rt, script, ran, printed);
-    expect(rt, script, &ended(ran), &(code, usize::from(code == 0)));
+fn expect_code(rt: &impl Abort, script: &str, ran: Ran, printed: &str, code: u8) {
+    expect_run(rt, script, ran, printed, (code, usize::from(code == 0)));
 }
 
 #[test]
@@ -230,7 +229,7 @@ fn steps_of_formulas_are_shown(rt: HostRuntime) {
     for row in STEPS.split_terminator(ROW_END) {
         let (script, printed) = first_field(row);
         let ran = run_under(&rt, rt.alloc(), "100000", script);
-        expect_run(&rt, script, &ran, printed, 0);
+        expect_code(&rt, script, ran, printed, 0);
     }
 }
 
@@ -239,7 +238,7 @@ fn formulas_are_refused_by_their_first_fault(rt: HostRuntime) {
     for row in FAULTS.split_terminator(ROW_END) {
         let (script, printed) = first_field(row);
         let ran = run_under(&rt, rt.alloc(), "100000", script);
-        expect_run(&rt, script, &ran, printed, 1);
+        expect_code(&rt, script, ran, printed, 1);
     }
 }
 
@@ -247,6 +246,6 @@ fn formulas_are_refused_by_their_first_fault(rt: HostRuntime) {
 fn steps_of_formulas_keep_to_the_limit_of_states(rt: HostRuntime) {
     for (limit, script, printed, code) in &LIMITS {
         let ran = run_under(&rt, rt.alloc(), limit, script);
-        expect_run(&rt, script, &ran, printed, *code);
+        expect_code(&rt, script, ran, printed, *code);
     }
 }

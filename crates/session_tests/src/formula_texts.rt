@@ -2,7 +2,7 @@
 
 use crate::answers::given;
 use crate::tables::{ROW_END, table};
-use crate::whole::{Ran, count_in, expect, expect_printed, expect_stored, run_script};
+use crate::whole::{Ran, expect_prints, expect_run, expect_stores, run_script};
 use std::alloc::Global;
 use std::process::Abort;
 use wal_outside::Folder;
@@ -127,7 +127,7 @@ const THEOREMS: &str = table![
 fn formulas_store_their_texts(rt: HostRuntime) {
     for (script, folder, name, text) in &TEXTS {
         let ran = run_script(&rt, rt.alloc(), script.as_bytes());
-        expect_stored(&rt, &ran, (*folder, name), text);
+        expect_stores(&rt, ran, (*folder, name), text);
     }
 }
 
@@ -144,9 +144,9 @@ fn run_theorem(rt: &impl Abort, alloc: Global, before: &str, theorem: &str, afte
 fn theorems_are_true_and_their_negations_false(rt: HostRuntime) {
     for theorem in THEOREMS.split_terminator(ROW_END) {
         let stated = run_theorem(&rt, rt.alloc(), "", theorem, "");
-        expect_printed(&rt, theorem, &stated, "TRUE\n");
+        expect_prints(&rt, theorem, stated, "TRUE\n");
         let negated = run_theorem(&rt, rt.alloc(), "~(", theorem, ")");
-        expect_printed(&rt, theorem, &negated, "FALSE\n");
+        expect_prints(&rt, theorem, negated, "FALSE\n");
     }
 }
 
@@ -156,6 +156,5 @@ fn a_refused_formula_leaves_the_others(rt: HostRuntime) {
     let script = b"def p \"x=0\"; eval q \"x=1 | y=2 & z=3\"; def r \"x*y=1\"; eval s \"1=1\";";
     let ran = run_script(&rt, rt.alloc(), script);
     let printed = "error 1: F03 MixedChain at 10\nerror 1: F05 NotLinear at 1\nTRUE\n";
-    expect_printed(&rt, "four commands", &ran, printed);
-    expect(&rt, "four commands", &count_in(&ran), &2);
+    expect_run(&rt, "four commands", ran, printed, (1, 2));
 }

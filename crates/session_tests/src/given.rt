@@ -3,9 +3,7 @@
 use crate::answers::given;
 use crate::tables::{ROW_END, constant_in, first_field, folder_of, numbers_of};
 use crate::user_system_files::text_named;
-use crate::whole::{
-    Outside, Ran, SURE, ended, expect, expect_bytes, expect_printed, expect_stored, run_over,
-};
+use crate::whole::{Outside, Ran, SURE, expect_bytes, expect_run, expect_stored, run_over};
 use std::alloc::Global;
 use std::process::Abort;
 use wal_outside::{Folder, MemStore};
@@ -15,6 +13,9 @@ pub type FileRow = (Folder, &'static str, &'static str);
 
 /// The number of a call of the store that fails, what a script prints then, the status, and how many texts the store has.
 pub type FailingRow = (u64, &'static str, u8, usize);
+
+/// A limit of states, a script, what it prints within it, the status, and how many texts the store has.
+pub type LimitRow = (u32, &'static str, &'static str, u8, usize);
 
 /// A store with these files. Its call of this number fails; none does where the number is 0.
 pub fn store_of(rt: &impl Abort, alloc: Global, files: &str, failing: u64) -> MemStore {
@@ -88,10 +89,11 @@ pub fn run_outside(
     run_over(rt, alloc, "walnut", (script.as_bytes(), outside), store)
 }
 
-/// Asserts that a run ended with the status that a field says, and with as many texts as the next one says.
-pub fn expect_end(rt: &impl Abort, script: &str, ran: &Ran, end: &str) {
+/// Asserts that a run printed this, and ended with the status that a field says and with as many texts as the next one says, and
+/// lets it go.
+pub fn expect_end(rt: &impl Abort, script: &str, ran: Ran, printed: &str, end: &str) {
     match numbers_of(end) {
-        Some(end) => expect(rt, script, &ended(ran), &end),
+        Some(end) => expect_run(rt, script, ran, printed, end),
         None => expect_bytes(rt, script, end.as_bytes(), b"a status and a number"),
     }
 }
@@ -102,8 +104,7 @@ pub fn expect_script(rt: &impl Abort, alloc: Global, files: &str, line: &str, ro
     let (script, rest) = first_field(row);
     let (printed, end) = first_field(rest);
     let ran = run_given(rt, alloc, files, line, script);
-    expect_printed(rt, script, &ran, printed);
-    expect_end(rt, script, &ran, end);
+    expect_end(rt, script, ran, printed, end);
 }
 
 /// Asserts that each script of a table prints what is listed, and ends so.
@@ -133,11 +134,25 @@ pub fn expect_texts(rt: &impl Abort, alloc: Global, files: &str, rows: &str) {
     }
 }
 
-/// Asserts that a script, over an empty store whose call of this number fails, prints what is listed, and ends so.
-pub fn expect_failing(rt: &impl Abort, alloc: Global, script: &str, rows: &[FailingRow]) {
+/// Asserts that a script, over a store with these files whose call of this number fails, prints what is listed, and ends so.
+pub fn expect_failing(
+    rt: &impl Abort,
+    alloc: Global,
+    files: &str,
+    (line, script): (&str, &str),
+    rows: &[FailingRow],
+) {
     for (failing, printed, code, count) in rows {
-        let ran = run_failing(rt, alloc, "", script, *failing);
-        expect_printed(rt, printed, &ran, printed);
-        expect(rt, printed, &ended(&ran), &(*code, *count));
+        let ran = run_line_failing(rt, alloc, files, (line, script), *failing);
+        expect_run(rt, printed, ran, printed, (*code, *count));
+    }
+}
+
+/// Asserts that each script of a table, within its limit of states, prints what is listed, and ends so.
+pub fn expect_within(rt: &impl Abort, alloc: Global, files: &str, rows: &[LimitRow]) {
+    for (limit, script, printed, code, count) in rows {
+        let line = given(rt, format!(in alloc; "walnut --states {limit}"));
+        let ran = run_given(rt, alloc, files, &line, script);
+        expect_run(rt, script, ran, printed, (*code, *count));
     }
 }

@@ -2,7 +2,7 @@
 
 use crate::answers::given;
 use crate::given::{FileRow, run_with};
-use crate::whole::{Ran, ended, expect, expect_printed, run_script};
+use crate::whole::{Ran, expect_run, run_script};
 use std::alloc::Global;
 use std::process::Abort;
 use wal_outside::Folder;
@@ -148,8 +148,7 @@ fn run_over_file(rt: &impl Abort, alloc: Global, file: &Option<FileRow>, script:
 fn hostile_input_is_refused_or_answered_as_listed(rt: HostRuntime) {
     for (file, script, printed, code, count) in &ROWS {
         let ran = run_over_file(&rt, rt.alloc(), file, script);
-        expect_printed(&rt, script, &ran, printed);
-        expect(&rt, script, &ended(&ran), &(*code, *count));
+        expect_run(&rt, script, ran, printed, (*code, *count));
     }
 }
 
@@ -162,18 +161,23 @@ fn run_endless(rt: &impl Abort, alloc: Global, length: usize) -> Ran {
 #[test]
 fn a_command_without_terminator_may_be_too_long(rt: HostRuntime) {
     let ran = run_endless(&rt, rt.alloc(), 65_537);
-    expect_printed(&rt, "65,537 bytes", &ran, "error 1: F07 Long 65536\n");
-    expect(&rt, "65,537 bytes", &ended(&ran), &(1, 0));
+    expect_run(
+        &rt,
+        "65,537 bytes",
+        ran,
+        "error 1: F07 Long 65536\n",
+        (1, 0),
+    );
 }
 
 #[test]
 fn a_formula_may_be_a_byte_that_is_no_text(rt: HostRuntime) {
     let ran = run_script(&rt, rt.alloc(), b"eval a \"\xff\";");
-    expect_printed(
+    expect_run(
         &rt,
         "byte 255",
-        &ran,
+        ran,
         "error 1: F02 Syntax in formula at 0\n",
+        (1, 0),
     );
-    expect(&rt, "byte 255", &ended(&ran), &(1, 0));
 }

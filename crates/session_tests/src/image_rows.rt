@@ -1,12 +1,8 @@
 //! Images of words in commands: letters in formulas, faults and their order, stores that fail and limits.
 
-use crate::answers::given;
-use crate::given::{FailingRow, expect_scripts, run_failing, run_given};
+use crate::given::{FailingRow, LimitRow, expect_failing, expect_scripts, expect_within};
 use crate::image_files::imaged;
 use crate::tables::{files, table};
-use crate::whole::{Ran, ended, expect, expect_printed};
-use std::alloc::Global;
-use std::process::Abort;
 
 /// Scripts of one command, refused or not.
 const REFUSED: &str = table![
@@ -423,7 +419,7 @@ static FAILING: [FailingRow; 12] = [
 ];
 
 /// How wide a step may be, a script, what it prints, the status, and how many texts the store has then.
-static LIMITS: [(u32, &str, &str, u8, usize); 13] = [
+static LIMITS: [LimitRow; 13] = [
     (16, "image W g T:", "error 1: F19 States step 27\n", 1, 63),
     (16, "image W two F:", "error 1: F19 States step 5\n", 1, 63),
     (25, "image W two F:", "error 1: F19 States step 5\n", 1, 63),
@@ -475,24 +471,10 @@ fn images_are_read_in_formulas(rt: HostRuntime) {
 
 #[test]
 fn a_store_that_fails_at_images(rt: HostRuntime) {
-    for (failing, printed, code, count) in &FAILING {
-        let ran = run_failing(&rt, rt.alloc(), WORD, FOUR, *failing);
-        expect_printed(&rt, printed, &ran, printed);
-        expect(&rt, printed, &ended(&ran), &(*code, *count));
-    }
-}
-
-/// Runs a script where no step may be wider than this.
-fn run_within(rt: &impl Abort, alloc: Global, limit: u32, script: &str) -> Ran {
-    let line = given(rt, format!(in alloc; "walnut --states {limit}"));
-    run_given(rt, alloc, imaged(), &line, script)
+    expect_failing(&rt, rt.alloc(), WORD, ("walnut", FOUR), &FAILING);
 }
 
 #[test]
 fn steps_of_images_have_the_limit_of_all(rt: HostRuntime) {
-    for (limit, script, printed, code, count) in &LIMITS {
-        let ran = run_within(&rt, rt.alloc(), *limit, script);
-        expect_printed(&rt, script, &ran, printed);
-        expect(&rt, script, &ended(&ran), &(*code, *count));
-    }
+    expect_within(&rt, rt.alloc(), imaged(), &LIMITS);
 }

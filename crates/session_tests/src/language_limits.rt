@@ -1,9 +1,9 @@
 //! Language commands at their greatest width and at one less, and over stores that fail.
 
-use crate::given::{expect_scripts, run_failing, run_given};
+use crate::given::{FailingRow, expect_failing, expect_scripts, run_given};
 use crate::language_files::{FIFTH, languages};
 use crate::tables::table;
-use crate::whole::{ended, expect, expect_printed};
+use crate::whole::expect_run;
 
 /// Scripts under a limit of 20.
 const WITHIN_20: &str = table![
@@ -105,15 +105,13 @@ static REVERSED: &str = "reg a {0,1} \"...........1.*\"; reverse r a:";
 fn a_reversal_has_its_width_as_limit(rt: HostRuntime) {
     let exact = run_given(&rt, rt.alloc(), "", "walnut --states 4096", REVERSED);
     let printed = "step 1 read 14 13\nstep 2 reverse 4096 4096\n";
-    expect_printed(&rt, "exact", &exact, printed);
-    expect(&rt, "exact", &ended(&exact), &(0, 2));
+    expect_run(&rt, "exact", exact, printed, (0, 2));
     let less = run_given(&rt, rt.alloc(), "", "walnut --states 4095", REVERSED);
-    expect_printed(&rt, "less", &less, "error 1: F19 States step 2\n");
-    expect(&rt, "less", &ended(&less), &(1, 1));
+    expect_run(&rt, "less", less, "error 1: F19 States step 2\n", (1, 1));
 }
 
 /// A call of the store that fails, what is printed then, the status, and how many texts the store has.
-static FAILING: [(u64, &str, u8, usize); 4] = [
+static FAILING: [FailingRow; 4] = [
     (1, "error 1: F26 Store Automata Library/ab\n", 3, 18),
     (2, "error 1: F26 Store Automata Library/one\n", 3, 18),
     (3, "error 1: F26 Store Automata Library/m\n", 3, 18),
@@ -123,15 +121,11 @@ static FAILING: [(u64, &str, u8, usize); 4] = [
 // Each file is read once, in the order in which the names are listed first.
 #[test]
 fn each_file_of_a_language_command_is_read_once(rt: HostRuntime) {
-    for (failing, printed, code, count) in &FAILING {
-        let ran = run_failing(
-            &rt,
-            rt.alloc(),
-            languages(),
-            "union m ab ab one ab;",
-            *failing,
-        );
-        expect_printed(&rt, printed, &ran, printed);
-        expect(&rt, printed, &ended(&ran), &(*code, *count));
-    }
+    expect_failing(
+        &rt,
+        rt.alloc(),
+        languages(),
+        ("walnut", "union m ab ab one ab;"),
+        &FAILING,
+    );
 }

@@ -1,7 +1,8 @@
 //! Languages that commands make of others, beside expressions for them.
 
 use crate::tables::{ROW_END, table};
-use crate::whole::{SURE, code_of, expect, expect_bytes, run_line, stored_in};
+use crate::whole::{Ran, SURE, code_of, expect, expect_bytes, run_line, stored_in};
+use std::process::Abort;
 use wal_outside::Folder;
 
 /// Scripts that make one language twice: by commands under the name `m`, and by an expression under `e`.
@@ -28,14 +29,19 @@ const TWINS: &str = table![
     ("reg a {-1,1} \"[-1]\"; star m a; reg e {-1,1} \"[-1]*\";"),
 ];
 
+/// Asserts that a run was accepted, and left one text under both names, and lets it go.
+fn expect_twins(rt: &impl Abort, script: &str, ran: Ran) {
+    expect(rt, script, &code_of(&ran), &0);
+    let made = stored_in(&ran, Folder::Automata, "m");
+    let read = stored_in(&ran, Folder::Automata, "e");
+    expect(rt, script, &made.is_empty(), &false);
+    expect_bytes(rt, script, made, read);
+}
+
 #[test]
 fn commands_and_expressions_leave_one_text(rt: HostRuntime) {
     for script in TWINS.split_terminator(ROW_END) {
         let ran = run_line(&rt, rt.alloc(), "walnut", script.as_bytes(), &SURE);
-        expect(&rt, script, &code_of(&ran), &0);
-        let made = stored_in(&ran, Folder::Automata, "m");
-        let read = stored_in(&ran, Folder::Automata, "e");
-        expect(&rt, script, &made.is_empty(), &false);
-        expect_bytes(&rt, script, made, read);
+        expect_twins(&rt, script, ran);
     }
 }

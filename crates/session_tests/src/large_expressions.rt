@@ -1,7 +1,7 @@
 //! Expressions with large automata: the lines of their steps.
 
 use crate::answers::given;
-use crate::whole::{Ran, expect_printed, expect_stored, run_script};
+use crate::whole::{Ran, expect_prints, expect_stores, run_script};
 use std::alloc::Global;
 use std::process::Abort;
 use wal_outside::Folder;
@@ -71,12 +71,8 @@ fn run_row(rt: &impl Abort, alloc: Global, row: &LargeRow) -> Ran {
 #[test]
 fn large_automata_have_these_steps(rt: HostRuntime) {
     for row in &ROWS {
-        expect_printed(
-            &rt,
-            row.repeated,
-            &run_row(&rt, rt.alloc(), row),
-            row.printed,
-        );
+        let ran = run_row(&rt, rt.alloc(), row);
+        expect_prints(&rt, row.repeated, ran, row.printed);
     }
 }
 
@@ -93,5 +89,5 @@ fn the_empty_word_over_sixteen_tracks_has_no_transition(rt: HostRuntime) {
     let header =
         "{0,1} {0,1} {0,1} {0,1} {0,1} {0,1} {0,1} {0,1} {0,1} {0,1} {0,1} {0,1} {0,1} {0,1} {0,1} {0,1}\n\n0 1\n";
     let ran = run_empty_word(&rt, rt.alloc());
-    expect_stored(&rt, &ran, (Folder::Automata, "w"), header);
+    expect_stores(&rt, ran, (Folder::Automata, "w"), header);
 }

@@ -1,7 +1,7 @@
 //! The limits, at their number and one more.
 
 use crate::answers::given;
-use crate::whole::{Ran, count_in, ended, expect, expect_printed, run_script, stored_in};
+use crate::whole::{Ran, expect, expect_ended, expect_run, run_script, stored_in};
 use std::alloc::Global;
 use std::process::Abort;
 use wal_outside::Folder;
@@ -26,10 +26,15 @@ fn run_command_of(rt: &impl Abort, alloc: Global, length: usize, end: &str) -> R
 #[test]
 fn a_command_has_at_most_65536_bytes(rt: HostRuntime) {
     let most = run_command_of(&rt, rt.alloc(), COMMAND_LIMIT, "");
-    expect(&rt, "65,536 bytes", &ended(&most), &(0, 1));
+    expect_ended(&rt, "65,536 bytes", most, (0, 1));
     let more = run_command_of(&rt, rt.alloc(), COMMAND_LIMIT + 1, "");
-    expect(&rt, "one byte more", &ended(&more), &(1, 0));
-    expect_printed(&rt, "one byte more", &more, "error 1: F07 Long 65536\n");
+    expect_run(
+        &rt,
+        "one byte more",
+        more,
+        "error 1: F07 Long 65536\n",
+        (1, 0),
+    );
 }
 
 // A command that is too long is answered, and so is the one after it.
@@ -38,8 +43,7 @@ fn a_run_goes_on_after_a_long_command(rt: HostRuntime) {
     let end = "\nx;reg a {0} \"0\":";
     let ran = run_command_of(&rt, rt.alloc(), COMMAND_LIMIT + 1, end);
     let printed = "error 1: F07 Long 65536\nerror 2: F01 Command\nstep 1 regex 3 2\n";
-    expect_printed(&rt, "three commands", &ran, printed);
-    expect(&rt, "three commands", &count_in(&ran), &1);
+    expect_run(&rt, "three commands", ran, printed, (1, 1));
 }
 
 /// A script of so many bytes: a command, a line end, blanks, and at the end a command without arguments.
@@ -60,11 +64,21 @@ fn run_script_of(rt: &impl Abort, alloc: Global, length: usize) -> Ran {
 #[test]
 fn a_script_has_at_most_16777216_bytes(rt: HostRuntime) {
     let most = run_script_of(&rt, rt.alloc(), SCRIPT_LIMIT);
-    expect_printed(&rt, "16,777,216 bytes", &most, "error 2: F01 Command\n");
-    expect(&rt, "16,777,216 bytes", &ended(&most), &(1, 1));
+    expect_run(
+        &rt,
+        "16,777,216 bytes",
+        most,
+        "error 2: F01 Command\n",
+        (1, 1),
+    );
     let more = run_script_of(&rt, rt.alloc(), SCRIPT_LIMIT + 1);
-    expect_printed(&rt, "one byte more", &more, "error 2: F28 ScriptLimit\n");
-    expect(&rt, "one byte more", &ended(&more), &(1, 1));
+    expect_run(
+        &rt,
+        "one byte more",
+        more,
+        "error 2: F28 ScriptLimit\n",
+        (1, 1),
+    );
 }
 
 /// Runs a command of two letters of sixteen tracks: two states with a line of 198 bytes for each of 65,536 letters.
@@ -77,8 +91,13 @@ fn run_long_text(rt: &impl Abort, alloc: Global) -> Ran {
 #[test]
 fn a_text_that_is_far_too_long_is_not_stored(rt: HostRuntime) {
     let ran = run_long_text(&rt, rt.alloc());
-    expect_printed(&rt, "a long text", &ran, "error 1: F07 Long 16777216\n");
-    expect(&rt, "a long text", &ended(&ran), &(1, 0));
+    expect_run(
+        &rt,
+        "a long text",
+        ran,
+        "error 1: F07 Long 16777216\n",
+        (1, 0),
+    );
 }
 
 /// Adds so many members of a set, the first one and those after it.
@@ -109,12 +128,17 @@ fn run_dots(rt: &impl Abort, alloc: Global, nine: i32, ten: i32) -> Ran {
 #[test]
 fn a_stored_text_has_at_most_16777216_bytes(rt: HostRuntime) {
     let most = run_dots(&rt, rt.alloc(), 2_619, 693);
-    expect(&rt, "16,777,216 bytes", &ended(&most), &(0, 1));
     let length = stored_in(&most, Folder::Automata, "p").len();
     expect(&rt, "16,777,216 bytes", &length, &16_777_216);
+    expect_ended(&rt, "16,777,216 bytes", most, (0, 1));
     let more = run_dots(&rt, rt.alloc(), 1_051, 2_172);
-    expect_printed(&rt, "one byte more", &more, "error 1: F07 Long 16777216\n");
-    expect(&rt, "one byte more", &ended(&more), &(1, 0));
+    expect_run(
+        &rt,
+        "one byte more",
+        more,
+        "error 1: F07 Long 16777216\n",
+        (1, 0),
+    );
 }
 
 /// The set of so many numbers from 0 on.
@@ -135,15 +159,15 @@ fn run_over_sets(rt: &impl Abort, alloc: Global, first: i32, second: i32) -> Ran
 #[test]
 fn an_automaton_has_at_most_65536_letters(rt: HostRuntime) {
     let most = run_over_sets(&rt, rt.alloc(), 256, 256);
-    expect(&rt, "65,536 letters", &ended(&most), &(0, 1));
+    expect_ended(&rt, "65,536 letters", most, (0, 1));
     let more = run_over_sets(&rt, rt.alloc(), 256, 257);
-    expect_printed(
+    expect_run(
         &rt,
         "65,792 letters",
-        &more,
+        more,
         "error 1: F18 Letters step 1\n",
+        (1, 0),
     );
-    expect(&rt, "65,792 letters", &ended(&more), &(1, 0));
 }
 
 /// Runs a `reg` of a digit within so many parentheses.
@@ -157,8 +181,8 @@ fn run_nested(rt: &impl Abort, alloc: Global, depth: usize) -> Ran {
 #[test]
 fn an_expression_has_at_most_128_parentheses_in_one_another(rt: HostRuntime) {
     let most = run_nested(&rt, rt.alloc(), 128);
-    expect(&rt, "128", &ended(&most), &(0, 1));
+    expect_ended(&rt, "128", most, (0, 1));
     let more = run_nested(&rt, rt.alloc(), 129);
-    expect_printed(&rt, "129", &more, "error 1: F06 Depth in regex at 128\n");
-    expect(&rt, "129", &count_in(&more), &0);
+    let printed = "error 1: F06 Depth in regex at 128\n";
+    expect_run(&rt, "129", more, printed, (1, 0));
 }

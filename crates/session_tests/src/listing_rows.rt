@@ -1,11 +1,9 @@
 //! Listings of tuples below 40 beside plain arithmetic, of what other commands made, at their limits, and over stores that fail.
 
-use crate::given::{FailingRow, expect_scripts, run_failing, run_given};
+use crate::given::{FailingRow, expect_failing, expect_scripts, run_given};
 use crate::listing_files::{FIFTH, listed, words};
 use crate::tables::table;
-use crate::whole::{ended, expect, expect_printed, printed_in};
-use std::alloc::Global;
-use std::process::Abort;
+use crate::whole::{expect, expect_ended, expect_run, printed_in};
 
 /// Relations with all their tuples, each of numbers below 40, in the order of their representations.
 const TUPLES: &str = table![
@@ -243,26 +241,23 @@ static FAILING_SYSTEM: [FailingRow; 4] = [
     (4, "[]\n[1]\n", 0, 43),
 ];
 
-/// Asserts that a script over these files, of which a call fails, prints what is listed, and ends so.
-fn expect_failing_over(
-    rt: &impl Abort,
-    alloc: Global,
-    files: &str,
-    script: &str,
-    rows: &[FailingRow],
-) {
-    for (failing, printed, code, count) in rows {
-        let ran = run_failing(rt, alloc, files, script, *failing);
-        expect_printed(rt, script, &ran, printed);
-        expect(rt, script, &ended(&ran), &(*code, *count));
-    }
-}
-
 #[test]
 fn listings_read_and_never_write(rt: HostRuntime) {
     let alloc = rt.alloc();
-    expect_failing_over(&rt, alloc, listed(), "test lt 1; inf lt;", &FAILING);
-    expect_failing_over(&rt, alloc, listed(), "test own 2;", &FAILING_SYSTEM);
+    expect_failing(
+        &rt,
+        alloc,
+        listed(),
+        ("walnut", "test lt 1; inf lt;"),
+        &FAILING,
+    );
+    expect_failing(
+        &rt,
+        alloc,
+        listed(),
+        ("walnut", "test own 2;"),
+        &FAILING_SYSTEM,
+    );
 }
 
 /// All words of 85 letters: each of their lines has 256 bytes.
@@ -276,9 +271,14 @@ static TOO_LONG: &str =
 #[test]
 fn lines_of_words_have_16777216_bytes_at_most(rt: HostRuntime) {
     let exact = run_given(&rt, rt.alloc(), "", "walnut", LONG);
-    expect(&rt, "exact", &ended(&exact), &(0, 1));
     expect(&rt, "exact", &printed_in(&exact).len(), &16_777_216);
+    expect_ended(&rt, "exact", exact, (0, 1));
     let more = run_given(&rt, rt.alloc(), "", "walnut", TOO_LONG);
-    expect_printed(&rt, "more", &more, "error 1: F31 TestLong 16777216\n");
-    expect(&rt, "more", &ended(&more), &(1, 1));
+    expect_run(
+        &rt,
+        "more",
+        more,
+        "error 1: F31 TestLong 16777216\n",
+        (1, 1),
+    );
 }

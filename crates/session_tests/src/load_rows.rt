@@ -1,9 +1,9 @@
 //! Files of commands that scripts load, and ends of runs.
 
 use crate::answers::given;
-use crate::given::{FailingRow, run_failing, run_given, run_line_failing, run_outside};
+use crate::given::{FailingRow, expect_failing, run_given, run_outside};
 use crate::tables::files;
-use crate::whole::{Outside, Ran, SURE, ended, expect, expect_printed, run_over};
+use crate::whole::{Outside, Ran, SURE, expect_run, run_over};
 use std::alloc::Global;
 use std::process::Abort;
 use wal_outside::{Folder, MemStore};
@@ -165,13 +165,17 @@ static ROWS: [LoadRow; 14] = [
     ),
 ];
 
+/// Asserts that each script of a table, with the words of this command line, prints what is listed, and ends so.
+fn expect_loads(rt: &impl Abort, alloc: Global, line: &str, rows: &[LoadRow]) {
+    for (given, script, printed, code, count) in rows {
+        let ran = run_given(rt, alloc, files_of(*given), line, script);
+        expect_run(rt, script, ran, printed, (*code, *count));
+    }
+}
+
 #[test]
 fn files_are_loaded_and_runs_end_as_listed(rt: HostRuntime) {
-    for (given, script, printed, code, count) in &ROWS {
-        let ran = run_given(&rt, rt.alloc(), files_of(*given), "walnut", script);
-        expect_printed(&rt, script, &ran, printed);
-        expect(&rt, script, &ended(&ran), &(*code, *count));
-    }
+    expect_loads(&rt, rt.alloc(), "walnut", &ROWS);
 }
 
 /// Pieces of one byte.
@@ -186,8 +190,7 @@ fn loads_are_the_same_where_bytes_come_and_go_one_by_one(rt: HostRuntime) {
     };
     for (given, script, printed, code, count) in &ROWS {
         let ran = run_outside(&rt, rt.alloc(), files_of(*given), script, &outside);
-        expect_printed(&rt, script, &ran, printed);
-        expect(&rt, script, &ended(&ran), &(*code, *count));
+        expect_run(&rt, script, ran, printed, (*code, *count));
     }
 }
 
@@ -206,11 +209,7 @@ static FAILING: [FailingRow; 6] = [
 
 #[test]
 fn each_store_call_of_a_load_may_fail(rt: HostRuntime) {
-    for (failing, printed, code, count) in &FAILING {
-        let ran = run_failing(&rt, rt.alloc(), MAKING, TWICE, *failing);
-        expect_printed(&rt, printed, &ran, printed);
-        expect(&rt, printed, &ended(&ran), &(*code, *count));
-    }
+    expect_failing(&rt, rt.alloc(), MAKING, ("walnut", TWICE), &FAILING);
 }
 
 /// A file with two faults.
@@ -273,11 +272,7 @@ static STOPPING: [LoadRow; 9] = [
 
 #[test]
 fn runs_stop_at_the_first_refusal_as_listed(rt: HostRuntime) {
-    for (given, script, printed, code, count) in &STOPPING {
-        let ran = run_given(&rt, rt.alloc(), files_of(*given), "walnut --stop", script);
-        expect_printed(&rt, script, &ran, printed);
-        expect(&rt, script, &ended(&ran), &(*code, *count));
-    }
+    expect_loads(&rt, rt.alloc(), "walnut --stop", &STOPPING);
 }
 
 /// What is printed of a run that ends with the first refusal, where a call of the store fails.
@@ -290,11 +285,7 @@ static STOPPED: [FailingRow; 4] = [
 
 #[test]
 fn a_store_that_fails_stops_a_run(rt: HostRuntime) {
-    for (failing, printed, code, count) in &STOPPED {
-        let ran = run_line_failing(&rt, rt.alloc(), MAKING, ("walnut --stop", TWICE), *failing);
-        expect_printed(&rt, printed, &ran, printed);
-        expect(&rt, printed, &ended(&ran), &(*code, *count));
-    }
+    expect_failing(&rt, rt.alloc(), MAKING, ("walnut --stop", TWICE), &STOPPED);
 }
 
 /// Runs a script over a store with a file `c` of so many blanks, and perhaps a file `d` that loads it.
@@ -332,7 +323,6 @@ static LIMITS: [(&str, usize, &str, u8); 5] = [
 fn bytes_of_scripts_and_of_files_count_together(rt: HostRuntime) {
     for (script, length, printed, code) in &LIMITS {
         let ran = run_blanks(&rt, rt.alloc(), script, *length);
-        expect_printed(&rt, script, &ran, printed);
-        expect(&rt, script, &ended(&ran), &(*code, 2));
+        expect_run(&rt, script, ran, printed, (*code, 2));
     }
 }

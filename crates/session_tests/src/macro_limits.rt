@@ -4,7 +4,7 @@ use crate::answers::given;
 use crate::given::{FailingRow, expect_failing, run_given};
 use crate::macro_rows::macros;
 use crate::tables::{ROW_END, first_field, table};
-use crate::whole::{Ran, SURE, expect_printed, run_over};
+use crate::whole::{Ran, SURE, expect_prints, run_over};
 use std::alloc::Global;
 use std::process::Abort;
 use wal_outside::{Folder, MemStore, TEXT_LIMIT};
@@ -128,7 +128,7 @@ fn run_nested(rt: &impl Abort, alloc: Global, opened: &str, count: usize, inside
 fn calls_nest_16_deep(rt: HostRuntime) {
     for (opened, count, inside, printed) in &NESTED {
         let ran = run_nested(&rt, rt.alloc(), opened, *count, inside);
-        expect_printed(&rt, inside, &ran, printed);
+        expect_prints(&rt, inside, ran, printed);
     }
 }
 
@@ -157,7 +157,7 @@ fn run_with_blanks(rt: &impl Abort, alloc: Global, length: usize, formula: &str)
 fn expanded_texts_have_at_most_65536_bytes(rt: HostRuntime) {
     for (length, formula, printed) in &LONG {
         let ran = run_with_blanks(&rt, rt.alloc(), *length, formula);
-        expect_printed(&rt, formula, &ran, printed);
+        expect_prints(&rt, formula, ran, printed);
     }
 }
 
@@ -172,11 +172,11 @@ fn a_command_has_at_most_65536_calls(rt: HostRuntime) {
     for row in CALLS.split_terminator(ROW_END) {
         let (formula, printed) = first_field(row);
         let ran = run_with_calls(&rt, rt.alloc(), formula);
-        expect_printed(&rt, formula, &ran, printed);
+        expect_prints(&rt, formula, ran, printed);
     }
 }
 
 #[test]
 fn a_store_that_fails_at_macros(rt: HostRuntime) {
-    expect_failing(&rt, rt.alloc(), THREE, &FAILING);
+    expect_failing(&rt, rt.alloc(), "", ("walnut", THREE), &FAILING);
 }

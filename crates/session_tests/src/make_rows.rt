@@ -1,7 +1,7 @@
 //! Runs of generated scripts: the line that is printed, the status, and how many texts are stored.
 
-use crate::given::{FailingRow, run_line_failing};
-use crate::whole::{Outside, SURE, ended, expect, expect_printed, over_sink, run_line};
+use crate::given::{FailingRow, expect_failing, run_line_failing};
+use crate::whole::{Outside, SURE, expect_run, over_sink, run_line};
 
 /// A script that no such run reads.
 const SCRIPT: &[u8] = b"prove;";
@@ -43,8 +43,7 @@ static MADE: [(&str, &str, u8, usize); 6] = [
 fn generated_scripts_are_summed_up_as_listed(rt: HostRuntime) {
     for (line, printed, code, count) in &MADE {
         let ran = run_line(&rt, rt.alloc(), line, SCRIPT, &SURE);
-        expect_printed(&rt, line, &ran, printed);
-        expect(&rt, line, &ended(&ran), &(*code, *count));
+        expect_run(&rt, line, ran, printed, (*code, *count));
     }
 }
 
@@ -57,8 +56,7 @@ const UNREADABLE: Outside = Outside {
 #[test]
 fn the_script_is_not_read_where_there_is_a_seed(rt: HostRuntime) {
     let ran = run_line(&rt, rt.alloc(), "walnut --make 0", SCRIPT, &UNREADABLE);
-    expect_printed(&rt, "unreadable", &ran, LINE);
-    expect(&rt, "unreadable", &ended(&ran), &(0, 200));
+    expect_run(&rt, "unreadable", ran, LINE, (0, 200));
 }
 
 /// What is printed where a call of the store fails: without the morphism `h`, the word `T` is missing too.
@@ -74,11 +72,7 @@ static FAILING: [FailingRow; 2] = [
 
 #[test]
 fn a_store_that_fails_refuses_commands_of_a_generated_script(rt: HostRuntime) {
-    for (failing, printed, code, count) in &FAILING {
-        let ran = run_line_failing(&rt, rt.alloc(), "", ("walnut --make 0", ""), *failing);
-        expect_printed(&rt, printed, &ran, printed);
-        expect(&rt, printed, &ended(&ran), &(*code, *count));
-    }
+    expect_failing(&rt, rt.alloc(), "", ("walnut --make 0", ""), &FAILING);
 }
 
 #[test]
@@ -86,8 +80,7 @@ fn a_store_that_fails_stops_a_generated_script(rt: HostRuntime) {
     let line = "walnut --make 18446744073709551615 --stop";
     let ran = run_line_failing(&rt, rt.alloc(), "", (line, ""), 1);
     let printed = "made 18446744073709551615 commands 1 true 0 false 0 other 0 refused 1\n";
-    expect_printed(&rt, line, &ran, printed);
-    expect(&rt, line, &ended(&ran), &(3, 0));
+    expect_run(&rt, line, ran, printed, (3, 0));
 }
 
 /// Lengths of pieces that a sink takes, its calls that fail, and what is printed of the line.
@@ -107,7 +100,6 @@ fn a_sink_that_fails_cuts_the_line(rt: HostRuntime) {
             SCRIPT,
             &over_sink(*writes, *failing),
         );
-        expect_printed(&rt, printed, &ran, printed);
-        expect(&rt, printed, &ended(&ran), &(3, 200));
+        expect_run(&rt, printed, ran, printed, (3, 200));
     }
 }

@@ -3,7 +3,7 @@
 use crate::answers::given;
 use crate::given::{expect_end, run_with};
 use crate::tables::{ROW_END, first_field, table};
-use crate::whole::{Ran, SURE, expect_printed, run_over};
+use crate::whole::{Ran, SURE, expect_prints, run_over};
 use std::alloc::Global;
 use std::process::Abort;
 use wal_outside::{Folder, MemStore, TEXT_LIMIT};
@@ -182,8 +182,7 @@ fn faults_of_files_of_rules_are_reported_by_line(rt: HostRuntime) {
         let (text, rest) = first_field(row);
         let (printed, end) = first_field(rest);
         let ran = promote_file(&rt, rt.alloc(), text);
-        expect_printed(&rt, text, &ran, printed);
-        expect_end(&rt, text, &ran, end);
+        expect_end(&rt, text, ran, printed, end);
     }
 }
 
@@ -199,5 +198,5 @@ fn promote_long(rt: &impl Abort, alloc: Global, length: usize) -> Ran {
 fn files_of_rules_have_at_most_16777216_bytes(rt: HostRuntime) {
     let long = promote_long(&rt, rt.alloc(), TEXT_LIMIT + 1);
     let printed = "error 1: F12 File Morphism Library/x too long\n";
-    expect_printed(&rt, "too long", &long, printed);
+    expect_prints(&rt, "too long", long, printed);
 }

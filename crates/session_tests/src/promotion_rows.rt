@@ -1,11 +1,7 @@
 //! Fixed points of morphisms as commands make them: the line of the step, what is stored, and why there is none.
 
-use crate::answers::given;
-use crate::given::{expect_scripts, run_given};
+use crate::given::{LimitRow, expect_scripts, expect_within};
 use crate::tables::table;
-use crate::whole::{Ran, ended, expect, expect_printed};
-use std::alloc::Global;
-use std::process::Abort;
 
 /// Morphisms whose fixed points are asked for, with the steps. The width is that of the letters that occur.
 const SHOWN: &str = table![
@@ -469,7 +465,7 @@ const REFUSED: &str = table![
 ];
 
 /// How wide a step may be, a script, what it prints, the status, and how many texts the store has then.
-static LIMITS: [(u32, &str, &str, u8, usize); 8] = [
+static LIMITS: [LimitRow; 8] = [
     (
         16,
         "morphism h \"[0]->[0][1] [1]->[1][2] [2]->[2][3] [3]->[3][4] [4]->[4][5] [5]->[5][6] [6]->[6][7] [7]->[7][8] [8]->[8][9] [9]->[9][10] [10]->[10][11] [11]->[11][12] [12]->[12][13] [13]->[13][14] [14]->[14][15] [15]->[15][0]\"; promote W h:",
@@ -538,17 +534,7 @@ fn morphisms_without_a_fixed_point_are_refused_by_their_kind(rt: HostRuntime) {
     expect_scripts(&rt, rt.alloc(), "", "walnut", REFUSED);
 }
 
-/// Runs a script where no step may be wider than this.
-fn run_within(rt: &impl Abort, alloc: Global, limit: u32, script: &str) -> Ran {
-    let line = given(rt, format!(in alloc; "walnut --states {limit}"));
-    run_given(rt, alloc, "", &line, script)
-}
-
 #[test]
 fn the_step_has_the_limit_of_all(rt: HostRuntime) {
-    for (limit, script, printed, code, count) in &LIMITS {
-        let ran = run_within(&rt, rt.alloc(), *limit, script);
-        expect_printed(&rt, script, &ran, printed);
-        expect(&rt, script, &ended(&ran), &(*code, *count));
-    }
+    expect_within(&rt, rt.alloc(), "", &LIMITS);
 }

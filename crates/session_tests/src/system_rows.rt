@@ -1,7 +1,7 @@
 //! Expressions over base systems: what is printed, the status and what is stored; and the same under a limit of states.
 
 use crate::tables::table;
-use crate::whole::{SURE, ended, expect, expect_printed, run_line};
+use crate::whole::{SURE, expect_run, run_line};
 
 pub const SYSTEMS: &str = table![
     Row {
@@ -266,8 +266,7 @@ static LIMITED: [Limited; 7] = [
 fn steps_keep_to_the_limit_of_states(rt: HostRuntime) {
     for row in &LIMITED {
         let ran = run_line(&rt, rt.alloc(), row.line, row.script.as_bytes(), &SURE);
-        expect_printed(&rt, row.script, &ran, row.printed);
         let stored = usize::from(row.code == 0);
-        expect(&rt, row.script, &ended(&ran), &(row.code, stored));
+        expect_run(&rt, row.script, ran, row.printed, (row.code, stored));
     }
 }

@@ -1,9 +1,8 @@
 //! The first faults of commands that run transducers.
 
-use crate::given::{FailingRow, expect_scripts, run_failing};
+use crate::given::{FailingRow, expect_failing, expect_scripts};
 use crate::tables::table;
 use crate::transduce_files::{broken, transduced};
-use crate::whole::{ended, expect, expect_printed};
 
 /// Scripts of commands that are refused.
 const REFUSED: &str = table![
@@ -489,15 +488,11 @@ static FAILING: [FailingRow; 4] = [
 // The transducer is read before the word.
 #[test]
 fn each_file_of_a_transducer_is_read_once(rt: HostRuntime) {
-    for (failing, printed, code, count) in &FAILING {
-        let ran = run_failing(
-            &rt,
-            rt.alloc(),
-            transduced(),
-            "transduce S sum T;",
-            *failing,
-        );
-        expect_printed(&rt, printed, &ran, printed);
-        expect(&rt, printed, &ended(&ran), &(*code, *count));
-    }
+    expect_failing(
+        &rt,
+        rt.alloc(),
+        transduced(),
+        ("walnut", "transduce S sum T;"),
+        &FAILING,
+    );
 }

@@ -3,7 +3,7 @@
 use crate::answers::given;
 use crate::tables::{ROW_END, first_field, table};
 use crate::user_system_files::{BINARY, CARRIES, run_over_files};
-use crate::whole::{Ran, SURE, code_of, expect, expect_printed, run_over};
+use crate::whole::{Ran, SURE, code_of, expect, expect_printed, expect_prints, run_over};
 use std::alloc::Global;
 use std::process::Abort;
 use wal_outside::{Folder, MemStore, TEXT_LIMIT};
@@ -320,7 +320,7 @@ fn ask_files(rt: &impl Abort, alloc: Global, language: &[u8], adder: &[u8]) -> R
 fn files_of_systems_are_read_as_listed(rt: HostRuntime) {
     for (language, adder, printed) in &PAIRS {
         let ran = ask_files(&rt, rt.alloc(), language.as_bytes(), adder.as_bytes());
-        expect_printed(&rt, printed, &ran, printed);
+        expect_prints(&rt, printed, ran, printed);
     }
 }
 
@@ -340,10 +340,10 @@ fn ask_long_adder(rt: &impl Abort, alloc: Global, length: usize) -> Ran {
 fn files_of_systems_have_at_most_16777216_bytes(rt: HostRuntime) {
     let language = ask_long_language(&rt, rt.alloc(), TEXT_LIMIT + 1);
     let printed = "error 1: F12 File Custom Bases/msd_X too long\n";
-    expect_printed(&rt, "a long language", &language, printed);
+    expect_prints(&rt, "a long language", language, printed);
     let adder = ask_long_adder(&rt, rt.alloc(), TEXT_LIMIT + 1);
     let printed = "error 1: F12 File Custom Bases/msd_X_addition too long\n";
-    expect_printed(&rt, "a long adder", &adder, printed);
+    expect_prints(&rt, "a long adder", adder, printed);
 }
 
 /// Asserts that the script of a row prints this, and has this status, where a call of the store fails: the fields are the script, the

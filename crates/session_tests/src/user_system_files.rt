@@ -4,7 +4,7 @@ use crate::answers::given;
 use crate::given::put_files;
 use crate::tables::{files, numbers_of};
 use crate::tribonacci_adder::TRIBONACCI_ADDER;
-use crate::whole::{Ran, SURE, ended, expect, expect_bytes, run_over};
+use crate::whole::{Ran, SURE, expect_bytes, expect_run, run_over};
 use std::alloc::Global;
 use std::process::Abort;
 use wal_outside::{Folder, MemStore};
@@ -363,9 +363,9 @@ fn end_with(code: u8, added: usize) -> (u8, usize) {
 }
 
 /// Asserts that a run ended with the status that a field says, and added as many texts as the next one says.
-pub fn expect_added(rt: &impl Abort, script: &str, ran: &Ran, end: &str) {
+pub fn expect_added(rt: &impl Abort, script: &str, ran: Ran, printed: &str, end: &str) {
     match numbers_of(end) {
-        Some((code, added)) => expect(rt, script, &ended(ran), &end_with(code, added)),
+        Some((code, added)) => expect_run(rt, script, ran, printed, end_with(code, added)),
         None => expect_bytes(rt, script, end.as_bytes(), b"a status and a number"),
     }
 }

@@ -2,7 +2,7 @@
 
 use crate::tables::{ROW_END, first_field, table};
 use crate::user_system_files::{ask, end_of, expect_added, run_over_files};
-use crate::whole::{ended, expect, expect_printed};
+use crate::whole::expect_run;
 
 /// Systems, and what is printed where they are asked whether 6 is a double.
 const QUESTIONS: &str = table![
@@ -461,8 +461,7 @@ fn systems_are_admitted_as_listed(rt: HostRuntime) {
     for row in QUESTIONS.split_terminator(ROW_END) {
         let (name, printed) = first_field(row);
         let ran = ask(&rt, rt.alloc(), "walnut", name);
-        expect_printed(&rt, name, &ran, printed);
-        expect(&rt, name, &ended(&ran), &end_of(printed));
+        expect_run(&rt, name, ran, printed, end_of(printed));
     }
 }
 
@@ -472,7 +471,6 @@ fn scripts_over_systems_print_as_listed(rt: HostRuntime) {
         let (script, rest) = first_field(row);
         let (printed, end) = first_field(rest);
         let ran = run_over_files(&rt, rt.alloc(), "walnut", script, 0);
-        expect_printed(&rt, script, &ran, printed);
-        expect_added(&rt, script, &ran, end);
+        expect_added(&rt, script, ran, printed, end);
     }
 }

@@ -3,7 +3,7 @@
 use crate::answers::given;
 use crate::tables::{ROW_END, first_field, table};
 use crate::user_system_files::{ask, end_of, run_over_files};
-use crate::whole::{Ran, code_of, ended, expect, expect_printed, expect_stored};
+use crate::whole::{Ran, expect_names, expect_run, expect_stores};
 use std::alloc::Global;
 use std::process::Abort;
 use wal_outside::Folder;
@@ -203,8 +203,7 @@ fn steps_of_admission_come_first(rt: HostRuntime) {
     for row in SHOWN.split_terminator(ROW_END) {
         let (script, printed) = first_field(row);
         let ran = run_over_files(&rt, rt.alloc(), "walnut", script, 0);
-        expect_printed(&rt, script, &ran, printed);
-        expect(&rt, script, &code_of(&ran), &0);
+        expect_names(&rt, script, ran, (printed, 0), &[]);
     }
 }
 
@@ -213,7 +212,7 @@ fn texts_over_systems_are_stored_as_listed(rt: HostRuntime) {
     for row in STORED.split_terminator(ROW_END) {
         let (script, text) = first_field(row);
         let ran = run_over_files(&rt, rt.alloc(), "walnut", script, 0);
-        expect_stored(&rt, &ran, (Folder::Automata, "a"), text);
+        expect_stores(&rt, ran, (Folder::Automata, "a"), text);
     }
 }
 
@@ -229,7 +228,6 @@ fn steps_of_admission_have_the_limit_of_all(rt: HostRuntime) {
         let (limit, rest) = first_field(row);
         let (name, printed) = first_field(rest);
         let ran = ask_within(&rt, rt.alloc(), limit, name);
-        expect_printed(&rt, name, &ran, printed);
-        expect(&rt, name, &ended(&ran), &end_of(printed));
+        expect_run(&rt, name, ran, printed, end_of(printed));
     }
 }

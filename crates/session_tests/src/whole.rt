@@ -160,6 +160,42 @@ pub fn expect_printed(rt: &impl Abort, script: &str, ran: &Ran, printed: &str) {
     expect_bytes(rt, script, printed_in(ran), printed.as_bytes());
 }
 
+/// Asserts that a run printed this, and lets it go.
+pub fn expect_prints(rt: &impl Abort, script: &str, ran: Ran, printed: &str) {
+    expect_printed(rt, script, &ran, printed);
+}
+
+/// Asserts that a run ended so, with its status and how many texts it stored, and lets it go.
+pub fn expect_ended(rt: &impl Abort, row: &str, ran: Ran, end: (u8, usize)) {
+    expect(rt, row, &ended(&ran), &end);
+}
+
+/// Asserts that a run printed this and ended so, and lets it go.
+pub fn expect_run(rt: &impl Abort, row: &str, ran: Ran, printed: &str, end: (u8, usize)) {
+    expect_printed(rt, row, &ran, printed);
+    expect_ended(rt, row, ran, end);
+}
+
+/// Asserts that a run left this text under a name, and lets it go.
+pub fn expect_stores(rt: &impl Abort, ran: Ran, place: (Folder, &str), text: &str) {
+    expect_stored(rt, &ran, place, text);
+}
+
+/// Asserts that a run printed this, has this status, and has texts under these names or has none, as each says, and lets it go.
+pub fn expect_names(
+    rt: &impl Abort,
+    row: &str,
+    ran: Ran,
+    (printed, code): (&str, u8),
+    names: &[(Folder, &str, bool)],
+) {
+    expect_printed(rt, row, &ran, printed);
+    expect(rt, row, &code_of(&ran), &code);
+    for (folder, name, stored) in names {
+        expect(rt, name, &is_stored(&ran, *folder, name), stored);
+    }
+}
+
 /// Asserts that a text is under a name.
 pub fn expect_stored(rt: &impl Abort, ran: &Ran, (folder, name): (Folder, &str), text: &str) {
     expect_bytes(rt, name, stored_in(ran, folder, name), text.as_bytes());

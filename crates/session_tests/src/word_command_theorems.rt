@@ -4,7 +4,7 @@
 //! have, its palindromes, and its factors without border; and that it is periodic from some position on.
 
 use crate::answers::given;
-use crate::whole::{Ran, expect_printed, run_script};
+use crate::whole::{Ran, expect_prints, run_script};
 use std::alloc::Global;
 use std::process::Abort;
 
@@ -178,7 +178,7 @@ fn run_statement(rt: &impl Abort, alloc: Global, commands: &str, statement: &str
 fn expect_verdicts(rt: &impl Abort, alloc: Global, commands: &str, statements: &[Statement]) {
     for (statement, verdict) in statements {
         let ran = run_statement(rt, alloc, commands, statement);
-        expect_printed(rt, statement, &ran, verdict);
+        expect_prints(rt, statement, ran, verdict);
     }
 }
 

@@ -2,7 +2,7 @@
 
 use crate::answers::given;
 use crate::tables::{ROW_END, first_field, table};
-use crate::whole::{Ran, SURE, expect_printed, expect_stored, run_over};
+use crate::whole::{Ran, SURE, expect_prints, expect_stores, run_over};
 use std::alloc::Global;
 use std::process::Abort;
 use wal_outside::{Folder, MemStore};
@@ -209,7 +209,7 @@ fn formulas_with_words_print_as_listed(rt: HostRuntime) {
     for row in PRINTED.split_terminator(ROW_END) {
         let (script, printed) = first_field(row);
         let ran = run_over_words(&rt, rt.alloc(), &FILES, script);
-        expect_printed(&rt, script, &ran, printed);
+        expect_prints(&rt, script, ran, printed);
     }
 }
 
@@ -224,6 +224,6 @@ fn formulas_with_words_store_their_texts(rt: HostRuntime) {
     for row in STORED.split_terminator(ROW_END) {
         let (formula, text) = first_field(row);
         let ran = run_definition(&rt, rt.alloc(), formula);
-        expect_stored(&rt, &ran, (Folder::Automata, "w"), text);
+        expect_stores(&rt, ran, (Folder::Automata, "w"), text);
     }
 }

@@ -2,7 +2,7 @@
 
 use crate::answers::given;
 use crate::tables::{ROW_END, first_field, table};
-use crate::whole::{Ran, expect_printed};
+use crate::whole::{Ran, expect_prints};
 use crate::word_rows::run_over_words;
 use std::alloc::Global;
 use std::process::Abort;
@@ -87,6 +87,6 @@ fn automatic_words_are_as_in_the_literature(rt: HostRuntime) {
     for row in STATEMENTS.split_terminator(ROW_END) {
         let (statement, verdict) = first_field(row);
         let ran = run_statement(&rt, rt.alloc(), statement);
-        expect_printed(&rt, statement, &ran, verdict);
+        expect_prints(&rt, statement, ran, verdict);
     }
 }

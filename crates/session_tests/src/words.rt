@@ -1,6 +1,6 @@
 //! Words of the command line.
 
-use crate::whole::{Ran, SURE, ended, expect, expect_printed, over_sink, run_line};
+use crate::whole::{Ran, SURE, expect_run, over_sink, run_line};
 use std::alloc::Global;
 use std::process::Abort;
 
@@ -58,8 +58,7 @@ static WORDS: [(&str, &str, u8); 37] = [
 fn words_are_taken_or_refused_as_listed(rt: HostRuntime) {
     for (line, printed, code) in &WORDS {
         let ran = run_line(&rt, rt.alloc(), line, SCRIPT, &SURE);
-        expect_printed(&rt, line, &ran, printed);
-        expect(&rt, line, &ended(&ran), &(*code, usize::from(*code == 0)));
+        expect_run(&rt, line, ran, printed, (*code, usize::from(*code == 0)));
     }
 }
 
@@ -74,24 +73,23 @@ fn run_refused(
     run_line(rt, alloc, "walnut --states 15", SCRIPT, &outside)
 }
 
-fn expect_usage(rt: &impl Abort, row: &str, ran: &Ran, printed: &str) {
-    expect_printed(rt, row, ran, printed);
-    expect(rt, row, &ended(ran), &(2, 0));
+fn expect_usage(rt: &impl Abort, row: &str, ran: Ran, printed: &str) {
+    expect_run(rt, row, ran, printed, (2, 0));
 }
 
 #[test]
 fn refused_words_are_so_over_a_sink_that_fails(rt: HostRuntime) {
-    expect_usage(&rt, "fails", &run_refused(&rt, rt.alloc(), &[], &[1]), "");
+    expect_usage(&rt, "fails", run_refused(&rt, rt.alloc(), &[], &[1]), "");
     expect_usage(
         &rt,
         "takes nothing",
-        &run_refused(&rt, rt.alloc(), &[0], &[]),
+        run_refused(&rt, rt.alloc(), &[0], &[]),
         "",
     );
     expect_usage(
         &rt,
         "fails later",
-        &run_refused(&rt, rt.alloc(), &[3], &[2]),
+        run_refused(&rt, rt.alloc(), &[3], &[2]),
         "usa",
     );
 }
