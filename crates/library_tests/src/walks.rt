@@ -372,22 +372,42 @@ fn goes_on(
     }
 }
 
-// Whether walks go on from each word up to the longest, listed or not, and from before them all.
-fn goes_on_everywhere(rt: &impl Abort, alloc: Global, line: &str, skip: Option<Direction>) -> bool {
-    let dfa = language(rt, alloc, line);
-    let words = short_words(rt, alloc, dfa.alphabet().letters());
-    let mut walk = given(rt, Walk::new(alloc, &dfa, skip));
-    if walk.place().is_some() || !goes_on(rt, alloc, (&dfa, skip), &mut walk, &words) {
-        return false;
-    }
+// Whether a walk goes on to the first of these words that is listed, from a place, or from before all words.
+fn goes_on_from(
+    rt: &impl Abort,
+    alloc: Global,
+    (dfa, skip): (&Dfa, Option<Direction>),
+    place: Option<&[u32]>,
+    after: &[Vec<u32>],
+) -> bool {
+    let mut walk = match place {
+        Some(place) => given(rt, Walk::resume(alloc, dfa, skip, place)),
+        None => given(rt, Walk::new(alloc, dfa, skip)),
+    };
+    walk.place() == place && goes_on(rt, alloc, (dfa, skip), &mut walk, after)
+}
+
+// Whether walks go on from each of these words, listed or not, and from before them all.
+fn goes_on_from_each(
+    rt: &impl Abort,
+    alloc: Global,
+    listing: (&Dfa, Option<Direction>),
+    words: &[Vec<u32>],
+) -> bool {
     for (index, place) in words.iter().enumerate() {
-        let mut walk = given(rt, Walk::resume(alloc, &dfa, skip, place));
         let after = words.get(index + 1..).unwrap_or(&[]);
-        if walk.place() != Some(place) || !goes_on(rt, alloc, (&dfa, skip), &mut walk, after) {
+        if !goes_on_from(rt, alloc, listing, Some(place.as_slice()), after) {
             return false;
         }
     }
-    true
+    goes_on_from(rt, alloc, listing, None, words)
+}
+
+// Whether walks go on from each word up to the longest, and from before them all.
+fn goes_on_everywhere(rt: &impl Abort, alloc: Global, line: &str, skip: Option<Direction>) -> bool {
+    let dfa = language(rt, alloc, line);
+    let words = short_words(rt, alloc, dfa.alphabet().letters());
+    goes_on_from_each(rt, alloc, (&dfa, skip), &words)
 }
 
 #[test]
