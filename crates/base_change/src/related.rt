@@ -4,7 +4,7 @@ ghost use Rattle.std.specs.Prelude.{◌≡◌, ◌≢◌, ◌≤◌, ◌<◌, �
 ghost use Rattle.base_change.specs.Roots.{HaveNoRoot, IsLeastRoot};
 
 /// Two bases as powers of one integer.
-#[derive(Clone, Copy, Debug, PartialEq, Eq)]
+#[derive(Clone, Copy, PartialEq, Eq)]
 pub struct CommonRoot {
     /// The least integer of which both bases are powers.
     pub root: u32,

@@ -3,7 +3,7 @@
 use digit_tuple::name::Name;
 
 /// The part of a command that a fault is about. Bytes count from the part's begin.
-#[derive(Clone, Copy, Debug, PartialEq, Eq)]
+#[derive(Clone, Copy, PartialEq, Eq)]
 pub enum Grammar {
     /// The command itself.
     Command,

@@ -6,7 +6,7 @@ ghost use Rattle.dfa_reading.specs.Entries.{output_by};
 use crate::read_numbers::integer;
 
 /// What the output of a state may be.
-#[derive(Clone, Copy, Debug, PartialEq, Eq)]
+#[derive(Clone, Copy, PartialEq, Eq)]
 pub enum Outputs {
     /// A number.
     Numbers,

@@ -1,7 +1,7 @@
 //! The files of a user's system.
 
 /// Which file of a user's system a text is.
-#[derive(Clone, Copy, Debug, PartialEq, Eq)]
+#[derive(Clone, Copy, PartialEq, Eq)]
 pub enum SystemPart {
     /// That of the language: one track, whose digits are those from 0 on.
     Language,

@@ -3,7 +3,7 @@
 use digit_tuple::name::Name;
 
 /// How the two sides of an atom compare.
-#[derive(Clone, Copy, Debug, PartialEq, Eq)]
+#[derive(Clone, Copy, PartialEq, Eq)]
 pub enum Relation {
     /// `=`
     Equal,
@@ -20,7 +20,7 @@ pub enum Relation {
 }
 
 /// A quantifier.
-#[derive(Clone, Copy, Debug, PartialEq, Eq)]
+#[derive(Clone, Copy, PartialEq, Eq)]
 pub enum Quantifier {
     /// `E`
     Exists,
@@ -31,7 +31,7 @@ pub enum Quantifier {
 }
 
 /// The sign between two addends.
-#[derive(Clone, Copy, Debug, PartialEq, Eq)]
+#[derive(Clone, Copy, PartialEq, Eq)]
 pub enum Sign {
     /// `+`
     Plus,
@@ -40,7 +40,7 @@ pub enum Sign {
 }
 
 /// What is between two operands.
-#[derive(Clone, Copy, Debug, PartialEq, Eq)]
+#[derive(Clone, Copy, PartialEq, Eq)]
 pub enum Connective {
     /// `&`
     And,

@@ -1,7 +1,7 @@
 //! Operations on languages.
 
 /// An operation on two languages, which is done on more from the left.
-#[derive(Clone, Copy, Debug, PartialEq, Eq)]
+#[derive(Clone, Copy, PartialEq, Eq)]
 pub enum PairOp {
     /// The words that are in one of them.
     Union,
@@ -12,7 +12,7 @@ pub enum PairOp {
 }
 
 /// An operation on one language.
-#[derive(Clone, Copy, Debug, PartialEq, Eq)]
+#[derive(Clone, Copy, PartialEq, Eq)]
 pub enum OneOp {
     /// The words joined of any number of words of the language.
     Star,
@@ -21,7 +21,7 @@ pub enum OneOp {
 }
 
 /// The operation of a language command.
-#[derive(Clone, Copy, Debug, PartialEq, Eq)]
+#[derive(Clone, Copy, PartialEq, Eq)]
 pub enum LanguageOp {
     /// On one or more languages.
     Pair(PairOp),

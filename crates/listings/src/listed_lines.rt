@@ -13,7 +13,7 @@ use std::alloc::Global;
 use word_walk::walk::Walk;
 
 /// How many words are listed, and how many bytes their lines may have together.
-#[derive(Clone, Copy, Debug, PartialEq, Eq)]
+#[derive(Clone, Copy, PartialEq, Eq)]
 pub struct Bounds {
     pub words: u64,
     pub bytes: usize,

@@ -1,7 +1,7 @@
 //! Comparisons of two numbers.
 
 /// How two numbers compare.
-#[derive(Clone, Copy, Debug, PartialEq, Eq)]
+#[derive(Clone, Copy, PartialEq, Eq)]
 pub enum Comparison {
     /// The numbers are the same.
     Equal,

@@ -5,7 +5,7 @@ ghost use Rattle.product_op.specs.Connectives.{connective, among_valid};
 ghost use Rattle.product_op.specs.DeadPairs.{needs_first, needs_second};
 
 /// A connective of two arguments.
-#[derive(Clone, Copy, Debug, PartialEq, Eq)]
+#[derive(Clone, Copy, PartialEq, Eq)]
 pub enum Op {
     And,
     /// The first and not the second.

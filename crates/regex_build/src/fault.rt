@@ -23,7 +23,7 @@ pub enum RegexFault {
 }
 
 /// Why a token is not read.
-#[derive(Clone, Copy, Debug, PartialEq, Eq)]
+#[derive(Clone, Copy, PartialEq, Eq)]
 pub(crate) enum Refusal {
     /// No expression goes on with it.
     Syntax,

@@ -24,14 +24,14 @@ const MOST_NESTED: usize = 128;
 
 /// What comes before the post that is read, in the same parentheses: alternatives with a `|` after them, and a
 /// sequence.
-#[derive(Clone, Copy, Debug, PartialEq, Eq)]
+#[derive(Clone, Copy, PartialEq, Eq)]
 pub(crate) struct Group {
     pub alternatives: bool,
     pub sequence: bool,
 }
 
 /// How far the reading of a group is.
-#[derive(Clone, Copy, Debug, PartialEq, Eq)]
+#[derive(Clone, Copy, PartialEq, Eq)]
 pub(crate) enum Stage {
     /// A post begins here.
     AtPost,

@@ -1,7 +1,7 @@
 //! Tokens of expressions.
 
 /// A token.
-#[derive(Clone, Copy, Debug, PartialEq, Eq)]
+#[derive(Clone, Copy, PartialEq, Eq)]
 pub(crate) enum Token {
     Bar,
     Star,

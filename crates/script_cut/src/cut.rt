@@ -4,7 +4,7 @@ ghost use Rattle.script_cut.specs.declared.cut.CutFault.TheVariants.{Memory};
 use std::alloc::{AllocError, AllocFailed};
 
 /// What comes next in a script.
-#[derive(Debug, Drop)]
+#[derive(Drop)]
 pub enum Cut {
     /// A command's text, whether it was ended by `:` or `::` so that its steps are shown, and the line on
     /// which it begins.

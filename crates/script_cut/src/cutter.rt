@@ -27,7 +27,7 @@ pub const SCRIPT_LIMIT: usize = 16_777_216;
 pub const TEXT_LIMIT: usize = 65_536;
 
 /// Cuts a script into commands.
-#[derive(Debug, Drop)]
+#[derive(Drop)]
 pub struct Cutter {
     alloc: Global,
     /// What was passed of a command that has not ended, while it is not too long.
@@ -41,7 +41,7 @@ pub struct Cutter {
 }
 
 /// How long a text is, and how it ended: by a terminator that shows the steps or not, or by the script's end.
-#[derive(Clone, Copy, Debug)]
+#[derive(Clone, Copy)]
 struct Scanned {
     len: usize,
     shown: Option<bool>,

@@ -6,7 +6,7 @@ ghost use Rattle.script_cut.specs.Lengths.{gap_count, gap_open, text_count, text
 use text_grammar::Class;
 
 /// How many bytes a leading stretch has, and whether a comment or a quote is open after it.
-#[derive(Clone, Copy, Debug)]
+#[derive(Clone, Copy)]
 pub(crate) struct Stretch {
     pub(crate) len: usize,
     pub(crate) open: bool,

@@ -10,7 +10,7 @@ use wal_outside::{Failed, Source};
 pub(crate) const PIECE: usize = 8192;
 
 /// The bytes that were read and not yet passed.
-#[derive(Debug, Drop)]
+#[derive(Drop)]
 pub(crate) struct Window {
     bytes: [u8; PIECE],
     start: usize,

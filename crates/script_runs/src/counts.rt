@@ -13,7 +13,7 @@ const TRUE_LINE: &[u8] = b"TRUE\n";
 const FALSE_LINE: &[u8] = b"FALSE\n";
 
 /// How many commands were answered, and how.
-#[derive(Clone, Copy, Debug, PartialEq, Eq)]
+#[derive(Clone, Copy, PartialEq, Eq)]
 pub struct Counts {
     /// How many were answered: the four others together.
     pub commands: u64,

@@ -1,5 +1,5 @@
 /// What an accepted command does.
-#[derive(Debug, Drop)]
+#[derive(Drop)]
 pub enum Deed {
     /// It makes something, and these bytes are printed.
     Enters(Vec<u8>),

@@ -1,5 +1,5 @@
 /// How a run ended. The number is the exit status of the program.
-#[derive(Clone, Copy, Debug, PartialEq, Eq)]
+#[derive(Clone, Copy, PartialEq, Eq)]
 pub enum Status {
     /// Each command was accepted, and the script was read to its end.
     Done,

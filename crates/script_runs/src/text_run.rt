@@ -11,7 +11,7 @@ use std::alloc::{AllocError, Global};
 use wal_outside::{Store, SureSource};
 
 /// A run whose commands were all answered.
-#[derive(Clone, Copy, Debug, PartialEq, Eq)]
+#[derive(Clone, Copy, PartialEq, Eq)]
 pub struct TextRun {
     /// How it ended.
     pub status: Status,

@@ -15,7 +15,7 @@ pub const LEAST_BASE: u32 = 2;
 pub const GREATEST_BASE: u32 = 40;
 
 /// A numeration system that is built in.
-#[derive(Clone, Copy, Debug)]
+#[derive(Clone, Copy)]
 pub struct BuiltIn {
     /// The direction in which its words are read.
     pub direction: Direction,

@@ -3,7 +3,7 @@ ghost use Rattle.std.specs.Prelude.{◌≡◌};
 ghost use Rattle.system_names.specs.Names.{digit_count};
 
 /// What a numeration system that is built in is, whatever the direction of its words.
-#[derive(Clone, Copy, Debug)]
+#[derive(Clone, Copy)]
 pub enum SystemKind {
     /// The base of this number, from 2 to 40: all words over its digits.
     Base(u32),

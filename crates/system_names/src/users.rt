@@ -14,7 +14,7 @@ use text_grammar::all_alphanumeric;
 pub const LONGEST_PART: usize = 58;
 
 /// A system that a user defines, read in a direction: what its name says.
-#[derive(Clone, Copy, Debug)]
+#[derive(Clone, Copy)]
 pub struct UserName<'a> {
     /// The direction in which its words are read.
     pub direction: Direction,

@@ -3,7 +3,7 @@ ghost use Rattle.text_grammar.specs.Bytes.{is_blank as is_blank_byte};
 ghost use Rattle.text_grammar.specs.Prefixes.{is_in};
 
 /// A class of bytes.
-#[derive(Clone, Copy, Debug, PartialEq, Eq)]
+#[derive(Clone, Copy, PartialEq, Eq)]
 pub enum Class {
     /// Space, tab, carriage return and line feed.
     Blank,

@@ -15,7 +15,7 @@ use digit_tuple::letter_set::LetterSet;
 const STATE_LIMIT: u64 = 4294967296;
 
 /// What a line below the set lists.
-#[derive(Clone, Copy, Debug, PartialEq, Eq)]
+#[derive(Clone, Copy, PartialEq, Eq)]
 pub enum Entry {
     /// The number of a state.
     State(usize),

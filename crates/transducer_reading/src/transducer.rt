@@ -9,7 +9,7 @@ use digit_tuple::letter_set::LetterSet;
 use std::marker::Model;
 
 /// A line from a state by a letter, where None is `*`, to a state with an output. A state is given by its place among the states.
-#[derive(Clone, Copy, Debug, PartialEq, Eq)]
+#[derive(Clone, Copy, PartialEq, Eq)]
 pub struct TransducerLine {
     /// The state from which it leads.
     pub state: usize,

@@ -24,7 +24,6 @@ const UNFINISHED: &str = ".new";
 /// `Failed` to a write. A write makes a missing folder. It writes `FOLDER/NAME.new` and gives it the other name when it
 /// is whole, since a prefix of an automaton can be an automaton: a write that fails, or is cut off, leaves the text as
 /// it was. A file that may not be written is not replaced.
-#[derive(Debug)]
 pub struct FolderStore<'a, R: Files> {
     rt: &'a R,
     alloc: Global,

@@ -9,7 +9,7 @@ use crate::sink::{Sink, WriteFault};
 use std::alloc::Global;
 
 /// A sink that keeps its bytes in memory, takes them in pieces and fails at given calls.
-#[derive(Debug, Drop)]
+#[derive(Drop)]
 pub struct MemSink {
     held: Vec<u8>,
     pieces: Pieces,
@@ -67,7 +67,7 @@ impl Sink for MemSink {
 }
 
 /// A sink that keeps its bytes in memory and never fails.
-#[derive(Debug, Drop)]
+#[derive(Drop)]
 pub struct SureSink {
     held: Vec<u8>,
 }

@@ -8,7 +8,7 @@ use crate::schedule::Schedule;
 use crate::source::{Failed, Source};
 
 /// A source over bytes in memory, which gives them in pieces and fails at given calls.
-#[derive(Debug, Drop)]
+#[derive(Drop)]
 pub struct MemSource {
     bytes: Vec<u8>,
     at: usize,
@@ -64,7 +64,7 @@ impl Source for MemSource {
 }
 
 /// A source over bytes in memory that never fails.
-#[derive(Debug, Drop)]
+#[derive(Drop)]
 pub struct SureSource {
     bytes: Vec<u8>,
     at: usize,

@@ -15,14 +15,14 @@ use crate::store::{Found, Store};
 use std::alloc::{AllocError, Global};
 
 /// The folder and name of a call that failed.
-#[derive(Debug, Drop)]
+#[derive(Drop)]
 pub struct FailedCall {
     pub folder: Folder,
     pub name: String,
 }
 
 /// A store in memory, which fails at given calls and says of the last one that failed.
-#[derive(Debug, Drop)]
+#[derive(Drop)]
 pub struct MemStore {
     alloc: Global,
     shelf: Shelf,
@@ -128,7 +128,7 @@ impl Store for MemStore {
 }
 
 /// A store in memory that never fails.
-#[derive(Debug, Drop)]
+#[derive(Drop)]
 pub struct SureStore {
     alloc: Global,
     shelf: Shelf,

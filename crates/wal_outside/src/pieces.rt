@@ -3,7 +3,7 @@ ghost use Rattle.std.specs.Prelude.{◌≡◌, ◌+◌, ◌<◌, ◌≤◌, vec_
 ghost use Rattle.wal_outside.specs.Schedules.{next_taken};
 
 /// The most bytes that each call takes, in turn. Once the list is over, a call takes all it can.
-#[derive(Debug, Drop)]
+#[derive(Drop)]
 pub struct Pieces {
     lengths: Vec<usize>,
     next: usize,

@@ -4,7 +4,7 @@ ghost use Rattle.wal_outside.specs.Causes.{one_more, CountsFault};
 ghost use Rattle.wal_outside.specs.Schedules.{fails_next, IsFresh};
 
 /// The calls that an object in memory had, and the numbers of those that are to fail.
-#[derive(Debug, Drop)]
+#[derive(Drop)]
 pub struct Schedule {
     /// The numbers of the calls that are to fail; the first call has the number 1.
     failing: Vec<u64>,

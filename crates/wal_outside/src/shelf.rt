@@ -12,7 +12,7 @@ use crate::store::{Found, TEXT_LIMIT};
 use std::alloc::{AllocError, Global};
 
 /// A text, and the name and folder under which it is.
-#[derive(Debug, Drop)]
+#[derive(Drop)]
 pub struct Text {
     pub folder: Folder,
     pub name: String,
@@ -43,7 +43,7 @@ impl Text {
 }
 
 /// Texts by folder and name, at most one under each.
-#[derive(Debug, Drop)]
+#[derive(Drop)]
 pub struct Shelf {
     texts: Vec<Text>,
 }

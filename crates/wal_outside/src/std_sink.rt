@@ -8,7 +8,7 @@ use std::io;
 use std::io::{ErrorKind, Write};
 
 /// A sink over a writer, as over standard output.
-#[derive(Debug, Drop)]
+#[derive(Drop)]
 pub struct StdSink<W> {
     writer: W,
     faults: u64,

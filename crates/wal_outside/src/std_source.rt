@@ -8,7 +8,7 @@ use std::io;
 use std::io::{ErrorKind, Read};
 
 /// A source over a reader, as over standard input.
-#[derive(Debug, Drop)]
+#[derive(Drop)]
 pub struct StdSource<R> {
     reader: R,
     calls: u64,
