@@ -1,5 +1,5 @@
 -- Sets of numbers as bits.
-use Rattle.std.proofs.Common.{◌≡◌, ℕ, zero, suc, ◌*◌, ◌/◌, ◌%◌, ◌^◌, ◌<◌, true, false, List, [], ◌∷◌, replicate, length, get_or, None, Some, ◌↔◌, ◌⊎◌, inl, inr, refl, sym, ap, ◌∙◌, subst, eq-eqb, length-set, arith}
+use Rattle.std.proofs.Common.{◌≡◌, ℕ, zero, suc, ◌*◌, ◌/◌, ◌%◌, ◌^◌, ◌<◌, true, false, List, [], ◌∷◌, replicate, length, set, get_or, None, Some, ◌↔◌, ◌⊎◌, inl, inr, refl, sym, ap, ◌∙◌, subst, eq-eqb, length-set, arith}
 use Rattle.std.specs.Prelude.{◌==◌, not, bit_or, if◌then◌else◌}
 use Rattle.std.specs.Int.{bit_at}
 use Rattle.std.specs.List.{All, AllPairs, Contains, list_any, range_with_len}
@@ -8,7 +8,7 @@ use Rattle.std.proofs.lemmas.Bool.{cases_eq, eqb-true, ne_eqb}
 use Rattle.std.proofs.lemmas.List.{ext_get_or, length-replicate}
 use Rattle.std.proofs.lemmas.List.Elements.{All-head, All-tail, All-contains, All-weaker, Contains-get_or}
 use Rattle.std.proofs.lemmas.List.Kept.{AllPairs-filter}
-use Rattle.std.proofs.lemmas.Nat.{div-add-mod', div_below}
+use Rattle.std.proofs.lemmas.Nat.{div-add-mod', div_below, mod_below, one_shl}
 use Rattle.std.proofs.lemmas.Nat.Bits.{bit_at-lt, bit_at-zero, bit_at-pow_same, bit_at-pow_other, same_from_bits}
 use Rattle.digit_tuple.specs.Groups.{some_set}
 use Rattle.digit_tuple.proofs.MemberLemmas.{Contains-head, Contains-tail, Contains-cases, Contains-none, Contains-filter, Contains-from_filter, list_any-contains, same_ascending}
@@ -45,6 +45,12 @@ HasBit-with_bit words number within place bit = ((λ is. forth (one.0 is)), (λ 
     back : HasBit words place bit ⊎ IsBitAt number place bit → HasBit words place bit ⊎ ((number / 32 ≡ place) × (bit_at (2 ^ (number % 32)) bit ≡ 1))
     back (inl is) = inl is
     back (inr here) = inr (here.0, (only_bit (number % 32) bit).1 here.1)
+
+-- the bit of a number set as `|=` sets it
+pub with_bit-set : (words : List ℕ) (number word : ℕ) → word ≡ get_or words (number / 32) 0 → set words (number / 32) (bit_or word ((1 * 2 ^ (number % 32)) % 2 ^ 32)) ≡ with_bit words number
+with_bit-set words number word read =
+    ap (λ w. set words (number / 32) (bit_or w ((1 * 2 ^ (number % 32)) % 2 ^ 32))) read
+    ∙ ap (λ b. set words (number / 32) (bit_or (get_or words (number / 32) 0) b)) (one_shl (number % 32) 32 (mod_below number 32 (omega arith)))
 
 pub length-with_bits : (words numbers : List ℕ) → length (with_bits words numbers) ≡ length words
 length-with_bits words [] = refl

@@ -1,11 +1,27 @@
-use Rattle.std.proofs.Common.{◌≡◌, ◌+◌, ◌<◌, ◌++◌, take, drop, length, get_or, sym, ap, ◌∙◌, subst, arith}
+use Rattle.std.proofs.Common.{◌≡◌, ℕ, ◌+◌, ◌<◌, ◌++◌, take, drop, length, get_or, sym, ap, ◌∙◌, subst, arith}
 use Rattle.std.specs.Prelude.{Vec}
 use Rattle.std.specs.declared.alloc.Global.{Global}
 use Rattle.std.proofs.lemmas.List.{take_all, take_at}
+use Rattle.std.proofs.lemmas.List.Elements.{All-same}
 use Rattle.determinise.specs.declared.bit_words.BitWord.{BitWord}
 use Rattle.determinise.specs.Bits.{AreGathered, AreSet, row_at, rows_in}
 use Rattle.determinise.proofs.BitRowLemmas.{AreGathered-more, row_at-in}
 use Rattle.determinise.proofs.bit_rows.gather.Goals as goal
+
+pub offset_bounds-rows-state : goal.offset_bounds-rows-state
+offset_bounds-rows-state c = omega (arith, c.requires.there c.loop-state.state-index 0 c.loop-state-test.true)
+
+pub bounds-rows-state : goal.bounds-rows-state
+bounds-rows-state c = c.requires.there c.loop-state.state-index 0 c.loop-state-test.true
+
+pub set_row-requires : goal.set_row-requires
+set_row-requires c k d within =
+    let row = c.index-rows-state.result in
+    let at : ℕ = get_or c.args.set.now c.loop-state.state-index 0 in
+    let same : c.deref.result.now ≡ (get_or c.args.rows.now at row).items = c.deref.ensures.value ∙ ap (λ (v : Vec BitWord Global). v.items) c.index-rows-state.is in
+    let all = c.requires.within at row (c.requires.there c.loop-state.state-index 0 c.loop-state-test.true) in
+    let here = All-same (λ (word : BitWord). word.place < c.args.room) c.deref.result.now (get_or c.args.rows.now at row).items same all k d within in
+    omega (arith, here, ap length c.deref_mut.ensures.value, c.loop-state.invariant.length)
 
 pub loop-state-preserved : goal.loop-state-preserved
 loop-state-preserved c =
