@@ -173,3 +173,79 @@ mod command_lines;
 // generated scripts
 #[cfg(test)]
 mod made_scripts;
+
+// what steps on words give, as texts
+#[cfg(test)]
+mod letter_functions;
+
+// texts that are written part by part
+#[cfg(test)]
+mod written;
+
+// what texts of formulas, rules and calls give, and rows of what they are to give
+#[cfg(test)]
+mod answers;
+
+// the headers of the names in rows of formulas
+#[cfg(test)]
+mod known_headers;
+
+// texts of formulas with the trees that they must have
+#[cfg(test)]
+mod trees_written_out;
+
+// texts of formulas with the first faults that they must have
+#[cfg(test)]
+mod faults;
+
+// formulas of 65,536 bytes
+#[cfg(test)]
+mod long_texts;
+
+// formulas with the numbers for which they are true
+#[cfg(test)]
+mod truth;
+
+// formulas with their free variables or their faults
+#[cfg(test)]
+mod resolution;
+
+// formulas with their steps
+#[cfg(test)]
+mod plans;
+
+// rules of morphisms, as they are printed and with their first faults
+#[cfg(test)]
+mod rules;
+
+// texts with calls of macros
+#[cfg(test)]
+mod macros;
+
+// files of transducers that are read, and files that break at a line
+#[cfg(test)]
+mod transducer_files;
+
+// transducers in stores
+#[cfg(test)]
+mod stored_transducers;
+
+// words that transducers make
+#[cfg(test)]
+mod transductions;
+
+// fixed points that are changed
+#[cfg(test)]
+mod fixed_words;
+
+// words read from their other end
+#[cfg(test)]
+mod reversals;
+
+// roots of bases, and letters of words over powers of them
+#[cfg(test)]
+mod related_bases;
+
+// words over other bases
+#[cfg(test)]
+mod conversions;

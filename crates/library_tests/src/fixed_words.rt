@@ -5,7 +5,7 @@ ghost use Rattle.base_k.specs.Positional.{base};
 ghost use Rattle.num_system.specs.Tracks.{systems_of};
 
 use crate::given::{given, no_answer};
-use crate::outcomes::made_text;
+use crate::letter_functions::made_text;
 use crate::transducer_files::made_of;
 use digit_tuple::step_fault::StepFault;
 use digit_tuple::steps::Steps;

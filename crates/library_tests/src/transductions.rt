@@ -2,7 +2,7 @@
 
 use crate::fixed_words::{Change, changed};
 use crate::given::given;
-use crate::outcomes::expect;
+use crate::outcomes::expect_text;
 use crate::text_rows::{ROW_END, fields_of, table};
 
 // A row's name, a transducer, the rules of a fixed point, a limit, and what is given. Each step has its width as limit, and one
@@ -104,6 +104,6 @@ fn transduced_letters_are_those_of_another_program(rt: HostRuntime) {
         let limit = given(&rt, limit.parse());
         let change = Change::Transduced(text);
         let found = changed(&rt, rt.alloc(), change, rules, limit);
-        expect(&rt, name, &found, wanted);
+        expect_text(&rt, name, &found, wanted);
     }
 }

@@ -4,7 +4,9 @@ ghost use Rattle.std.specs.Prelude.{◌≡◌, ◌≤◌, ◌^◌, ◌∷◌, []
 
 use crate::fixed_words::{THUE_MORSE, fixed_word};
 use crate::given::{given, no_answer};
-use crate::outcomes::{after_lines, expect, fault_text, table_of};
+use crate::letter_functions::step_fault_text;
+use crate::outcomes::{after_lines, expect_text};
+use crate::table_texts::table_of;
 use base_change::join::join_letters;
 use base_change::related::related;
 use base_change::split::split_letters;
@@ -52,7 +54,7 @@ static ROOTS: [(u32, u32, &str); 14] = [
 fn roots_are_those_worked_out(rt: HostRuntime) {
     for (old, new, wanted) in &ROOTS {
         let found = root_of(&rt, rt.alloc(), *old, *new);
-        expect(&rt, wanted, &found, wanted);
+        expect_text(&rt, wanted, &found, wanted);
     }
 }
 
@@ -99,7 +101,7 @@ fn sameness(
             let same = table_of(rt, alloc, made.dfa()) == table_of(rt, alloc, function.dfa());
             given(rt, same.to_string(alloc))
         }
-        Err(fault) => fault_text(rt, alloc, *fault),
+        Err(fault) => step_fault_text(rt, alloc, *fault),
     }
 }
 
@@ -132,6 +134,6 @@ static CHANGED: [(bool, u32, &str); 6] = [
 fn widths_of_splits_and_joins_are_those_worked_out(rt: HostRuntime) {
     for (threes, limit, wanted) in &CHANGED {
         let found = changed(&rt, rt.alloc(), *threes, *limit);
-        expect(&rt, wanted, &found, wanted);
+        expect_text(&rt, wanted, &found, wanted);
     }
 }

@@ -8,7 +8,8 @@ ghost use Rattle.num_system.specs.Tracks.{systems_of};
 
 use crate::fixed_words::{DOUBLING, THUE_MORSE, promoted};
 use crate::given::{given, no_answer};
-use crate::outcomes::{after_lines, expect, fault_text, letter_text};
+use crate::letter_functions::step_fault_text;
+use crate::outcomes::{after_lines, expect_text, letter_text};
 use base_change::conversion::convert;
 use base_change::related::related;
 use base_k::base_k::{BaseK, GREATEST_BASE, LEAST_BASE};
@@ -99,8 +100,8 @@ fn letter_at(rt: &impl Abort, alloc: Global, word: &Word, base: BaseK, place: u3
 fn letters_of(rt: &impl Abort, alloc: Global, word: &Word, base: BaseK) -> String {
     let mut text = String::new(alloc);
     for place in 0..SOME {
-        let letter = letter_text(alloc, letter_at(rt, alloc, word, base, place));
-        given(rt, text.push_str(&given(rt, letter)));
+        let letter = letter_text(rt, alloc, letter_at(rt, alloc, word, base, place));
+        given(rt, text.push_str(&letter));
     }
     text
 }
@@ -144,7 +145,7 @@ fn changed(
     let word = promoted(rt, alloc, rules, &mut steps);
     let answer = match letters_after(rt, alloc, &word, bases, &mut steps) {
         Ok(letters) => letters,
-        Err(fault) => fault_text(rt, alloc, fault),
+        Err(fault) => step_fault_text(rt, alloc, fault),
     };
     after_lines(rt, alloc, &steps, &answer)
 }
@@ -186,6 +187,6 @@ fn words_over_other_bases_are_those_worked_out(rt: HostRuntime) {
     for (rules, first, second, limit, wanted) in &CHANGED {
         let bases = (in_base(&rt, *first), in_base(&rt, *second));
         let found = changed(&rt, rt.alloc(), rules, bases, *limit);
-        expect(&rt, rules, &found, wanted);
+        expect_text(&rt, rules, &found, wanted);
     }
 }

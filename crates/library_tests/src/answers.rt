@@ -1,13 +1,14 @@
 //! What texts give, as texts, and tables of texts with what they are to give.
 
 use crate::given::{given, no_answer};
-use crate::headers::headers;
+use crate::known_headers::headers;
 use crate::long_texts::{parts_in, repeated};
 use crate::macros::{MACROS, expansion, expansion_length};
+use crate::outcomes::expect_text;
 use crate::plans::{relations, steps};
 use crate::resolution::{files_in, resolution_of, systems_in};
 use crate::rules::rules_of;
-use crate::text_rows::{ROW_END, fields_of};
+use crate::text_rows::{ROW_END, last_field_of};
 use crate::trees_written_out::tree_of;
 use crate::truth::true_of;
 use formula_parse::parse;
@@ -65,7 +66,7 @@ pub(crate) fn fault_text<F: Debug + Drop>(
 // What the formula that a text is gives; after the text there may be its variables. The proof of a function that lets a formula
 // go goes over all its parts, and that of a call of `drop` does not.
 fn formula_answer(rt: &impl Abort, alloc: Global, asked: Asked, fields: &str) -> String {
-    let (text, variables) = fields_of(fields);
+    let (text, variables) = last_field_of(fields);
     let formula = given(rt, parse(alloc, text.as_bytes()));
     let headers = headers(rt, alloc);
     let found = match asked {
@@ -97,16 +98,11 @@ fn answer_of(
     }
 }
 
-/// Asserts that a row has what is wanted.
-pub(crate) fn expect(rt: &impl Abort, row: &str, found: &str, wanted: &str) {
-    assert_eq!(rt; found, wanted, "of {row}");
-}
-
 /// Asserts that each text of a table gives its answer, which is the last field.
 pub(crate) fn expect_answers(rt: &impl Abort, alloc: Global, asked: Asked, rows: &str) {
     for row in rows.split_terminator(ROW_END) {
-        let (text, wanted) = fields_of(row);
-        expect(rt, text, &answer(rt, alloc, asked, text), wanted);
+        let (text, wanted) = last_field_of(row);
+        expect_text(rt, text, &answer(rt, alloc, asked, text), wanted);
     }
 }
 
@@ -114,7 +110,7 @@ pub(crate) fn expect_answers(rt: &impl Abort, alloc: Global, asked: Asked, rows:
 pub(crate) fn expect_long(rt: &impl Abort, alloc: Global, asked: Asked, text: &str, wanted: &str) {
     let found = answer(rt, alloc, asked, text);
     let found = given(rt, format!(in alloc; "{} bytes: {found}", text.len()));
-    expect(rt, wanted, &found, wanted);
+    expect_text(rt, wanted, &found, wanted);
 }
 
 /// A part, how often it is, what follows once and what then follows as often; and what this text gives, after its length.

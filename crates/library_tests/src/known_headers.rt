@@ -1,7 +1,7 @@
 //! Headers of the names in the rows of formulas.
 
 use crate::given::given;
-use crate::text_rows::{ROW_END, fields_of, table};
+use crate::text_rows::{ROW_END, last_field_of, table};
 use digit_tuple::name::Name;
 use formula_resolve::Headers;
 use std::alloc::Global;
@@ -45,8 +45,8 @@ fn add(rt: &impl Abort, headers: &mut Headers, kind: &str, name: &Name, systems:
 pub(crate) fn headers(rt: &impl Abort, alloc: Global) -> Headers {
     let mut headers = Headers::new(alloc);
     for row in HEADERS.split_terminator(ROW_END) {
-        let (header, tracks) = fields_of(row);
-        let (kind, name) = fields_of(header);
+        let (header, tracks) = last_field_of(row);
+        let (kind, name) = last_field_of(header);
         let name = given(rt, Name::new(alloc, name));
         add(rt, &mut headers, kind, &name, &systems(rt, alloc, tracks));
     }

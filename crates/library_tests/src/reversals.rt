@@ -2,7 +2,8 @@
 
 use crate::fixed_words::{Change, DOUBLING, THUE_MORSE, changed, fixed_word};
 use crate::given::{given, no_answer};
-use crate::outcomes::{expect, table_of};
+use crate::outcomes::expect_text;
+use crate::table_texts::table_of;
 use class_reversal::reversal::reverse_classes;
 use digit_tuple::limit::Limit;
 use std::alloc::Global;
@@ -31,7 +32,7 @@ static REVERSED: [(&str, &str, u32, &str); 5] = [
 fn reversed_letters_are_those_worked_out(rt: HostRuntime) {
     for (row, rules, limit, wanted) in &REVERSED {
         let found = changed(&rt, rt.alloc(), Change::Reversed, rules, *limit);
-        expect(&rt, row, &found, wanted);
+        expect_text(&rt, row, &found, wanted);
     }
 }
 
@@ -40,7 +41,7 @@ fn reversed_letters_are_those_worked_out(rt: HostRuntime) {
 fn a_function_is_the_reversal_of_its_reversal(rt: HostRuntime) {
     let found = changed(&rt, rt.alloc(), Change::ReversedTwice, DOUBLING, 4);
     let wanted = "reverse 4 4, reverse 2 2, /! 0>0 1>1/! 0>0 1>0 = 0 1";
-    expect(&rt, "doubling", &found, wanted);
+    expect_text(&rt, "doubling", &found, wanted);
 }
 
 // The width, the table and the classes of the reversal of these classes of a fixed point's states, or the fault.
@@ -96,6 +97,6 @@ static CLASSES: [(&str, &[u32], u32, &str); 7] = [
 fn reversed_classes_are_those_worked_out(rt: HostRuntime) {
     for (row, classes, limit, wanted) in &CLASSES {
         let found = reversed_classes(&rt, rt.alloc(), classes, *limit);
-        expect(&rt, row, &found, wanted);
+        expect_text(&rt, row, &found, wanted);
     }
 }

@@ -1,7 +1,7 @@
 use Rattle.std.proofs.Common.{ap, ◌∙◌, ◌∷◌, []}
 use Rattle.numeration.specs.Systems.{System}
 use Rattle.num_system.specs.Tracks.{systems_of}
-use Rattle.transformation_tests.proofs.conversions.converted.Goals as goal
+use Rattle.library_tests.proofs.conversions.converted.Goals as goal
 
 pub convert-requires : goal.convert-requires
 convert-requires c c' = record {

@@ -1,9 +1,10 @@
 //! Texts with calls of macros, and their expansions or first faults.
 
-use crate::answers::{Asked, Repeated, expect, expect_answers, expect_repeated};
+use crate::answers::{Asked, Repeated, expect_answers, expect_repeated};
 use crate::given::given;
 use crate::long_texts::string_of;
-use crate::text_rows::{FIELD_END, ROW_END, fields_of, table};
+use crate::outcomes::expect_text;
+use crate::text_rows::{FIELD_END, ROW_END, last_field_of, table};
 use macro_expand::{MacroFault, Macros, expand};
 use std::alloc::{AllocError, Global};
 use std::process::Abort;
@@ -117,7 +118,7 @@ const FAULTS: &str = table![
 fn added(rt: &impl Abort, alloc: Global, texts: &str) -> Macros {
     let mut macros = Macros::new(alloc);
     for row in texts.split_terminator(ROW_END) {
-        let (name, text) = fields_of(row);
+        let (name, text) = last_field_of(row);
         given(rt, macros.add(name.as_bytes(), text.as_bytes()));
     }
     macros
@@ -229,7 +230,7 @@ fn named_call(rt: &impl Abort, alloc: Global, length: usize) -> String {
 #[test]
 fn names_have_64_bytes(rt: HostRuntime) {
     for (row, length, wanted) in &NAMES {
-        expect(&rt, row, &named_call(&rt, rt.alloc(), *length), wanted);
+        expect_text(&rt, row, &named_call(&rt, rt.alloc(), *length), wanted);
     }
 }
 
@@ -243,10 +244,10 @@ const KEPT: &str = table![("f", "x=3"), ("g", "x=2"), ("h", "none")];
 fn the_last_text_added_is_kept(rt: HostRuntime) {
     let macros = added(&rt, rt.alloc(), TWICE);
     for row in KEPT.split_terminator(ROW_END) {
-        let (name, wanted) = fields_of(row);
+        let (name, wanted) = last_field_of(row);
         let text = macros.text_of(name.as_bytes()).unwrap_or(b"none");
-        expect(&rt, name, &string_of(&rt, rt.alloc(), text), wanted);
+        expect_text(&rt, name, &string_of(&rt, rt.alloc(), text), wanted);
     }
     let found = expansion(&rt, rt.alloc(), TWICE, "#f() & #g()");
-    expect(&rt, "#f() & #g()", &found, "x=3 & x=2");
+    expect_text(&rt, "#f() & #g()", &found, "x=3 & x=2");
 }

@@ -1,6 +1,7 @@
 //! Texts and their first faults.
 
-use crate::answers::{Asked, Repeated, expect, expect_answers, expect_repeated, fault_text};
+use crate::answers::{Asked, Repeated, expect_answers, expect_repeated, fault_text};
+use crate::outcomes::expect_text;
 use crate::text_rows::table;
 use formula_parse::parse;
 
@@ -111,7 +112,7 @@ fn texts_have_these_faults(rt: HostRuntime) {
     expect_answers(&rt, rt.alloc(), Asked::Fault, FAULTS);
     let fault = parse(rt.alloc(), NO_TEXT).err();
     let found = fault_text(&rt, rt.alloc(), fault);
-    expect(&rt, "no text", &found, "Syntax(0)");
+    expect_text(&rt, "no text", &found, "Syntax(0)");
 }
 
 // An equation in parentheses, which nest 128 deep.

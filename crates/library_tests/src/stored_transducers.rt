@@ -1,7 +1,7 @@
 //! Transducers in stores: what is found under a name, and why there is none.
 
 use crate::given::given;
-use crate::outcomes::{expect, expect_value};
+use crate::outcomes::{expect_text, expect_value};
 use dfa_loading::{FileFlaw, LoadFault};
 use digit_tuple::name::Name;
 use std::alloc::{AllocError, Global};
@@ -83,7 +83,7 @@ fn expect_texts(rt: &impl Abort, store: &MemStore) {
 fn transducers_of_a_store_are_loaded_as_listed(rt: HostRuntime) {
     let mut store = store_of(&rt, rt.alloc());
     for (name, wanted) in &LOADED {
-        expect(
+        expect_text(
             &rt,
             name,
             &loaded(&rt, rt.alloc(), &mut store, name),
@@ -108,7 +108,7 @@ fn long_loaded(rt: &impl Abort, alloc: Global, length: usize) -> String {
 #[test]
 fn a_text_that_is_loaded_has_at_most_16777216_bytes(rt: HostRuntime) {
     let found = long_loaded(&rt, rt.alloc(), TEXT_LIMIT);
-    expect(&rt, "the limit", &found, "1 0");
+    expect_text(&rt, "the limit", &found, "1 0");
     let found = long_loaded(&rt, rt.alloc(), TEXT_LIMIT + 1);
-    expect(&rt, "one more", &found, "too long Transducers long");
+    expect_text(&rt, "one more", &found, "too long Transducers long");
 }
