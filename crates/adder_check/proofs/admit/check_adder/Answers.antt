@@ -93,7 +93,7 @@ next_sums-requires-clause-adder c = subst IsCanonical (sym c.dfa.ensures.value) 
 
 pub next_sums-requires-clause-tracks : goal.next_sums-requires-clause-tracks
 next_sums-requires-clause-tracks c = (
-    c.requires.tracks.0,
-    ap (λ (d : Automaton). d.sizes) c.dfa.ensures.value ∙ c.requires.tracks.1,
-    two_tracks c.args.parts.language.now c.args.parts.next.now c.requires.tracks.0 c.requires.tracks.2 c.requires.successor.sizes,
-  )
+  c.requires.tracks.0,
+  ap (λ (d : Automaton). d.sizes) c.dfa.ensures.value ∙ c.requires.tracks.1,
+  two_tracks c.args.parts.language.now c.args.parts.next.now c.requires.tracks.0 c.requires.tracks.2 c.requires.successor.sizes,
+)
